@@ -1,0 +1,21 @@
+-- A number is its two bytes; past the end it is 0.
+use borrow.Author.Needs.{needs}
+use denote.Ref.{now}
+use mathlib.Core.Path.{sym, _∙_}
+use Prim.Native.Nat.{_+_}
+use native.Mathlib.Omega.{arith}
+use Rattle.wire.proofs.Numbers.{past, split, one}
+use Rattle.wire.proofs.u16_at.Statement.{statement}
+use Rattle.wire.proofs.u16_at.Tie as tie
+
+returns : tie.Need-returns
+returns c =
+    let a = c .before .before .before .before .args in
+    cc (split (now (a .s)) (a .at) 1 1, one (now (a .s)) (a .at), one (now (a .s)) (a .at + 1))
+
+returns-2 : tie.Need-returns-2
+returns-2 c = let a = c .before .before .args in sym (past (now (a .s)) (a .at) 2 (c .if1 .left))
+
+pub u16-at-spec : {M : Type 1} → statement M
+u16-at-spec =
+    tie.close (tie.spec (search needs) (search needs) (search needs) (search needs) (search needs) (search needs) (search needs) returns returns-2)
