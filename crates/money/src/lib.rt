@@ -1,0 +1,113 @@
+// Amounts of two kinds, and the conversion that alone leads from one to the other.
+ghost use mathlib.Core.Path.{_≡_};
+ghost use Prim.Native.Nat.{_≤_, _<_, _^_};
+ghost use Rattle.money.specs.Money.{max, stopped, isFor, rateFor, isRate, scaled, convertOf};
+
+pub const MAX: u64 = 999_999_999_999;
+
+// An amount in the transaction's currency.
+pub struct TransactionAmount(pub u64);
+
+// An amount in the currency of an accumulator, of a limit or of the maximum transaction amount.
+pub struct AccumulatorAmount(pub u64);
+
+// One entry of the conversion table: digits d, and shift, the paper's s + 9. A blank one has d 0.
+pub struct Rate {
+    pub from: u16,
+    pub to: u16,
+    pub digits: u16,
+    pub shift: u8,
+}
+
+pub struct Rates {
+    pub entries: [Rate; 5],
+}
+
+pub enum Converted {
+    Amount(AccumulatorAmount),
+    NoEntry,
+}
+
+const POWERS: [u64; 10] = [
+    1,
+    10,
+    100,
+    1_000,
+    10_000,
+    100_000,
+    1_000_000,
+    10_000_000,
+    100_000_000,
+    1_000_000_000,
+];
+
+// MAX if larger.
+pub fn stop(n: u64) -> u64
+    ensures { λ r. ⌜ r ≡ stopped n ⌝ }
+{
+    if MAX < n { MAX } else { n }
+}
+
+fn is_for(rate: Rate, from: u16, to: u16) -> bool
+    ensures { λ r. ⌜ r ≡ isFor rate from to ⌝ }
+{
+    (rate.from == from) & (rate.to == to)
+}
+
+// The entry for a pair, or a blank one.
+fn rate_for(rates: Rates, from: u16, to: u16) -> Rate
+    ensures { λ r. ⌜ r ≡ rateFor (rates .entries) from to 0 5 ⌝ }
+{
+    let entries = rates.entries;
+    for i in 0..5 {
+        let rate = entries[i];
+        if is_for(rate, from, to) {
+            return rate;
+        }
+    }
+    Rate { from: 0, to: 0, digits: 0, shift: 0 }
+}
+
+// Digits and shift within their ranges.
+fn is_rate(rate: Rate) -> bool
+    ensures { λ r. ⌜ r ≡ isRate rate ⌝ }
+{
+    (1 <= rate.digits) & (rate.digits <= 9_999) & (rate.shift <= 12)
+}
+
+fn power_of_ten(exponent: u8) -> u64
+    requires { ⌜ exponent < 10 ⌝ }
+    ensures { λ r. ⌜ r ≡ 10 ^ exponent ⌝ }
+{
+    let i = exponent as usize;
+    POWERS[i]
+}
+
+// amount x d x 10^s, its fraction dropped, and MAX if larger.
+fn scale(amount: u64, rate: Rate) -> u64
+    requires { ⌜ (amount ≤ max) × (rate .digits ≤ 9999) × (rate .shift ≤ 12) ⌝ }
+    ensures { λ r. ⌜ r ≡ scaled amount rate ⌝ }
+{
+    let product = amount * rate.digits as u64;
+    if rate.shift < 9 {
+        stop(product / power_of_ten(9 - rate.shift))
+    } else {
+        stop(product * power_of_ten(rate.shift - 9))
+    }
+}
+
+// An amount in a currency, as an amount in another. An amount above MAX reads as MAX.
+pub fn convert(amount: TransactionAmount, from: u16, to: u16, rates: Rates) -> Converted
+    ensures { λ r. ⌜ r ≡ convertOf amount from to rates ⌝ }
+{
+    let spent = stop(amount.0);
+    if from == to {
+        return Converted::Amount(AccumulatorAmount(spent));
+    }
+    let rate = rate_for(rates, from, to);
+    if is_rate(rate) {
+        Converted::Amount(AccumulatorAmount(scale(spent, rate)))
+    } else {
+        Converted::NoEntry
+    }
+}
