@@ -65,7 +65,12 @@ fn rate_for(rates: Rates, from: u16, to: u16) -> Rate
             return rate;
         }
     }
-    Rate { from: 0, to: 0, digits: 0, shift: 0 }
+    Rate {
+        from: 0,
+        to: 0,
+        digits: 0,
+        shift: 0,
+    }
 }
 
 // Digits and shift within their ranges.

@@ -1,0 +1,4 @@
+pub mod Search
+pub mod Power
+pub mod Table
+pub mod Laws

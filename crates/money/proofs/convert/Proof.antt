@@ -1,0 +1,37 @@
+use borrow.Author.Needs.{needs}
+use borrow.Author.Tests.{eq-eqb, ne-eqb, leb-true}
+use mathlib.Core.Path.{_≡_, sym, _∙_}
+use mathlib.Core.Bool.{true, false}
+use Rattle.money.specs.Money.{stopped, isRate, convertOf}
+use Rattle.money.proofs.Power.{stopped-most, rate-bounds}
+use Rattle.money.proofs.convert.Statement.{statement}
+use Rattle.money.proofs.convert.Tie as tie
+
+returns : tie.Need-returns
+unfolding convertOf
+returns c = simp (eq-eqb _ _ (c .if1 .taken), c .before .stop .ensures)
+
+scale-requires : tie.Need-scale-requires
+scale-requires c κs =
+    let spent = c .before .before .before .before .stop in
+    let bounds = rate-bounds (c .before .before .rate-for .result) (sym (c .before .is-rate .ensures) ∙ c .if2 .taken) in
+    (rw (spent .ensures) (stopped-most (c .before .before .before .before .before .args .amount .0)), bounds .0, bounds .1)
+
+returns-2 : tie.Need-returns-2
+unfolding convertOf
+returns-2 c =
+    let rate = c .before .before .before .rate-for in
+    let good : isRate (rate .result) ≡ true = sym (c .before .before .is-rate .ensures) ∙ c .before .if2 .taken in
+    rw (← rate .ensures)
+    (simp (ne-eqb _ _ (c .before .before .before .before .if1 .left), good, c .scale .ensures, c .before .before .before .before .before .stop .ensures))
+
+returns-3 : tie.Need-returns-3
+unfolding convertOf
+returns-3 c =
+    let rate = c .before .before .rate-for in
+    let bad : isRate (rate .result) ≡ false = sym (c .before .is-rate .ensures) ∙ c .if2 .left in
+    rw (← rate .ensures) (simp (ne-eqb _ _ (c .before .before .before .if1 .left), bad))
+
+pub convert-spec : {M : Type 1} → statement M
+convert-spec =
+    tie.close (tie.spec (search needs) returns (search needs) (search needs) scale-requires returns-2 returns-3)
