@@ -1,0 +1,18 @@
+use borrow.Author.Needs.{needs}
+use Rattle.rules.proofs.base.Statement.{statement}
+use Rattle.rules.proofs.base.Tie as tie
+
+returns : tie.Need-returns
+returns c = (simp (c .enum-told .given .1), search needs)
+
+returns-2 : tie.Need-returns-2
+returns-2 c = (simp (c .enum-told2 .given .1), search needs)
+
+returns-3 : tie.Need-returns-3
+returns-3 c = (simp (c .enum-told3 .given .1), search needs)
+
+returns-4 : tie.Need-returns-4
+returns-4 c = (simp (c .enum-told4 .given .1), search needs)
+
+pub base-spec : {M : Type 1} → statement M
+base-spec = tie.close (tie.spec (search needs) (search needs) (search needs) (search needs) returns returns-2 returns-3 returns-4)

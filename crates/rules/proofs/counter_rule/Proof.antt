@@ -1,0 +1,30 @@
+use borrow.Author.Needs.{needs}
+use denote.Ref.{now}
+use Prim.Native.Nat.{_+_, _*_}
+use mathlib.Core.Path.{sym}
+use Rattle.rules.specs.Rules.{profileOf, profileBase, counterAt, blankCounter}
+use Rattle.rules.proofs.Places.{profile-at, four-at, four-past}
+use Rattle.rules.proofs.counter_rule.Statement.{statement}
+use Rattle.rules.proofs.counter_rule.Tie as tie
+
+returns : tie.Need-returns
+unfolding profileOf
+returns c =
+    let a = c .before .before .before .args in
+    let w = now (a .words) in
+    simp (
+      c .counter .ensures,
+      c .before .base .ensures .0,
+      profile-at w (a .place),
+      four-at (λ i. counterAt w (profileBase (a .place) + 19 + 3 * i)) blankCounter (a .i) (c .before .before .if1 .taken),
+    )
+
+returns-2 : tie.Need-returns-2
+unfolding profileOf
+returns-2 c =
+    let a = c .before .args in
+    let w = now (a .words) in
+    simp (profile-at w (a .place), four-past (λ i. counterAt w (profileBase (a .place) + 19 + 3 * i)) blankCounter (a .i) (c .if1 .left))
+
+pub counter-rule-spec : {M : Type 1} → statement M
+counter-rule-spec = tie.close (tie.spec (search needs) (search needs) (search needs) (search needs) (search needs) returns returns-2)

@@ -1,0 +1,24 @@
+use borrow.Author.Needs.{needs}
+use denote.Ref.{now}
+use Prim.Native.Nat.{_+_, _%_}
+use mathlib.Core.Path.{sym}
+use lib.ListN.{getD}
+use Rattle.rules.specs.Rules.{rulesOf}
+use Rattle.rules.proofs.Places.{four-at, four-past}
+use Rattle.rules.proofs.currency.Statement.{statement}
+use Rattle.rules.proofs.currency.Tie as tie
+
+returns : tie.Need-returns
+unfolding rulesOf
+returns c =
+    let a = c .before .before .args in
+    sym (four-at (λ i. getD (now (a .words)) (3 + i) 0 % 65536) 0 (a .i) (c .before .if1 .taken))
+
+returns-2 : tie.Need-returns-2
+unfolding rulesOf
+returns-2 c =
+    let a = c .before .args in
+    sym (four-past (λ i. getD (now (a .words)) (3 + i) 0 % 65536) 0 (a .i) (c .if1 .left))
+
+pub currency-spec : {M : Type 1} → statement M
+currency-spec = tie.close (tie.spec (search needs) (search needs) (search needs) (search needs) returns returns-2)

@@ -1,0 +1,11 @@
+use borrow.Author.Needs.{needs}
+use Rattle.rules.specs.Rules.{rulesOf}
+use Rattle.rules.proofs.rates.Statement.{statement}
+use Rattle.rules.proofs.rates.Tie as tie
+
+returns : tie.Need-returns
+unfolding rulesOf
+returns c = cc
+
+pub rates-spec : {M : Type 1} → statement M
+rates-spec = tie.close (tie.spec (search needs) (search needs) (search needs) (search needs) (search needs) returns)

@@ -1,0 +1,160 @@
+-- What a set-up says (document 01, "The paper"), and the words that it is lent in: one word to a field.
+use Prim.Native.Nat.{ℕ, _+_, _*_, _/_, _%_}
+use mathlib.Core.Bool.{Bool, true, false, cond}
+use mathlib.Core.List.{List, [], _∷_}
+use lib.ListN.{getD}
+use lib.Dec.{eqb}
+use Rattle.money.specs.declared.AccumulatorAmount.{AccumulatorAmount}
+use Rattle.money.specs.declared.Rate.{Rate}
+use Rattle.money.specs.declared.Rates.{Rates}
+use Rattle.rules.specs.declared.Place.{Place}
+use Rattle.rules.specs.declared.Place.the-variants.{One, Two, Three, Four}
+use Rattle.rules.specs.declared.Found.{Found}
+use Rattle.rules.specs.declared.Found.the-variants.{At, Nothing}
+use Rattle.rules.specs.declared.Masks.{Masks}
+use Rattle.rules.specs.declared.MaximumAmount.{MaximumAmount}
+use Rattle.rules.specs.declared.AccumulatorRule.{AccumulatorRule}
+use Rattle.rules.specs.declared.CounterRule.{CounterRule}
+use Rattle.rules.specs.declared.Sent.{Sent}
+
+pub record Profile : Type 0 where
+  pub number : ℕ
+  pub masks : Masks
+  pub maximum : MaximumAmount
+  pub accumulators : List AccumulatorRule
+  pub counters : List CounterRule
+  pub sent : Sent
+
+pub record Rules : Type 0 where
+  pub key : ℕ
+  pub pin : ℕ
+  pub required : Bool
+  pub currencies : List ℕ
+  pub rates : Rates
+  pub profiles : List Profile
+
+-- four of a kind, for places 0 to 3
+abbrev pub four : {A : Type 0} → (ℕ → A) → List A
+four f = f 0 ∷ f 1 ∷ f 2 ∷ f 3 ∷ []
+
+abbrev pub five : {A : Type 0} → (ℕ → A) → List A
+five f = f 0 ∷ f 1 ∷ f 2 ∷ f 3 ∷ f 4 ∷ []
+
+abbrev pub blankAccumulator : AccumulatorRule
+blankAccumulator = record { lower = record { 0 = 0 }; upper = record { 0 = 0 }; active = false; allow = false; include = false }
+
+abbrev pub blankCounter : CounterRule
+blankCounter = record { lower = 0; upper = 0; active = false; allow = false; include = false; declines = false }
+
+-- the words from a place on; switches: 1 active, 2 allow, 4 include this transaction, 8 include offline declines
+abbrev pub rateAt : List ℕ → ℕ → Rate
+rateAt w at =
+    record {
+      from = getD w at 0 % 65536;
+      to = getD w (at + 1) 0 % 65536;
+      digits = getD w (at + 2) 0 % 65536;
+      shift = getD w (at + 3) 0 % 256;
+    }
+
+abbrev pub accumulatorAt : List ℕ → ℕ → AccumulatorRule
+accumulatorAt w at =
+    record {
+      lower = record { 0 = getD w (at + 1) 0 };
+      upper = record { 0 = getD w (at + 2) 0 };
+      active = eqb (getD w at 0 % 2) 1;
+      allow = eqb (getD w at 0 / 2 % 2) 1;
+      include = eqb (getD w at 0 / 4 % 2) 1;
+    }
+
+abbrev pub counterAt : List ℕ → ℕ → CounterRule
+counterAt w at =
+    record {
+      lower = getD w (at + 1) 0 % 256;
+      upper = getD w (at + 2) 0 % 256;
+      active = eqb (getD w at 0 % 2) 1;
+      allow = eqb (getD w at 0 / 2 % 2) 1;
+      include = eqb (getD w at 0 / 4 % 2) 1;
+      declines = eqb (getD w at 0 / 8 % 2) 1;
+    }
+
+abbrev pub masksAt : List ℕ → ℕ → Masks
+masksAt w at =
+    record {
+      online = getD w (at + 1) 0 % 4294967296;
+      decline = getD w (at + 2) 0 % 4294967296;
+      default = getD w (at + 3) 0 % 4294967296;
+    }
+
+abbrev pub maximumAt : List ℕ → ℕ → MaximumAmount
+maximumAt w at =
+    record { amount = record { 0 = getD w (at + 6) 0 }; currency = getD w (at + 5) 0 % 65536; on = eqb (getD w (at + 4) 0) 1 }
+
+abbrev pub sentAt : List ℕ → ℕ → Sent
+sentAt w at =
+    record { accumulator = getD w (at + 31) 0 % 256; first = getD w (at + 32) 0 % 256; second = getD w (at + 33) 0 % 256 }
+
+-- the 34 words of a profile
+unfoldable pub profileOf : List ℕ → ℕ → Profile
+profileOf w at =
+    record {
+      number = getD w at 0 % 256;
+      masks = masksAt w at;
+      maximum = maximumAt w at;
+      accumulators = four (λ i. accumulatorAt w (at + 7 + 3 * i));
+      counters = four (λ i. counterAt w (at + 19 + 3 * i));
+      sent = sentAt w at;
+    }
+
+-- the 163 words: 7 of the head, 5 rates of 4 words, 4 profiles of 34
+unfoldable pub rulesOf : List ℕ → Rules
+rulesOf w =
+    record {
+      key = getD w 0 0 % 256;
+      pin = getD w 1 0 % 256;
+      required = eqb (getD w 2 0) 1;
+      currencies = four (λ i. getD w (3 + i) 0 % 65536);
+      rates = record { entries = five (λ i. rateAt w (7 + 4 * i)) };
+      profiles = four (λ i. profileOf w (27 + 34 * i));
+    }
+
+abbrev pub blankProfile : Profile
+blankProfile =
+    record {
+      number = 0;
+      masks = record { online = 0; decline = 0; default = 0 };
+      maximum = record { amount = record { 0 = 0 }; currency = 0; on = false };
+      accumulators = four (λ i. blankAccumulator);
+      counters = four (λ i. blankCounter);
+      sent = record { accumulator = 0; first = 0; second = 0 };
+    }
+
+abbrev pub indexOf : Place → ℕ
+indexOf One = 0
+indexOf Two = 1
+indexOf Three = 2
+indexOf Four = 3
+
+abbrev pub profileBase : Place → ℕ
+profileBase place = 27 + 34 * indexOf place
+
+abbrev pub profileAt : Rules → Place → Profile
+profileAt rules place = getD (rules .profiles) (indexOf place) blankProfile
+
+abbrev pub placeOr : Rules → Place → ℕ → Found → Found
+placeOr rules place number elsewhere = cond (eqb (profileAt rules place .number) number) (At place) elsewhere
+
+-- the place of the profile of a number; no profile has number 0
+unfoldable pub findProfile : Rules → ℕ → Found
+findProfile rules number =
+    cond (eqb number 0) Nothing
+    (placeOr rules One number (placeOr rules Two number (placeOr rules Three number (placeOr rules Four number Nothing))))
+
+-- of accumulator or counter i + 1
+abbrev pub currencyAt : Rules → ℕ → ℕ
+currencyAt rules i = getD (rules .currencies) i 0
+
+abbrev pub accumulatorRule : Rules → Place → ℕ → AccumulatorRule
+accumulatorRule rules place i = getD (profileAt rules place .accumulators) i blankAccumulator
+
+abbrev pub counterRule : Rules → Place → ℕ → CounterRule
+counterRule rules place i = getD (profileAt rules place .counters) i blankCounter
