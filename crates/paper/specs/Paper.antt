@@ -47,8 +47,8 @@ abbrev pub passed : Reader → Reader
 passed reader = record { paper = reader .paper; at = placeAfter (now (reader .paper)) (reader .at) }
 
 -- paper empty or over 65,536 bytes, version not 01
-abbrev pub isRefused : List ℕ → Bool
-isRefused s = eqb (length s) 0 || ltb 65536 (length s) || not (eqb (byte s 0) 1)
+abbrev pub isUnreadable : List ℕ → Bool
+isUnreadable s = eqb (length s) 0 || ltb 65536 (length s) || not (eqb (byte s 0) 1)
 
 -- the first record is the set-up
 abbrev pub setupIn : Next → Opened
@@ -57,7 +57,7 @@ setupIn Fault = Refused Unreadable
 setupIn End = Refused Unreadable
 
 unfoldable pub openPaper : List ℕ → Opened
-openPaper s = cond (isRefused s) (Refused Unreadable) (setupIn (nextAt s 1))
+openPaper s = cond (isUnreadable s) (Refused Unreadable) (setupIn (nextAt s 1))
 
 abbrev pub openedNumber : Opened → ℕ
 openedNumber (Setup start end) = 0

@@ -4,26 +4,21 @@ ghost use Rattle.paper.specs.Paper.{nextAt, placeAfter, passed, openPape
 use refusal::Refusal;
 
 const VERSION: u8 = 1;
+
 const LONGEST: usize = 65_536;
+
 const SETUP: u8 = 1;
 
 // What stands at a place of the paper. A record's body is s[start..end], and end is the next place.
 pub enum Next {
-    Record {
-        kind: u8,
-        start: usize,
-        end: usize,
-    },
+    Record { kind: u8, start: usize, end: usize },
     Fault,
     End,
 }
 
 // The body of the set-up is s[start..end], and end is the place of the first command.
 pub enum Opened {
-    Setup {
-        start: usize,
-        end: usize,
-    },
+    Setup { start: usize, end: usize },
     Refused(Refusal),
 }
 
@@ -56,7 +51,11 @@ fn place_after(s: &[u8], at: usize) -> usize
     ensures { λ r. ⌜ r ≡ placeAfter (now (s .entry)) at ⌝ }
 {
     match next_at(s, at) {
-        Next::Record { kind: _, start: _, end } => end,
+        Next::Record {
+            kind: _,
+            start: _,
+            end,
+        } => end,
         Next::Fault => at,
         Next::End => at,
     }
