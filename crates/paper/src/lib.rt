@@ -51,11 +51,7 @@ fn place_after(s: &[u8], at: usize) -> usize
     ensures { λ r. ⌜ r ≡ placeAfter (now (s .entry)) at ⌝ }
 {
     match next_at(s, at) {
-        Next::Record {
-            kind: _,
-            start: _,
-            end,
-        } => end,
+        Next::Record { end, .. } => end,
         Next::Fault => at,
         Next::End => at,
     }
