@@ -1,0 +1,24 @@
+-- The branches are those of the definition.
+use borrow.Author.Needs.{needs}
+use Rattle.command.specs.Command.{commandOf}
+use Rattle.command.proofs.read_command.Statement.{statement}
+use Rattle.command.proofs.read_command.Tie as tie
+
+returns : tie.Need-returns
+unfolding commandOf
+returns c = simp (c .before .if1 .taken) (cc)
+
+returns-2 : tie.Need-returns-2
+unfolding commandOf
+returns-2 c = simp (c .before .before .if1 .left, c .before .if2 .taken) (cc)
+
+returns-3 : tie.Need-returns-3
+unfolding commandOf
+returns-3 c = simp (c .before .before .before .if1 .left, c .before .before .if2 .left, c .before .if3 .taken) (cc)
+
+returns-4 : tie.Need-returns-4
+unfolding commandOf
+returns-4 c = simp (c .before .before .if1 .left, c .before .if2 .left, c .if3 .left)
+
+pub read-command-spec : {M : Type 1} → statement M
+read-command-spec = tie.close (tie.spec (search needs) returns (search needs) returns-2 (search needs) returns-3 returns-4)

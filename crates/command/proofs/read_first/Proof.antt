@@ -1,0 +1,12 @@
+-- Each field is the number at its place.
+use borrow.Author.Needs.{needs}
+use Rattle.command.specs.Command.{firstOf}
+use Rattle.command.proofs.read_first.Statement.{statement}
+use Rattle.command.proofs.read_first.Tie as tie
+
+returns : tie.Need-returns
+unfolding firstOf
+returns c = cc
+
+pub read-first-spec : {M : Type 1} → statement M
+read-first-spec = tie.close (tie.spec (search needs) (search needs) (search needs) (search needs) returns)

@@ -1,0 +1,90 @@
+// Commands out of record bodies. What a command says is judged by the card.
+ghost use mathlib.Core.Path.{_≡_};
+ghost use Rattle.command.specs.Command.{startOf, firstOf, secondOf, commandOf};
+use money::TransactionAmount;
+use refusal::Refusal;
+
+const START: u8 = 2;
+
+const FIRST: u8 = 3;
+
+const SECOND: u8 = 4;
+
+pub struct Start {
+    pub profile: u8,
+}
+
+pub struct First {
+    pub amount: TransactionAmount,
+    pub currency: u16,
+    pub requested: u8,
+    pub terminal: u8,
+}
+
+pub struct Second {
+    pub csu: u32,
+    pub code: u16,
+    pub requested: u8,
+    pub issuer: u8,
+}
+
+pub enum Command {
+    Start(Start),
+    First(First),
+    Second(Second),
+}
+
+pub enum ReadCommand {
+    Taken(Command),
+    Refused(Refusal),
+}
+
+// Profile.
+fn read_start(body: &[u8]) -> Start
+    ensures { λ r. ⌜ r ≡ startOf (now (body .entry)) ⌝ }
+{
+    Start {
+        profile: wire::byte_at(body, 0),
+    }
+}
+
+// Type, amount (8), currency (2), terminal type.
+fn read_first(body: &[u8]) -> First
+    ensures { λ r. ⌜ r ≡ firstOf (now (body .entry)) ⌝ }
+{
+    First {
+        amount: TransactionAmount(wire::u64_at(body, 1)),
+        currency: wire::u16_at(body, 9),
+        requested: wire::byte_at(body, 0),
+        terminal: wire::byte_at(body, 11),
+    }
+}
+
+// Type, response code (2), issuer data, CSU (4).
+fn read_second(body: &[u8]) -> Second
+    ensures { λ r. ⌜ r ≡ secondOf (now (body .entry)) ⌝ }
+{
+    Second {
+        csu: wire::u32_at(body, 4),
+        code: wire::u16_at(body, 1),
+        requested: wire::byte_at(body, 0),
+        issuer: wire::byte_at(body, 3),
+    }
+}
+
+// The command in a record of a kind, or refusal 9 for an unknown kind, a repeated set-up or a body
+// of another length.
+pub fn read_command(kind: u8, body: &[u8]) -> ReadCommand
+    ensures { λ r. ⌜ r ≡ commandOf kind (now (body .entry)) ⌝ }
+{
+    if (kind == START) & (body.len() == 1) {
+        return ReadCommand::Taken(Command::Start(read_start(body)));
+    }
+    if (kind == FIRST) & (body.len() == 12) {
+        return ReadCommand::Taken(Command::First(read_first(body)));
+    }
+    if (kind == SECOND) & (body.len() == 8) {
+        return ReadCommand::Taken(Command::Second(read_second(body)));
+    }
+    ReadCommand::Refused(Refusal::Unreadable)
+}
