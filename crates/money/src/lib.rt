@@ -1,6 +1,6 @@
 // Amounts of two kinds, and the conversion that alone leads from one to the other.
 ghost use mathlib.Core.Path.{_≡_};
-ghost use Prim.Native.Nat.{_≤_, _<_, _^_};
+ghost use Prim.Native.Nat.{_+_, _≤_, _<_, _^_};
 ghost use Rattle.money.specs.Money.{max, stopped, isFor, rateFor, isRate, scaled, convertOf};
 
 pub const MAX: u64 = 999_999_999_999;
@@ -46,6 +46,19 @@ pub fn stop(n: u64) -> u64
     ensures { λ r. ⌜ r ≡ stopped n ⌝ }
 {
     if MAX < n { MAX } else { n }
+}
+
+// The sum of two amounts, stopping at MAX.
+pub fn plus(value: AccumulatorAmount, more: AccumulatorAmount) -> AccumulatorAmount
+    ensures { λ r. ⌜ r .0 ≡ stopped (value .0 + more .0) ⌝ }
+{
+    if MAX < value.0 {
+        return AccumulatorAmount(MAX);
+    }
+    if MAX - value.0 < more.0 {
+        return AccumulatorAmount(MAX);
+    }
+    AccumulatorAmount(value.0 + more.0)
 }
 
 fn is_for(rate: Rate, from: u16, to: u16) -> bool

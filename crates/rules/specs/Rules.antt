@@ -110,7 +110,7 @@ unfoldable pub rulesOf : List ℕ → Rules
 rulesOf w =
     record {
       key = getD w 0 0 % 256;
-      pin = getD w 1 0 % 256;
+      pin = getD w 1 0 % 16;
       required = eqb (getD w 2 0) 1;
       currencies = four (λ i. getD w (3 + i) 0 % 65536);
       rates = record { entries = five (λ i. rateAt w (7 + 4 * i)) };

@@ -52,6 +52,12 @@ pub struct CounterRule {
     pub declines: bool,
 }
 
+// The values of the accumulators and the counters.
+pub struct Values {
+    pub accumulators: [AccumulatorAmount; 4],
+    pub counters: [u8; 4],
+}
+
 // Which accumulator and which two counters the IAD sends: 1 to 4, 0 for none.
 pub struct Sent {
     pub accumulator: u8,
@@ -68,7 +74,7 @@ pub fn key_index(words: &Words) -> u8
 pub fn pin_tries(words: &Words) -> u8
     ensures { λ r. ⌜ r ≡ rulesOf (now (words .entry)) .pin ⌝ }
 {
-    (words[1] % 256) as u8
+    (words[1] % 16) as u8
 }
 
 // Whether issuer authentication is required.
