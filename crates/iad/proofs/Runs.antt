@@ -1,16 +1,16 @@
 -- Zeros and pairs of digits, over the number of bytes. Assumes nothing.
 use mathlib.Core.Path.{_≡_, refl, sym, ap, _∙_}
-use mathlib.Core.Bool.{Bool, true, false, _&&_}
+use mathlib.Core.Bool.{true, _&&_}
 use mathlib.Core.List.{List, [], _∷_, _++_}
 use Prim.Native.Nat.{ℕ, zero, suc, _+_, _*_, _/_, _^_, _≤_, _<_}
-use native.Mathlib.Nat.{add-zero, zero-add, div-div-eq-div-mul, one-le-pow, pow-le-pow-right, suc-mul, pow-suc}
+use native.Mathlib.Nat.{zero-add, div-div-eq-div-mul, one-le-pow, pow-le-pow-right, suc-mul, pow-suc}
 use native.Mathlib.Numerals.{add-one}
 use native.Mathlib.Omega.{arith}
-use borrow.Author.Tests.{eq-eqb, ne-eqb, eqb-true}
+use borrow.Author.Tests.{ne-eqb}
 use lib.Dec.{eqb, lit<, eqb·suc-zero}
 use lib.ListN.{length, take, replicate, replicate-append-replicate}
 use lib.Seq.{take-suc}
-use Rattle.wire.specs.Wire.{byte, number, pairOf, isPair, pairValue}
+use Rattle.wire.specs.Wire.{byte, number, pairOf, isPair}
 use Rattle.wire.proofs.Numbers.{split}
 use Rattle.wire.proofs.Pairs.{both, last-pair, before-pair}
 use Rattle.iad.specs.Iad.{areZeros, pairsOf, arePairs, pairsValue}

@@ -1,6 +1,6 @@
 // The Issuer Application Data: 32 bytes from its fields, and back.
 ghost use mathlib.Core.Path.{_≡_};
-ghost use Rattle.iad.specs.Iad.{arePairs, pairsValue, isCvr, isProfile, iadBytes, cvrOf, iadOf, hasFixedBytes, isIad, readIad, isWritable, areZeros, writeIad, written};
+ghost use Rattle.iad.specs.Iad.{iadBytes, cvrOf, pairsValue, iadOf, areZeros, hasFixedBytes, isCvr, arePairs, isProfile, isIad, readIad, isWritable, writeIad, written};
 use money::AccumulatorAmount;
 use refusal::Refusal;
 
@@ -39,22 +39,23 @@ pub enum Written {
 fn is_cvr(cvr: Cvr) -> bool
     ensures { λ r. ⌜ r ≡ isCvr cvr ⌝ }
 {
-    (cvr.byte1 / 64 != 3) & (cvr.byte1 / 16 % 4 != 3) & (cvr.byte5 == 0)
+    (cvr.byte1 / 64 != 0b11) & (cvr.byte1 / 16 % 4 != 0b11) & (cvr.byte5 == 0)
 }
 
-fn is_profile(number: u8) -> bool
-    ensures { λ r. ⌜ r ≡ isProfile number ⌝ }
+fn is_profile(profile: u8) -> bool
+    ensures { λ r. ⌜ r ≡ isProfile profile ⌝ }
 {
-    (1 <= number) & (number <= 124)
+    (1 <= profile) & (profile <= 124)
 }
 
-// Fields that writing takes.
+// An accumulator of at most MAX, and fields whose bytes reading takes.
 fn is_writable(iad: Iad) -> bool
     ensures { λ r. ⌜ r ≡ isWritable iad ⌝ }
 {
     (iad.accumulator.0 <= money::MAX) & is_cvr(iad.cvr) & is_profile(iad.profile)
 }
 
+// The bytes of an IAD; the last 14 stay zeros.
 fn encode(iad: Iad) -> [u8; LENGTH]
     ensures { λ r. ⌜ r ≡ iadBytes iad ⌝ }
 {
@@ -81,7 +82,7 @@ fn encode(iad: Iad) -> [u8; LENGTH]
     bytes
 }
 
-// The IAD into the first 32 bytes of the room.
+// Sets the first 32 bytes of the room, or refuses and sets none.
 pub fn write(iad: Iad, room: &mut [u8]) -> Written
     ensures { λ r. ⌜ (r ≡ writeIad iad (now (room .entry))) × (now (room .exit) ≡ written iad (now (room .entry))) ⌝ }
 {
@@ -103,7 +104,6 @@ fn are_zeros(s: &[u8]) -> bool
     (wire::u64_at(s, 18) == 0) & (wire::u32_at(s, 26) == 0) & (wire::u16_at(s, 30) == 0)
 }
 
-// 0F, A5, 0F and the zeros stand at their places.
 fn has_fixed_bytes(s: &[u8]) -> bool
     ensures { λ r. ⌜ r ≡ hasFixedBytes (now (s .entry)) ⌝ }
 {
@@ -125,7 +125,7 @@ fn cvr_of(s: &[u8]) -> Cvr
     }
 }
 
-// The six bytes of the accumulator hold digits only.
+// No digit of the accumulator is above 9.
 fn are_pairs(s: &[u8]) -> bool
     ensures { λ r. ⌜ r ≡ arePairs (now (s .entry)) 8 6 ⌝ }
 {
@@ -136,7 +136,7 @@ fn are_pairs(s: &[u8]) -> bool
     all
 }
 
-// The amount that the six bytes of the accumulator write.
+// The amount that the digits of the accumulator write.
 fn pairs_value(s: &[u8]) -> u64
     ensures { λ r. ⌜ r ≡ pairsValue (now (s .entry)) 8 6 ⌝ }
 {
@@ -150,11 +150,10 @@ fn pairs_value(s: &[u8]) -> u64
 fn is_iad(s: &[u8]) -> bool
     ensures { λ r. ⌜ r ≡ isIad (now (s .entry)) ⌝ }
 {
-    (s.len() == LENGTH)
-        & has_fixed_bytes(s)
-        & is_cvr(cvr_of(s))
-        & are_pairs(s)
-        & is_profile(wire::byte_at(s, 17))
+    if s.len() != LENGTH {
+        return false;
+    }
+    has_fixed_bytes(s) & is_cvr(cvr_of(s)) & are_pairs(s) & is_profile(wire::byte_at(s, 17))
 }
 
 fn iad_of(s: &[u8]) -> Iad
@@ -170,7 +169,7 @@ fn iad_of(s: &[u8]) -> Iad
     }
 }
 
-// The fields of an IAD.
+// The fields of an IAD, or that the bytes are none.
 pub fn read(s: &[u8]) -> ReadIad
     ensures { λ r. ⌜ r ≡ readIad (now (s .entry)) ⌝ }
 {

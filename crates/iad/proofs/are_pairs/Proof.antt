@@ -1,7 +1,8 @@
+-- The loop's invariant: `all` says whether the first i bytes hold digits only.
+use mathlib.Core.Path.{_≡_, refl}
+use Prim.Native.Nat.{_-_, _≤_}
 use native.Mathlib.Numerals.{add-one}
 use native.Mathlib.Omega.{arith}
-use mathlib.Core.Path.{_≡_, refl}
-use Prim.Native.Nat.{_+_, _-_, _≤_}
 use borrow.Author.Needs.{needs}
 use Rattle.iad.specs.Iad.{arePairs}
 use Rattle.iad.proofs.are_pairs.Statement.{statement}

@@ -1,6 +1,7 @@
+-- Fourteen bytes are zeros where the eight, four and two that they are made of are.
+use borrow.Author.Needs.{needs}
 use denote.Ref.{now}
 use Rattle.iad.proofs.Runs.{zeros-split}
-use borrow.Author.Needs.{needs}
 use Rattle.iad.proofs.are_zeros.Statement.{statement}
 use Rattle.iad.proofs.are_zeros.Tie as tie
 

@@ -1,5 +1,6 @@
-use Rattle.iad.specs.Iad.{cvrOf}
+-- Each byte stands at its place.
 use borrow.Author.Needs.{needs}
+use Rattle.iad.specs.Iad.{cvrOf}
 use Rattle.iad.proofs.cvr_of.Statement.{statement}
 use Rattle.iad.proofs.cvr_of.Tie as tie
 

@@ -1,12 +1,13 @@
+-- Each store sets its byte; the six pairs of digits are those of the repeated division.
+use borrow.Author.Needs.{needs}
 use Rattle.iad.specs.Iad.{iadBytes}
 use Rattle.iad.proofs.Runs.{six-pairs}
-use borrow.Author.Needs.{needs}
 use Rattle.iad.proofs.encode.Statement.{statement}
 use Rattle.iad.proofs.encode.Tie as tie
 
 returns : tie.Need-returns
 unfolding iadBytes
-returns c = simp (six-pairs, c .pair-of6 .ensures, c .before .pair-of5 .ensures, c .before .before .pair-of4 .ensures, c .before .before .before .pair-of3 .ensures, c .before .before .before .before .pair-of2 .ensures, c .before .before .before .before .before .pair-of .ensures)
+returns c = simp six-pairs (cc)
 
 pub encode-spec : {M : Type 1} → statement M
 encode-spec =

@@ -1,5 +1,6 @@
-use Rattle.iad.specs.Iad.{hasFixedBytes}
+-- The code's tests are the definition's.
 use borrow.Author.Needs.{needs}
+use Rattle.iad.specs.Iad.{hasFixedBytes}
 use Rattle.iad.proofs.has_fixed_bytes.Statement.{statement}
 use Rattle.iad.proofs.has_fixed_bytes.Tie as tie
 

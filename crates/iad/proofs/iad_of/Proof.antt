@@ -1,5 +1,6 @@
-use Rattle.iad.specs.Iad.{iadOf}
+-- Each field stands at its place.
 use borrow.Author.Needs.{needs}
+use Rattle.iad.specs.Iad.{iadOf}
 use Rattle.iad.proofs.iad_of.Statement.{statement}
 use Rattle.iad.proofs.iad_of.Tie as tie
 

@@ -1,3 +1,4 @@
+-- The code's tests are the definition's.
 use borrow.Author.Needs.{needs}
 use Rattle.iad.specs.Iad.{isCvr}
 use Rattle.iad.proofs.is_cvr.Statement.{statement}

@@ -1,5 +1,6 @@
-use Rattle.iad.specs.Iad.{isWritable}
+-- The code's tests are the definition's.
 use borrow.Author.Needs.{needs}
+use Rattle.iad.specs.Iad.{isWritable}
 use Rattle.iad.proofs.is_writable.Statement.{statement}
 use Rattle.iad.proofs.is_writable.Tie as tie
 

@@ -1,11 +1,12 @@
+-- The loop's invariant: the amount is what the digits in the first i bytes write, and below 3 x 100^i, so that the next one fits.
+use mathlib.Core.Path.{_≡_, refl}
+use Prim.Native.Nat.{_+_, _-_, _*_, _^_, _≤_}
 use native.Mathlib.Nat.{pow-suc}
 use native.Mathlib.Numerals.{add-one}
 use native.Mathlib.Omega.{arith}
-use mathlib.Core.Path.{_≡_, refl}
-use Prim.Native.Nat.{_+_, _-_, _*_, _^_, _≤_}
 use borrow.Author.Needs.{needs}
-use Rattle.iad.proofs.Runs.{small}
 use Rattle.iad.specs.Iad.{pairsValue}
+use Rattle.iad.proofs.Runs.{small}
 use Rattle.iad.proofs.pairs_value.Statement.{statement}
 use Rattle.iad.proofs.pairs_value.Tie as tie
 

@@ -1,8 +1,9 @@
-use mathlib.Core.Path.{_≡_}
+-- The two answers, by the test.
 use mathlib.Core.Bool.{true, false}
+use mathlib.Core.Path.{_≡_}
+use borrow.Author.Needs.{needs}
 use denote.Ref.{now}
 use Rattle.iad.specs.Iad.{isIad, readIad}
-use borrow.Author.Needs.{needs}
 use Rattle.iad.proofs.read.Statement.{statement}
 use Rattle.iad.proofs.read.Tie as tie
 

@@ -1,8 +1,9 @@
-use mathlib.Core.Path.{_≡_, sym, _∙_}
+-- The three answers in their order, and what the room holds after each.
 use mathlib.Core.Bool.{true, false}
+use mathlib.Core.Path.{_≡_, sym, _∙_}
+use borrow.Author.Needs.{needs}
 use borrow.Author.Tests.{not-true, not-false, lt-ltb, le-ltb}
 use Rattle.iad.specs.Iad.{isWritable, writeIad, written, iadBytes, pairsOf}
-use borrow.Author.Needs.{needs}
 use Rattle.iad.proofs.write.Statement.{statement}
 use Rattle.iad.proofs.write.Tie as tie
 
