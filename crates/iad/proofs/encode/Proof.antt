@@ -7,7 +7,9 @@ use Rattle.iad.proofs.encode.Tie as tie
 
 returns : tie.Need-returns
 unfolding iadBytes
-returns c = simp six-pairs (cc)
+returns c =
+    let d = c .before .before .before in
+    simp (six-pairs, c .pair-of6 .ensures, c .before .pair-of5 .ensures, c .before .before .pair-of4 .ensures, d .pair-of3 .ensures, d .before .pair-of2 .ensures, d .before .before .pair-of .ensures)
 
 pub encode-spec : {M : Type 1} → statement M
 encode-spec =
