@@ -1,0 +1,14 @@
+-- Fourteen bytes are zeros where the eight, four and two that they are made of are.
+use borrow.Author.Needs.{needs}
+use denote.Ref.{now}
+use Rattle.iad.proofs.Runs.{zeros-split}
+use Rattle.iad.proofs.are_zeros.Statement.{statement}
+use Rattle.iad.proofs.are_zeros.Tie as tie
+
+returns : tie.Need-returns
+returns c =
+    let s = now (c .before .before .before .before .args .s) in
+    simp (zeros-split s 18 12 2, zeros-split s 18 8 4) (cc)
+
+pub are-zeros-spec : {M : Type 1} → statement M
+are-zeros-spec = tie.close (tie.spec (search needs) (search needs) (search needs) returns)

@@ -1,0 +1,14 @@
+-- The code's tests are the definition's.
+use borrow.Author.Needs.{needs}
+use Rattle.iad.specs.Iad.{hasFixedBytes}
+use Rattle.iad.proofs.has_fixed_bytes.Statement.{statement}
+use Rattle.iad.proofs.has_fixed_bytes.Tie as tie
+
+returns : tie.Need-returns
+unfolding hasFixedBytes
+returns c = cc
+
+pub has-fixed-bytes-spec : {M : Type 1} → statement M
+has-fixed-bytes-spec =
+    tie.close
+    (tie.spec (search needs) (search needs) (search needs) (search needs) returns)

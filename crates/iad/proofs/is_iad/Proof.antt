@@ -1,0 +1,19 @@
+-- Another length is refused by itself; behind it the code's tests are the definition's.
+use borrow.Author.Needs.{needs}
+use borrow.Author.Tests.{eq-eqb, ne-eqb}
+use Rattle.iad.specs.Iad.{isIad}
+use Rattle.iad.proofs.is_iad.Statement.{statement}
+use Rattle.iad.proofs.is_iad.Tie as tie
+
+returns : tie.Need-returns
+unfolding isIad
+returns c = simp (ne-eqb _ _ (c .if1 .taken))
+
+returns-2 : tie.Need-returns-2
+unfolding isIad
+returns-2 c = simp (eq-eqb _ _ (c .before .before .before .before .before .before .if1 .left)) (cc)
+
+pub is-iad-spec : {M : Type 1} → statement M
+is-iad-spec =
+    tie.close
+    (tie.spec returns (search needs) (search needs) (search needs) (search needs) (search needs) (search needs) returns-2)

@@ -1,0 +1,12 @@
+-- The code's tests are the definition's.
+use borrow.Author.Needs.{needs}
+use Rattle.iad.specs.Iad.{isWritable}
+use Rattle.iad.proofs.is_writable.Statement.{statement}
+use Rattle.iad.proofs.is_writable.Tie as tie
+
+returns : tie.Need-returns
+unfolding isWritable
+returns c = cc
+
+pub is-writable-spec : {M : Type 1} → statement M
+is-writable-spec = tie.close (tie.spec (search needs) (search needs) returns)
