@@ -64,7 +64,7 @@ isProfile s at =
 
 -- profile i + 1, if it is one of the p
 unfoldable pub isProfileOrAbsent : List ℕ → ℕ → Bool
-isProfileOrAbsent s i = leb (byte s 3) i || isProfile s (profilePlace s i)
+isProfileOrAbsent s i = not (ltb i (byte s 3)) || isProfile s (profilePlace s i)
 
 unfoldable pub areProfiles : List ℕ → Bool
 areProfiles s = all 4 (isProfileOrAbsent s)
@@ -79,7 +79,7 @@ isConversion s at =
 
 -- conversion i + 1, if it is one of the c
 unfoldable pub isConversionOrAbsent : List ℕ → ℕ → Bool
-isConversionOrAbsent s i = leb (byte s 4) i || isConversion s (conversionPlace s i)
+isConversionOrAbsent s i = not (ltb i (byte s 4)) || isConversion s (conversionPlace s i)
 
 unfoldable pub areConversions : List ℕ → Bool
 areConversions s = all 5 (isConversionOrAbsent s)
