@@ -1,20 +1,15 @@
 -- What is accepted is exactly document 01's list of ranges, field by field over the bytes. Assumes nothing.
-use mathlib.Core.Path.{_≡_, refl, sym, ap, _∙_, subst}
-use mathlib.Core.Bool.{Bool, true, false, not, cond, _&&_, _||_}
+use mathlib.Core.Path.{_≡_}
+use mathlib.Core.Bool.{true}
 use mathlib.Core.List.{List}
-use mathlib.Core.Logic.{_↔_, Iff·trans}
-use Prim.Native.Nat.{ℕ, zero, suc, _+_, _*_, _/_, _%_, _^_, _≤_, _<_}
+use Prim.Native.Nat.{ℕ, _+_, _*_, _/_, _%_, _^_, _≤_, _<_}
 use native.Mathlib.Omega.{arith}
-use native.Mathlib.Nat.{le-refl}
-use borrow.Author.Tests.{ltb-true, ltb-false, lt-ltb, le-ltb}
 use lib.ListN.{length, List·getD-eq-default}
-use lib.Dec.{leb, ltb, eqb}
 use Rattle.wire.specs.Wire.{byte, number, isCurrency}
-use Rattle.wire.proofs.Numbers.{past, split, one}
+use Rattle.wire.proofs.Numbers.{past, split}
 use Rattle.money.specs.Money.{max}
-use Rattle.body.specs.Body.{profilePlace, conversionPlace}
-use Rattle.ranges.specs.Ranges.{all, hasLength, isHead, isAccumulator, areAccumulators, areMasks, isMaximum, isAccumulatorRule, areAccumulatorRules, isCounterRule, areCounterRules, areSent, isProfile, isProfileOrAbsent, areProfiles, isConversion, isConversionOrAbsent, areConversions, differ, apart, profileNumber, areNumbersApart, conversionPair, arePairsApart, isSetup}
-use Rattle.ranges.proofs.Decides.{Decides, _and_, at-most, below, equal, denied, implied, each, itself, stated, different}
+use Rattle.ranges.specs.Ranges.{hasLength, isHead, isAccumulator, areAccumulators, areMasks, isMaximumAmount, isAccumulatorRule, areAccumulatorRules, areCounterRules, areSent, isProfile, isProfileOrAbsent, areProfiles, isConversion, isConversionOrAbsent, areConversions, profileNumber, areNumbersApart, conversionPair, arePairsApart, isSetup}
+use Rattle.ranges.proofs.Decides.{Decides, _and_, _with_, at-most, below, equal, denied, each, itself, stated, if-there, different}
 
 -- three decimal digits in two bytes
 pub record Currency (code : ℕ) : Type 0 where
@@ -68,6 +63,17 @@ profile-at i = 52 + 107 * i
 abbrev pub conversion-at : List ℕ → ℕ → ℕ
 conversion-at s i = 52 + 107 * byte s 3 + 7 * i
 
+-- profiles are numbered all different
+abbrev pub NumbersDiffer : List ℕ → Type 0
+NumbersDiffer s = (i j : ℕ) → i < j → j < byte s 3 → byte s (profile-at i) ≡ byte s (profile-at j) → ⊥
+
+-- no pair of from and to is there twice
+abbrev pub PairsDiffer : List ℕ → Type 0
+PairsDiffer s =
+    (i j : ℕ) → i < j → j < byte s 4 → number s (conversion-at s i) 2 ≡ number s (conversion-at s j) 2
+    → number s (conversion-at s i + 2) 2 ≡ number s (conversion-at s j + 2) 2
+    → ⊥
+
 pub record Accepted (s : List ℕ) : Type 0 where
   pub size : length s ≡ 52 + 107 * byte s 3 + 7 * byte s 4
   pub pin : byte s 1 ≤ 15
@@ -78,10 +84,9 @@ pub record Accepted (s : List ℕ) : Type 0 where
   pub online : byte s 7 ≤ 1
   pub accumulators : (i : ℕ) → i < 4 → AccumulatorRanges s (8 + 10 * i)
   pub profiles : (i : ℕ) → i < byte s 3 → ProfileRanges s (profile-at i)
-  pub numbers : (i j : ℕ) → i < j → j < byte s 3 → byte s (profile-at i) ≡ byte s (profile-at j) → ⊥
+  pub numbers : NumbersDiffer s
   pub conversions : (i : ℕ) → i < byte s 4 → ConversionRanges s (conversion-at s i)
-  pub pairs : (i j : ℕ) → i < j → j < byte s 4 → number s (conversion-at s i) 2 ≡ number s (conversion-at s j) 2
-      → number s (conversion-at s i + 2) 2 ≡ number s (conversion-at s j + 2) 2 → ⊥
+  pub pairs : PairsDiffer s
 
 pub currency : (code : ℕ) → Decides (isCurrency code) (Currency code)
 currency code =
@@ -101,81 +106,87 @@ currency code =
 module _ (s : List ℕ) where
   accumulator : (at : ℕ) → Decides (isAccumulator s at) (AccumulatorRanges s at)
   unfolding isAccumulator
-  accumulator at = stated (currency _ and at-most _ _) (λ (c, v). record { currency = c; value = v }) (λ a. (a .currency, a .value))
+  accumulator at = stated (currency _ and at-most _ _) (λ (c, v). record { currency = c; value = v }) (λ a. a .currency with a .value)
 
   accumulator-rule : (at : ℕ) → Decides (isAccumulatorRule s at) (AccumulatorRuleRanges s at)
   unfolding isAccumulatorRule
   accumulator-rule at =
       stated (at-most _ _ and at-most _ _ and at-most _ _) (λ ((w, l), u). record { switches = w; lower = l; upper = u })
-      (λ a. ((a .switches, a .lower), a .upper))
+      (λ a. a .switches with a .lower with a .upper)
 
   profile : (at : ℕ) → Decides (isProfile s at) (ProfileRanges s at)
-  unfolding isProfile areMasks isMaximum areAccumulatorRules areCounterRules areSent
+  unfolding isProfile areMasks isMaximumAmount areAccumulatorRules areCounterRules areSent
   profile at =
       stated
       (at-most _ _ and at-most _ _ and (below _ _ and below _ _ and below _ _) and (at-most _ _ and currency _ and at-most _ _)
-      and each 4 (λ j. accumulator-rule (at + (24 + 17 * j))) and each 4 (λ j. at-most (byte s (at + (92 + 3 * j))) 15)
+      and each 4 (λ j. accumulator-rule (at + (24 + 17 * j)))
+      and each 4 (λ j. at-most (byte s (at + (92 + 3 * j))) 15)
       and (at-most _ _ and at-most _ _ and at-most _ _))
-      (λ ((((((n, m), ((o, d), f)), ((i, c), a)), r), k), ((x, y), z)).
+      (λ ((((((least, most), ((online, decline), default)), ((on, code), amount)), accumulators), counters), ((accumulator, first), second)).
       record {
-        number-least = n;
-        number-most = m;
-        online = o;
-        decline = d;
-        default = f;
-        maximum-on = i;
-        maximum-currency = c;
-        maximum = a;
-        accumulators = r;
-        counters = k;
-        accumulator-sent = x;
-        first-sent = y;
-        second-sent = z;
+        number-least = least;
+        number-most = most;
+        online = online;
+        decline = decline;
+        default = default;
+        maximum-on = on;
+        maximum-currency = code;
+        maximum = amount;
+        accumulators = accumulators;
+        counters = counters;
+        accumulator-sent = accumulator;
+        first-sent = first;
+        second-sent = second;
       })
-      (λ p. ((((((p .number-least, p .number-most), ((p .online, p .decline), p .default)), ((p .maximum-on, p .maximum-currency), p .maximum)), p .accumulators), p .counters), ((p .accumulator-sent, p .first-sent), p .second-sent)))
+      (λ p.
+      p .number-least with p .number-most with (p .online with p .decline with p .default)
+      with (p .maximum-on with p .maximum-currency with p .maximum)
+      with p .accumulators
+      with p .counters
+      with (p .accumulator-sent with p .first-sent with p .second-sent))
 
   conversion : (at : ℕ) → Decides (isConversion s at) (ConversionRanges s at)
   unfolding isConversion
   conversion at =
       stated (currency _ and currency _ and denied (equal _ _) and at-most _ _ and at-most _ _ and at-most _ _)
-      (λ (((((f, t), o), l), m), h). record { from = f; to = t; other = o; digits-least = l; digits-most = m; shift = h })
-      (λ c. (((((c .from, c .to), c .other), c .digits-least), c .digits-most), c .shift))
+      (λ (((((from, to), other), least), most), shift).
+      record { from = from; to = to; other = other; digits-least = least; digits-most = most; shift = shift })
+      (λ c. c .from with c .to with c .other with c .digits-least with c .digits-most with c .shift)
 
   profile-or-absent : (i : ℕ) → Decides (isProfileOrAbsent s i) (i < byte s 3 → ProfileRanges s (profile-at i))
   unfolding isProfileOrAbsent
-  profile-or-absent i =
-      stated (implied (below i (byte s 3)) (profile (profilePlace s i))) (λ f l. rw (lt-ltb _ _ l) at (f l)) (λ f l. rw (lt-ltb _ _ l) (f l))
+  profile-or-absent = if-there (byte s 3) profile-at (length s) profile
 
   conversion-or-absent : (i : ℕ) → Decides (isConversionOrAbsent s i) (i < byte s 4 → ConversionRanges s (conversion-at s i))
   unfolding isConversionOrAbsent
-  conversion-or-absent i =
-      stated (implied (below i (byte s 4)) (conversion (conversionPlace s i))) (λ f l. rw (lt-ltb _ _ l) at (f l)) (λ f l. rw (lt-ltb _ _ l) (f l))
+  conversion-or-absent = if-there (byte s 4) (conversion-at s) (length s) conversion
 
-  numbers-apart : byte s 3 ≤ 4 → ((i : ℕ) → i < byte s 3 → ProfileRanges s (profile-at i))
-      → Decides (areNumbersApart s) ((i j : ℕ) → i < j → j < byte s 3 → byte s (profile-at i) ≡ byte s (profile-at j) → ⊥)
+  numbers-apart : byte s 3 ≤ 4 → ((i : ℕ) → i < byte s 3 → ProfileRanges s (profile-at i)) → Decides (areNumbersApart s) (NumbersDiffer s)
   unfolding areNumbersApart profileNumber
   numbers-apart few profiles =
-      different 4 (byte s 3) (profileNumber s) (λ i. byte s (profile-at i)) few (λ i l. rw (lt-ltb _ _ l))
-      (λ i l. rw (le-ltb _ _ l) (List·getD-eq-default s 0 (le-refl (length s)))) (λ i l z. omega (arith, profiles i l .number-least))
+      different (byte s 3) profile-at (length s) 4 (byte s) few (List·getD-eq-default s 0 (omega arith))
+      (λ i l z. omega (arith, profiles i l .number-least))
 
   -- from and to side by side
   joined : (at : ℕ) → number s at 4 ≡ number s at 2 * 65536 + number s (at + 2) 2
   joined at = split s at 2 2
 
-  pairs-apart : byte s 4 ≤ 5 → ((i : ℕ) → i < byte s 4 → ConversionRanges s (conversion-at s i))
-      → Decides (arePairsApart s) ((i j : ℕ) → i < j → j < byte s 4 → number s (conversion-at s i) 2 ≡ number s (conversion-at s j) 2
-      → number s (conversion-at s i + 2) 2 ≡ number s (conversion-at s j + 2) 2 → ⊥)
+  pairs-apart : byte s 4 ≤ 5 → ((i : ℕ) → i < byte s 4 → ConversionRanges s (conversion-at s i)) → Decides (arePairsApart s) (PairsDiffer s)
   unfolding arePairsApart conversionPair
   pairs-apart few conversions =
       stated
-      (different 5 (byte s 4) (conversionPair s) (λ i. number s (conversion-at s i) 4) few (λ i l. rw (lt-ltb _ _ l))
-      (λ i l. rw (le-ltb _ _ l) (past s (length s) 4 (le-refl (length s))))
-      (λ i l z. conversions i l .other (omega (arith, joined (conversion-at s i)))))
-      (λ f i j l m e g. f i j l m (omega (arith, joined (conversion-at s i), joined (conversion-at s j))))
+      (different (byte s 4) (conversion-at s) (length s) 5 (λ at. number s at 4) few (past s (length s) 4 (omega arith))
+      (λ i l z. let a = joined (conversion-at s i) in conversions i l .other (omega arith)))
+      (λ f i j l m e g.
+      let a = joined (conversion-at s i) in
+      let b = joined (conversion-at s j) in
+      f i j l m (omega arith))
       (λ f i j l m e.
-      let a = conversions i (omega arith) .to in
-      let b = conversions j m .to in
-      f i j l m (omega (arith, joined (conversion-at s i), joined (conversion-at s j))) (omega (arith, joined (conversion-at s i), joined (conversion-at s j))))
+      let a = joined (conversion-at s i) in
+      let b = joined (conversion-at s j) in
+      let x = conversions i (omega arith) .to in
+      let y = conversions j m .to in
+      f i j l m (omega arith) (omega arith))
 
   decided : Decides (isSetup s) (Accepted s)
   unfolding isSetup hasLength isHead areAccumulators areProfiles areConversions
@@ -204,19 +215,13 @@ module _ (s : List ℕ) where
         conversions = listed;
         pairs = pairs-apart conversions-most listed .0 pairs;
       })
-      (λ a. (
-        (
-          (
-            (
-              ((a .size, (((((a .pin, a .required), a .profiles-least), a .profiles-most), a .conversions-most), a .online)), a .accumulators),
-              (λ i _ l. a .profiles i l),
-            ),
-            numbers-apart (a .profiles-most) (a .profiles) .1 (a .numbers),
-          ),
-          (λ i _ l. a .conversions i l),
-        ),
-        pairs-apart (a .conversions-most) (a .conversions) .1 (a .pairs),
-      ))
+      (λ a.
+      a .size with (a .pin with a .required with a .profiles-least with a .profiles-most with a .conversions-most with a .online)
+      with a .accumulators
+      with (λ i _. a .profiles i)
+      with numbers-apart (a .profiles-most) (a .profiles) .1 (a .numbers)
+      with (λ i _. a .conversions i)
+      with pairs-apart (a .conversions-most) (a .conversions) .1 (a .pairs))
 
   pub accepted : isSetup s ≡ true → Accepted s
   accepted = decided .0

@@ -1,5 +1,5 @@
 -- A test and what it decides, both ways, for each form of test. Assumes nothing.
-use mathlib.Core.Path.{_≡_, refl, sym, ap}
+use mathlib.Core.Path.{_≡_, refl, sym, _∙_}
 use mathlib.Core.Bool.{Bool, true, false, not, cond, _&&_, _||_}
 use mathlib.Core.Logic.{_↔_, Iff·trans}
 use Prim.Native.Nat.{ℕ, zero, suc, _≤_, _<_}
@@ -8,7 +8,7 @@ use borrow.Author.Tests.{ltb-true, ltb-false, lt-ltb, leb-true, le-leb, eqb-true
 use lib.Dec.{leb, ltb, eqb}
 use Rattle.ranges.specs.Ranges.{all, apart}
 
-infixl 30 _and_
+infixl 30 _and_ _with_
 abbrev pub Decides : Bool → Type 0 → Type 0
 Decides test P = (test ≡ true) ↔ P
 
@@ -20,6 +20,9 @@ below m n = (ltb-true m n, lt-ltb m n)
 
 pub equal : (m n : ℕ) → Decides (eqb m n) (m ≡ n)
 equal m n = (eqb-true m n, eq-eqb m n)
+
+pub _with_ : {P Q : Type 0} → P → Q → P × Q
+p with q = (p, q)
 
 pub itself : (test : Bool) → Decides test (test ≡ true)
 itself test = (λ h. h, λ h. h)
@@ -53,23 +56,28 @@ each (suc n) {test} {P} d =
     last p i l true e = p .0 i (ltb-true i n e)
     last p i l false e = let s : n ≡ i = omega (arith, ltb-false i n e) in rw s at (p .1)
 
--- Of n entries the first p are there, and the others read as 0: those that are there differ.
-module _ (n p : ℕ) (entry value : ℕ → ℕ) (few : p ≤ n) (there : (i : ℕ) → i < p → entry i ≡ value i)
-    (none : (i : ℕ) → p ≤ i → entry i ≡ 0) (some : (i : ℕ) → i < p → value i ≡ 0 → ⊥) where
-  pub different : Decides (apart n entry) ((i j : ℕ) → i < j → j < p → value i ≡ value j → ⊥)
-  different =
-      stated (each n (λ j. each j (λ i. implied (equal (entry i) (entry j)) (equal (entry i) 0))))
-      (λ f i j l m e.
-      let a = there i (omega arith) in
-      let b = there j m in
-      some i (omega arith) (omega (arith, f j (omega arith) i l (omega arith))))
+-- Entry i of p stands at its place, and one that is not there at the end.
+module _ (p : ℕ) (place : ℕ → ℕ) (end : ℕ) where
+  abbrev stands : ℕ → ℕ
+  stands i = cond (ltb i p) (place i) end
+
+  -- of the entries that are there
+  pub if-there : {test : ℕ → Bool} {P : ℕ → Type 0} → ((at : ℕ) → Decides (test at) (P at))
+      → (i : ℕ) → Decides (not (ltb i p) || test (stands i)) (i < p → P (place i))
+  if-there d i = stated (implied (below i p) (d (stands i))) (λ f l. rw (lt-ltb i p l) at (f l)) (λ f l. rw (lt-ltb i p l) (f l))
+
+  -- what the entries that are there go by is all different, where it is never 0, and 0 at the end
+  pub different : (n : ℕ) (read : ℕ → ℕ) → p ≤ n → read end ≡ 0 → ((i : ℕ) → i < p → read (place i) ≡ 0 → ⊥)
+      → Decides (apart n (λ i. read (stands i))) ((i j : ℕ) → i < j → j < p → read (place i) ≡ read (place j) → ⊥)
+  different n read few none some =
+      stated (each n (λ j. each j (λ i. implied (equal (read (stands i)) (read (stands j))) (equal (read (stands i)) 0))))
+      (λ f i j l m e. some i (omega arith) (sym (there i (omega arith)) ∙ f j (omega arith) i l (there i (omega arith) ∙ e ∙ sym (there j m))))
       (λ f j m i l e. at-place f j i l e (ltb j p) refl)
     where
-      at-place : ((i j : ℕ) → i < j → j < p → value i ≡ value j → ⊥) → (j i : ℕ) → i < j → entry i ≡ entry j
-          → (b : Bool) → ltb j p ≡ b → entry i ≡ 0
-      at-place f j i l e true t =
-          let m = ltb-true j p t in
-          let a = there i (omega arith) in
-          let b = there j m in
-          absurd (f i j l m (omega arith))
-      at-place f j i l e false t = let z = none j (ltb-false j p t) in omega arith
+      there : (i : ℕ) → i < p → read (stands i) ≡ read (place i)
+      there i l = rw (lt-ltb i p l)
+
+      at-place : ((i j : ℕ) → i < j → j < p → read (place i) ≡ read (place j) → ⊥) → (j i : ℕ) → i < j
+          → read (stands i) ≡ read (stands j) → (b : Bool) → ltb j p ≡ b → read (stands i) ≡ 0
+      at-place f j i l e true t = let m = ltb-true j p t in absurd (f i j l m (sym (there i (omega arith)) ∙ e ∙ there j m))
+      at-place f j i l e false t = e ∙ rw t none

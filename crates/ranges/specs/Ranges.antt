@@ -35,8 +35,8 @@ unfoldable pub areMasks : List ℕ → ℕ → Bool
 areMasks s at = ltb (number s (at + 1) 4) (2 ^ 22) && ltb (number s (at + 5) 4) (2 ^ 22) && ltb (number s (at + 9) 4) (2 ^ 22)
 
 -- MTA on (0/1), its currency (2), MTA (8)
-unfoldable pub isMaximum : List ℕ → ℕ → Bool
-isMaximum s at = leb (byte s (at + 13)) 1 && isCurrency (number s (at + 14) 2) && leb (number s (at + 16) 8) max
+unfoldable pub isMaximumAmount : List ℕ → ℕ → Bool
+isMaximumAmount s at = leb (byte s (at + 13)) 1 && isCurrency (number s (at + 14) 2) && leb (number s (at + 16) 8) max
 
 -- an accumulator's rule at a place: switches (1, 2, 4), lower (8), upper (8)
 unfoldable pub isAccumulatorRule : List ℕ → ℕ → Bool
@@ -59,7 +59,7 @@ areSent s at = leb (byte s (at + 104)) 4 && leb (byte s (at + 105)) 4 && leb (by
 -- a profile at a place: number (1 to 124), and the parts above
 unfoldable pub isProfile : List ℕ → ℕ → Bool
 isProfile s at =
-    leb 1 (byte s at) && leb (byte s at) 124 && areMasks s at && isMaximum s at && areAccumulatorRules s at && areCounterRules s at
+    leb 1 (byte s at) && leb (byte s at) 124 && areMasks s at && isMaximumAmount s at && areAccumulatorRules s at && areCounterRules s at
     && areSent s at
 
 -- profile i + 1, if it is one of the p
@@ -84,7 +84,7 @@ isConversionOrAbsent s i = not (ltb i (byte s 4)) || isConversion s (conversionP
 unfoldable pub areConversions : List ℕ → Bool
 areConversions s = all 5 (isConversionOrAbsent s)
 
--- what two entries go by, where 0 stands for one that is not there
+-- two entries by what they go by, where 0 stands for one that is not there
 abbrev pub differ : ℕ → ℕ → Bool
 differ a b = not (eqb a b) || eqb a 0
 

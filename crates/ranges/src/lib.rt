@@ -2,7 +2,7 @@
 // (document 01, "Numbers" and "The paper"). Ranges hold for inactive entries too.
 ghost use mathlib.Core.Path.{_≡_};
 ghost use Prim.Native.Nat.{_+_, _<_, _^_};
-ghost use Rattle.ranges.specs.Ranges.{hasLength, isHead, isAccumulator, areAccumulators, areMasks, isMaximum, isAccumulatorRule, areAccumulatorRules, areCounterRules, areSent, isProfile, isProfileOrAbsent, areProfiles, isConversion, isConversionOrAbsent, areConversions, differ, profileNumber, areNumbersApart, conversionPair, arePairsApart, isSetup};
+ghost use Rattle.ranges.specs.Ranges.{hasLength, isHead, isAccumulator, areAccumulators, areMasks, isMaximumAmount, isAccumulatorRule, areAccumulatorRules, areCounterRules, areSent, isProfile, isProfileOrAbsent, areProfiles, isConversion, isConversionOrAbsent, areConversions, differ, profileNumber, areNumbersApart, conversionPair, arePairsApart, isSetup};
 use money::MAX;
 
 // Bit 22, the first mask bit without a name.
@@ -53,9 +53,9 @@ fn are_masks(s: &[u8], at: usize) -> bool
 }
 
 // MTA on, its currency, and the MTA of the profile at a place.
-fn is_maximum(s: &[u8], at: usize) -> bool
+fn is_maximum_amount(s: &[u8], at: usize) -> bool
     requires { ⌜ at + 107 < 2 ^ 64 ⌝ }
-    ensures { λ r. ⌜ r ≡ isMaximum (now (s .entry)) at ⌝ }
+    ensures { λ r. ⌜ r ≡ isMaximumAmount (now (s .entry)) at ⌝ }
 {
     (wire::byte_at(s, at + 13) <= 1)
         & wire::is_currency(wire::u16_at(s, at + 14))
@@ -112,7 +112,7 @@ fn is_profile(s: &[u8], at: usize) -> bool
     (1 <= number)
         & (number <= 124)
         & are_masks(s, at)
-        & is_maximum(s, at)
+        & is_maximum_amount(s, at)
         & are_accumulator_rules(s, at)
         & are_counter_rules(s, at)
         & are_sent(s, at)
@@ -173,7 +173,7 @@ fn are_conversions(s: &[u8]) -> bool
         & is_conversion_or_absent(s, 4)
 }
 
-// What two entries go by, where 0 stands for one that is not there.
+// Two entries by what they go by, where 0 stands for one that is not there.
 fn differ(a: u32, b: u32) -> bool
     ensures { λ r. ⌜ r ≡ differ a b ⌝ }
 {
