@@ -1,0 +1,11 @@
+use borrow.Author.Needs.{needs}
+use Rattle.ranges.specs.Ranges.{areAccumulators}
+use Rattle.ranges.proofs.are_accumulators.Statement.{statement}
+use Rattle.ranges.proofs.are_accumulators.Tie as tie
+
+returns : tie.Need-returns
+unfolding areAccumulators
+returns c = cc
+
+pub are-accumulators-spec : {M : Type 1} → statement M
+are-accumulators-spec = tie.close (tie.spec (search needs) (search needs) (search needs) (search needs) returns)

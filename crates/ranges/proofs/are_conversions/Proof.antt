@@ -1,0 +1,11 @@
+use borrow.Author.Needs.{needs}
+use Rattle.ranges.specs.Ranges.{areConversions}
+use Rattle.ranges.proofs.are_conversions.Statement.{statement}
+use Rattle.ranges.proofs.are_conversions.Tie as tie
+
+returns : tie.Need-returns
+unfolding areConversions
+returns c = cc
+
+pub are-conversions-spec : {M : Type 1} → statement M
+are-conversions-spec = tie.close (tie.spec (search needs) (search needs) (search needs) (search needs) (search needs) returns)

@@ -1,0 +1,11 @@
+use borrow.Author.Needs.{needs}
+use Rattle.ranges.specs.Ranges.{areMasks}
+use Rattle.ranges.proofs.are_masks.Statement.{statement}
+use Rattle.ranges.proofs.are_masks.Tie as tie
+
+returns : tie.Need-returns
+unfolding areMasks
+returns c = cc
+
+pub are-masks-spec : {M : Type 1} → statement M
+are-masks-spec = tie.close (tie.spec (search needs) (search needs) (search needs) (search needs) (search needs) (search needs) returns)

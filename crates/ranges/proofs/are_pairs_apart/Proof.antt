@@ -1,0 +1,11 @@
+use borrow.Author.Needs.{needs}
+use Rattle.ranges.specs.Ranges.{arePairsApart}
+use Rattle.ranges.proofs.are_pairs_apart.Statement.{statement}
+use Rattle.ranges.proofs.are_pairs_apart.Tie as tie
+
+returns : tie.Need-returns
+unfolding arePairsApart
+returns c = cc
+
+pub are-pairs-apart-spec : {M : Type 1} → statement M
+are-pairs-apart-spec = tie.close (tie.spec (search needs) (search needs) (search needs) (search needs) (search needs) (search needs) (search needs) (search needs) (search needs) (search needs) (search needs) (search needs) (search needs) (search needs) (search needs) returns)

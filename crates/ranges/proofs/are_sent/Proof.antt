@@ -1,0 +1,11 @@
+use borrow.Author.Needs.{needs}
+use Rattle.ranges.specs.Ranges.{areSent}
+use Rattle.ranges.proofs.are_sent.Statement.{statement}
+use Rattle.ranges.proofs.are_sent.Tie as tie
+
+returns : tie.Need-returns
+unfolding areSent
+returns c = cc
+
+pub are-sent-spec : {M : Type 1} → statement M
+are-sent-spec = tie.close (tie.spec (search needs) (search needs) (search needs) (search needs) (search needs) (search needs) returns)

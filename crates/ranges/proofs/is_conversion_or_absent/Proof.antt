@@ -1,0 +1,16 @@
+use borrow.Author.Needs.{needs}
+use borrow.Author.Tests.{lt-ltb, le-ltb}
+use Rattle.ranges.specs.Ranges.{isConversionOrAbsent}
+use Rattle.ranges.proofs.is_conversion_or_absent.Statement.{statement}
+use Rattle.ranges.proofs.is_conversion_or_absent.Tie as tie
+
+returns : tie.Need-returns
+unfolding isConversionOrAbsent
+returns c = rw (← c .before .byte-at .ensures) (simp (le-ltb _ _ (c .if1 .taken)))
+
+returns-2 : tie.Need-returns-2
+unfolding isConversionOrAbsent
+returns-2 c = rw (← c .before .conversion-place .ensures .0, ← c .before .before .before .byte-at .ensures) (simp (lt-ltb _ _ (c .before .before .if1 .left), c .is-conversion .ensures))
+
+pub is-conversion-or-absent-spec : {M : Type 1} → statement M
+is-conversion-or-absent-spec = tie.close (tie.spec (search needs) (search needs) returns (search needs) (search needs) returns-2)

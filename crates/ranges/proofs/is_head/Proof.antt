@@ -1,0 +1,11 @@
+use borrow.Author.Needs.{needs}
+use Rattle.ranges.specs.Ranges.{isHead}
+use Rattle.ranges.proofs.is_head.Statement.{statement}
+use Rattle.ranges.proofs.is_head.Tie as tie
+
+returns : tie.Need-returns
+unfolding isHead
+returns c = cc
+
+pub is-head-spec : {M : Type 1} → statement M
+is-head-spec = tie.close (tie.spec (search needs) (search needs) (search needs) (search needs) (search needs) returns)

@@ -1,0 +1,11 @@
+use borrow.Author.Needs.{needs}
+use Rattle.ranges.specs.Ranges.{isProfile}
+use Rattle.ranges.proofs.is_profile.Statement.{statement}
+use Rattle.ranges.proofs.is_profile.Tie as tie
+
+returns : tie.Need-returns
+unfolding isProfile
+returns c = cc
+
+pub is-profile-spec : {M : Type 1} → statement M
+is-profile-spec = tie.close (tie.spec (search needs) (search needs) (search needs) (search needs) (search needs) (search needs) returns)

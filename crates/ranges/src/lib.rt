@@ -1,0 +1,234 @@
+// Whether the bytes of a set-up's body are a set-up: its length, and the range of every field
+// (document 01, "Numbers" and "The paper"). Ranges hold for inactive entries too.
+ghost use mathlib.Core.Path.{_≡_};
+ghost use Prim.Native.Nat.{_+_, _<_, _^_};
+ghost use Rattle.ranges.specs.Ranges.{hasLength, isHead, isAccumulator, areAccumulators, areMasks, isMaximumAmount, isAccumulatorRule, areAccumulatorRules, areCounterRules, areSent, isProfile, isProfileOrAbsent, areProfiles, isConversion, isConversionOrAbsent, areConversions, differ, profileNumber, areNumbersApart, conversionPair, arePairsApart, isSetup};
+use money::MAX;
+
+// Bit 22, the first mask bit without a name.
+const UNNAMED: u32 = 4_194_304;
+
+// 52 + 107p + 7c bytes.
+fn has_length(s: &[u8]) -> bool
+    ensures { λ r. ⌜ r ≡ hasLength (now (s .entry)) ⌝ }
+{
+    s.len() == 52 + 107 * wire::byte_at(s, 3) as usize + 7 * wire::byte_at(s, 4) as usize
+}
+
+// PIN tries, issuer authentication required, p, c and go online next.
+fn is_head(s: &[u8]) -> bool
+    ensures { λ r. ⌜ r ≡ isHead (now (s .entry)) ⌝ }
+{
+    let p = wire::byte_at(s, 3);
+    (wire::byte_at(s, 1) <= 15)
+        & (wire::byte_at(s, 2) <= 1)
+        & (1 <= p)
+        & (p <= 4)
+        & (wire::byte_at(s, 4) <= 5)
+        & (wire::byte_at(s, 7) <= 1)
+}
+
+// Currency and value of an accumulator.
+fn is_accumulator(s: &[u8], at: usize) -> bool
+    requires { ⌜ at + 10 < 2 ^ 64 ⌝ }
+    ensures { λ r. ⌜ r ≡ isAccumulator (now (s .entry)) at ⌝ }
+{
+    wire::is_currency(wire::u16_at(s, at)) & (wire::u64_at(s, at + 2) <= MAX)
+}
+
+fn are_accumulators(s: &[u8]) -> bool
+    ensures { λ r. ⌜ r ≡ areAccumulators (now (s .entry)) ⌝ }
+{
+    is_accumulator(s, 8) & is_accumulator(s, 18) & is_accumulator(s, 28) & is_accumulator(s, 38)
+}
+
+// Online, Decline and Default of the profile at a place: unnamed bits are zero.
+fn are_masks(s: &[u8], at: usize) -> bool
+    requires { ⌜ at + 107 < 2 ^ 64 ⌝ }
+    ensures { λ r. ⌜ r ≡ areMasks (now (s .entry)) at ⌝ }
+{
+    (wire::u32_at(s, at + 1) < UNNAMED)
+        & (wire::u32_at(s, at + 5) < UNNAMED)
+        & (wire::u32_at(s, at + 9) < UNNAMED)
+}
+
+// MTA on, its currency, and the MTA of the profile at a place.
+fn is_maximum_amount(s: &[u8], at: usize) -> bool
+    requires { ⌜ at + 107 < 2 ^ 64 ⌝ }
+    ensures { λ r. ⌜ r ≡ isMaximumAmount (now (s .entry)) at ⌝ }
+{
+    (wire::byte_at(s, at + 13) <= 1)
+        & wire::is_currency(wire::u16_at(s, at + 14))
+        & (wire::u64_at(s, at + 16) <= MAX)
+}
+
+// Switches, lower and upper limit of an accumulator.
+fn is_accumulator_rule(s: &[u8], at: usize) -> bool
+    requires { ⌜ at + 17 < 2 ^ 64 ⌝ }
+    ensures { λ r. ⌜ r ≡ isAccumulatorRule (now (s .entry)) at ⌝ }
+{
+    (wire::byte_at(s, at) <= 7)
+        & (wire::u64_at(s, at + 1) <= MAX)
+        & (wire::u64_at(s, at + 9) <= MAX)
+}
+
+fn are_accumulator_rules(s: &[u8], at: usize) -> bool
+    requires { ⌜ at + 107 < 2 ^ 64 ⌝ }
+    ensures { λ r. ⌜ r ≡ areAccumulatorRules (now (s .entry)) at ⌝ }
+{
+    is_accumulator_rule(s, at + 24)
+        & is_accumulator_rule(s, at + 41)
+        & is_accumulator_rule(s, at + 58)
+        & is_accumulator_rule(s, at + 75)
+}
+
+// The switches of each counter. Its limits may be any.
+fn are_counter_rules(s: &[u8], at: usize) -> bool
+    requires { ⌜ at + 107 < 2 ^ 64 ⌝ }
+    ensures { λ r. ⌜ r ≡ areCounterRules (now (s .entry)) at ⌝ }
+{
+    (wire::byte_at(s, at + 92) <= 15)
+        & (wire::byte_at(s, at + 95) <= 15)
+        & (wire::byte_at(s, at + 98) <= 15)
+        & (wire::byte_at(s, at + 101) <= 15)
+}
+
+// The accumulator sent and the two counters sent: 1 to 4, or 0 for none.
+fn are_sent(s: &[u8], at: usize) -> bool
+    requires { ⌜ at + 107 < 2 ^ 64 ⌝ }
+    ensures { λ r. ⌜ r ≡ areSent (now (s .entry)) at ⌝ }
+{
+    (wire::byte_at(s, at + 104) <= 4)
+        & (wire::byte_at(s, at + 105) <= 4)
+        & (wire::byte_at(s, at + 106) <= 4)
+}
+
+// The 107 bytes of a profile at a place.
+fn is_profile(s: &[u8], at: usize) -> bool
+    requires { ⌜ at + 107 < 2 ^ 64 ⌝ }
+    ensures { λ r. ⌜ r ≡ isProfile (now (s .entry)) at ⌝ }
+{
+    let number = wire::byte_at(s, at);
+    (1 <= number)
+        & (number <= 124)
+        & are_masks(s, at)
+        & is_maximum_amount(s, at)
+        & are_accumulator_rules(s, at)
+        & are_counter_rules(s, at)
+        & are_sent(s, at)
+}
+
+// Profile i + 1, if it is there.
+fn is_profile_or_absent(s: &[u8], i: usize) -> bool
+    ensures { λ r. ⌜ r ≡ isProfileOrAbsent (now (s .entry)) i ⌝ }
+{
+    if wire::byte_at(s, 3) as usize <= i {
+        return true;
+    }
+    is_profile(s, body::profile_place(s, i))
+}
+
+fn are_profiles(s: &[u8]) -> bool
+    ensures { λ r. ⌜ r ≡ areProfiles (now (s .entry)) ⌝ }
+{
+    is_profile_or_absent(s, 0)
+        & is_profile_or_absent(s, 1)
+        & is_profile_or_absent(s, 2)
+        & is_profile_or_absent(s, 3)
+}
+
+// From, to, d and s + 9 of the conversion at a place. From is not to.
+fn is_conversion(s: &[u8], at: usize) -> bool
+    requires { ⌜ at + 7 < 2 ^ 64 ⌝ }
+    ensures { λ r. ⌜ r ≡ isConversion (now (s .entry)) at ⌝ }
+{
+    let from = wire::u16_at(s, at);
+    let to = wire::u16_at(s, at + 2);
+    let digits = wire::u16_at(s, at + 4);
+    wire::is_currency(from)
+        & wire::is_currency(to)
+        & (from != to)
+        & (1 <= digits)
+        & (digits <= 9_999)
+        & (wire::byte_at(s, at + 6) <= 12)
+}
+
+// Conversion i + 1, if it is there.
+fn is_conversion_or_absent(s: &[u8], i: usize) -> bool
+    ensures { λ r. ⌜ r ≡ isConversionOrAbsent (now (s .entry)) i ⌝ }
+{
+    if wire::byte_at(s, 4) as usize <= i {
+        return true;
+    }
+    is_conversion(s, body::conversion_place(s, i))
+}
+
+fn are_conversions(s: &[u8]) -> bool
+    ensures { λ r. ⌜ r ≡ areConversions (now (s .entry)) ⌝ }
+{
+    is_conversion_or_absent(s, 0)
+        & is_conversion_or_absent(s, 1)
+        & is_conversion_or_absent(s, 2)
+        & is_conversion_or_absent(s, 3)
+        & is_conversion_or_absent(s, 4)
+}
+
+// Two entries by what they go by, where 0 stands for one that is not there.
+fn differ(a: u32, b: u32) -> bool
+    ensures { λ r. ⌜ r ≡ differ a b ⌝ }
+{
+    (a != b) | (a == 0)
+}
+
+// The number of profile i + 1, 0 if it is not there.
+fn profile_number(s: &[u8], i: usize) -> u32
+    ensures { λ r. ⌜ r ≡ profileNumber (now (s .entry)) i ⌝ }
+{
+    wire::byte_at(s, body::profile_place(s, i)) as u32
+}
+
+// No two profiles have the same number.
+fn are_numbers_apart(s: &[u8]) -> bool
+    ensures { λ r. ⌜ r ≡ areNumbersApart (now (s .entry)) ⌝ }
+{
+    let a = profile_number(s, 0);
+    let b = profile_number(s, 1);
+    let c = profile_number(s, 2);
+    let d = profile_number(s, 3);
+    differ(a, b) & (differ(a, c) & differ(b, c)) & (differ(a, d) & differ(b, d) & differ(c, d))
+}
+
+// From and to of conversion i + 1 in one number, 0 if it is not there.
+fn conversion_pair(s: &[u8], i: usize) -> u32
+    ensures { λ r. ⌜ r ≡ conversionPair (now (s .entry)) i ⌝ }
+{
+    wire::u32_at(s, body::conversion_place(s, i))
+}
+
+// No two conversions are for the same pair.
+fn are_pairs_apart(s: &[u8]) -> bool
+    ensures { λ r. ⌜ r ≡ arePairsApart (now (s .entry)) ⌝ }
+{
+    let a = conversion_pair(s, 0);
+    let b = conversion_pair(s, 1);
+    let c = conversion_pair(s, 2);
+    let d = conversion_pair(s, 3);
+    let e = conversion_pair(s, 4);
+    differ(a, b)
+        & (differ(a, c) & differ(b, c))
+        & (differ(a, d) & differ(b, d) & differ(c, d))
+        & (differ(a, e) & differ(b, e) & differ(c, e) & differ(d, e))
+}
+
+// Whether the bytes are the body of a set-up.
+pub fn is_setup(s: &[u8]) -> bool
+    ensures { λ r. ⌜ r ≡ isSetup (now (s .entry)) ⌝ }
+{
+    has_length(s)
+        & is_head(s)
+        & are_accumulators(s)
+        & are_profiles(s)
+        & are_numbers_apart(s)
+        & are_conversions(s)
+        & are_pairs_apart(s)
+}
