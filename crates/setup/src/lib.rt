@@ -1,0 +1,85 @@
+// A set-up's body, read into lent rules and what a fresh card starts from, or refused.
+ghost use mathlib.Core.Path.{_≡_};
+ghost use Rattle.setup.specs.Setup.{freshIn, noCard, readSetup, wordsAfter};
+use money::AccumulatorAmount;
+use refusal::Refusal;
+use rules::Values;
+use rules::Words;
+
+// What a fresh card starts from: its values, its ATC and "go online next".
+pub struct Fresh {
+    pub values: Values,
+    pub atc: u16,
+    pub online: bool,
+}
+
+pub enum SetupAnswer {
+    Done,
+    Refused(Refusal),
+}
+
+pub struct ReadSetup {
+    pub fresh: Fresh,
+    pub answer: SetupAnswer,
+}
+
+fn read_fresh(s: &[u8]) -> Fresh
+    ensures { λ r. ⌜ r ≡ freshIn (now (s .entry)) ⌝ }
+{
+    Fresh {
+        values: Values {
+            accumulators: [
+                AccumulatorAmount(wire::u64_at(s, 10)),
+                AccumulatorAmount(wire::u64_at(s, 20)),
+                AccumulatorAmount(wire::u64_at(s, 30)),
+                AccumulatorAmount(wire::u64_at(s, 40)),
+            ],
+            counters: [
+                wire::byte_at(s, 48),
+                wire::byte_at(s, 49),
+                wire::byte_at(s, 50),
+                wire::byte_at(s, 51),
+            ],
+        },
+        atc: wire::u16_at(s, 5),
+        online: wire::byte_at(s, 7) == 1,
+    }
+}
+
+fn no_card() -> Fresh
+    ensures { λ r. ⌜ r ≡ noCard ⌝ }
+{
+    Fresh {
+        values: Values {
+            accumulators: [
+                AccumulatorAmount(0),
+                AccumulatorAmount(0),
+                AccumulatorAmount(0),
+                AccumulatorAmount(0),
+            ],
+            counters: [0, 0, 0, 0],
+        },
+        atc: 0,
+        online: false,
+    }
+}
+
+// Refusal 1 leaves the words as they were.
+pub fn read_setup(s: &[u8], words: &mut Words) -> ReadSetup
+    ensures { λ r. ⌜ (r ≡ readSetup (now (s .entry))) × (now (words .exit) ≡ wordsAfter (now (words .entry)) (now (s .entry))) ⌝ }
+{
+    if ranges::is_setup(s) {
+        load::load(words, s);
+        let fresh = read_fresh(s);
+        ReadSetup {
+            fresh,
+            answer: SetupAnswer::Done,
+        }
+    } else {
+        let fresh = no_card();
+        ReadSetup {
+            fresh,
+            answer: SetupAnswer::Refused(Refusal::BadSetup),
+        }
+    }
+}
