@@ -1,0 +1,135 @@
+-- What the rules say after an accepted set-up is what stands in its bytes at document 01's offsets. Assumes nothing.
+use mathlib.Core.Path.{_≡_, refl, sym, ap, _∙_}
+use mathlib.Core.Bool.{Bool, true, false, cond}
+use mathlib.Core.List.{List}
+use Prim.Native.Nat.{ℕ, zero, suc, _+_, _*_, _%_, _^_, _≤_, _<_}
+use native.Mathlib.Nat.{add-assoc, mod-eq-of-lt, pow-suc}
+use native.Mathlib.Omega.{arith}
+use borrow.Author.Tests.{ltb-true, ltb-false}
+use lib.Dec.{ltb, eqb}
+use lib.ListN.{length, List·getD-eq-default}
+use Rattle.wire.specs.Wire.{byte, number}
+use Rattle.wire.proofs.Numbers.{past}
+use Rattle.money.specs.Money.{blank}
+use Rattle.body.specs.Body.{profilePlace, conversionPlace}
+use Rattle.rules.specs.Rules.{Rules, four, five, profileOf, rulesOf, rateAt, blankProfile, blankAccumulator, blankCounter}
+use Rattle.load.specs.Load.{rateWords, amountWords, threeBytes, profileHeadWords, accumulatorsWords, countersWords, profileWords, headWords, ratesWords, profilesWords, loaded, stored}
+use Rattle.load.proofs.Sizes.{loaded-size}
+use Rattle.load.proofs.Stores.{all}
+use Rattle.ranges.specs.Ranges.{isSetup}
+use Rattle.ranges.proofs.Accepted.{accepted}
+use Rattle.refusal.specs.declared.Refusal.the-variants.{BadSetup}
+use Rattle.setup.specs.declared.SetupAnswer.the-variants.{Done, Refused}
+use Rattle.setup.specs.Setup.{rateIn, accumulatorIn, counterIn, profileIn, rulesIn, freshIn, noCard, readSetup, wordsAfter}
+
+-- what a slice of bytes is
+pub record Bytes (s : List ℕ) : Type 0 where
+  pub below : (i : ℕ) → byte s i < 256
+
+module _ (s : List ℕ) (bytes : Bytes s) where
+  number-below : (at n : ℕ) → number s at n < 256 ^ n
+  unfolding number
+  number-below at zero = omega arith
+  number-below at (suc n) =
+      let r = number-below at n in
+      let b = bytes .below (at + n) in
+      rw (pow-suc 256 n) (omega arith)
+
+  keep1 : (at : ℕ) → byte s at % 256 ≡ byte s at
+  keep1 at = mod-eq-of-lt (bytes .below at)
+
+  keep2 : (at : ℕ) → number s at 2 % 65536 ≡ number s at 2
+  keep2 at = mod-eq-of-lt (number-below at 2)
+
+  keep4 : (at : ℕ) → number s at 4 % 4294967296 ≡ number s at 4
+  keep4 at = mod-eq-of-lt (number-below at 4)
+
+  rate-there : (at : ℕ) → rateAt (rateWords s at) 0 ≡ rateIn s at
+  unfolding rateWords rateIn
+  rate-there at = simp (keep1, keep2)
+
+  profile-there : (at : ℕ) → profileOf (profileWords s at) 0 ≡ profileIn s at
+  unfolding profileOf profileWords profileHeadWords accumulatorsWords amountWords countersWords threeBytes profileIn accumulatorIn counterIn
+  profile-there at = simp (add-assoc, keep1, keep2, keep4)
+
+  -- past the end all is blank
+  module _ (at : ℕ) (h : length s ≤ at) where
+    no-byte : (k : ℕ) → byte s (at + k) ≡ 0
+    no-byte k = List·getD-eq-default s 0 (omega arith)
+
+    first-byte : byte s at ≡ 0
+    first-byte = List·getD-eq-default s 0 h
+
+    no-number : (k n : ℕ) → number s (at + k) n ≡ 0
+    no-number k n = past s (at + k) n (omega arith)
+
+    no-rate : rateIn s at ≡ blank
+    unfolding rateIn
+    no-rate = simp (past s at 2 h, no-number, no-byte)
+
+    no-accumulator : accumulatorIn s at ≡ blankAccumulator
+    unfolding accumulatorIn
+    no-accumulator = simp (first-byte, no-number)
+
+    no-counter : counterIn s at ≡ blankCounter
+    unfolding counterIn
+    no-counter = simp (first-byte, no-byte)
+
+  no-profile : (at : ℕ) → length s ≤ at → profileIn s at ≡ blankProfile
+  unfolding profileIn
+  no-profile at h =
+      let accumulator : (k : ℕ) → accumulatorIn s (at + k) ≡ blankAccumulator = λ k. no-accumulator (at + k) (omega arith) in
+      let counter : (k : ℕ) → counterIn s (at + k) ≡ blankCounter = λ k. no-counter (at + k) (omega arith) in
+      simp (first-byte at h, no-byte at h, no-number at h, accumulator, counter)
+
+  profile-or-blank : (i : ℕ) → profileIn s (profilePlace s i) ≡ cond (ltb i (byte s 3)) (profileIn s (52 + 107 * i)) blankProfile
+  profile-or-blank i = by (ltb i (byte s 3)) where
+    by : (there : Bool) → profileIn s (cond there (52 + 107 * i) (length s)) ≡ cond there (profileIn s (52 + 107 * i)) blankProfile
+    by true = refl
+    by false = no-profile (length s) (omega arith)
+
+  rate-or-blank : (i : ℕ) → rateIn s (conversionPlace s i) ≡ cond (ltb i (byte s 4)) (rateIn s (52 + 107 * byte s 3 + 7 * i)) blank
+  rate-or-blank i = by (ltb i (byte s 4)) where
+    by : (there : Bool)
+      → rateIn s (cond there (52 + 107 * byte s 3 + 7 * i) (length s)) ≡ cond there (rateIn s (52 + 107 * byte s 3 + 7 * i)) blank
+    by true = refl
+    by false = no-rate (length s) (omega arith)
+
+  -- each part of the rules is read from its own words
+  parts : Rules
+  parts =
+      record {
+        key = byte s 0 % 256;
+        pin = byte s 1 % 16;
+        required = eqb (byte s 2) 1;
+        currencies = four (λ i. number s (8 + 10 * i) 2 % 65536);
+        rates = record { entries = five (λ i. rateAt (rateWords s (conversionPlace s i)) 0) };
+        profiles = four (λ i. profileOf (profileWords s (profilePlace s i)) 0);
+      }
+
+  apart : rulesOf (loaded s) ≡ parts
+  unfolding parts rulesOf loaded headWords ratesWords rateWords profilesWords profileOf profileWords profileHeadWords accumulatorsWords amountWords countersWords threeBytes
+  apart = refl
+
+  rules-there : byte s 1 ≤ 15 → parts ≡ rulesIn s
+  unfolding parts rulesIn
+  rules-there pin =
+      let keep : byte s 1 % 16 ≡ byte s 1 = mod-eq-of-lt (omega arith) in
+      simp (keep1, keep2, keep, rate-there, profile-there, profile-or-blank 0, profile-or-blank 1, profile-or-blank 2, profile-or-blank 3,
+      rate-or-blank 0, rate-or-blank 1, rate-or-blank 2, rate-or-blank 3, rate-or-blank 4)
+
+  -- the words of an accepted set-up, whatever the 163 words held before
+  pub faithful : (words : List ℕ) → length words ≡ 163 → isSetup s ≡ true → rulesOf (wordsAfter words s) ≡ rulesIn s
+  unfolding wordsAfter
+  faithful words size good =
+      rw good (ap rulesOf (all words (loaded s) (loaded-size s ∙ sym size)) ∙ apart ∙ rules-there (accepted s good .pin))
+
+-- a refused set-up changes nothing lent, and leaves no card
+pub untouched : (words s : List ℕ) → isSetup s ≡ false → (wordsAfter words s ≡ words) × (readSetup s ≡ record { fresh = noCard; answer = Refused BadSetup })
+unfolding wordsAfter readSetup
+untouched words s bad = (simp bad, simp bad)
+
+-- what an accepted set-up gives the card to start from
+pub started : (s : List ℕ) → isSetup s ≡ true → readSetup s ≡ record { fresh = freshIn s; answer = Done }
+unfolding readSetup
+started s good = simp good
