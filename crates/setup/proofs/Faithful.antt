@@ -91,7 +91,7 @@ module _ (s : List ℕ) (bytes : Bytes s) where
   rate-or-blank : (i : ℕ) → rateIn s (conversionPlace s i) ≡ cond (ltb i (byte s 4)) (rateIn s (52 + 107 * byte s 3 + 7 * i)) blank
   rate-or-blank i = by (ltb i (byte s 4)) where
     by : (there : Bool)
-      → rateIn s (cond there (52 + 107 * byte s 3 + 7 * i) (length s)) ≡ cond there (rateIn s (52 + 107 * byte s 3 + 7 * i)) blank
+        → rateIn s (cond there (52 + 107 * byte s 3 + 7 * i) (length s)) ≡ cond there (rateIn s (52 + 107 * byte s 3 + 7 * i)) blank
     by true = refl
     by false = no-rate (length s) (omega arith)
 
@@ -115,8 +115,22 @@ module _ (s : List ℕ) (bytes : Bytes s) where
   unfolding parts rulesIn
   rules-there pin =
       let keep : byte s 1 % 16 ≡ byte s 1 = mod-eq-of-lt (omega arith) in
-      simp (keep1, keep2, keep, rate-there, profile-there, profile-or-blank 0, profile-or-blank 1, profile-or-blank 2, profile-or-blank 3,
-      rate-or-blank 0, rate-or-blank 1, rate-or-blank 2, rate-or-blank 3, rate-or-blank 4)
+      simp (
+        keep1,
+        keep2,
+        keep,
+        rate-there,
+        profile-there,
+        profile-or-blank 0,
+        profile-or-blank 1,
+        profile-or-blank 2,
+        profile-or-blank 3,
+        rate-or-blank 0,
+        rate-or-blank 1,
+        rate-or-blank 2,
+        rate-or-blank 3,
+        rate-or-blank 4,
+      )
 
   -- the words of an accepted set-up, whatever the 163 words held before
   pub faithful : (words : List ℕ) → length words ≡ 163 → isSetup s ≡ true → rulesOf (wordsAfter words s) ≡ rulesIn s
