@@ -88,9 +88,11 @@ areConversions s = all 5 (isConversionOrAbsent s)
 abbrev pub apart : ℕ → (ℕ → ℕ) → Bool
 apart n entry = all n (λ j. all j (λ i. not (eqb (entry i) (entry j))) || eqb (entry j) 0)
 
+-- entries written out
 abbrev pub listed : List ℕ → ℕ → ℕ
 listed entries i = getD entries i 0
 
+-- the number of profile i + 1
 unfoldable pub profileNumber : List ℕ → ℕ → ℕ
 profileNumber s i = byte s (profilePlace s i)
 
@@ -98,7 +100,7 @@ profileNumber s i = byte s (profilePlace s i)
 unfoldable pub areNumbersApart : List ℕ → Bool
 areNumbersApart s = apart 4 (profileNumber s)
 
--- from and to in one number: two conversions are for the same pair if these are equal
+-- from and to of conversion i + 1, side by side in one number
 unfoldable pub conversionPair : List ℕ → ℕ → ℕ
 conversionPair s i = number s (conversionPlace s i) 4
 
