@@ -41,6 +41,11 @@ pub implied : {a b : Bool} {P Q : Type 0} → Decides a P → Decides b Q → De
 implied {a = true} d e = (λ h x. e .0 h, λ f. e .1 (f (d .0 refl)))
 implied {a = false} d e = (λ h x. never (d .1 x), λ f. refl)
 
+pub unless : {a b : Bool} {P Q : Type 0} → Decides a P → Decides b Q → Decides (a || b) ((Q → ⊥) → P)
+unless {a = true} d e = (λ h n. d .0 refl, λ f. refl)
+unless {a = false} {b = true} d e = (λ h n. absurd (n (e .0 refl)), λ f. refl)
+unless {a = false} {b = false} d e = (λ h n. never h, λ f. d .1 (f (λ q. never (e .1 q))))
+
 pub denied : {a : Bool} {P : Type 0} → Decides a P → Decides (not a) (P → ⊥)
 denied {a = true} d = (λ h x. never h, λ f. absurd (f (d .0 refl)))
 denied {a = false} d = (λ h x. never (d .1 x), λ f. refl)
@@ -70,14 +75,14 @@ module _ (p : ℕ) (place : ℕ → ℕ) (end : ℕ) where
   pub different : (n : ℕ) (read : ℕ → ℕ) → p ≤ n → read end ≡ 0 → ((i : ℕ) → i < p → read (place i) ≡ 0 → ⊥)
       → Decides (apart n (λ i. read (stands i))) ((i j : ℕ) → i < j → j < p → read (place i) ≡ read (place j) → ⊥)
   different n read few none some =
-      stated (each n (λ j. each j (λ i. implied (equal (read (stands i)) (read (stands j))) (equal (read (stands i)) 0))))
-      (λ f i j l m e. some i (omega arith) (sym (there i (omega arith)) ∙ f j (omega arith) i l (there i (omega arith) ∙ e ∙ sym (there j m))))
-      (λ f j m i l e. at-place f j i l e (ltb j p) refl)
+      stated (each n (λ j. unless (each j (λ i. denied (equal (read (stands i)) (read (stands j))))) (equal (read (stands j)) 0)))
+      (λ f i j l m e. f j (omega arith) (λ z. some j m (sym (there j m) ∙ z)) i l (there i (omega arith) ∙ e ∙ sym (there j m)))
+      (λ f j m n i l e. at-place f j n i l e (ltb j p) refl)
     where
       there : (i : ℕ) → i < p → read (stands i) ≡ read (place i)
       there i l = rw (lt-ltb i p l)
 
-      at-place : ((i j : ℕ) → i < j → j < p → read (place i) ≡ read (place j) → ⊥) → (j i : ℕ) → i < j
-          → read (stands i) ≡ read (stands j) → (b : Bool) → ltb j p ≡ b → read (stands i) ≡ 0
-      at-place f j i l e true t = let m = ltb-true j p t in absurd (f i j l m (sym (there i (omega arith)) ∙ e ∙ there j m))
-      at-place f j i l e false t = e ∙ rw t none
+      at-place : ((i j : ℕ) → i < j → j < p → read (place i) ≡ read (place j) → ⊥) → (j : ℕ) → (read (stands j) ≡ 0 → ⊥)
+          → (i : ℕ) → i < j → read (stands i) ≡ read (stands j) → (b : Bool) → ltb j p ≡ b → ⊥
+      at-place f j n i l e true t = let m = ltb-true j p t in f i j l m (sym (there i (omega arith)) ∙ e ∙ there j m)
+      at-place f j n i l e false t = n (rw t none)

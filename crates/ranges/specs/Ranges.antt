@@ -3,7 +3,7 @@
 use Prim.Native.Nat.{ℕ, zero, suc, _+_, _*_, _^_}
 use mathlib.Core.Bool.{Bool, true, not, _&&_, _||_}
 use mathlib.Core.List.{List}
-use lib.ListN.{length}
+use lib.ListN.{length, getD}
 use lib.Dec.{leb, ltb, eqb}
 use Rattle.wire.specs.Wire.{byte, number, isCurrency}
 use Rattle.money.specs.Money.{max}
@@ -84,14 +84,15 @@ isConversionOrAbsent s i = not (ltb i (byte s 4)) || isConversion s (conversionP
 unfoldable pub areConversions : List ℕ → Bool
 areConversions s = all 5 (isConversionOrAbsent s)
 
--- two entries by what they go by, where 0 stands for one that is not there
-abbrev pub differ : ℕ → ℕ → Bool
-differ a b = not (eqb a b) || eqb a 0
-
--- each of n entries differs from those before it
+-- n entries by what they go by: each differs from those before it, or is 0, which stands for one that is not there
 abbrev pub apart : ℕ → (ℕ → ℕ) → Bool
-apart n entry = all n (λ j. all j (λ i. differ (entry i) (entry j)))
+apart n entry = all n (λ j. all j (λ i. not (eqb (entry i) (entry j))) || eqb (entry j) 0)
 
+-- entries written out
+abbrev pub listed : List ℕ → ℕ → ℕ
+listed entries i = getD entries i 0
+
+-- the number of profile i + 1
 unfoldable pub profileNumber : List ℕ → ℕ → ℕ
 profileNumber s i = byte s (profilePlace s i)
 
@@ -99,7 +100,7 @@ profileNumber s i = byte s (profilePlace s i)
 unfoldable pub areNumbersApart : List ℕ → Bool
 areNumbersApart s = apart 4 (profileNumber s)
 
--- from and to in one number: two conversions are for the same pair if these are equal
+-- from and to of conversion i + 1, side by side in one number
 unfoldable pub conversionPair : List ℕ → ℕ → ℕ
 conversionPair s i = number s (conversionPlace s i) 4
 

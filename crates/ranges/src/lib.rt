@@ -1,8 +1,9 @@
 // Whether the bytes of a set-up's body are a set-up: its length, and the range of every field
 // (document 01, "Numbers" and "The paper"). Ranges hold for inactive entries too.
 ghost use mathlib.Core.Path.{_≡_};
+ghost use mathlib.Core.List.{[], _∷_};
 ghost use Prim.Native.Nat.{_+_, _<_, _^_};
-ghost use Rattle.ranges.specs.Ranges.{hasLength, isHead, isAccumulator, areAccumulators, areMasks, isMaximumAmount, isAccumulatorRule, areAccumulatorRules, areCounterRules, areSent, isProfile, isProfileOrAbsent, areProfiles, isConversion, isConversionOrAbsent, areConversions, differ, profileNumber, areNumbersApart, conversionPair, arePairsApart, isSetup};
+ghost use Rattle.ranges.specs.Ranges.{hasLength, isHead, isAccumulator, areAccumulators, areMasks, isMaximumAmount, isAccumulatorRule, areAccumulatorRules, areCounterRules, areSent, isProfile, isProfileOrAbsent, areProfiles, isConversion, isConversionOrAbsent, areConversions, apart, listed, profileNumber, areNumbersApart, conversionPair, arePairsApart, isSetup};
 use money::MAX;
 
 // Bit 22, the first mask bit without a name.
@@ -173,11 +174,13 @@ fn are_conversions(s: &[u8]) -> bool
         & is_conversion_or_absent(s, 4)
 }
 
-// Two entries by what they go by, where 0 stands for one that is not there.
-fn differ(a: u32, b: u32) -> bool
-    ensures { λ r. ⌜ r ≡ differ a b ⌝ }
+// Four entries by what they go by, all different. 0 stands for one that is not there.
+fn are_apart(a: u32, b: u32, c: u32, d: u32) -> bool
+    ensures { λ r. ⌜ r ≡ apart 4 (listed (a ∷ b ∷ c ∷ d ∷ [])) ⌝ }
 {
-    (a != b) | (a == 0)
+    ((a != b) | (b == 0))
+        & (((a != c) & (b != c)) | (c == 0))
+        & (((a != d) & (b != d) & (c != d)) | (d == 0))
 }
 
 // The number of profile i + 1, 0 if it is not there.
@@ -191,11 +194,12 @@ fn profile_number(s: &[u8], i: usize) -> u32
 fn are_numbers_apart(s: &[u8]) -> bool
     ensures { λ r. ⌜ r ≡ areNumbersApart (now (s .entry)) ⌝ }
 {
-    let a = profile_number(s, 0);
-    let b = profile_number(s, 1);
-    let c = profile_number(s, 2);
-    let d = profile_number(s, 3);
-    differ(a, b) & (differ(a, c) & differ(b, c)) & (differ(a, d) & differ(b, d) & differ(c, d))
+    are_apart(
+        profile_number(s, 0),
+        profile_number(s, 1),
+        profile_number(s, 2),
+        profile_number(s, 3),
+    )
 }
 
 // From and to of conversion i + 1 in one number, 0 if it is not there.
@@ -214,10 +218,7 @@ fn are_pairs_apart(s: &[u8]) -> bool
     let c = conversion_pair(s, 2);
     let d = conversion_pair(s, 3);
     let e = conversion_pair(s, 4);
-    differ(a, b)
-        & (differ(a, c) & differ(b, c))
-        & (differ(a, d) & differ(b, d) & differ(c, d))
-        & (differ(a, e) & differ(b, e) & differ(c, e) & differ(d, e))
+    are_apart(a, b, c, d) & (((a != e) & (b != e) & (c != e) & (d != e)) | (e == 0))
 }
 
 // Whether the bytes are the body of a set-up.

@@ -5,7 +5,7 @@ use Rattle.ranges.proofs.are_masks.Tie as tie
 
 returns : tie.Need-returns
 unfolding areMasks
-returns c = cc
+returns c = simp (c .u32-at3 .ensures, c .before .u32-at2 .ensures, c .before .before .u32-at .ensures)
 
 pub are-masks-spec : {M : Type 1} → statement M
 are-masks-spec = tie.close (tie.spec (search needs) (search needs) (search needs) (search needs) (search needs) (search needs) returns)

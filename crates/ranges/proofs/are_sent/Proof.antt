@@ -5,7 +5,7 @@ use Rattle.ranges.proofs.are_sent.Tie as tie
 
 returns : tie.Need-returns
 unfolding areSent
-returns c = cc
+returns c = simp (c .byte-at3 .ensures, c .before .byte-at2 .ensures, c .before .before .byte-at .ensures)
 
 pub are-sent-spec : {M : Type 1} → statement M
 are-sent-spec = tie.close (tie.spec (search needs) (search needs) (search needs) (search needs) (search needs) (search needs) returns)

@@ -5,7 +5,7 @@ use Rattle.ranges.proofs.is_accumulator.Tie as tie
 
 returns : tie.Need-returns
 unfolding isAccumulator
-returns c = cc
+returns c = simp (c .u64-at .ensures, c .before .is-currency .ensures, c .before .before .u16-at .ensures)
 
 pub is-accumulator-spec : {M : Type 1} → statement M
 is-accumulator-spec = tie.close (tie.spec (search needs) (search needs) (search needs) (search needs) returns)

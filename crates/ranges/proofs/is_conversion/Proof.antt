@@ -5,7 +5,7 @@ use Rattle.ranges.proofs.is_conversion.Tie as tie
 
 returns : tie.Need-returns
 unfolding isConversion
-returns c = cc
+returns c = simp (c .byte-at .ensures, c .before .is-currency2 .ensures, c .before .before .is-currency .ensures, c .before .before .before .u16-at3 .ensures, c .before .before .before .before .u16-at2 .ensures, c .before .before .before .before .before .u16-at .ensures)
 
 pub is-conversion-spec : {M : Type 1} → statement M
 is-conversion-spec = tie.close (tie.spec (search needs) (search needs) (search needs) (search needs) (search needs) (search needs) (search needs) (search needs) (search needs) returns)

@@ -5,7 +5,7 @@ use Rattle.ranges.proofs.is_maximum_amount.Tie as tie
 
 returns : tie.Need-returns
 unfolding isMaximumAmount
-returns c = cc
+returns c = simp (c .u64-at .ensures, c .before .is-currency .ensures, c .before .before .u16-at .ensures, c .before .before .before .byte-at .ensures)
 
 pub is-maximum-amount-spec : {M : Type 1} → statement M
 is-maximum-amount-spec = tie.close (tie.spec (search needs) (search needs) (search needs) (search needs) (search needs) (search needs) (search needs) returns)

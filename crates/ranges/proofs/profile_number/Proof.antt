@@ -5,7 +5,7 @@ use Rattle.ranges.proofs.profile_number.Tie as tie
 
 returns : tie.Need-returns
 unfolding profileNumber
-returns c = cc
+returns c = simp (c .byte-at .ensures, c .before .profile-place .ensures .0)
 
 pub profile-number-spec : {M : Type 1} → statement M
 profile-number-spec = tie.close (tie.spec (search needs) (search needs) (search needs) returns)
