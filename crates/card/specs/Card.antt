@@ -1,0 +1,121 @@
+-- The card: a ruling, then a performance (document 01, "Refusal numbers", "Start and the checks").
+use Prim.Native.Nat.{ℕ, _+_}
+use mathlib.Core.Bool.{Bool, false, cond, _&&_}
+use lib.Dec.{eqb, ltb, leb}
+use Rattle.wire.specs.Wire.{isCurrency}
+use Rattle.money.specs.Money.{max}
+use Rattle.refusal.specs.declared.Refusal.{Refusal}
+use Rattle.refusal.specs.declared.Refusal.the-variants.{OutOfTurn, UnknownProfile, AtcUsedUp, BadType, OutOfRange}
+use Rattle.refusal.specs.Refusal.{refusalNumber}
+use Rattle.rules.specs.declared.Place.{Place}
+use Rattle.rules.specs.declared.Found.{Found}
+use Rattle.rules.specs.declared.Found.the-variants.{At, Nothing}
+use Rattle.rules.specs.Rules.{Rules, findProfile}
+use Rattle.setup.specs.declared.Fresh.{Fresh}
+use Rattle.command.specs.declared.Start.{Start}
+use Rattle.command.specs.declared.First.{First}
+use Rattle.command.specs.declared.Second.{Second}
+use Rattle.command.specs.declared.Command.{Command}
+use Rattle.command.specs.declared.Command.the-variants.{Start as StartCommand, First as FirstCommand, Second as SecondCommand}
+use Rattle.card.specs.declared.Answer.{Answer}
+use Rattle.card.specs.declared.Answer.the-variants.{Refused, Started, Given}
+use Rattle.card.specs.declared.Kind.{Kind}
+use Rattle.card.specs.declared.Kind.the-variants.{Aac, Tc, Arqc}
+use Rattle.card.specs.declared.Pending.{Pending}
+use Rattle.card.specs.declared.Phase.{Phase}
+use Rattle.card.specs.declared.Phase.the-variants.{Idle, Opened, Asked}
+use Rattle.card.specs.declared.State.{State}
+use Rattle.card.specs.declared.Outcome.{Outcome}
+use Rattle.card.specs.First.{firstPerformed}
+use Rattle.card.specs.Second.{secondPerformed}
+
+-- a fresh card's history is clear but for go online next, and no transaction is open
+unfoldable pub freshState : Fresh → State
+freshState fresh =
+    record {
+      values = fresh .values;
+      phase = Idle;
+      atc = fresh .atc;
+      history = record { uncompleted = false; online = fresh .online; failed = false; unable = false; missing = false };
+    }
+
+-- a command is refused, or taken with what it goes on with
+pub data Ruling (A : Type 0) : Type 0 where
+  refuse : Refusal → Ruling A
+  take : A → Ruling A
+
+-- Start: 3 then 4
+abbrev pub ruleOpening : ℕ → Found → Ruling Place
+ruleOpening atc Nothing = refuse UnknownProfile
+ruleOpening atc (At place) = cond (eqb atc 65535) (refuse AtcUsedUp) (take place)
+
+abbrev pub ruleStart : Rules → ℕ → Start → Ruling Place
+ruleStart rules atc start = ruleOpening atc (findProfile rules (start .profile))
+
+-- First: 2, 5, 6
+abbrev pub ruleFirstFields : First → Place → Ruling Place
+ruleFirstFields first place =
+    cond (ltb 2 (first .requested)) (refuse BadType)
+    (cond (leb (first .amount .0) max && isCurrency (first .currency)) (take place) (refuse OutOfRange))
+
+abbrev pub ruleFirst : Phase → First → Ruling Place
+ruleFirst Idle first = refuse OutOfTurn
+ruleFirst (Opened place) first = ruleFirstFields first place
+ruleFirst (Asked pending) first = refuse OutOfTurn
+
+-- Second: 2, 5, 6
+abbrev pub ruleSecondFields : Second → Pending → Ruling Pending
+ruleSecondFields second pending =
+    cond (ltb 1 (second .requested)) (refuse BadType) (cond (ltb 2 (second .issuer)) (refuse OutOfRange) (take pending))
+
+abbrev pub ruleSecond : Phase → Second → Ruling Pending
+ruleSecond Idle second = refuse OutOfTurn
+ruleSecond (Opened place) second = refuse OutOfTurn
+ruleSecond (Asked pending) second = ruleSecondFields second pending
+
+-- a refusal returns its number only and changes no state
+abbrev pub refused : State → Refusal → Outcome
+refused state refusal = record { state = state; answer = Refused refusal }
+
+abbrev pub carried : {A : Type 0} → State → (A → Outcome) → Ruling A → Outcome
+carried state perform (refuse refusal) = refused state refusal
+carried state perform (take what) = perform what
+
+-- Start drops an unfinished transaction, adds 1 to ATC and opens the profile
+abbrev pub startPerformed : State → Place → Outcome
+startPerformed state place =
+    record {
+      state = record { values = state .values; phase = Opened place; atc = state .atc + 1; history = state .history };
+      answer = Started (state .atc + 1);
+    }
+
+unfoldable pub startStep : Rules → State → Start → Outcome
+startStep rules state start = carried state (startPerformed state) (ruleStart rules (state .atc) start)
+
+unfoldable pub firstTaken : Rules → State → First → Place → Outcome
+firstTaken rules state first place = carried state (firstPerformed rules state first) (ruleFirstFields first place)
+
+unfoldable pub firstStep : Rules → State → First → Outcome
+firstStep rules state first = carried state (firstPerformed rules state first) (ruleFirst (state .phase) first)
+
+unfoldable pub secondTaken : Rules → State → Second → Pending → Outcome
+secondTaken rules state second pending = carried state (secondPerformed rules state second) (ruleSecondFields second pending)
+
+unfoldable pub secondStep : Rules → State → Second → Outcome
+secondStep rules state second = carried state (secondPerformed rules state second) (ruleSecond (state .phase) second)
+
+unfoldable pub stepOf : Rules → State → Command → Outcome
+stepOf rules state (StartCommand start) = startStep rules state start
+stepOf rules state (FirstCommand first) = firstStep rules state first
+stepOf rules state (SecondCommand second) = secondStep rules state second
+
+-- the number of each answer, and the CID of a cryptogram: TC 40, ARQC 80, AAC 00
+abbrev pub answerNumber : Answer → ℕ
+answerNumber (Refused refusal) = refusalNumber refusal
+answerNumber (Started atc) = 0
+answerNumber (Given kind atc iad) = 0
+
+abbrev pub cidOf : Kind → ℕ
+cidOf Aac = 0x00
+cidOf Tc = 0x40
+cidOf Arqc = 0x80

@@ -1,0 +1,4 @@
+pub mod Cryptogram
+pub mod First
+pub mod Second
+pub mod Card

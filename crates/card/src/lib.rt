@@ -1,0 +1,188 @@
+// The card: its state, and what Start, First and Second answer and do to it.
+ghost use mathlib.Core.Path.{_≡_};
+ghost use Rattle.rules.specs.Rules.{rulesOf};
+ghost use Rattle.card.specs.Card.{freshState, refused, startStep, firstTaken, firstStep, secondTaken, secondStep, stepOf};
+
+mod cryptogram;
+mod first;
+mod second;
+
+use checks::History;
+use command::Command;
+use command::First;
+use command::Second;
+use command::Start;
+use iad::Iad;
+use meters::Purchase;
+use refusal::Refusal;
+use rules::Found;
+use rules::Place;
+use rules::Values;
+use rules::Words;
+use setup::Fresh;
+
+// What a Second needs of its First: the purchase, CVR byte 3, the profile, and the history as the
+// First found it.
+pub struct Pending {
+    pub purchase: Purchase,
+    pub limits: u8,
+    pub place: Place,
+    pub history: History,
+}
+
+pub enum Phase {
+    Idle,
+    Opened(Place),
+    Asked(Pending),
+}
+
+pub struct State {
+    pub values: Values,
+    pub phase: Phase,
+    pub atc: u16,
+    pub history: History,
+}
+
+// A cryptogram's type.
+pub enum Kind {
+    Aac,
+    Tc,
+    Arqc,
+}
+
+// The type of the second cryptogram.
+pub enum Later {
+    Aac,
+    Tc,
+    NotRequested,
+}
+
+// How the issuer was reached: issuer authentication not performed, failed; unable to go online.
+pub struct Issuer {
+    pub unperformed: bool,
+    pub failed: bool,
+    pub unable: bool,
+}
+
+pub enum Answer {
+    Refused(Refusal),
+    Started { atc: u16 },
+    Given { kind: Kind, atc: u16, iad: Iad },
+}
+
+pub struct Outcome {
+    pub state: State,
+    pub answer: Answer,
+}
+
+// A fresh card's history is clear but for "go online next", and no transaction is open.
+pub fn fresh_card(fresh: Fresh) -> State
+    ensures { λ r. ⌜ r ≡ freshState fresh ⌝ }
+{
+    let values = fresh.values;
+    State {
+        values,
+        phase: Phase::Idle,
+        atc: fresh.atc,
+        history: History {
+            uncompleted: false,
+            online: fresh.online,
+            failed: false,
+            unable: false,
+            missing: false,
+        },
+    }
+}
+
+fn refuse(state: State, refusal: Refusal) -> Outcome
+    ensures { λ r. ⌜ r ≡ refused state refusal ⌝ }
+{
+    Outcome {
+        state,
+        answer: Answer::Refused(refusal),
+    }
+}
+
+// Opens a profile, dropping what was unfinished, and adds 1 to the ATC.
+fn answer_start(words: &Words, state: State, start: Start) -> Outcome
+    ensures { λ r. ⌜ r ≡ startStep (rulesOf (now (words .entry))) state start ⌝ }
+{
+    let Found::At(place) = rules::find_profile(words, start.profile) else {
+        return refuse(state, Refusal::UnknownProfile);
+    };
+    if state.atc == 65_535 {
+        return refuse(state, Refusal::AtcUsedUp);
+    }
+    let values = state.values;
+    let history = state.history;
+    let atc = state.atc + 1;
+    Outcome {
+        state: State {
+            values,
+            phase: Phase::Opened(place),
+            atc,
+            history,
+        },
+        answer: Answer::Started { atc },
+    }
+}
+
+// A First in turn.
+fn take_first(words: &Words, state: State, place: Place, first: First) -> Outcome
+    ensures { λ r. ⌜ r ≡ firstTaken (rulesOf (now (words .entry))) state first place ⌝ }
+{
+    if 2 < first.requested {
+        return refuse(state, Refusal::BadType);
+    }
+    let in_range = (first.amount.0 <= money::MAX) & wire::is_currency(first.currency);
+    if in_range {
+        return first::perform(words, state, place, first);
+    }
+    refuse(state, Refusal::OutOfRange)
+}
+
+fn answer_first(words: &Words, state: State, first: First) -> Outcome
+    ensures { λ r. ⌜ r ≡ firstStep (rulesOf (now (words .entry))) state first ⌝ }
+{
+    let phase = state.phase;
+    match phase {
+        Phase::Idle => refuse(state, Refusal::OutOfTurn),
+        Phase::Opened(place) => take_first(words, state, place, first),
+        Phase::Asked(_) => refuse(state, Refusal::OutOfTurn),
+    }
+}
+
+// A Second in turn.
+fn take_second(words: &Words, state: State, pending: Pending, second: Second) -> Outcome
+    ensures { λ r. ⌜ r ≡ secondTaken (rulesOf (now (words .entry))) state second pending ⌝ }
+{
+    if 1 < second.requested {
+        return refuse(state, Refusal::BadType);
+    }
+    if 2 < second.issuer {
+        return refuse(state, Refusal::OutOfRange);
+    }
+    second::perform(words, state, pending, second)
+}
+
+fn answer_second(words: &Words, state: State, second: Second) -> Outcome
+    ensures { λ r. ⌜ r ≡ secondStep (rulesOf (now (words .entry))) state second ⌝ }
+{
+    let phase = state.phase;
+    match phase {
+        Phase::Idle => refuse(state, Refusal::OutOfTurn),
+        Phase::Opened(_) => refuse(state, Refusal::OutOfTurn),
+        Phase::Asked(pending) => take_second(words, state, pending, second),
+    }
+}
+
+// The answer to a command, and the card after it. A refusal leaves the card as it was.
+pub fn step(words: &Words, state: State, command: Command) -> Outcome
+    ensures { λ r. ⌜ r ≡ stepOf (rulesOf (now (words .entry))) state command ⌝ }
+{
+    match command {
+        Command::Start(command) => answer_start(words, state, command),
+        Command::First(command) => answer_first(words, state, command),
+        Command::Second(command) => answer_second(words, state, command),
+    }
+}

@@ -1,0 +1,138 @@
+-- What it is to exceed a limit, in numbers. Assumes nothing.
+use mathlib.Core.Path.{_≡_, refl, sym, _∙_}
+use mathlib.Core.Bool.{Bool, true, false, _&&_, _||_, or-true, or-false}
+use Prim.Native.Nat.{ℕ, _+_, _-_, _<_, _≤_}
+use native.Mathlib.Numerals.{add-one}
+use native.Mathlib.Omega.{arith}
+use borrow.Author.Tests.{ltb-true, ltb-false, lt-ltb, le-ltb}
+use lib.Dec.{ltb, leb, leb·suc-suc}
+use lib.ListN.{getD}
+use Rattle.money.specs.declared.AccumulatorAmount.{AccumulatorAmount}
+use Rattle.money.specs.declared.Converted.{Converted}
+use Rattle.money.specs.declared.Converted.the-variants.{Amount, NoEntry}
+use Rattle.rules.specs.declared.Place.{Place}
+use Rattle.rules.specs.declared.Values.{Values}
+use Rattle.rules.specs.Rules.{Rules, accumulatorRule, counterRule}
+use Rattle.rules.proofs.Places.{four-at}
+use Rattle.meters.specs.declared.Worths.{Worths}
+use Rattle.meters.specs.Meters.{amountAt, countAt, worthAt}
+use Rattle.checks.specs.Checks.{sumExceeds, amountExceeds, countExceeds, accumulatorExceeds, counterExceeds, accumulatorsLower, accumulatorsUpper, countersLower, countersUpper}
+
+-- a sum against a limit is the summand against what is left to it
+pub left-to : (limit value more : ℕ) → value ≤ limit → ltb (limit - value) more ≡ ltb limit (value + more)
+left-to limit value more h = by (ltb (limit - value) more) refl where
+  by : (b : Bool) → ltb (limit - value) more ≡ b → b ≡ ltb limit (value + more)
+  by true e = let p = ltb-true (limit - value) more e in sym (lt-ltb limit (value + more) (omega arith))
+  by false e = let p = ltb-false (limit - value) more e in sym (le-ltb limit (value + more) (omega arith))
+
+pub one-more : (limit value : ℕ) → leb limit value ≡ ltb limit (value + 1)
+one-more limit value = sym (rw add-one (leb·suc-suc limit value))
+
+-- without a conversion the value alone is tested
+pub unconverted : (limit value : ℕ) (include : Bool) → ltb limit value ≡ amountExceeds limit value include NoEntry
+unconverted limit value true = sym (or-false (ltb limit value))
+unconverted limit value false = sym (or-false (ltb limit value))
+
+-- above a limit: by itself, or with an amount that is included and converts
+pub data Above (limit value : ℕ) (include : Bool) (worth : Converted) : Type 0 where
+  alone : limit < value → Above limit value include worth
+  together : (more : AccumulatorAmount) → include ≡ true → worth ≡ Amount more → limit < value + more .0 → Above limit value include worth
+
+-- within it: by itself, and with such an amount
+pub record Within (limit value : ℕ) (include : Bool) (worth : Converted) : Type 0 where
+  pub alone : value ≤ limit
+  pub together : (more : AccumulatorAmount) → include ≡ true → worth ≡ Amount more → value + more .0 ≤ limit
+
+module _ (limit value : ℕ) where
+  above : (b include : Bool) (worth : Converted) → ltb limit value ≡ b → (b || (include && sumExceeds limit value worth)) ≡ true
+      → Above limit value include worth
+  above true include worth p e = alone (ltb-true limit value p)
+  above false true (Amount more) p e = together more refl refl (ltb-true limit (value + more .0) e)
+  above false true NoEntry p e = let z : _≡_ {A = ℕ} 0 1 = cc in absurd (omega arith)
+  above false false worth p e = let z : _≡_ {A = ℕ} 0 1 = cc in absurd (omega arith)
+
+  within : (b include : Bool) (worth : Converted) → ltb limit value ≡ b → (b || (include && sumExceeds limit value worth)) ≡ false
+      → Within limit value include worth
+  within true include worth p e = let z : _≡_ {A = ℕ} 0 1 = cc in absurd (omega arith)
+  within false include worth p e =
+      record {
+        alone = ltb-false limit value p;
+        together = λ more i w. ltb-false limit (value + more .0) (simp (i, w) at e);
+      }
+
+  kept : (include : Bool) (worth : Converted) → ((more : AccumulatorAmount) → include ≡ true → worth ≡ Amount more → value + more .0 ≤ limit)
+      → (include && sumExceeds limit value worth) ≡ false
+  kept true (Amount more) h = le-ltb limit (value + more .0) (h more refl refl)
+  kept true NoEntry h = refl
+  kept false worth h = refl
+
+-- a value and an amount exceed a limit exactly if they are above it, and don't exactly if they are within
+module _ (limit value : ℕ) (include : Bool) (worth : Converted) where
+  pub exceeds-above : amountExceeds limit value include worth ≡ true → Above limit value include worth
+  exceeds-above e = above limit value (ltb limit value) include worth refl e
+
+  pub above-exceeds : Above limit value include worth → amountExceeds limit value include worth ≡ true
+  above-exceeds (alone h) = simp (lt-ltb limit value h)
+  above-exceeds (together more i w h) = simp (i, w, lt-ltb limit (value + more .0) h, or-true)
+
+  pub kept-within : amountExceeds limit value include worth ≡ false → Within limit value include worth
+  kept-within e = within limit value (ltb limit value) include worth refl e
+
+  pub within-kept : Within limit value include worth → amountExceeds limit value include worth ≡ false
+  within-kept w = rw (le-ltb limit value (w .alone)) (kept limit value include worth (w .together))
+
+-- the flags of accumulator i + 1
+module _ (rules : Rules) (place : Place) (values : Values) (worths : Worths) (i : ℕ) where
+  pub accumulator-active : accumulatorRule rules place i .active ≡ true → (limit : ℕ)
+      → accumulatorExceeds rules place values worths limit i
+      ≡ amountExceeds limit (amountAt values i .0) (accumulatorRule rules place i .include) (worthAt worths i)
+  accumulator-active e limit = simp e
+
+  pub accumulator-inactive : accumulatorRule rules place i .active ≡ false → (limit : ℕ) → accumulatorExceeds rules place values worths limit i ≡ false
+  accumulator-inactive e limit = simp e
+
+  pub accumulator-lower : i < 4 → getD (accumulatorsLower rules place values worths) i false
+      ≡ accumulatorExceeds rules place values worths (accumulatorRule rules place i .lower .0) i
+  unfolding accumulatorsLower
+  accumulator-lower h = four-at (λ i. accumulatorExceeds rules place values worths (accumulatorRule rules place i .lower .0) i) false i h
+
+  pub accumulator-upper : i < 4 → getD (accumulatorsUpper rules place values worths) i false
+      ≡ accumulatorExceeds rules place values worths (accumulatorRule rules place i .upper .0) i
+  unfolding accumulatorsUpper
+  accumulator-upper h = four-at (λ i. accumulatorExceeds rules place values worths (accumulatorRule rules place i .upper .0) i) false i h
+
+  -- without the upper flag the value, and the value with an amount that converts, are within the upper limit
+  pub accumulator-kept : i < 4 → accumulatorRule rules place i .active ≡ true → accumulatorRule rules place i .include ≡ true
+      → getD (accumulatorsUpper rules place values worths) i false ≡ false
+      → (amountAt values i .0 ≤ accumulatorRule rules place i .upper .0)
+      × ((more : AccumulatorAmount) → worthAt worths i ≡ Amount more → amountAt values i .0 + more .0 ≤ accumulatorRule rules place i .upper .0)
+  accumulator-kept h active include e =
+      let flag = sym (accumulator-active active (accumulatorRule rules place i .upper .0)) ∙ sym (accumulator-upper h) ∙ e in
+      let w = kept-within _ _ _ _ flag in
+      (w .alone, λ more c. w .together more include c)
+
+-- and of counter i + 1, to which a purchase is worth 1
+module _ (rules : Rules) (place : Place) (values : Values) (i : ℕ) where
+  pub counter-active : counterRule rules place i .active ≡ true → (limit : ℕ)
+      → counterExceeds rules place values limit i
+      ≡ amountExceeds limit (countAt values i) (counterRule rules place i .include) (Amount (record { 0 = 1 }))
+  counter-active e limit = simp e
+
+  pub counter-inactive : counterRule rules place i .active ≡ false → (limit : ℕ) → counterExceeds rules place values limit i ≡ false
+  counter-inactive e limit = simp e
+
+  pub counter-lower : i < 4 → getD (countersLower rules place values) i false ≡ counterExceeds rules place values (counterRule rules place i .lower) i
+  unfolding countersLower
+  counter-lower h = four-at (λ i. counterExceeds rules place values (counterRule rules place i .lower) i) false i h
+
+  pub counter-upper : i < 4 → getD (countersUpper rules place values) i false ≡ counterExceeds rules place values (counterRule rules place i .upper) i
+  unfolding countersUpper
+  counter-upper h = four-at (λ i. counterExceeds rules place values (counterRule rules place i .upper) i) false i h
+
+  pub counter-kept : i < 4 → counterRule rules place i .active ≡ true → counterRule rules place i .include ≡ true
+      → getD (countersUpper rules place values) i false ≡ false
+      → (countAt values i ≤ counterRule rules place i .upper) × (countAt values i + 1 ≤ counterRule rules place i .upper)
+  counter-kept h active include e =
+      let flag = sym (counter-active active (counterRule rules place i .upper)) ∙ sym (counter-upper h) ∙ e in
+      let w = kept-within _ _ _ _ flag in
+      (w .alone, w .together (record { 0 = 1 }) include refl)
