@@ -59,14 +59,14 @@ abbrev pub addition : Converted → List Entry
 addition (Amount amount) = add (amount .0) ∷ []
 addition NoEntry = []
 
--- an offline approval, or an addition that the issuer orders
+-- at an offline approval, or at the addition that CSU order 11 asks for
 abbrev pub approval : AccumulatorRule → Converted → List Entry
 approval rule worth = cond (rule .active && rule .allow) (addition worth) []
 
 abbrev pub counting : CounterRule → List Entry
 counting rule = cond (rule .active && rule .allow) (add 1 ∷ []) []
 
--- an offline decline
+-- at an offline decline
 abbrev pub declining : CounterRule → List Entry
 declining rule = cond (rule .active && rule .allow && rule .declines) (add 1 ∷ []) []
 
@@ -77,6 +77,7 @@ putting active n = cond active (put n ∷ []) []
 abbrev pub amountMoved : AccumulatorAmount → List Entry → AccumulatorAmount
 amountMoved value entries = record { 0 = moved max (value .0) entries }
 
+-- after an offline approval, or after CSU order 11
 unfoldable pub approved : Rules → Place → Values → Worths → Values
 approved rules place values worths =
     record {
@@ -84,6 +85,7 @@ approved rules place values worths =
       counters = four (λ i. moved counterCap (countAt values i) (counting (counterRule rules place i)));
     }
 
+-- after an offline decline: no accumulator moves
 unfoldable pub declined : Rules → Place → Values → Values
 declined rules place values =
     record {
@@ -91,6 +93,7 @@ declined rules place values =
       counters = four (λ i. moved counterCap (countAt values i) (declining (counterRule rules place i)));
     }
 
+-- after CSU order 01
 unfoldable pub limited : Rules → Place → Values → Values
 limited rules place values =
     record {
@@ -99,6 +102,7 @@ limited rules place values =
       counters = four (λ i. moved counterCap (countAt values i) (putting (counterRule rules place i .active) (counterRule rules place i .upper)));
     }
 
+-- after CSU order 10
 unfoldable pub cleared : Rules → Place → Values → Values
 cleared rules place values =
     record {

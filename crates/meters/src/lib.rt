@@ -1,8 +1,8 @@
 // What a purchase is worth to each accumulator, and what approvals, declines and the issuer's
 // orders do to the values.
 ghost use mathlib.Core.Path.{_≡_};
-ghost use Rattle.rules.specs.Rules.{rulesOf, four, counterRule};
-ghost use Rattle.meters.specs.Meters.{add, move, moved, counterCap, amountMoved, worthsOf, countAt, approval, counting, declining, putting, approved, declined, limited, cleared};
+ghost use Rattle.rules.specs.Rules.{rulesOf};
+ghost use Rattle.meters.specs.Meters.{add, move, moved, counterCap, amountMoved, worthsOf, approval, counting, declining, putting, approved, declined, limited, cleared};
 use money::AccumulatorAmount;
 use money::Converted;
 use money::TransactionAmount;
@@ -39,34 +39,17 @@ pub fn worths_of(words: &Words, purchase: Purchase) -> Worths
     }
 }
 
-// An accumulator with what it counts of a purchase.
-fn grow(rule: AccumulatorRule, value: AccumulatorAmount, worth: Converted) -> AccumulatorAmount
-    ensures { λ r. ⌜ r ≡ amountMoved value (approval rule worth) ⌝ }
+// An accumulator at an approval. Without a conversion the purchase doesn't count there.
+fn grow(rule: AccumulatorRule, amount: AccumulatorAmount, worth: Converted) -> AccumulatorAmount
+    ensures { λ r. ⌜ r ≡ amountMoved amount (approval rule worth) ⌝ }
 {
-    if rule.active & rule.allow {
-        match worth {
-            Converted::Amount(more) => money::plus(value, more),
-            Converted::NoEntry => value,
-        }
-    } else {
-        value
+    if !(rule.active & rule.allow) {
+        return amount;
     }
-}
-
-fn grow_all(words: &Words, place: Place, values: Values, worths: Worths) -> [AccumulatorAmount; 4]
-    ensures { λ r. ⌜ r ≡ approved (rulesOf (now (words .entry))) place values worths .accumulators ⌝ }
-{
-    let amounts = values.accumulators;
-    let one = worths.one;
-    let two = worths.two;
-    let three = worths.three;
-    let four = worths.four;
-    [
-        grow(rules::accumulator_rule(words, place, 0), amounts[0], one),
-        grow(rules::accumulator_rule(words, place, 1), amounts[1], two),
-        grow(rules::accumulator_rule(words, place, 2), amounts[2], three),
-        grow(rules::accumulator_rule(words, place, 3), amounts[3], four),
-    ]
+    match worth {
+        Converted::Amount(more) => money::plus(amount, more),
+        Converted::NoEntry => amount,
+    }
 }
 
 // One more, stopping at 255.
@@ -76,6 +59,7 @@ fn next(value: u8) -> u8
     if value < 255 { value + 1 } else { 255 }
 }
 
+// A counter at an approval.
 fn count(rule: CounterRule, value: u8) -> u8
     ensures { λ r. ⌜ r ≡ moved counterCap value (counting rule) ⌝ }
 {
@@ -86,28 +70,33 @@ fn count(rule: CounterRule, value: u8) -> u8
     }
 }
 
-fn count_all(words: &Words, place: Place, values: Values) -> [u8; 4]
-    ensures { λ r. ⌜ r ≡ four (λ i. moved counterCap (countAt values i) (counting (counterRule (rulesOf (now (words .entry))) place i))) ⌝ }
-{
-    let counts = values.counters;
-    [
-        count(rules::counter_rule(words, place, 0), counts[0]),
-        count(rules::counter_rule(words, place, 1), counts[1]),
-        count(rules::counter_rule(words, place, 2), counts[2]),
-        count(rules::counter_rule(words, place, 3), counts[3]),
-    ]
-}
-
-// An offline approval, or an addition that the issuer orders.
+// An offline approval, or the addition that CSU order 11 asks for.
 pub fn approve(words: &Words, place: Place, values: Values, worths: Worths) -> Values
     ensures { λ r. ⌜ r ≡ approved (rulesOf (now (words .entry))) place values worths ⌝ }
 {
+    let amounts = values.accumulators;
+    let counters = values.counters;
+    let one = worths.one;
+    let two = worths.two;
+    let three = worths.three;
+    let four = worths.four;
     Values {
-        accumulators: grow_all(words, place, values, worths),
-        counters: count_all(words, place, values),
+        accumulators: [
+            grow(rules::accumulator_rule(words, place, 0), amounts[0], one),
+            grow(rules::accumulator_rule(words, place, 1), amounts[1], two),
+            grow(rules::accumulator_rule(words, place, 2), amounts[2], three),
+            grow(rules::accumulator_rule(words, place, 3), amounts[3], four),
+        ],
+        counters: [
+            count(rules::counter_rule(words, place, 0), counters[0]),
+            count(rules::counter_rule(words, place, 1), counters[1]),
+            count(rules::counter_rule(words, place, 2), counters[2]),
+            count(rules::counter_rule(words, place, 3), counters[3]),
+        ],
     }
 }
 
+// A counter at an offline decline.
 fn count_decline(rule: CounterRule, value: u8) -> u8
     ensures { λ r. ⌜ r ≡ moved counterCap value (declining rule) ⌝ }
 {
@@ -118,115 +107,88 @@ fn count_decline(rule: CounterRule, value: u8) -> u8
     }
 }
 
-// An offline decline.
+// An offline decline: no accumulator moves.
 pub fn decline(words: &Words, place: Place, values: Values) -> Values
     ensures { λ r. ⌜ r ≡ declined (rulesOf (now (words .entry))) place values ⌝ }
 {
     let accumulators = values.accumulators;
-    let counts = values.counters;
+    let counters = values.counters;
     Values {
         accumulators,
         counters: [
-            count_decline(rules::counter_rule(words, place, 0), counts[0]),
-            count_decline(rules::counter_rule(words, place, 1), counts[1]),
-            count_decline(rules::counter_rule(words, place, 2), counts[2]),
-            count_decline(rules::counter_rule(words, place, 3), counts[3]),
+            count_decline(rules::counter_rule(words, place, 0), counters[0]),
+            count_decline(rules::counter_rule(words, place, 1), counters[1]),
+            count_decline(rules::counter_rule(words, place, 2), counters[2]),
+            count_decline(rules::counter_rule(words, place, 3), counters[3]),
         ],
     }
 }
 
-fn limit_amount(rule: AccumulatorRule, value: AccumulatorAmount) -> AccumulatorAmount
-    ensures { λ r. ⌜ r ≡ amountMoved value (putting (rule .active) (rule .upper .0)) ⌝ }
+fn limit_accumulator(rule: AccumulatorRule, amount: AccumulatorAmount) -> AccumulatorAmount
+    ensures { λ r. ⌜ r ≡ amountMoved amount (putting (rule .active) (rule .upper .0)) ⌝ }
 {
-    if rule.active { rule.upper } else { value }
+    if rule.active { rule.upper } else { amount }
 }
 
-fn limit_amounts(words: &Words, place: Place, values: Values) -> [AccumulatorAmount; 4]
-    ensures { λ r. ⌜ r ≡ limited (rulesOf (now (words .entry))) place values .accumulators ⌝ }
-{
-    let amounts = values.accumulators;
-    [
-        limit_amount(rules::accumulator_rule(words, place, 0), amounts[0]),
-        limit_amount(rules::accumulator_rule(words, place, 1), amounts[1]),
-        limit_amount(rules::accumulator_rule(words, place, 2), amounts[2]),
-        limit_amount(rules::accumulator_rule(words, place, 3), amounts[3]),
-    ]
-}
-
-fn limit_count(rule: CounterRule, value: u8) -> u8
+fn limit_counter(rule: CounterRule, value: u8) -> u8
     ensures { λ r. ⌜ r ≡ moved counterCap value (putting (rule .active) (rule .upper)) ⌝ }
 {
     if rule.active { rule.upper } else { value }
 }
 
-fn limit_counts(words: &Words, place: Place, values: Values) -> [u8; 4]
-    ensures { λ r. ⌜ r ≡ limited (rulesOf (now (words .entry))) place values .counters ⌝ }
-{
-    let counts = values.counters;
-    [
-        limit_count(rules::counter_rule(words, place, 0), counts[0]),
-        limit_count(rules::counter_rule(words, place, 1), counts[1]),
-        limit_count(rules::counter_rule(words, place, 2), counts[2]),
-        limit_count(rules::counter_rule(words, place, 3), counts[3]),
-    ]
-}
-
-// Every active accumulator and counter takes its upper limit.
+// CSU order 01: every active accumulator and counter takes its upper limit.
 pub fn set_to_limits(words: &Words, place: Place, values: Values) -> Values
     ensures { λ r. ⌜ r ≡ limited (rulesOf (now (words .entry))) place values ⌝ }
 {
-    Values {
-        accumulators: limit_amounts(words, place, values),
-        counters: limit_counts(words, place, values),
-    }
-}
-
-fn clear_amount(rule: AccumulatorRule, value: AccumulatorAmount) -> AccumulatorAmount
-    ensures { λ r. ⌜ r ≡ amountMoved value (putting (rule .active) 0) ⌝ }
-{
-    if rule.active {
-        AccumulatorAmount(0)
-    } else {
-        value
-    }
-}
-
-fn clear_amounts(words: &Words, place: Place, values: Values) -> [AccumulatorAmount; 4]
-    ensures { λ r. ⌜ r ≡ cleared (rulesOf (now (words .entry))) place values .accumulators ⌝ }
-{
     let amounts = values.accumulators;
-    [
-        clear_amount(rules::accumulator_rule(words, place, 0), amounts[0]),
-        clear_amount(rules::accumulator_rule(words, place, 1), amounts[1]),
-        clear_amount(rules::accumulator_rule(words, place, 2), amounts[2]),
-        clear_amount(rules::accumulator_rule(words, place, 3), amounts[3]),
-    ]
+    let counters = values.counters;
+    Values {
+        accumulators: [
+            limit_accumulator(rules::accumulator_rule(words, place, 0), amounts[0]),
+            limit_accumulator(rules::accumulator_rule(words, place, 1), amounts[1]),
+            limit_accumulator(rules::accumulator_rule(words, place, 2), amounts[2]),
+            limit_accumulator(rules::accumulator_rule(words, place, 3), amounts[3]),
+        ],
+        counters: [
+            limit_counter(rules::counter_rule(words, place, 0), counters[0]),
+            limit_counter(rules::counter_rule(words, place, 1), counters[1]),
+            limit_counter(rules::counter_rule(words, place, 2), counters[2]),
+            limit_counter(rules::counter_rule(words, place, 3), counters[3]),
+        ],
+    }
 }
 
-fn clear_count(rule: CounterRule, value: u8) -> u8
+fn clear_accumulator(rule: AccumulatorRule, amount: AccumulatorAmount) -> AccumulatorAmount
+    ensures { λ r. ⌜ r ≡ amountMoved amount (putting (rule .active) 0) ⌝ }
+{
+    let zero = AccumulatorAmount(0);
+    if rule.active { zero } else { amount }
+}
+
+fn clear_counter(rule: CounterRule, value: u8) -> u8
     ensures { λ r. ⌜ r ≡ moved counterCap value (putting (rule .active) 0) ⌝ }
 {
     if rule.active { 0 } else { value }
 }
 
-fn clear_counts(words: &Words, place: Place, values: Values) -> [u8; 4]
-    ensures { λ r. ⌜ r ≡ cleared (rulesOf (now (words .entry))) place values .counters ⌝ }
-{
-    let counts = values.counters;
-    [
-        clear_count(rules::counter_rule(words, place, 0), counts[0]),
-        clear_count(rules::counter_rule(words, place, 1), counts[1]),
-        clear_count(rules::counter_rule(words, place, 2), counts[2]),
-        clear_count(rules::counter_rule(words, place, 3), counts[3]),
-    ]
-}
-
-// Every active accumulator and counter becomes zero.
+// CSU order 10: every active accumulator and counter becomes zero.
 pub fn reset(words: &Words, place: Place, values: Values) -> Values
     ensures { λ r. ⌜ r ≡ cleared (rulesOf (now (words .entry))) place values ⌝ }
 {
+    let amounts = values.accumulators;
+    let counters = values.counters;
     Values {
-        accumulators: clear_amounts(words, place, values),
-        counters: clear_counts(words, place, values),
+        accumulators: [
+            clear_accumulator(rules::accumulator_rule(words, place, 0), amounts[0]),
+            clear_accumulator(rules::accumulator_rule(words, place, 1), amounts[1]),
+            clear_accumulator(rules::accumulator_rule(words, place, 2), amounts[2]),
+            clear_accumulator(rules::accumulator_rule(words, place, 3), amounts[3]),
+        ],
+        counters: [
+            clear_counter(rules::counter_rule(words, place, 0), counters[0]),
+            clear_counter(rules::counter_rule(words, place, 1), counters[1]),
+            clear_counter(rules::counter_rule(words, place, 2), counters[2]),
+            clear_counter(rules::counter_rule(words, place, 3), counters[3]),
+        ],
     }
 }

@@ -1,3 +1,4 @@
+-- Each value is moved as its leaf says, by the rule of its own index.
 use borrow.Author.Needs.{needs}
 use Rattle.meters.specs.Meters.{declined}
 use Rattle.meters.proofs.decline.Statement.{statement}

@@ -1,21 +1,30 @@
--- The sum that stops at MAX is the value moved by one addition.
+-- The sum that stops at MAX is the amount moved by one addition.
 use borrow.Author.Needs.{needs}
+use borrow.Author.Tests.{not-true, not-false}
 use Prim.Native.Nat.{ℕ}
 use mathlib.Core.Path.{ap}
+use mathlib.Core.Bool.{_&&_}
 use Rattle.money.specs.declared.AccumulatorAmount.{AccumulatorAmount}
 use Rattle.meters.proofs.grow.Statement.{statement}
 use Rattle.meters.proofs.grow.Tie as tie
 
 returns : tie.Need-returns
 returns c =
-    let amount : ℕ → AccumulatorAmount = λ n. record { 0 = n } in
-    simp (c .before .before .worth .given .1, c .before .before .before .before .if1 .taken) (ap amount (c .plus .ensures))
+    let rule = c .before .before .args .rule in
+    simp (not-true (rule .active && rule .allow) (c .if1 .taken))
 
 returns-2 : tie.Need-returns-2
-returns-2 c = simp (c .enum-told .given .1, c .before .before .if1 .taken)
+returns-2 c =
+    let left = c .before .before .before .before in
+    let rule = left .before .before .args .rule in
+    let amount : ℕ → AccumulatorAmount = λ n. record { 0 = n } in
+    simp (not-false (rule .active && rule .allow) (left .if1 .left), c .before .before .worth .given .1) (ap amount (c .plus .ensures))
 
 returns-3 : tie.Need-returns-3
-returns-3 c = simp (c .if1 .left)
+returns-3 c =
+    let left = c .before .before in
+    let rule = left .before .before .args .rule in
+    simp (not-false (rule .active && rule .allow) (left .if1 .left), c .enum-told .given .1)
 
 pub grow-spec : {M : Type 1} → statement M
-grow-spec = tie.close (tie.spec (search needs) (search needs) (search needs) returns returns-2 returns-3)
+grow-spec = tie.close (tie.spec returns (search needs) (search needs) (search needs) returns-2 returns-3)

@@ -1,3 +1,4 @@
+-- Each worth is the conversion into the currency of its own index.
 use borrow.Author.Needs.{needs}
 use Rattle.meters.specs.Meters.{worthsOf, worth}
 use Rattle.meters.proofs.worths_of.Statement.{statement}
