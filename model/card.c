@@ -1,0 +1,393 @@
+/* Start, First and Second. Section names in quotes are those of document 01. */
+#include <string.h>
+
+#include "card.h"
+#include "observe.h"
+#include "reached.h"
+
+/* "Conversion". The largest product, MAX x 9,999 x 1,000, is below 2^64. */
+static struct converted convert(const struct setup *setup, uint64_t amount,
+                                uint16_t from, uint16_t to)
+{
+    static const uint64_t ten_to[] = {1, 10, 100, 1000, 10000, 100000, 1000000,
+                                      10000000, 100000000, 1000000000};
+
+    if (from == to) {
+        reached(CONVERT_SAME);
+        return (struct converted){amount, true};
+    }
+    for (unsigned i = 0; i < setup->conversions; i++) {
+        const struct conversion *entry = &setup->conversion[i];
+        if (entry->from != from || entry->to != to)
+            continue;
+        uint64_t product = amount * entry->digits;
+        if (entry->shift < 0)
+            product /= ten_to[-entry->shift];
+        else
+            product *= ten_to[entry->shift];
+        observe_conversion(i, entry, amount, product);
+        if (product > AMOUNT_MAX)
+            product = AMOUNT_MAX;
+        return (struct converted){product, true};
+    }
+    reached(CONVERT_NONE);
+    return (struct converted){0, false};
+}
+
+/* First's amount in every currency that this profile asks about. */
+static void convert_amount(struct card *card, uint64_t amount,
+                           uint16_t currency)
+{
+    struct transaction *open = &card->open;
+    const struct profile *profile = open->profile;
+
+    if (profile->mta_on)
+        open->for_mta = convert(&card->setup, amount, currency,
+                                profile->mta_currency);
+    for (unsigned i = 0; i < ACCUMULATORS; i++)
+        if (profile->accumulator[i].switches & ACTIVE)
+            open->for_accumulator[i] = convert(&card->setup, amount, currency,
+                                               card->setup.currency[i]);
+}
+
+/* "Start and the checks": bits 5 to 21. The sums are not stopped, so that a
+ * full accumulator or counter still exceeds a limit at its maximum. */
+static uint32_t check_limits(const struct card *card)
+{
+    const struct transaction *open = &card->open;
+    const struct profile *profile = open->profile;
+    uint32_t adr = 0;
+
+    if (profile->mta_on && open->for_mta.counts
+        && open->for_mta.amount > profile->mta)
+        adr |= MTA_EXCEEDED;
+
+    for (unsigned i = 0; i < ACCUMULATORS; i++) {
+        const struct accumulator_rule *rule = &profile->accumulator[i];
+        if (!(rule->switches & ACTIVE))
+            continue;
+        uint64_t value = card->accumulator[i];
+        if (rule->switches & INCLUDE && open->for_accumulator[i].counts)
+            value += open->for_accumulator[i].amount;
+        if (value > rule->lower)
+            adr |= (uint32_t)ACCUMULATOR_LOWER << i;
+        if (value > rule->upper)
+            adr |= (uint32_t)ACCUMULATOR_UPPER << i;
+    }
+
+    for (unsigned i = 0; i < COUNTERS; i++) {
+        const struct counter_rule *rule = &profile->counter[i];
+        if (!(rule->switches & ACTIVE))
+            continue;
+        unsigned value = card->counter[i];
+        if (rule->switches & INCLUDE)
+            value++;
+        if (value > rule->lower)
+            adr |= (uint32_t)COUNTER_LOWER << i;
+        if (value > rule->upper)
+            adr |= (uint32_t)COUNTER_UPPER << i;
+    }
+
+    observe_checks(card);
+    return adr;
+}
+
+static bool has(uint8_t switches, unsigned wanted)
+{
+    return (switches & wanted) == wanted;
+}
+
+static void count_one(uint8_t *counter)
+{
+    if (*counter < COUNTER_MAX)
+        ++*counter;
+}
+
+/* "First: the answer", an offline approval. */
+static void approve_offline(struct card *card)
+{
+    const struct transaction *open = &card->open;
+    const struct profile *profile = open->profile;
+
+    observe_approval(card);
+    for (unsigned i = 0; i < ACCUMULATORS; i++) {
+        if (!has(profile->accumulator[i].switches, ACTIVE | ALLOW)
+            || !open->for_accumulator[i].counts)
+            continue;
+        card->accumulator[i] += open->for_accumulator[i].amount;
+        if (card->accumulator[i] > AMOUNT_MAX)
+            card->accumulator[i] = AMOUNT_MAX;
+    }
+    for (unsigned i = 0; i < COUNTERS; i++)
+        if (has(profile->counter[i].switches, ACTIVE | ALLOW))
+            count_one(&card->counter[i]);
+}
+
+/* "Second: the answer", an AAC after Y3 or Z3. */
+static void count_decline(struct card *card)
+{
+    const struct profile *profile = card->open.profile;
+
+    observe_decline(card);
+    for (unsigned i = 0; i < COUNTERS; i++)
+        if (has(profile->counter[i].switches,
+                ACTIVE | ALLOW | INCLUDE_DECLINES))
+            count_one(&card->counter[i]);
+}
+
+/* "Second: the answer", CSU byte 2 b2-b1. */
+static void update_as_ordered(struct card *card, unsigned order)
+{
+    const struct profile *profile = card->open.profile;
+
+    observe_order(card, order);
+    switch (order) {
+    case 0:
+        break;
+    case 1:
+        for (unsigned i = 0; i < ACCUMULATORS; i++)
+            if (profile->accumulator[i].switches & ACTIVE)
+                card->accumulator[i] = profile->accumulator[i].upper;
+        for (unsigned i = 0; i < COUNTERS; i++)
+            if (profile->counter[i].switches & ACTIVE)
+                card->counter[i] = profile->counter[i].upper;
+        break;
+    case 2:
+        for (unsigned i = 0; i < ACCUMULATORS; i++)
+            if (profile->accumulator[i].switches & ACTIVE)
+                card->accumulator[i] = 0;
+        for (unsigned i = 0; i < COUNTERS; i++)
+            if (profile->counter[i].switches & ACTIVE)
+                card->counter[i] = 0;
+        break;
+    default:
+        approve_offline(card);
+        break;
+    }
+}
+
+/* Six decimal digits in three bytes. */
+static void put_digits(uint8_t *at, uint32_t value)
+{
+    for (int i = 2; i >= 0; i--) {
+        const uint32_t pair = value % 100;
+        value /= 100;
+        at[i] = (uint8_t)(pair / 10 << 4 | pair % 10);
+    }
+}
+
+/* "CVR and IAD", with the values as they are after the step. */
+static void give(const struct card *card, unsigned type, struct answer *answer)
+{
+    const struct profile *profile = card->open.profile;
+    const uint8_t *sent = profile->counter_sent;
+    uint8_t *iad = answer->iad;
+
+    observe_sent(card);
+    answer->cid = (uint8_t)(type << 6);
+    memset(iad, 0, IAD_BYTES);
+    iad[0] = 0x0F;
+    iad[1] = 0xA5;
+    iad[2] = card->setup.key_index;
+    memcpy(iad + 3, card->open.cvr, sizeof card->open.cvr);
+    if (profile->accumulator_sent) {
+        const uint64_t value = card->accumulator[profile->accumulator_sent - 1];
+        put_digits(iad + 8, (uint32_t)(value / 1000000));
+        put_digits(iad + 11, (uint32_t)(value % 1000000));
+    }
+    if (sent[0])
+        iad[14] = card->counter[sent[0] - 1];
+    if (sent[1])
+        iad[15] = card->counter[sent[1] - 1];
+    iad[16] = 0x0F;
+    iad[17] = profile->number;
+}
+
+/* First's CVR, from the ADR: its bits 0 to 4 are the history at First. */
+static void set_cvr(struct card *card, unsigned type)
+{
+    const uint32_t adr = card->open.adr;
+    const unsigned tries = card->setup.pin_tries;
+    uint8_t *cvr = card->open.cvr;
+
+    cvr[0] = (uint8_t)(0x80 | type << 4);
+    if (adr & (UNABLE_TO_GO_ONLINE | DATA_NOT_RECEIVED))
+        cvr[0] |= 0x02;
+    if (adr & AUTHENTICATION_FAILED)
+        cvr[0] |= 0x01;
+
+    cvr[1] = (uint8_t)(tries << 4);
+    if (tries == 0)
+        cvr[1] |= 0x02;
+    if (adr & LAST_ONLINE_NOT_COMPLETED)
+        cvr[1] |= 0x01;
+
+    cvr[2] = 0;
+    if (adr & 15 * COUNTER_LOWER)
+        cvr[2] |= 0x80;
+    if (adr & 15 * COUNTER_UPPER)
+        cvr[2] |= 0x40;
+    if (adr & 15 * ACCUMULATOR_LOWER)
+        cvr[2] |= 0x20;
+    if (adr & 15 * ACCUMULATOR_UPPER)
+        cvr[2] |= 0x10;
+
+    cvr[3] = adr & GO_ONLINE_NEXT ? 0x02 : 0;
+    cvr[4] = 0;
+}
+
+static bool offline_only(uint8_t terminal)
+{
+    switch (terminal) {
+    case 0x13:
+    case 0x16:
+    case 0x23:
+    case 0x26:
+    case 0x36:
+        return true;
+    default:
+        return false;
+    }
+}
+
+/* "First: the answer". */
+static unsigned decide(const struct profile *profile, uint32_t adr,
+                       const struct first *first)
+{
+    if (first->type == AAC)
+        return AAC;
+    if (adr & profile->decline_mask)
+        return AAC;
+    if (first->type == ARQC)
+        return ARQC;
+    if (offline_only(first->terminal))
+        return adr & profile->default_mask ? AAC : TC;
+    return adr & profile->online_mask ? ARQC : TC;
+}
+
+unsigned card_start(struct card *card, uint8_t number)
+{
+    const struct profile *profile = card->setup.profile;
+    const struct profile *end = profile + card->setup.profiles;
+
+    while (profile < end && profile->number != number)
+        profile++;
+    observe_start(card, profile);
+    if (profile == end)
+        return 3;
+    if (card->atc == ATC_MAX)
+        return 4;
+
+    card->atc++;
+    card->open.profile = profile;
+    card->due = FIRST_DUE;
+    return 0;
+}
+
+unsigned card_first(struct card *card, const struct first *first,
+                    struct answer *answer)
+{
+    struct transaction *open = &card->open;
+
+    observe_first_refusal(card, first);
+    if (card->due != FIRST_DUE)
+        return 2;
+    if (first->type > ARQC)
+        return 5;
+    if (first->amount > AMOUNT_MAX || !is_currency(first->currency))
+        return 6;
+
+    convert_amount(card, first->amount, first->currency);
+    open->adr = card->history | check_limits(card);
+    const unsigned type = decide(open->profile, open->adr, first);
+    observe_first(card, first, type);
+
+    set_cvr(card, type);
+    card->due = NOTHING_DUE;
+    if (type == TC)
+        approve_offline(card);
+    if (type == ARQC) {
+        card->history |= LAST_ONLINE_NOT_COMPLETED;
+        card->due = SECOND_DUE;
+    }
+    give(card, type, answer);
+    return 0;
+}
+
+/* After Y3 or Z3: the terminal could not reach the issuer. */
+static unsigned second_unable(struct card *card, const struct second *second)
+{
+    struct transaction *open = &card->open;
+    unsigned type;
+
+    card->history |= UNABLE_TO_GO_ONLINE;
+    open->cvr[0] |= 0x02;
+    open->cvr[3] |= 0x01;
+    open->adr = (open->adr & HISTORY_BITS) | UNABLE_TO_GO_ONLINE
+        | check_limits(card);
+    if (second->type == AAC || open->adr & open->profile->default_mask) {
+        type = AAC;
+        count_decline(card);
+    } else {
+        type = TC;
+        approve_offline(card);
+    }
+    return type;
+}
+
+static unsigned second_verified(struct card *card, const struct second *second)
+{
+    const uint8_t status = second->csu[1];
+
+    card->history = status & 0x08 ? GO_ONLINE_NEXT : 0;
+    card->open.cvr[0] &= (uint8_t)~0x03;
+    update_as_ordered(card, status & 0x03);
+    return second->type == TC && status & 0x80 ? TC : AAC;
+}
+
+static unsigned second_failed(struct card *card)
+{
+    card->history |= AUTHENTICATION_FAILED;
+    card->open.cvr[0] |= 0x01;
+    return AAC;
+}
+
+static unsigned second_absent(struct card *card, const struct second *second)
+{
+    card->history |= DATA_NOT_RECEIVED;
+    card->open.cvr[0] |= 0x02;
+    if (card->setup.authentication_required)
+        return AAC;
+    card->history &= ~(uint32_t)LAST_ONLINE_NOT_COMPLETED;
+    return second->type;
+}
+
+unsigned card_second(struct card *card, const struct second *second,
+                     struct answer *answer)
+{
+    unsigned type;
+
+    observe_second_refusal(card, second);
+    if (card->due != SECOND_DUE)
+        return 2;
+    if (second->type > TC)
+        return 5;
+    if (second->issuer_data > ISSUER_FAILED)
+        return 6;
+
+    observe_second(card, second);
+    if (second->code == 0x5933 || second->code == 0x5A33)
+        type = second_unable(card, second);
+    else if (second->issuer_data == ISSUER_VERIFIED)
+        type = second_verified(card, second);
+    else if (second->issuer_data == ISSUER_FAILED)
+        type = second_failed(card);
+    else
+        type = second_absent(card, second);
+
+    card->open.cvr[0] = (uint8_t)(type << 6 | (card->open.cvr[0] & 0x3F));
+    card->due = NOTHING_DUE;
+    observe_second_answer(card, second, type);
+    give(card, type, answer);
+    return 0;
+}

@@ -1,0 +1,155 @@
+/* The card of document 01: what a set-up says, what the card remembers, and
+ * its three commands. A command returns its refusal number, 0 when done; a
+ * refused command has changed nothing. */
+#ifndef MODEL_CARD_H
+#define MODEL_CARD_H
+
+#include <stdbool.h>
+#include <stddef.h>
+#include <stdint.h>
+
+#define AMOUNT_MAX UINT64_C(999999999999)
+
+enum {
+    ACCUMULATORS = 4,
+    COUNTERS = 4,
+    PROFILES_MAX = 4,
+    CONVERSIONS_MAX = 5,
+    COUNTER_MAX = 255,
+    ATC_MAX = 65535,
+    IAD_BYTES = 32
+};
+
+/* The decision bits (ADR) in house order; bits 0 to 4 are the history. */
+enum {
+    LAST_ONLINE_NOT_COMPLETED = 1 << 0,
+    GO_ONLINE_NEXT = 1 << 1,
+    AUTHENTICATION_FAILED = 1 << 2,
+    UNABLE_TO_GO_ONLINE = 1 << 3,
+    DATA_NOT_RECEIVED = 1 << 4,
+    MTA_EXCEEDED = 1 << 5,
+    ACCUMULATOR_LOWER = 1 << 6, /* accumulator 1; 2 to 4 follow */
+    ACCUMULATOR_UPPER = 1 << 10,
+    COUNTER_LOWER = 1 << 14,
+    COUNTER_UPPER = 1 << 18,
+
+    HISTORY_BITS = (1 << 5) - 1,
+    ADR_BITS = (1 << 22) - 1
+};
+
+/* Switches of an accumulator or a counter in a profile. */
+enum {
+    ACTIVE = 1,
+    ALLOW = 2,            /* accumulation, counting */
+    INCLUDE = 4,          /* this transaction, in the tests */
+    INCLUDE_DECLINES = 8, /* counters only */
+
+    ACCUMULATOR_SWITCHES = 7,
+    COUNTER_SWITCHES = 15
+};
+
+/* Type of a cryptogram, as requested and as given. */
+enum { AAC = 0, TC = 1, ARQC = 2 };
+
+/* Issuer data of a Second. */
+enum { ISSUER_ABSENT = 0, ISSUER_VERIFIED = 1, ISSUER_FAILED = 2 };
+
+struct accumulator_rule {
+    uint64_t lower, upper;
+    uint8_t switches;
+};
+
+struct counter_rule {
+    uint8_t switches, lower, upper;
+};
+
+struct profile {
+    struct accumulator_rule accumulator[ACCUMULATORS];
+    struct counter_rule counter[COUNTERS];
+    uint64_t mta;
+    uint32_t online_mask, decline_mask, default_mask;
+    uint16_t mta_currency;
+    bool mta_on;
+    uint8_t number;
+    uint8_t accumulator_sent; /* 0 for none, else 1 to 4 */
+    uint8_t counter_sent[2];
+};
+
+struct conversion {
+    uint16_t from, to;
+    uint16_t digits;
+    int8_t shift;
+};
+
+/* What a set-up fixes for the whole paper. */
+struct setup {
+    struct profile profile[PROFILES_MAX];
+    struct conversion conversion[CONVERSIONS_MAX];
+    uint16_t currency[ACCUMULATORS];
+    uint8_t profiles, conversions;
+    uint8_t key_index;
+    uint8_t pin_tries;
+    bool authentication_required;
+};
+
+/* An amount in another currency, if there is a way to convert it. */
+struct converted {
+    uint64_t amount;
+    bool counts;
+};
+
+/* The open transaction. Only `profile` is set before First. */
+struct transaction {
+    const struct profile *profile;
+    struct converted for_mta;
+    struct converted for_accumulator[ACCUMULATORS];
+    uint32_t adr;
+    uint8_t cvr[5];
+};
+
+struct card {
+    struct setup setup;
+    uint64_t accumulator[ACCUMULATORS];
+    uint8_t counter[COUNTERS];
+    uint32_t history;
+    uint16_t atc;
+    enum { NOTHING_DUE, FIRST_DUE, SECOND_DUE } due;
+    struct transaction open; /* points into `setup`: a card stays where it is */
+};
+
+struct first {
+    uint64_t amount;
+    uint16_t currency;
+    uint8_t type;
+    uint8_t terminal;
+};
+
+struct second {
+    uint8_t type;
+    uint16_t code;
+    uint8_t issuer_data;
+    const uint8_t *csu; /* 4 bytes */
+};
+
+struct answer {
+    uint8_t cid;
+    uint8_t iad[IAD_BYTES];
+};
+
+/* Three decimal digits in two bytes, as 0978. */
+static inline bool is_currency(uint16_t code)
+{
+    return code <= 0x0999 && (code & 0xF0) <= 0x90 && (code & 0x0F) <= 9;
+}
+
+/* Reads a set-up's body into a fresh card; false is refusal 1, after which
+ * the card is not to be used. */
+bool card_set_up(struct card *card, const uint8_t *body, size_t length);
+
+unsigned card_start(struct card *card, uint8_t profile);
+unsigned card_first(struct card *card, const struct first *first,
+                    struct answer *answer);
+unsigned card_second(struct card *card, const struct second *second,
+                     struct answer *answer);
+
+#endif

@@ -1,0 +1,548 @@
+/* Papers made by hand, their lines worked out by hand from document 01: the
+ * printed sitting, the edges a) to l), and what surrounds them. */
+#include <stdio.h>
+#include <string.h>
+
+#include "draft.h"
+#include "sitting.h"
+
+enum { EUR = 0x0978, USD = 0x0840 };
+enum { Y3 = 0x5933, Z3 = 0x5A33, OTHER = 0x3030 };
+enum { ABSENT = 0, VERIFIED = 1, FAILED = 2 };
+
+/* An IAD of key 01 and profile 1: CVR, accumulator, counters. */
+#define IAD(cvr, accumulator, counters)                                        \
+    "0FA501" cvr accumulator counters "0F01" ZEROS "\n"
+#define ZEROS "0000000000000000000000000000"
+
+static struct draft draft;
+static struct draft_setup setup;
+static struct draft_profile *const profile = &setup.profile[0];
+static struct sitting sitting;
+static unsigned cases, wrong;
+
+static void expect(const char *name, const char *expected)
+{
+    static char lines[1 << 16];
+    size_t used = 0;
+
+    sitting_open(&sitting, draft.bytes, draft.length);
+    for (size_t n; (n = sitting_line(&sitting, lines + used)) > 0;)
+        used += n;
+    lines[used] = '\0';
+    cases++;
+    if (strcmp(lines, expected) != 0) {
+        wrong++;
+        printf("%s: expected\n%sbut got\n%s\n", name, expected, lines);
+    }
+}
+
+static void begin(void)
+{
+    draft_begin(&draft);
+    draft_setup(&draft, &setup);
+}
+
+static void printed(void)
+{
+    draft_printed_setup(&setup);
+}
+
+/* The printed set-up with all masks zero: nothing declines or goes online. */
+static void lenient(void)
+{
+    printed();
+    profile->online = 0;
+    profile->decline = 0;
+    profile->by_default = 0;
+}
+
+static void start(void)
+{
+    draft_start(&draft, 1);
+}
+
+static void first(uint8_t type, uint64_t amount)
+{
+    draft_first(&draft, type, amount, EUR, 0x22);
+}
+
+static void second(uint8_t type, uint16_t code, uint8_t data, unsigned status)
+{
+    draft_second(&draft, type, code, data, (uint32_t)status << 16);
+}
+
+static void sitting_in_full(void)
+{
+    printed();
+    begin();
+    start();
+    first(1, 5000);
+    start();
+    first(1, 1);
+    second(1, Y3, ABSENT, 0);
+    start();
+    first(1, 5000);
+    second(1, Y3, ABSENT, 0);
+    if (draft.length != 242) {
+        wrong++;
+        printf("the printed paper has %zu bytes\n", draft.length);
+    }
+    expect("printed",
+           "0 0\n"
+           "1 0 1\n"
+           "2 0 40 1 "
+           "0FA501903000000000000000500001000F010000000000000000000000000000\n"
+           "3 0 2\n"
+           "4 0 80 2 "
+           "0FA501A03020000000000000500001000F010000000000000000000000000000\n"
+           "5 0 40 2 "
+           "0FA501623020010000000000500102000F010000000000000000000000000000\n"
+           "6 0 3\n"
+           "7 0 00 3 "
+           "0FA501823130000000000000500102000F010000000000000000000000000000\n"
+           "8 2\n");
+}
+
+/* Accumulator 1 after one TC of an amount in USD. */
+static void conversion(const char *name, uint64_t amount, uint16_t digits,
+                       int shift, const char *expected)
+{
+    char lines[200];
+
+    lenient();
+    profile->accumulator[0].lower = MOST;
+    profile->accumulator[0].upper = MOST;
+    setup.conversions = 1;
+    setup.conversion[0].from = USD;
+    setup.conversion[0].to = EUR;
+    setup.conversion[0].digits = digits;
+    setup.conversion[0].shift = (uint8_t)(shift + 9);
+    begin();
+    start();
+    draft_first(&draft, 1, amount, USD, 0x22);
+    snprintf(lines, sizeof lines,
+             "0 0\n1 0 1\n2 0 40 1 0FA5019030000000%s01000F01" ZEROS "\n",
+             expected);
+    expect(name, lines);
+}
+
+static void edges(void)
+{
+    printed();
+    begin();
+    start();
+    first(1, 5000);
+    expect("a and l", "0 0\n1 0 1\n2 0 40 1 "
+                      IAD("9030000000", "000000005000", "0100"));
+    begin();
+    start();
+    first(1, 5001);
+    expect("b", "0 0\n1 0 1\n2 0 80 1 "
+                IAD("A030200000", "000000000000", "0000"));
+
+    conversion("c", 12345, 1234, -3, "000000015233");
+    conversion("d", MOST, 9999, 3, "999999999999");
+    conversion("e", 1, 4, -1, "000000000000");
+
+    printed();
+    setup.counter[0] = 255;
+    begin();
+    start();
+    first(1, 1);
+    expect("f", "0 0\n1 0 1\n2 0 40 1 "
+                IAD("9030000000", "000000000001", "FF00"));
+
+    printed();
+    setup.accumulator[0].value = MOST;
+    profile->accumulator[0].switches = 3;
+    profile->accumulator[0].lower = MOST;
+    profile->accumulator[0].upper = MOST;
+    begin();
+    start();
+    first(1, 1);
+    expect("g", "0 0\n1 0 1\n2 0 40 1 "
+                IAD("9030000000", "999999999999", "0100"));
+    profile->accumulator[0].switches = 7;
+    begin();
+    start();
+    first(1, 1);
+    expect("h", "0 0\n1 0 1\n2 0 00 1 "
+                IAD("8030300000", "999999999999", "0000"));
+
+    printed();
+    begin();
+    start();
+    first(1, 10001);
+    expect("i", "0 0\n1 0 1\n2 0 00 1 "
+                IAD("8030300000", "000000000000", "0000"));
+
+    lenient();
+    profile->by_default = 1024;
+    begin();
+    start();
+    draft_first(&draft, 1, 10001, EUR, 0x23);
+    expect("j", "0 0\n1 0 1\n2 0 00 1 "
+                IAD("8030300000", "000000000000", "0000"));
+    begin();
+    start();
+    draft_first(&draft, 1, 10001, EUR, 0x22);
+    expect("k", "0 0\n1 0 1\n2 0 40 1 "
+                IAD("9030300000", "000000010001", "0100"));
+}
+
+/* Examples of CPA, by document 01's rule of the dropped fraction. */
+static void rates(void)
+{
+    conversion("55,555 at 0.85", 55555, 85, -2, "000000047221");
+    conversion("125 at 1.8", 125, 18, -1, "000000000225");
+    conversion("35,000 at 0.82", 35000, 82, -2, "000000028700");
+    conversion("445,500 at 0.67", 445500, 67, -2, "000000298485");
+    conversion("65,000 at 0.028", 65000, 28, -3, "000000001820");
+    conversion("MAX at 1", MOST, 1, 0, "999999999999");
+    conversion("MAX at a billionth", MOST, 1, -9, "000000000999");
+    conversion("MAX at 9,999 billionths", MOST, 9999, -9, "000009998999");
+    conversion("one more than MAX", 333333333334, 3, 0, "999999999999");
+    conversion("thousands", 999999999, 1, 3, "999999999000");
+}
+
+/* Which history each kind of Second leaves, seen in the CVRs after it. */
+static void history(void)
+{
+    lenient();
+    begin();
+    start();
+    first(2, 7);
+    second(1, OTHER, FAILED, 0x83);
+    start();
+    first(1, 7);
+    start();
+    first(2, 7);
+    second(1, OTHER, ABSENT, 0x83);
+    start();
+    first(2, 7);
+    second(1, OTHER, VERIFIED, 0x8B);
+    start();
+    first(0, 7);
+    start();
+    first(2, 0);
+    second(0, Z3, VERIFIED, 0x83);
+    expect("history",
+           "0 0\n"
+           "1 0 1\n"
+           "2 0 80 1 " IAD("A030000000", "000000000000", "0000")
+           "3 0 00 1 " IAD("2130000000", "000000000000", "0000")
+           "4 0 2\n"
+           "5 0 40 2 " IAD("9131000000", "000000000007", "0100")
+           "6 0 3\n"
+           "7 0 80 3 " IAD("A131000000", "000000000007", "0100")
+           "8 0 40 3 " IAD("6331000000", "000000000007", "0100")
+           "9 0 4\n"
+           "10 0 80 4 " IAD("A330000000", "000000000007", "0100")
+           "11 0 40 4 " IAD("6030000000", "000000000014", "0200")
+           "12 0 5\n"
+           "13 0 00 5 " IAD("8030000200", "000000000014", "0200")
+           "14 0 6\n"
+           "15 0 80 6 " IAD("A030000200", "000000000014", "0200")
+           "16 0 00 6 " IAD("2230000300", "000000000014", "0200"));
+
+    lenient(); /* required: AAC, and the last online stays not completed */
+    setup.required = 1;
+    begin();
+    start();
+    first(2, 7);
+    second(1, OTHER, ABSENT, 0);
+    start();
+    first(0, 7);
+    expect("absent, required",
+           "0 0\n"
+           "1 0 1\n"
+           "2 0 80 1 " IAD("A030000000", "000000000000", "0000")
+           "3 0 00 1 " IAD("2230000000", "000000000000", "0000")
+           "4 0 2\n"
+           "5 0 00 2 " IAD("8231000000", "000000000000", "0000"));
+}
+
+/* The issuer's orders hold whatever the answer; inactive ones stay, and are
+ * sent if named. */
+static void orders(void)
+{
+    lenient();
+    setup.counter[1] = 9;
+    profile->counter_sent[1] = 2;
+    begin();
+    start();
+    first(2, 7);
+    second(1, OTHER, VERIFIED, 0x01);
+    start();
+    first(2, 7);
+    second(0, OTHER, VERIFIED, 0x82);
+    start();
+    first(2, 7);
+    second(1, OTHER, VERIFIED, 0x03);
+    start();
+    first(2, 7);
+    second(1, OTHER, VERIFIED, 0x80);
+    expect("orders",
+           "0 0\n"
+           "1 0 1\n"
+           "2 0 80 1 " IAD("A030000000", "000000000000", "0009")
+           "3 0 00 1 " IAD("2030000000", "000000010000", "FF09")
+           "4 0 2\n"
+           "5 0 80 2 " IAD("A030300000", "000000010000", "FF09")
+           "6 0 00 2 " IAD("2030300000", "000000000000", "0009")
+           "7 0 3\n"
+           "8 0 80 3 " IAD("A030000000", "000000000000", "0009")
+           "9 0 00 3 " IAD("2030000000", "000000000007", "0109")
+           "10 0 4\n"
+           "11 0 80 4 " IAD("A030000000", "000000000007", "0109")
+           "12 0 40 4 " IAD("6030000000", "000000000007", "0109"));
+}
+
+/* After Y3: Default decides, bit 3 included; declines count where both
+ * switches say so; nothing accumulates on an AAC. */
+static void unable(void)
+{
+    lenient();
+    profile->by_default = 8;
+    profile->counter[0].switches = 11;
+    begin();
+    start();
+    first(2, 7);
+    second(1, Y3, VERIFIED, 0x80);
+    start();
+    draft_first(&draft, 1, 7, EUR, 0x36);
+    expect("unable, Default has bit 3",
+           "0 0\n"
+           "1 0 1\n"
+           "2 0 80 1 " IAD("A030000000", "000000000000", "0000")
+           "3 0 00 1 " IAD("2230000100", "000000000000", "0100")
+           "4 0 2\n"
+           "5 0 00 2 " IAD("8231000000", "000000000000", "0100"));
+
+    profile->by_default = 0;
+    profile->counter[0].switches = 9; /* not allowed */
+    begin();
+    start();
+    first(2, 7);
+    second(0, Y3, ABSENT, 0);
+    start();
+    first(2, 7);
+    second(1, Z3, FAILED, 0);
+    expect("unable, counting not allowed",
+           "0 0\n"
+           "1 0 1\n"
+           "2 0 80 1 " IAD("A030000000", "000000000000", "0000")
+           "3 0 00 1 " IAD("2230000100", "000000000000", "0000")
+           "4 0 2\n"
+           "5 0 80 2 " IAD("A231000000", "000000000000", "0000")
+           "6 0 40 2 " IAD("6231000100", "000000000007", "0000"));
+}
+
+/* No conversion: the amount does not count, the value still does. */
+static void unconverted(void)
+{
+    lenient();
+    profile->decline = 1024 | 32;
+    profile->mta_on = 1;
+    profile->mta_currency = EUR;
+    setup.accumulator[0].value = 10000;
+    begin();
+    start();
+    draft_first(&draft, 1, MOST, USD, 0x22);
+    expect("no conversion, value at the limit",
+           "0 0\n1 0 1\n2 0 40 1 "
+           IAD("9030200000", "000000010000", "0100"));
+    setup.accumulator[0].value = 10001;
+    begin();
+    start();
+    draft_first(&draft, 1, 0, USD, 0x22);
+    expect("no conversion, value above it",
+           "0 0\n1 0 1\n2 0 00 1 "
+           IAD("8030300000", "000000010001", "0000"));
+    profile->accumulator[0].switches = 6;
+    begin();
+    start();
+    draft_first(&draft, 1, 0, USD, 0x22);
+    expect("inactive",
+           "0 0\n1 0 1\n2 0 40 1 "
+           IAD("9030000000", "000000010001", "0100"));
+    begin();
+    start();
+    first(1, 1);
+    expect("MTA exceeded",
+           "0 0\n1 0 1\n2 0 00 1 "
+           IAD("8030000000", "000000010001", "0000"));
+    profile->mta = 1;
+    begin();
+    start();
+    first(1, 1);
+    expect("MTA met",
+           "0 0\n1 0 1\n2 0 40 1 "
+           IAD("9030000000", "000000010001", "0100"));
+}
+
+/* A counter at 255 with a limit of 255, this transaction included. */
+static void counters(void)
+{
+    lenient();
+    setup.pin = 0;
+    setup.counter[0] = 255;
+    profile->counter[0].switches = 5;
+    begin();
+    start();
+    first(1, 1);
+    expect("counter at 255, included",
+           "0 0\n1 0 1\n2 0 40 1 "
+           IAD("9002C00000", "000000000001", "FF00"));
+    profile->counter[0].switches = 3;
+    profile->counter[0].lower = 254;
+    begin();
+    start();
+    first(1, 1);
+    expect("counter above lower",
+           "0 0\n1 0 1\n2 0 40 1 "
+           IAD("9002800000", "000000000001", "FF00"));
+}
+
+static void refusals(void)
+{
+    printed();
+    setup.atc = 65534;
+    begin();
+    first(1, 1);
+    second(1, Y3, ABSENT, 0);
+    draft_start(&draft, 2);
+    start();
+    second(1, Y3, ABSENT, 0);
+    start();
+    draft_start(&draft, 0);
+    first(3, MOST + 1);
+    first(1, MOST + 1);
+    draft_first(&draft, 1, 1, 0x097A, 0x22);
+    draft_first(&draft, 1, 1, 0x1978, 0x22);
+    first(2, 1);
+    first(9, MOST + 1);
+    second(2, Y3, 3, 0);
+    second(1, Y3, 3, 0);
+    start();
+    second(1, OTHER, VERIFIED, 0x83);
+    second(1, OTHER, VERIFIED, 0x83);
+    expect("refusals",
+           "0 0\n"
+           "1 2\n"
+           "2 2\n"
+           "3 3\n"
+           "4 0 65535\n"
+           "5 2\n"
+           "6 4\n"
+           "7 3\n"
+           "8 5\n"
+           "9 6\n"
+           "10 6\n"
+           "11 6\n"
+           "12 0 80 65535 " IAD("A030000000", "000000000000", "0000")
+           "13 2\n"
+           "14 5\n"
+           "15 6\n"
+           "16 4\n"
+           "17 0 40 65535 " IAD("6030000000", "000000000001", "0100")
+           "18 2\n");
+
+    setup.atc = 0;
+    begin();
+    start();
+    start();
+    first(2, 1);
+    start();
+    second(1, OTHER, VERIFIED, 0x80);
+    first(0, 0);
+    first(0, 0);
+    expect("Start drops",
+           "0 0\n"
+           "1 0 1\n"
+           "2 0 2\n"
+           "3 0 80 2 " IAD("A030000000", "000000000000", "0000")
+           "4 0 3\n"
+           "5 2\n"
+           "6 0 00 3 " IAD("8031000000", "000000000000", "0000")
+           "7 2\n");
+}
+
+static void papers(void)
+{
+    printed();
+    draft.length = 0;
+    expect("empty", "0 9\n");
+    draft_begin(&draft);
+    expect("bare", "0 9\n");
+    draft_start(&draft, 1);
+    expect("no set-up", "0 9\n");
+    begin();
+    expect("a set-up alone", "0 0\n");
+    draft.bytes[0] = 2;
+    expect("version", "0 9\n");
+    begin();
+    draft.length--;
+    expect("set-up cut short", "0 9\n");
+    begin();
+    draft.bytes[2]--;
+    expect("set-up a byte short", "0 1\n");
+    setup.pin = 16;
+    begin();
+    start();
+    expect("set-up out of range", "0 1\n");
+    setup.pin = 15;
+    begin();
+    start();
+    draft_insert(&draft, draft.length, (const uint8_t[]){0}, 1);
+    expect("one byte more", "0 0\n1 0 1\n2 9\n");
+    begin();
+    draft_record(&draft, 2, (const uint8_t[]){1, 1}, 2);
+    start();
+    expect("Start too long", "0 0\n1 9\n");
+    begin();
+    start();
+    draft_setup(&draft, &setup);
+    start();
+    expect("set-up again", "0 0\n1 0 1\n2 9\n");
+    begin();
+    draft_insert(&draft, draft.length, (const uint8_t[]){0, 0}, 2);
+    start();
+    expect("length 0", "0 0\n1 9\n");
+
+    begin(); /* Starts of profile 0 to the full length, then one byte more */
+    while (draft.length + 4 <= PAPER_MAX)
+        draft_start(&draft, 0);
+    const size_t starts = draft.records - 1;
+    draft.bytes[draft.length] = 0;
+    draft.length = PAPER_MAX;
+    sitting_open(&sitting, draft.bytes, draft.length);
+    char line[LINE_MAX_BYTES + 1] = "", end[LINE_MAX_BYTES];
+    for (size_t n; (n = sitting_line(&sitting, line)) > 0;)
+        line[n] = '\0';
+    snprintf(end, sizeof end, "%zu 9\n", starts + 1);
+    cases++;
+    if (strcmp(line, end) != 0) {
+        wrong++;
+        printf("a full paper ends in %s", line);
+    }
+    draft.length = PAPER_MAX + 1;
+    expect("over 65,536 bytes", "0 9\n");
+}
+
+int main(void)
+{
+    sitting_in_full();
+    edges();
+    rates();
+    history();
+    orders();
+    unable();
+    unconverted();
+    counters();
+    refusals();
+    papers();
+    printf("%u cases, %u wrong\n", cases, wrong);
+    return wrong > 0;
+}

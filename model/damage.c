@@ -1,0 +1,230 @@
+#include "damage.h"
+
+#include <assert.h>
+#include <string.h>
+
+#include "bytes.h"
+#include "fields.h"
+
+/* One field out of its range. */
+static void damage_field(struct chance *chance, const struct draft_setup *setup,
+                         struct draft *draft)
+{
+    const struct field *field = &fields()[below(chance, FIELDS)];
+    unsigned place = 0;
+
+    if (field->part == IN_PROFILE)
+        place = (unsigned)below(chance, setup->profiles);
+    if (field->part == IN_CONVERSION) {
+        if (setup->conversions == 0)
+            return;
+        place = (unsigned)below(chance, setup->conversions);
+    }
+    const unsigned which = (unsigned)below(chance, bad_values(field));
+    uint64_t value = bad_value(chance, field, which);
+    if (field->width == 8 && percent(chance, 50))
+        value = MOST + 1 + below(chance, UINT64_MAX - MOST);
+    put_field(draft->bytes + field_offset(field, setup->profiles, place),
+              field->width, value);
+}
+
+/* Two profiles or two pairs alike, or a pair of one currency. */
+static void damage_twin(struct chance *chance, const struct draft_setup *setup,
+                        struct draft *draft)
+{
+    uint8_t *body = draft->bytes + SETUP_BODY;
+    uint8_t *conversions = body + SETUP_HEAD
+        + (size_t)SETUP_PROFILE * setup->profiles;
+    const size_t one = below(chance, 5);
+    const size_t other = below(chance, 5);
+
+    switch (below(chance, 3)) {
+    case 0:
+        if (one < setup->profiles && other < setup->profiles && one != other)
+            body[SETUP_HEAD + SETUP_PROFILE * one] =
+                body[SETUP_HEAD + SETUP_PROFILE * other];
+        break;
+    case 1:
+        if (one < setup->conversions && other < setup->conversions
+            && one != other)
+            for (size_t i = 0; i < 4; i++)
+                conversions[SETUP_CONVERSION * one + i] =
+                    conversions[SETUP_CONVERSION * other + i];
+        break;
+    default:
+        if (one < setup->conversions)
+            for (size_t i = 0; i < 2; i++)
+                conversions[SETUP_CONVERSION * one + 2 + i] =
+                    conversions[SETUP_CONVERSION * one + i];
+        break;
+    }
+}
+
+/* A set-up body longer or shorter than p and c say, its record in order. */
+static void damage_setup_length(struct chance *chance, struct draft *draft)
+{
+    uint8_t bytes[200] = {0};
+    const size_t length = get16(draft->bytes + 1);
+    const size_t count = 1 + below(chance, percent(chance, 50) ? 1 : 200);
+    const size_t place = SETUP_BODY + length - 1;
+
+    if (percent(chance, 50)) {
+        draft_insert(draft, place, bytes, count);
+        put16(draft->bytes + 1, (unsigned)(length + count));
+    } else if (count < length) {
+        draft_remove(draft, place - count, count);
+        put16(draft->bytes + 1, (unsigned)(length - count));
+    }
+}
+
+/* A record that cannot be read, before any record or after the last. */
+static void damage_record(struct chance *chance, struct draft *draft)
+{
+    static const uint8_t sizes[] = {1, 12, 8};
+    uint8_t bytes[64];
+    const size_t which = below(chance, draft->records + 1);
+    const size_t place =
+        which < draft->records ? draft->start[which] : draft->length;
+    const size_t kind = below(chance, 3);
+    size_t length = sizes[kind];
+
+    for (size_t i = 0; i < sizeof bytes; i++)
+        bytes[i] = any_byte(chance);
+    bytes[2] = (uint8_t)(kind + 2);
+    switch (below(chance, 5)) {
+    case 0: /* no kind */
+        put16(bytes, 0);
+        draft_insert(draft, place, bytes, 2);
+        return;
+    case 1: /* no such kind */
+        bytes[2] = percent(chance, 50) ? 0 : (uint8_t)(5 + below(chance, 251));
+        break;
+    case 2: /* a body too short or too long */
+        length -= 1;
+        break;
+    case 3:
+        length += 1 + below(chance, percent(chance, 50) ? 1 : 30);
+        break;
+    default: /* a second set-up, of any length */
+        bytes[2] = 1;
+        break;
+    }
+    put16(bytes, (unsigned)(length + 1));
+    draft_insert(draft, place, bytes, 3 + length);
+}
+
+/* A record's length, not its bytes, so that all that follows slips. */
+static void damage_length(struct chance *chance, struct draft *draft)
+{
+    const size_t start = draft->start[below(chance, draft->records)];
+    const unsigned length = get16(draft->bytes + start);
+
+    switch (below(chance, 4)) {
+    case 0:
+        put16(draft->bytes + start, length + 1);
+        break;
+    case 1:
+        put16(draft->bytes + start, length - 1);
+        break;
+    case 2:
+        put16(draft->bytes + start, 0xFFFF);
+        break;
+    default:
+        put16(draft->bytes + start, (unsigned)below(chance, 0x10000));
+        break;
+    }
+}
+
+static void damage_bytes(struct chance *chance, struct draft *draft)
+{
+    for (uint64_t i = 1 + below(chance, 3); i > 0; i--) {
+        const size_t place = below(chance, draft->length);
+        const bool bit = percent(chance, 50);
+        const uint8_t value = any_byte(chance);
+        if (bit)
+            draft->bytes[place] ^= (uint8_t)(1 << (value & 7));
+        else
+            draft->bytes[place] = value;
+    }
+}
+
+void fill_up(struct draft *draft, size_t length)
+{
+    assert(length >= draft->length + 56);
+    while ((length - draft->length) % 15 != 0)
+        draft_start(draft, 0);
+    while (draft->length < length)
+        draft_first(draft, 1, 1, 0x0978, 0x22);
+}
+
+/* About as long as a paper may be: just so, or over. */
+static void damage_size(struct chance *chance, struct draft *draft)
+{
+    const size_t more = below(chance, 3);
+
+    fill_up(draft, 65536 + (more == 1));
+    if (more == 2) {
+        const size_t count = 1 + below(chance, 40000);
+        memset(draft->bytes + draft->length, 0, count);
+        draft->length += count;
+    }
+}
+
+void damage(struct chance *chance, const struct draft_setup *setup,
+            struct draft *draft)
+{
+    static const uint8_t versions[] = {0, 2, 3, 0x10, 0x80, 0x81, 0xFF};
+    uint8_t tail[4];
+    size_t place;
+
+    if (below(chance, 400) == 0) {
+        damage_size(chance, draft);
+        return;
+    }
+    switch (below(chance, 20)) {
+    case 0:
+        draft->bytes[0] = PICK(chance, versions);
+        break;
+    case 1: /* cut at any place */
+        draft->length = below(chance, draft->length);
+        break;
+    case 2: /* cut within the first bytes */
+        draft->length = below(chance, 6);
+        break;
+    case 3: /* something left over at the end */
+        for (size_t i = 0; i < sizeof tail; i++)
+            tail[i] = percent(chance, 50) ? 0 : any_byte(chance);
+        draft_insert(draft, draft->length, tail, 1 + below(chance, 4));
+        break;
+    case 4: /* no set-up */
+        draft_remove(draft, 1, 2 + (size_t)get16(draft->bytes + 1));
+        break;
+    case 5: /* another p or c */
+        place = SETUP_BODY + 3 + below(chance, 2);
+        draft->bytes[place] = (uint8_t)below(chance, 8);
+        break;
+    case 6:
+    case 7:
+        damage_setup_length(chance, draft);
+        break;
+    case 8:
+    case 9:
+    case 10:
+        damage_record(chance, draft);
+        break;
+    case 11:
+        damage_length(chance, draft);
+        break;
+    case 12:
+    case 13:
+        damage_twin(chance, setup, draft);
+        break;
+    case 14:
+    case 15:
+        damage_bytes(chance, draft);
+        break;
+    default:
+        damage_field(chance, setup, draft);
+        break;
+    }
+}

@@ -1,0 +1,16 @@
+/* Damage by chance to a good paper: every way a paper or a set-up can be
+ * wrong, and some that leave it right. */
+#ifndef MODEL_DAMAGE_H
+#define MODEL_DAMAGE_H
+
+#include "chance.h"
+#include "draft.h"
+
+void damage(struct chance *chance, const struct draft_setup *setup,
+            struct draft *draft);
+
+/* Makes the paper exactly so long by records that can be read: Firsts, and
+ * Starts of profile 0. Needs 56 bytes or more to fill. */
+void fill_up(struct draft *draft, size_t length);
+
+#endif

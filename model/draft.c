@@ -1,0 +1,155 @@
+#include "draft.h"
+
+#include <assert.h>
+#include <string.h>
+
+#include "bytes.h"
+
+void draft_begin(struct draft *draft)
+{
+    draft->bytes[0] = 1;
+    draft->length = 1;
+    draft->records = 0;
+}
+
+void draft_record(struct draft *draft, uint8_t kind, const uint8_t *body,
+                  size_t length)
+{
+    uint8_t *at = draft->bytes + draft->length;
+
+    assert(draft->length + 3 + length <= DRAFT_BYTES);
+    assert(draft->records < DRAFT_RECORDS);
+    draft->start[draft->records++] = draft->length;
+    put16(at, (unsigned)(length + 1));
+    at[2] = kind;
+    memcpy(at + 3, body, length);
+    draft->length += 3 + length;
+}
+
+size_t draft_setup_body(const struct draft_setup *setup, uint8_t *body)
+{
+    uint8_t *at = body;
+
+    at[0] = setup->key;
+    at[1] = setup->pin;
+    at[2] = setup->required;
+    at[3] = setup->profiles;
+    at[4] = setup->conversions;
+    put16(at + 5, setup->atc);
+    at[7] = setup->go_online;
+    at += 8;
+    for (int i = 0; i < 4; i++, at += 10) {
+        put16(at, setup->accumulator[i].currency);
+        put64(at + 2, setup->accumulator[i].value);
+    }
+    for (int i = 0; i < 4; i++)
+        *at++ = setup->counter[i];
+    for (int p = 0; p < setup->profiles; p++) {
+        const struct draft_profile *profile = &setup->profile[p];
+        at[0] = profile->number;
+        put32(at + 1, profile->online);
+        put32(at + 5, profile->decline);
+        put32(at + 9, profile->by_default);
+        at[13] = profile->mta_on;
+        put16(at + 14, profile->mta_currency);
+        put64(at + 16, profile->mta);
+        at += 24;
+        for (int i = 0; i < 4; i++, at += 17) {
+            at[0] = profile->accumulator[i].switches;
+            put64(at + 1, profile->accumulator[i].lower);
+            put64(at + 9, profile->accumulator[i].upper);
+        }
+        for (int i = 0; i < 4; i++, at += 3) {
+            at[0] = profile->counter[i].switches;
+            at[1] = profile->counter[i].lower;
+            at[2] = profile->counter[i].upper;
+        }
+        *at++ = profile->accumulator_sent;
+        *at++ = profile->counter_sent[0];
+        *at++ = profile->counter_sent[1];
+    }
+    for (int c = 0; c < setup->conversions; c++, at += 7) {
+        put16(at, setup->conversion[c].from);
+        put16(at + 2, setup->conversion[c].to);
+        put16(at + 4, setup->conversion[c].digits);
+        at[6] = setup->conversion[c].shift;
+    }
+    return (size_t)(at - body);
+}
+
+void draft_setup(struct draft *draft, const struct draft_setup *setup)
+{
+    uint8_t body[SETUP_ROOM];
+    const size_t length = draft_setup_body(setup, body);
+
+    draft_record(draft, 1, body, length);
+}
+
+void draft_start(struct draft *draft, uint8_t profile)
+{
+    draft_record(draft, 2, &profile, 1);
+}
+
+void draft_first(struct draft *draft, uint8_t type, uint64_t amount,
+                 uint16_t currency, uint8_t terminal)
+{
+    uint8_t body[12];
+
+    body[0] = type;
+    put64(body + 1, amount);
+    put16(body + 9, currency);
+    body[11] = terminal;
+    draft_record(draft, 3, body, sizeof body);
+}
+
+void draft_second(struct draft *draft, uint8_t type, uint16_t code,
+                  uint8_t issuer_data, uint32_t csu)
+{
+    uint8_t body[8];
+
+    body[0] = type;
+    put16(body + 1, code);
+    body[3] = issuer_data;
+    put32(body + 4, csu);
+    draft_record(draft, 4, body, sizeof body);
+}
+
+void draft_insert(struct draft *draft, size_t place, const uint8_t *bytes,
+                  size_t count)
+{
+    assert(draft->length + count <= DRAFT_BYTES);
+    memmove(draft->bytes + place + count, draft->bytes + place,
+            draft->length - place);
+    memcpy(draft->bytes + place, bytes, count);
+    draft->length += count;
+}
+
+void draft_remove(struct draft *draft, size_t place, size_t count)
+{
+    memmove(draft->bytes + place, draft->bytes + place + count,
+            draft->length - place - count);
+    draft->length -= count;
+}
+
+void draft_printed_setup(struct draft_setup *setup)
+{
+    struct draft_profile *profile = &setup->profile[0];
+
+    memset(setup, 0, sizeof *setup);
+    setup->key = 1;
+    setup->pin = 3;
+    setup->profiles = 1;
+    setup->accumulator[0].currency = 0x0978;
+    profile->number = 1;
+    profile->online = 64;
+    profile->decline = 1024;
+    profile->by_default = 1024;
+    profile->accumulator[0].switches = 7;
+    profile->accumulator[0].lower = 5000;
+    profile->accumulator[0].upper = 10000;
+    profile->counter[0].switches = 3;
+    profile->counter[0].lower = 255;
+    profile->counter[0].upper = 255;
+    profile->accumulator_sent = 1;
+    profile->counter_sent[0] = 1;
+}

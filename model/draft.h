@@ -1,0 +1,86 @@
+/* Writing papers: a set-up as its author thinks of it, and the bytes of a
+ * paper under construction. Used by the generator and by the tests; shares
+ * nothing with the model that reads them. */
+#ifndef MODEL_DRAFT_H
+#define MODEL_DRAFT_H
+
+#include <stdbool.h>
+#include <stddef.h>
+#include <stdint.h>
+
+#define MOST UINT64_C(999999999999)
+
+enum {
+    DRAFT_BYTES = 1 << 17,
+    DRAFT_RECORDS = 1 << 15,
+    SETUP_BODY = 4, /* where the set-up's body begins in a whole paper */
+    SETUP_HEAD = 52,
+    SETUP_PROFILE = 107,
+    SETUP_CONVERSION = 7,
+    SETUP_ROOM = SETUP_HEAD + 5 * SETUP_PROFILE + 6 * SETUP_CONVERSION
+};
+
+struct draft_profile {
+    uint8_t number;
+    uint32_t online, decline, by_default;
+    uint8_t mta_on;
+    uint16_t mta_currency;
+    uint64_t mta;
+    struct {
+        uint8_t switches;
+        uint64_t lower, upper;
+    } accumulator[4];
+    struct {
+        uint8_t switches, lower, upper;
+    } counter[4];
+    uint8_t accumulator_sent, counter_sent[2];
+};
+
+/* One profile and one conversion more than a set-up may have. */
+struct draft_setup {
+    uint8_t key, pin, required;
+    uint8_t profiles, conversions;
+    uint16_t atc;
+    uint8_t go_online;
+    struct {
+        uint16_t currency;
+        uint64_t value;
+    } accumulator[4];
+    uint8_t counter[4];
+    struct draft_profile profile[5];
+    struct {
+        uint16_t from, to, digits;
+        uint8_t shift; /* s + 9 */
+    } conversion[6];
+};
+
+struct draft {
+    size_t length;
+    size_t records;
+    size_t start[DRAFT_RECORDS]; /* where each record begins */
+    uint8_t bytes[DRAFT_BYTES];
+};
+
+/* The version byte, and no record yet. */
+void draft_begin(struct draft *draft);
+void draft_record(struct draft *draft, uint8_t kind, const uint8_t *body,
+                  size_t length);
+void draft_setup(struct draft *draft, const struct draft_setup *setup);
+void draft_start(struct draft *draft, uint8_t profile);
+void draft_first(struct draft *draft, uint8_t type, uint64_t amount,
+                 uint16_t currency, uint8_t terminal);
+void draft_second(struct draft *draft, uint8_t type, uint16_t code,
+                  uint8_t issuer_data, uint32_t csu);
+
+/* The body alone; returns its length. */
+size_t draft_setup_body(const struct draft_setup *setup, uint8_t *body);
+
+/* Puts bytes before place, or takes them away; what follows moves. */
+void draft_insert(struct draft *draft, size_t place, const uint8_t *bytes,
+                  size_t count);
+void draft_remove(struct draft *draft, size_t place, size_t count);
+
+/* The set-up of document 01's "A sitting in full". */
+void draft_printed_setup(struct draft_setup *setup);
+
+#endif

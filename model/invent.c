@@ -1,0 +1,401 @@
+#include "invent.h"
+
+#include <string.h>
+
+enum { ALL_BITS = (1 << 22) - 1 };
+
+static uint64_t around_thousands(struct chance *chance)
+{
+    const uint64_t base = 1 + below(chance, 12);
+    const uint64_t off = below(chance, 3);
+
+    return base * 1000 + off - 1;
+}
+
+/* Numbers that matter in any world. */
+static uint64_t special(struct chance *chance)
+{
+    uint64_t power = 1;
+
+    switch (below(chance, 6)) {
+    case 0:
+        return 0;
+    case 1:
+        return 1;
+    case 2:
+        return MOST;
+    case 3:
+        return MOST - 1;
+    case 4:
+        for (uint64_t i = below(chance, 12); i > 0; i--)
+            power *= 10;
+        return power;
+    default:
+        return below(chance, MOST + 1);
+    }
+}
+
+/* A stored value or a limit. */
+static uint64_t invent_value(struct chance *chance, const struct world *world)
+{
+    if (percent(chance, 12))
+        return special(chance);
+    switch (world->amounts) {
+    case SMALL:
+        return below(chance, 16);
+    case THOUSANDS:
+        return around_thousands(chance);
+    case TOP:
+        return MOST - below(chance, 16);
+    default:
+        return below(chance, MOST + 1);
+    }
+}
+
+static uint64_t invent_amount(struct chance *chance, const struct world *world)
+{
+    if (percent(chance, 12))
+        return special(chance);
+    switch (world->amounts) {
+    case SMALL:
+        return below(chance, 8);
+    case THOUSANDS:
+        return around_thousands(chance);
+    case TOP:
+        if (percent(chance, 70))
+            return below(chance, 8);
+        return MOST - below(chance, 16);
+    default:
+        return below(chance, MOST + 1);
+    }
+}
+
+static uint8_t invent_count(struct chance *chance)
+{
+    static const uint8_t counts[] = {0, 0, 1, 1, 2, 3, 253, 254, 255, 255};
+
+    if (percent(chance, 20))
+        return any_byte(chance);
+    return PICK(chance, counts);
+}
+
+static uint32_t one_bit(struct chance *chance)
+{
+    return UINT32_C(1) << below(chance, 22);
+}
+
+static uint32_t invent_mask(struct chance *chance, unsigned none)
+{
+    uint32_t mask;
+
+    if (percent(chance, none))
+        return 0;
+    switch (below(chance, 8)) {
+    case 0:
+        return ALL_BITS;
+    case 1:
+        return (uint32_t)draw(chance) & ALL_BITS;
+    case 2:
+        mask = one_bit(chance);
+        return ALL_BITS & ~mask;
+    case 3:
+    case 4:
+        mask = one_bit(chance);
+        mask |= one_bit(chance);
+        mask |= one_bit(chance);
+        return mask;
+    default:
+        return one_bit(chance);
+    }
+}
+
+static void invent_world(struct chance *chance, struct world *world)
+{
+    static const uint16_t codes[] = {0x0978, 0x0840, 0x0826, 0x0392, 0x0756,
+                                     0x0000, 0x0999, 0x0001, 0x0100, 0x0010};
+
+    world->amounts = below(chance, WORLDS);
+    for (unsigned i = 0; i < POOL;) {
+        bool fresh = true;
+        world->currency[i] = PICK(chance, codes);
+        for (unsigned j = 0; j < i; j++)
+            fresh = fresh && world->currency[j] != world->currency[i];
+        i += fresh;
+    }
+}
+
+static void invent_profile(struct chance *chance, const struct world *world,
+                           struct draft_profile *profile)
+{
+    profile->online = invent_mask(chance, 30);
+    profile->decline = invent_mask(chance, 60);
+    profile->by_default = invent_mask(chance, 40);
+    profile->mta_on = percent(chance, 60);
+    profile->mta_currency = PICK(chance, world->currency);
+    profile->mta = invent_value(chance, world);
+    for (int i = 0; i < 4; i++) {
+        const bool plain = percent(chance, 50);
+        const uint8_t switches = any_byte(chance) & 7;
+        profile->accumulator[i].switches = plain ? 7 : switches;
+        profile->accumulator[i].lower = invent_value(chance, world);
+        profile->accumulator[i].upper = invent_value(chance, world);
+        if (percent(chance, 20))
+            profile->accumulator[i].lower = profile->accumulator[i].upper;
+    }
+    for (int i = 0; i < 4; i++) {
+        const bool plain = percent(chance, 40);
+        const uint8_t switches = any_byte(chance) & 15;
+        profile->counter[i].switches = plain ? 15 : switches;
+        profile->counter[i].lower = invent_count(chance);
+        profile->counter[i].upper = invent_count(chance);
+    }
+    profile->accumulator_sent = (uint8_t)below(chance, 5);
+    profile->counter_sent[0] = (uint8_t)below(chance, 5);
+    profile->counter_sent[1] = (uint8_t)below(chance, 5);
+}
+
+static void invent_numbers(struct chance *chance, struct draft_setup *setup)
+{
+    for (unsigned i = 0; i < setup->profiles;) {
+        static const uint8_t usual[] = {1, 2, 3, 123, 124};
+        bool fresh = true;
+        uint8_t number = (uint8_t)(1 + below(chance, 124));
+        if (percent(chance, 60))
+            number = PICK(chance, usual);
+        for (unsigned j = 0; j < i; j++)
+            fresh = fresh && setup->profile[j].number != number;
+        setup->profile[i].number = number;
+        i += fresh;
+    }
+}
+
+static void invent_rate(struct chance *chance, const struct world *world,
+                        struct draft_setup *setup, unsigned place)
+{
+    static const uint16_t digits[] = {1, 2, 3, 4, 5, 10, 9, 85, 1234, 9998,
+                                      9999};
+    static const uint8_t shifts[] = {0, 12, 9, 8, 10, 11, 7, 1};
+    const bool everyday = percent(chance, 60);
+
+    if (everyday && world->amounts != WIDE) {
+        setup->conversion[place].digits = (uint16_t)(1 + below(chance, 20));
+        setup->conversion[place].shift = (uint8_t)(8 + below(chance, 2));
+        return;
+    }
+    setup->conversion[place].digits = PICK(chance, digits);
+    if (percent(chance, 30))
+        setup->conversion[place].digits = (uint16_t)(1 + below(chance, 9999));
+    setup->conversion[place].shift = PICK(chance, shifts);
+    if (percent(chance, 30))
+        setup->conversion[place].shift = (uint8_t)below(chance, 13);
+}
+
+static void invent_conversions(struct chance *chance, const struct world *world,
+                               struct draft_setup *setup)
+{
+    for (unsigned i = 0; i < setup->conversions;) {
+        const uint16_t from = PICK(chance, world->currency);
+        const uint16_t to = PICK(chance, world->currency);
+        bool fresh = from != to;
+        for (unsigned j = 0; j < i; j++)
+            fresh = fresh && (setup->conversion[j].from != from
+                              || setup->conversion[j].to != to);
+        if (!fresh)
+            continue;
+        setup->conversion[i].from = from;
+        setup->conversion[i].to = to;
+        invent_rate(chance, world, setup, i);
+        i++;
+    }
+}
+
+void invent_setup(struct chance *chance, struct world *world,
+                  struct draft_setup *setup, unsigned profiles,
+                  unsigned conversions)
+{
+    static const uint16_t atcs[] = {0, 0, 1, 255, 256, 9999, 32767, 32768,
+                                    65520, 65532, 65533, 65534, 65535};
+    static const uint8_t tries[] = {0, 1, 3, 9, 10, 15};
+
+    invent_world(chance, world);
+    memset(setup, 0, sizeof *setup);
+    setup->key = any_byte(chance);
+    setup->pin = PICK(chance, tries);
+    setup->required = percent(chance, 50);
+    setup->profiles = (uint8_t)(1 + below(chance, 4));
+    if (profiles > 0)
+        setup->profiles = (uint8_t)profiles;
+    setup->conversions = (uint8_t)below(chance, 6);
+    if (conversions < 6)
+        setup->conversions = (uint8_t)conversions;
+    setup->atc = PICK(chance, atcs);
+    if (percent(chance, 50))
+        setup->atc = (uint16_t)draw(chance);
+    setup->go_online = percent(chance, 30);
+    for (int i = 0; i < 4; i++) {
+        setup->accumulator[i].currency = PICK(chance, world->currency);
+        if (percent(chance, 40))
+            setup->accumulator[i].currency = world->currency[0];
+        setup->accumulator[i].value = invent_value(chance, world);
+    }
+    for (int i = 0; i < 4; i++)
+        setup->counter[i] = invent_count(chance);
+    for (int i = 0; i < setup->profiles; i++)
+        invent_profile(chance, world, &setup->profile[i]);
+    invent_numbers(chance, setup);
+    invent_conversions(chance, world, setup);
+}
+
+uint16_t bad_currency(struct chance *chance, unsigned digit)
+{
+    uint16_t code = 0;
+
+    for (unsigned i = 0; i < 4; i++) {
+        unsigned value = i == 0 ? 0 : (unsigned)below(chance, 10);
+        if (i == digit && i == 0)
+            value = (unsigned)(1 + below(chance, 15));
+        else if (i == digit)
+            value = (unsigned)(10 + below(chance, 6));
+        code = (uint16_t)(code << 4 | value);
+    }
+    return code;
+}
+
+static void invent_start(struct chance *chance,
+                         const struct draft_setup *setup, struct draft *draft,
+                         bool tidy)
+{
+    const size_t place = below(chance, setup->profiles);
+    uint8_t number = setup->profile[place].number;
+
+    if (!tidy && percent(chance, 6))
+        number = any_byte(chance);
+    if (!tidy && percent(chance, 2))
+        number = 0;
+    draft_start(draft, number);
+}
+
+static uint8_t invent_terminal(struct chance *chance)
+{
+    static const uint8_t offline[] = {0x13, 0x16, 0x23, 0x26, 0x36};
+    static const uint8_t others[] = {0x11, 0x12, 0x14, 0x15, 0x21, 0x22, 0x24,
+                                     0x25, 0x33, 0x34, 0x35, 0x31, 0x32, 0x00,
+                                     0x03, 0x06, 0x63, 0xFF};
+
+    if (percent(chance, 25))
+        return PICK(chance, offline);
+    if (percent(chance, 50))
+        return 0x22;
+    if (percent(chance, 70))
+        return PICK(chance, others);
+    return any_byte(chance);
+}
+
+/* Returns the type asked for. */
+static uint8_t invent_first(struct chance *chance, const struct world *world,
+                            struct draft *draft, bool tidy)
+{
+    static const uint8_t types[] = {1, 1, 1, 1, 1, 1, 2, 2, 2, 0};
+    static const uint16_t foreign[] = {0x0036, 0x0124, 0x0998, 0x0002, 0x0200};
+    uint8_t type = PICK(chance, types);
+    uint64_t amount = invent_amount(chance, world);
+    uint16_t currency = world->currency[0];
+    const uint8_t terminal = invent_terminal(chance);
+
+    if (percent(chance, 50))
+        currency = PICK(chance, world->currency);
+    if (percent(chance, 6))
+        currency = PICK(chance, foreign);
+    if (!tidy && percent(chance, 4))
+        type = (uint8_t)(3 + below(chance, 3));
+    if (!tidy && percent(chance, 1))
+        type = any_byte(chance);
+    if (!tidy && percent(chance, 4)) {
+        static const uint64_t above[] = {MOST + 1, MOST + 2, UINT64_MAX,
+                                         UINT64_C(1) << 63, UINT64_C(1) << 40};
+        amount = PICK(chance, above);
+    }
+    if (!tidy && percent(chance, 4)) {
+        const unsigned digit = (unsigned)below(chance, 4);
+        currency = bad_currency(chance, digit);
+    }
+    draft_first(draft, type, amount, currency, terminal);
+    return type;
+}
+
+static void invent_second(struct chance *chance, struct draft *draft, bool tidy)
+{
+    static const uint16_t codes[] = {0x3030, 0x3035, 0x5931, 0x5A31, 0x5932,
+                                     0x5934, 0x5833, 0x5B33, 0x3359, 0x335A,
+                                     0x0000, 0xFFFF, 0x3331, 0x5A32, 0x5933,
+                                     0x5A33};
+    uint8_t type = percent(chance, 75);
+    uint16_t code = PICK(chance, codes);
+    uint8_t data = (uint8_t)below(chance, 3);
+    uint32_t status = (uint32_t)below(chance, 4);
+    uint32_t rest = (uint32_t)draw(chance);
+
+    if (percent(chance, 20))
+        code = 0x5933;
+    if (percent(chance, 15))
+        code = 0x5A33;
+    if (percent(chance, 10))
+        code = (uint16_t)draw(chance);
+    if (percent(chance, 60))
+        status |= 0x80;
+    if (percent(chance, 30))
+        status |= 0x08;
+    if (percent(chance, 70))
+        rest = 0;
+    rest = (rest & 0xFF74FFFF) | status << 16;
+    if (!tidy && percent(chance, 4))
+        type = (uint8_t)(2 + below(chance, 3));
+    if (!tidy && percent(chance, 1))
+        type = any_byte(chance);
+    if (!tidy && percent(chance, 3))
+        data = (uint8_t)(3 + below(chance, 3));
+    if (!tidy && percent(chance, 1))
+        data = any_byte(chance);
+    draft_second(draft, type, code, data, rest);
+}
+
+/* Any command, in turn or not. */
+static void invent_any(struct chance *chance, const struct world *world,
+                       const struct draft_setup *setup, struct draft *draft)
+{
+    switch (below(chance, 3)) {
+    case 0:
+        invent_start(chance, setup, draft, false);
+        break;
+    case 1:
+        invent_first(chance, world, draft, false);
+        break;
+    default:
+        invent_second(chance, draft, false);
+        break;
+    }
+}
+
+void invent_commands(struct chance *chance, const struct world *world,
+                     const struct draft_setup *setup, struct draft *draft,
+                     size_t count, bool tidy)
+{
+    static const unsigned second_after[] = {3, 30, 95, 20, 20, 20};
+    const size_t end = draft->records + count;
+
+    while (draft->records < end) {
+        if (!tidy && percent(chance, 10)) {
+            invent_any(chance, world, setup, draft);
+            continue;
+        }
+        invent_start(chance, setup, draft, tidy);
+        if (draft->records == end)
+            break;
+        const uint8_t type = invent_first(chance, world, draft, tidy);
+        const unsigned share = second_after[type < 6 ? type : 5];
+        if (draft->records == end)
+            break;
+        if (percent(chance, share))
+            invent_second(chance, draft, tidy);
+    }
+}

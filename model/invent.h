@@ -1,0 +1,31 @@
+/* Set-ups and commands by chance, biased to where cards go wrong. */
+#ifndef MODEL_INVENT_H
+#define MODEL_INVENT_H
+
+#include "chance.h"
+#include "draft.h"
+
+enum { POOL = 4 };
+
+/* What one paper's amounts and currencies look like. */
+struct world {
+    enum { SMALL, THOUSANDS, TOP, WIDE, WORLDS } amounts;
+    uint16_t currency[POOL]; /* all different */
+};
+
+/* A set-up in range; 0 profiles: as many as chance gives; 6 conversions:
+ * likewise. */
+void invent_setup(struct chance *chance, struct world *world,
+                  struct draft_setup *setup, unsigned profiles,
+                  unsigned conversions);
+
+/* So many commands. Tidy ones are in range and in turn as far as the card
+ * decides so; the others stray now and then. */
+void invent_commands(struct chance *chance, const struct world *world,
+                     const struct draft_setup *setup, struct draft *draft,
+                     size_t count, bool tidy);
+
+/* Two bytes with one digit that is none, the first, second, third or fourth. */
+uint16_t bad_currency(struct chance *chance, unsigned digit);
+
+#endif

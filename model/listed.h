@@ -1,0 +1,14 @@
+/* The papers that every stack begins with: each cause of refusals 1 and 9,
+ * field by field, and each branch of First and Second, whatever the seed. */
+#ifndef MODEL_LISTED_H
+#define MODEL_LISTED_H
+
+#include "chance.h"
+#include "draft.h"
+
+/* Writes them one after the other, calling emit at the end of each. The seed
+ * chooses what they say where it does not matter to what they are for. */
+void listed_papers(uint64_t seed, struct draft *draft,
+                   void (*emit)(struct draft *draft));
+
+#endif

@@ -1,0 +1,369 @@
+/* The bodies of observe.h, compiled only into the program `reached`. */
+#include "observe.h"
+
+static void reached_if(bool holds, unsigned cause)
+{
+    if (holds)
+        reached(cause);
+}
+
+/* Counts the bit at its place in a row of 22, if it is one alone. */
+static void reached_alone(uint32_t bits, unsigned row)
+{
+    for (unsigned i = 0; i < 22; i++)
+        reached_if(bits == UINT32_C(1) << i, row + i);
+}
+
+static bool unable_code(uint16_t code)
+{
+    return code == 0x5933 || code == 0x5A33;
+}
+
+static unsigned terminal_place(uint8_t terminal)
+{
+    static const uint8_t offline[] = {0x13, 0x16, 0x23, 0x26, 0x36};
+    unsigned i = 0;
+
+    while (i < 5 && offline[i] != terminal)
+        i++;
+    return i;
+}
+
+/* One limit of one accumulator; row counts from the lower ones on. */
+static void observe_limit(unsigned row, unsigned switches, uint64_t value,
+                          struct converted added, uint64_t limit)
+{
+    const bool included = switches & INCLUDE;
+
+    if (!(switches & ACTIVE)) {
+        reached_if(value > limit, TEST_INACTIVE + row);
+        return;
+    }
+    if (value > limit) {
+        reached(TEST_VALUE + row);
+        reached_if(included && !added.counts, TEST_UNCONVERTED + row);
+        return;
+    }
+    if (!added.counts)
+        return;
+    const bool exceeds = value + added.amount > limit;
+    reached_if(included && exceeds, TEST_SUM + row);
+    reached_if(included && exceeds && limit == AMOUNT_MAX,
+               TEST_SUM_OVER + row);
+    reached_if(included && exceeds && !(switches & ALLOW),
+               TEST_NOT_ALLOWED + row);
+    reached_if(included && value + added.amount == limit, TEST_EQUAL + row);
+    reached_if(!included && exceeds, TEST_LEFT_OUT + row);
+}
+
+static void observe_count(unsigned row, unsigned switches, unsigned value,
+                          unsigned limit)
+{
+    const bool included = switches & INCLUDE;
+
+    if (!(switches & ACTIVE)) {
+        reached_if(value > limit, COUNT_INACTIVE + row);
+        return;
+    }
+    if (value > limit) {
+        reached(COUNT_VALUE + row);
+        return;
+    }
+    const bool exceeds = value + 1 > limit;
+    reached_if(included && exceeds, COUNT_SUM + row);
+    reached_if(included && exceeds && limit == COUNTER_MAX, COUNT_256 + row);
+    reached_if(included && exceeds && !(switches & ALLOW),
+               COUNT_NOT_ALLOWED + row);
+    reached_if(included && value + 1 == limit, COUNT_EQUAL + row);
+    reached_if(!included && exceeds, COUNT_LEFT_OUT + row);
+}
+
+void observe_conversion(unsigned place, const struct conversion *entry,
+                        uint64_t amount, uint64_t product)
+{
+    reached(CONVERT_AT + place);
+    reached(CONVERT_SHIFT + (unsigned)(entry->shift + 9));
+    if (entry->shift < 0) {
+        uint64_t back = product;
+        for (int i = entry->shift; i < 0; i++)
+            back *= 10;
+        reached(back == amount * entry->digits ? CONVERT_EXACT
+                                               : CONVERT_FRACTION);
+        reached_if(product == 0 && amount > 0, CONVERT_TO_ZERO);
+    }
+    reached_if(product == AMOUNT_MAX, CONVERT_MAX);
+    reached_if(product > AMOUNT_MAX, CONVERT_OVER);
+    reached_if(product >> 63, CONVERT_WIDE);
+}
+
+void observe_checks(const struct card *card)
+{
+    const struct transaction *open = &card->open;
+    const struct profile *profile = open->profile;
+
+    if (!profile->mta_on)
+        reached(MTA_IS_OFF);
+    else if (!open->for_mta.counts)
+        reached(MTA_UNCONVERTED);
+    else if (open->for_mta.amount > profile->mta)
+        reached(MTA_BROKEN);
+    else
+        reached(MTA_KEPT + (open->for_mta.amount == profile->mta));
+    for (unsigned i = 0; i < ACCUMULATORS; i++) {
+        const struct accumulator_rule *rule = &profile->accumulator[i];
+        observe_limit(i, rule->switches, card->accumulator[i],
+                      open->for_accumulator[i], rule->lower);
+        observe_limit(i + 4, rule->switches, card->accumulator[i],
+                      open->for_accumulator[i], rule->upper);
+    }
+    for (unsigned i = 0; i < COUNTERS; i++) {
+        const struct counter_rule *rule = &profile->counter[i];
+        observe_count(i, rule->switches, card->counter[i], rule->lower);
+        observe_count(i + 4, rule->switches, card->counter[i], rule->upper);
+    }
+}
+
+void observe_approval(const struct card *card)
+{
+    for (unsigned i = 0; i < ACCUMULATORS; i++) {
+        const unsigned on = card->open.profile->accumulator[i].switches;
+        if (!(on & ACTIVE))
+            reached(GROW_INACTIVE + i);
+        else if (!(on & ALLOW))
+            reached(GROW_NOT_ALLOWED + i);
+        else if (!card->open.for_accumulator[i].counts)
+            reached(GROW_UNCONVERTED + i);
+        else if (card->accumulator[i] + card->open.for_accumulator[i].amount
+                 > AMOUNT_MAX)
+            reached(GROW_STOPPED + i);
+        else
+            reached_if(card->open.for_accumulator[i].amount > 0,
+                       GROW_ADDED + i);
+    }
+    for (unsigned i = 0; i < COUNTERS; i++) {
+        const unsigned on = card->open.profile->counter[i].switches;
+        if (!(on & ACTIVE))
+            reached(COUNT_UNTOUCHED + i);
+        else if (!(on & ALLOW))
+            reached(COUNT_KEPT + i);
+        else if (card->counter[i] == COUNTER_MAX)
+            reached(COUNT_STOPPED + i);
+        else
+            reached(COUNT_ADDED + i);
+    }
+}
+
+void observe_decline(const struct card *card)
+{
+    for (unsigned i = 0; i < COUNTERS; i++) {
+        const unsigned on = card->open.profile->counter[i].switches;
+        if (!(on & ACTIVE)) {
+            reached(DECLINE_INACTIVE + i);
+        } else if (!(on & ALLOW)) {
+            reached_if(on & INCLUDE_DECLINES, DECLINE_NOT_ALLOWED + i);
+        } else if (!(on & INCLUDE_DECLINES)) {
+            reached(DECLINE_LEFT_OUT + i);
+        } else if (card->counter[i] == COUNTER_MAX) {
+            reached(DECLINE_STOPPED + i);
+        } else {
+            reached(DECLINE_ADDED + i);
+        }
+    }
+}
+
+void observe_order(const struct card *card, unsigned order)
+{
+    const struct profile *profile = card->open.profile;
+
+    for (unsigned i = 0; i < ACCUMULATORS; i++) {
+        const bool active = profile->accumulator[i].switches & ACTIVE;
+        const uint64_t value = card->accumulator[i];
+        const uint64_t upper = profile->accumulator[i].upper;
+        if (order == 1 && value != upper)
+            reached((active ? ORDER_UPPER : ORDER_UPPER_INACTIVE) + i);
+        if (order == 2 && value != 0)
+            reached((active ? ORDER_ZERO : ORDER_ZERO_INACTIVE) + i);
+    }
+    for (unsigned i = 0; i < COUNTERS; i++) {
+        const bool active = profile->counter[i].switches & ACTIVE;
+        const uint8_t value = card->counter[i];
+        const uint8_t upper = profile->counter[i].upper;
+        if (order == 1 && value != upper)
+            reached((active ? ORDER_UPPER_COUNTER
+                            : ORDER_UPPER_COUNTER_INACTIVE) + i);
+        if (order == 2 && value != 0)
+            reached((active ? ORDER_ZERO_COUNTER
+                            : ORDER_ZERO_COUNTER_INACTIVE) + i);
+    }
+}
+
+void observe_sent(const struct card *card)
+{
+    const struct profile *profile = card->open.profile;
+    const unsigned sent = profile->accumulator_sent;
+
+    reached(IAD_SENT + sent);
+    if (sent > 0 && card->accumulator[sent - 1] > 0
+        && !(profile->accumulator[sent - 1].switches & ACTIVE))
+        reached(IAD_SENT_INACTIVE + sent - 1);
+    reached(IAD_SENT_FIRST + profile->counter_sent[0]);
+    reached(IAD_SENT_SECOND + profile->counter_sent[1]);
+    reached_if(profile->counter_sent[0] > 0
+               && profile->counter_sent[0] == profile->counter_sent[1],
+               IAD_SENT_SAME);
+    for (unsigned i = 0; i < 2; i++) {
+        const unsigned counter = profile->counter_sent[i];
+        if (counter > 0 && card->counter[counter - 1] > 0
+            && !(profile->counter[counter - 1].switches & ACTIVE))
+            reached(IAD_COUNTER_INACTIVE + counter - 1);
+    }
+}
+
+void observe_start(const struct card *card, const struct profile *found)
+{
+    const unsigned place = (unsigned)(found - card->setup.profile);
+    const bool unknown = place == card->setup.profiles;
+    const bool last = card->atc == ATC_MAX;
+
+    reached_if(unknown, START_REFUSED_3);
+    reached_if(unknown && last, START_REFUSED_3_OF_4);
+    reached_if(!unknown && last, START_REFUSED_4);
+    reached_if((unknown || last) && card->due != NOTHING_DUE,
+               START_REFUSED_OPEN + (unsigned)card->due - 1);
+    if (!unknown && !last) {
+        reached(START_DONE + (unsigned)card->due);
+        reached(START_PROFILE + place);
+        reached_if(card->atc == ATC_MAX - 1, START_LAST);
+    }
+}
+
+void observe_first_refusal(const struct card *card, const struct first *first)
+{
+    const bool type = first->type > ARQC;
+    const bool amount = first->amount > AMOUNT_MAX;
+    const bool currency = !is_currency(first->currency);
+
+    if (card->due != FIRST_DUE) {
+        reached(FIRST_REFUSED_2 + (card->due == SECOND_DUE));
+        reached_if(type, FIRST_REFUSED_2_OF + 0);
+        reached_if(amount || currency, FIRST_REFUSED_2_OF + 1);
+    } else if (type) {
+        reached(FIRST_REFUSED_5 + (first->type > 3));
+        reached_if(amount || currency, FIRST_REFUSED_5_OF_6);
+    } else {
+        reached_if(amount, FIRST_REFUSED_6_AMOUNT);
+        reached_if(currency,
+                   FIRST_REFUSED_6_CURRENCY + bad_digit(first->currency));
+    }
+}
+
+void observe_first(const struct card *card, const struct first *first,
+                   unsigned given)
+{
+    const struct profile *profile = card->open.profile;
+    const uint32_t adr = card->open.adr;
+    const bool online = adr & profile->online_mask;
+    const bool by_default = adr & profile->default_mask;
+    const unsigned offline = terminal_place(first->terminal);
+
+    for (unsigned i = 0; i < 22; i++)
+        reached_if(adr >> i & 1, ADR_SET + i);
+    if (first->type == AAC) {
+        reached(FIRST_AAC_ASKED);
+    } else if (adr & profile->decline_mask) {
+        reached(FIRST_AAC_DECLINE + first->type - 1);
+        reached_if(online && first->type == TC, FIRST_AAC_BOTH);
+        reached_alone(adr & profile->decline_mask, BY_DECLINE);
+    } else if (first->type == ARQC) {
+        reached(FIRST_ARQC_ASKED);
+        reached_if(offline < 5 && by_default, FIRST_ARQC_DEFAULT);
+    } else if (offline < 5 && given == AAC) {
+        reached(FIRST_OFFLINE_AAC + offline);
+        reached_alone(adr & profile->default_mask, BY_DEFAULT);
+    } else if (offline < 5) {
+        reached(FIRST_OFFLINE_TC + offline);
+        reached_if(online, FIRST_OFFLINE_ONLINE);
+    } else if (given == ARQC) {
+        reached(FIRST_ONLINE_ARQC);
+        reached_alone(adr & profile->online_mask, BY_ONLINE);
+    } else {
+        reached(FIRST_ONLINE_TC);
+        reached_if(by_default, FIRST_ONLINE_DEFAULT);
+    }
+}
+
+void observe_second_refusal(const struct card *card,
+                            const struct second *second)
+{
+    const bool type = second->type > TC;
+    const bool data = second->issuer_data > ISSUER_FAILED;
+
+    if (card->due != SECOND_DUE) {
+        reached(SECOND_REFUSED_2 + (card->due == FIRST_DUE));
+        reached_if(type, SECOND_REFUSED_2_OF + 0);
+        reached_if(data, SECOND_REFUSED_2_OF + 1);
+    } else if (type) {
+        reached(SECOND_REFUSED_5 + (second->type > 2));
+        reached_if(data, SECOND_REFUSED_5_OF_6);
+    } else {
+        reached_if(data, SECOND_REFUSED_6 + !unable_code(second->code));
+    }
+}
+
+void observe_second(const struct card *card, const struct second *second)
+{
+    const uint32_t history = card->history;
+    const unsigned status = second->csu[1];
+
+    if (unable_code(second->code)) {
+        reached(UNABLE + second->issuer_data
+                + (second->code == 0x5A33 ? 3u : 0u));
+        reached_if(second->csu[0] | second->csu[1] | second->csu[2]
+                   | second->csu[3], UNABLE_CSU);
+    } else if (second->issuer_data == ISSUER_VERIFIED) {
+        const unsigned order = status & 3;
+        for (unsigned i = 0; i < 5; i++)
+            if (history >> i & 1 && !(i == 1 && status & 8))
+                reached(VERIFIED_CLEARS + i);
+        reached(VERIFIED_GO_ONLINE + (status >> 3 & 1));
+        if (second->type == AAC)
+            reached(VERIFIED_AAC_ASKED + order);
+        else if (status & 0x80)
+            reached(VERIFIED_TC + order);
+        else
+            reached(VERIFIED_NOT_APPROVED + order);
+        reached_if(second->csu[0] | (status & 0x74) | second->csu[2]
+                   | second->csu[3], VERIFIED_OTHER_BITS);
+    } else if (second->issuer_data == ISSUER_FAILED) {
+        reached(FAILED_ASKED + second->type);
+        for (unsigned i = 0; i < 5; i++)
+            reached_if(history >> i & 1, FAILED_KEEPS + i);
+    } else {
+        const bool required = card->setup.authentication_required;
+        if (required)
+            reached(ABSENT_REQUIRED + second->type);
+        else
+            reached(second->type == TC ? ABSENT_TC : ABSENT_AAC_ASKED);
+        for (unsigned i = required ? 0 : 1; i < 5; i++)
+            reached_if(history >> i & 1, ABSENT_KEEPS + i);
+    }
+}
+
+void observe_second_answer(const struct card *card,
+                           const struct second *second, unsigned given)
+{
+    const struct profile *profile = card->open.profile;
+    const uint32_t adr = card->open.adr;
+
+    if (!unable_code(second->code))
+        return;
+    if (given == TC) {
+        reached(UNABLE_TC);
+        reached_if(adr & profile->decline_mask, UNABLE_TC_DECLINE);
+    } else if (second->type == AAC) {
+        reached(UNABLE_AAC_ASKED);
+    } else {
+        reached(UNABLE_AAC_DEFAULT);
+        reached_alone(adr & profile->default_mask, UNABLE_BY_DEFAULT);
+    }
+}

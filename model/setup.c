@@ -1,0 +1,159 @@
+/* The set-up: 52 + 107p + 7c bytes, each field within its range. */
+#include "bytes.h"
+#include "card.h"
+#include "reached.h"
+
+enum { HEAD_BYTES = 52, PROFILE_BYTES = 107, CONVERSION_BYTES = 7 };
+
+static bool read_profile(struct profile *profile, const uint8_t *at)
+{
+    profile->number = at[0];
+    if (profile->number == 0)
+        return fault(BAD_NUMBER + 0);
+    if (profile->number > 124)
+        return fault(BAD_NUMBER + 1);
+
+    profile->online_mask = get32(at + 1);
+    profile->decline_mask = get32(at + 5);
+    profile->default_mask = get32(at + 9);
+    if (profile->online_mask > ADR_BITS)
+        return fault(BAD_ONLINE);
+    if (profile->decline_mask > ADR_BITS)
+        return fault(BAD_DECLINE);
+    if (profile->default_mask > ADR_BITS)
+        return fault(BAD_DEFAULT);
+
+    if (at[13] > 1)
+        return fault(BAD_MTA_ON);
+    profile->mta_on = at[13];
+    profile->mta_currency = get16(at + 14);
+    if (!is_currency(profile->mta_currency))
+        return fault(BAD_MTA_CURRENCY + bad_digit(profile->mta_currency));
+    profile->mta = get64(at + 16);
+    if (profile->mta > AMOUNT_MAX)
+        return fault(BAD_MTA);
+    at += 24;
+
+    for (unsigned i = 0; i < ACCUMULATORS; i++, at += 17) {
+        struct accumulator_rule *rule = &profile->accumulator[i];
+        rule->switches = at[0];
+        rule->lower = get64(at + 1);
+        rule->upper = get64(at + 9);
+        if (rule->switches > ACCUMULATOR_SWITCHES)
+            return fault(BAD_SWITCHES + i);
+        if (rule->lower > AMOUNT_MAX)
+            return fault(BAD_LOWER + i);
+        if (rule->upper > AMOUNT_MAX)
+            return fault(BAD_UPPER + i);
+    }
+
+    for (unsigned i = 0; i < COUNTERS; i++, at += 3) {
+        struct counter_rule *rule = &profile->counter[i];
+        rule->switches = at[0];
+        rule->lower = at[1];
+        rule->upper = at[2];
+        if (rule->switches > COUNTER_SWITCHES)
+            return fault(BAD_COUNTER_SWITCHES + i);
+    }
+
+    profile->accumulator_sent = at[0];
+    profile->counter_sent[0] = at[1];
+    profile->counter_sent[1] = at[2];
+    if (profile->accumulator_sent > ACCUMULATORS)
+        return fault(BAD_SENT);
+    if (profile->counter_sent[0] > COUNTERS)
+        return fault(BAD_COUNTER_SENT + 0);
+    if (profile->counter_sent[1] > COUNTERS)
+        return fault(BAD_COUNTER_SENT + 1);
+    return true;
+}
+
+static bool read_conversion(struct conversion *entry, const uint8_t *at)
+{
+    entry->from = get16(at);
+    entry->to = get16(at + 2);
+    entry->digits = get16(at + 4);
+    if (!is_currency(entry->from))
+        return fault(BAD_FROM + bad_digit(entry->from));
+    if (!is_currency(entry->to))
+        return fault(BAD_TO + bad_digit(entry->to));
+    if (entry->from == entry->to)
+        return fault(BAD_PAIR);
+    if (entry->digits == 0)
+        return fault(BAD_DIGITS + 0);
+    if (entry->digits > 9999)
+        return fault(BAD_DIGITS + 1);
+    if (at[6] > 12)
+        return fault(BAD_SHIFT);
+    entry->shift = (int8_t)(at[6] - 9);
+    return true;
+}
+
+bool card_set_up(struct card *card, const uint8_t *body, size_t length)
+{
+    struct setup *setup = &card->setup;
+
+    if (length < HEAD_BYTES)
+        return fault(BODY_HEAD);
+
+    setup->key_index = body[0];
+    setup->pin_tries = body[1];
+    setup->authentication_required = body[2];
+    setup->profiles = body[3];
+    setup->conversions = body[4];
+    if (setup->pin_tries > 15)
+        return fault(BAD_PIN_TRIES);
+    if (body[2] > 1)
+        return fault(BAD_REQUIRED);
+    if (setup->profiles == 0)
+        return fault(BAD_PROFILES + 0);
+    if (setup->profiles > PROFILES_MAX)
+        return fault(BAD_PROFILES + 1);
+    if (setup->conversions > CONVERSIONS_MAX)
+        return fault(BAD_CONVERSIONS);
+
+    const size_t expected = HEAD_BYTES
+        + (size_t)PROFILE_BYTES * setup->profiles
+        + (size_t)CONVERSION_BYTES * setup->conversions;
+    if (length < expected)
+        return fault(BODY_SHORT);
+    if (length > expected)
+        return fault(BODY_LONG);
+
+    card->atc = get16(body + 5);
+    if (body[7] > 1)
+        return fault(BAD_GO_ONLINE);
+    card->history = body[7] ? GO_ONLINE_NEXT : 0;
+    card->due = NOTHING_DUE;
+
+    const uint8_t *at = body + 8;
+    for (unsigned i = 0; i < ACCUMULATORS; i++, at += 10) {
+        setup->currency[i] = get16(at);
+        card->accumulator[i] = get64(at + 2);
+        if (!is_currency(setup->currency[i]))
+            return fault(BAD_CURRENCY + 4 * i + bad_digit(setup->currency[i]));
+        if (card->accumulator[i] > AMOUNT_MAX)
+            return fault(BAD_VALUE + i);
+    }
+    for (unsigned i = 0; i < COUNTERS; i++)
+        card->counter[i] = *at++;
+
+    for (unsigned i = 0; i < setup->profiles; i++, at += PROFILE_BYTES) {
+        if (!read_profile(&setup->profile[i], at))
+            return fault(BAD_PROFILE_AT + i);
+        for (unsigned j = 0; j < i; j++)
+            if (setup->profile[j].number == setup->profile[i].number)
+                return fault(BAD_NUMBER_TWICE);
+    }
+
+    for (unsigned i = 0; i < setup->conversions; i++, at += CONVERSION_BYTES) {
+        struct conversion *entry = &setup->conversion[i];
+        if (!read_conversion(entry, at))
+            return fault(BAD_CONVERSION_AT + i);
+        for (unsigned j = 0; j < i; j++)
+            if (setup->conversion[j].from == entry->from
+                && setup->conversion[j].to == entry->to)
+                return fault(BAD_PAIR_TWICE);
+    }
+    return true;
+}

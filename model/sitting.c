@@ -1,0 +1,189 @@
+#include "sitting.h"
+
+#include "bytes.h"
+#include "reached.h"
+
+enum { KIND_SETUP = 1, KIND_START = 2, KIND_FIRST = 3, KIND_SECOND = 4 };
+enum { START_BYTES = 1, FIRST_BYTES = 12, SECOND_BYTES = 8 };
+
+struct record {
+    const uint8_t *body;
+    size_t length; /* of the body */
+    uint8_t kind;
+};
+
+static unsigned unreadable(unsigned cause)
+{
+    reached(cause);
+    return 9;
+}
+
+/* Takes the next record, which must be whole and of a known kind. */
+static bool take(struct sitting *sitting, struct record *record)
+{
+    const uint8_t *at = sitting->at;
+    const size_t left = (size_t)(sitting->end - at);
+    const unsigned later = sitting->record > 0;
+
+    if (left < 2)
+        return fault(CUT_IN_LENGTH + later);
+    const size_t length = get16(at);
+    if (length > left - 2)
+        return fault((left == 2 ? CUT_AFTER_LENGTH : CUT_IN_BODY) + later);
+    if (length == 0)
+        return fault(KIND_NONE + later);
+    record->kind = at[2];
+    record->body = at + 3;
+    record->length = length - 1;
+    if (record->kind == 0)
+        return fault(KIND_ZERO + later);
+    if (record->kind > KIND_SECOND)
+        return fault(KIND_ABOVE + later);
+    sitting->at = at + 2 + length;
+    return true;
+}
+
+/* The paper's own faults, then record 0. */
+static unsigned set_up(struct sitting *sitting)
+{
+    struct record record;
+
+    if (sitting->length == 0)
+        return unreadable(PAPER_EMPTY);
+    if (sitting->length > PAPER_MAX)
+        return unreadable(PAPER_LONG);
+    if (*sitting->at != 1)
+        return unreadable(PAPER_VERSION + (*sitting->at > 1));
+    sitting->at++;
+    if (sitting->at == sitting->end)
+        return unreadable(PAPER_BARE);
+    if (!take(sitting, &record))
+        return 9;
+    if (record.kind != KIND_SETUP)
+        return unreadable(SETUP_MISSING + record.kind - KIND_START);
+    return card_set_up(&sitting->card, record.body, record.length) ? 0 : 1;
+}
+
+static char *put_number(char *at, unsigned value)
+{
+    char digits[10];
+    unsigned count = 0;
+
+    do {
+        digits[count++] = (char)('0' + value % 10);
+        value /= 10;
+    } while (value > 0);
+    while (count > 0)
+        *at++ = digits[--count];
+    return at;
+}
+
+static char hex(unsigned nibble)
+{
+    return (char)(nibble < 10 ? '0' + nibble : 'A' - 10 + nibble);
+}
+
+static char *put_hex(char *at, const uint8_t *bytes, size_t count)
+{
+    for (size_t i = 0; i < count; i++) {
+        at[2 * i] = hex(bytes[i] >> 4);
+        at[2 * i + 1] = hex(bytes[i] & 15);
+    }
+    return at + 2 * count;
+}
+
+static char *put_answer(char *at, const struct card *card,
+                        const struct answer *answer)
+{
+    *at++ = ' ';
+    at = put_hex(at, &answer->cid, 1);
+    *at++ = ' ';
+    at = put_number(at, card->atc);
+    *at++ = ' ';
+    return put_hex(at, answer->iad, IAD_BYTES);
+}
+
+void sitting_open(struct sitting *sitting, const uint8_t *paper, size_t length)
+{
+    sitting->at = paper;
+    sitting->end = paper + length;
+    sitting->length = length;
+    sitting->record = 0;
+    sitting->over = false;
+}
+
+/* Answers a command record; *rest is what follows the refusal in its line. */
+static unsigned command(struct card *card, const struct record *record,
+                        char **rest)
+{
+    const uint8_t *body = record->body;
+    struct answer answer;
+    unsigned refusal;
+
+    switch (record->kind) {
+    case KIND_START:
+        if (record->length != START_BYTES)
+            return unreadable(START_LENGTH + (record->length > START_BYTES));
+        refusal = card_start(card, body[0]);
+        if (refusal == 0) {
+            *(*rest)++ = ' ';
+            *rest = put_number(*rest, card->atc);
+        }
+        return refusal;
+    case KIND_FIRST: {
+        if (record->length != FIRST_BYTES)
+            return unreadable(FIRST_LENGTH + (record->length > FIRST_BYTES));
+        const struct first first = {
+            .type = body[0],
+            .amount = get64(body + 1),
+            .currency = get16(body + 9),
+            .terminal = body[11],
+        };
+        refusal = card_first(card, &first, &answer);
+        break;
+    }
+    case KIND_SECOND: {
+        if (record->length != SECOND_BYTES)
+            return unreadable(SECOND_LENGTH + (record->length > SECOND_BYTES));
+        const struct second second = {
+            .type = body[0],
+            .code = get16(body + 1),
+            .issuer_data = body[3],
+            .csu = body + 4,
+        };
+        refusal = card_second(card, &second, &answer);
+        break;
+    }
+    default:
+        return unreadable(SETUP_REPEATED);
+    }
+    if (refusal == 0)
+        *rest = put_answer(*rest, card, &answer);
+    return refusal;
+}
+
+size_t sitting_line(struct sitting *sitting, char *line)
+{
+    if (sitting->over)
+        return 0;
+    if (sitting->record > 0 && sitting->at == sitting->end)
+        return 0;
+
+    char *at = put_number(line, sitting->record);
+    *at++ = ' ';
+    char *rest = at + 1; /* a refusal here has one digit */
+    unsigned refusal;
+    struct record record;
+    if (sitting->record == 0)
+        refusal = set_up(sitting);
+    else if (take(sitting, &record))
+        refusal = command(&sitting->card, &record, &rest);
+    else
+        refusal = 9;
+    *at = (char)('0' + refusal);
+    *rest++ = '\n';
+
+    sitting->record++;
+    sitting->over = refusal == 1 || refusal == 9;
+    return (size_t)(rest - line);
+}
