@@ -2,7 +2,7 @@
 use mathlib.Core.Path.{_≡_, refl, sym, ap, _∙_}
 use mathlib.Core.Bool.{Bool, true, false, not}
 use mathlib.Core.List.{List, [], _∷_, _++_}
-use Prim.Native.Nat.{ℕ, zero, suc, _+_, _*_, _/_, _%_, _^_, _<_, _≤_, min}
+use Prim.Native.Nat.{ℕ, zero, suc, _+_, _*_, _/_, _%_, _^_, _<_, min}
 use native.Mathlib.Nat.{div-div-eq-div-mul, div-one, zero-div, pow-succ'}
 use native.Mathlib.Omega.{arith}
 use borrow.Author.Tests.{ne-eqb}
@@ -55,7 +55,6 @@ meets-at k adr mask p q =
 pub flag-meets : (flags : List Bool) (k mask : ℕ) → getD flags k false ≡ true → bitOf k mask ≡ 1 → meetsMask (packed flags) mask ≡ true
 flag-meets flags k mask p q = meets-at k (packed flags) mask (packed-bit flags k ∙ ap bit p) q
 
--- eight flags are below 256
 pub packed-small : (flags : List Bool) → packed flags < 2 ^ length flags
 packed-small [] = omega arith
 packed-small (flag ∷ flags) =
@@ -74,6 +73,9 @@ any-packed (false ∷ flags) = any-packed flags ∙ ap not (doubled (packed flag
 
 -- four flags, and four more above them
 module _ (f g : ℕ → Bool) where
+  pub eight-small : packed (four f ++ four g) < 256
+  eight-small = packed-small (four f ++ four g)
+
   parts : packed (four f ++ four g) ≡ packed (four f) + 16 * packed (four g)
   parts = omega arith
 
@@ -97,7 +99,7 @@ each P a b c d (suc (suc (suc zero))) h = d
 each P a b c d (suc (suc (suc (suc i)))) h = let z : ⊥ = omega arith in absurd z
 
 module _ (history : History) (rules : Rules) (place : Place) (values : Values) (purchase : Purchase) (worths : Worths) where
-  -- document 01's list of the decision bits, i + 1 being the accumulator's or the counter's number
+  -- document 01's list of the decision bits, with accumulator or counter i + 1; no bit stands above 21
   pub record HouseOrder (adr : ℕ) : Type 0 where
     pub uncompleted : bitOf 0 adr ≡ bit (history .uncompleted)
     pub online : bitOf 1 adr ≡ bit (history .online)
@@ -109,7 +111,7 @@ module _ (history : History) (rules : Rules) (place : Place) (values : Values) (
     pub accumulatorUpper : (i : ℕ) → i < 4 → bitOf (10 + i) adr ≡ bit (getD (accumulatorsUpper rules place values worths) i false)
     pub counterLower : (i : ℕ) → i < 4 → bitOf (14 + i) adr ≡ bit (getD (countersLower rules place values) i false)
     pub counterUpper : (i : ℕ) → i < 4 → bitOf (18 + i) adr ≡ bit (getD (countersUpper rules place values) i false)
-    pub none : adr < 2 ^ 22
+    pub rest : adr < 2 ^ 22
 
   -- the decision bits of the tests are the flags in house order
   pub decision-packed :
@@ -134,5 +136,5 @@ module _ (history : History) (rules : Rules) (place : Place) (values : Values) (
         accumulatorUpper = each _ (flag 10) (flag 11) (flag 12) (flag 13);
         counterLower = each _ (flag 14) (flag 15) (flag 16) (flag 17);
         counterUpper = each _ (flag 18) (flag 19) (flag 20) (flag 21);
-        none = packed-small flags;
+        rest = packed-small flags;
       }

@@ -16,7 +16,7 @@ use Rattle.rules.specs.Rules.{Rules, accumulatorRule, counterRule}
 use Rattle.rules.proofs.Places.{four-at}
 use Rattle.meters.specs.declared.Worths.{Worths}
 use Rattle.meters.specs.Meters.{amountAt, countAt, worthAt}
-use Rattle.checks.specs.Checks.{sumExceeds, amountExceeds, countExceeds, accumulatorExceeds, counterExceeds, accumulatorsLower, accumulatorsUpper, countersLower, countersUpper}
+use Rattle.checks.specs.Checks.{sumExceeds, amountExceeds, accumulatorExceeds, counterExceeds, accumulatorsLower, accumulatorsUpper, countersLower, countersUpper}
 
 -- a sum against a limit is the summand against what is left to it
 pub left-to : (limit value more : ℕ) → value ≤ limit → ltb (limit - value) more ≡ ltb limit (value + more)
@@ -88,7 +88,8 @@ module _ (rules : Rules) (place : Place) (values : Values) (worths : Worths) (i 
       ≡ amountExceeds limit (amountAt values i .0) (accumulatorRule rules place i .include) (worthAt worths i)
   accumulator-active e limit = simp e
 
-  pub accumulator-inactive : accumulatorRule rules place i .active ≡ false → (limit : ℕ) → accumulatorExceeds rules place values worths limit i ≡ false
+  pub accumulator-inactive : accumulatorRule rules place i .active ≡ false → (limit : ℕ)
+      → accumulatorExceeds rules place values worths limit i ≡ false
   accumulator-inactive e limit = simp e
 
   pub accumulator-lower : i < 4 → getD (accumulatorsLower rules place values worths) i false

@@ -25,11 +25,11 @@ sumExceeds limit value NoEntry = false
 abbrev pub amountExceeds : (limit value : ℕ) (include : Bool) → Converted → Bool
 amountExceeds limit value include worth = ltb limit value || (include && sumExceeds limit value worth)
 
--- likewise, with 1 added
+-- a counter likewise, with 1 added
 abbrev pub countExceeds : (limit value : ℕ) (include : Bool) → Bool
 countExceeds limit value include = ltb limit value || (include && ltb limit (value + 1))
 
--- accumulator or counter i + 1 exceeds a limit if it is active and its value does
+-- accumulator or counter i + 1 exceeds a limit if it is active and does so
 abbrev pub accumulatorExceeds : Rules → Place → Values → Worths → (limit i : ℕ) → Bool
 accumulatorExceeds rules place values worths limit i =
     let rule = accumulatorRule rules place i in
@@ -63,7 +63,8 @@ spentExceeds limit NoEntry = false
 unfoldable pub maximumExceeded : Rules → Place → Purchase → Bool
 maximumExceeded rules place purchase =
     let maximum = profileAt rules place .maximum in
-    maximum .on && spentExceeds (maximum .amount .0) (convertOf (purchase .amount) (purchase .currency) (maximum .currency) (rules .rates))
+    maximum .on
+    && spentExceeds (maximum .amount .0) (convertOf (purchase .amount) (purchase .currency) (maximum .currency) (rules .rates))
 
 -- flags as a number, bit 0 first
 abbrev pub bit : Bool → ℕ
@@ -80,7 +81,8 @@ limitBits active lower upper = bit (active && lower) + bit (active && upper) * 1
 
 -- of all four: bits 0 to 3 the lower, bits 4 to 7 the upper
 abbrev pub accumulatorBits : Rules → Place → Values → Worths → ℕ
-accumulatorBits rules place values worths = packed (accumulatorsLower rules place values worths ++ accumulatorsUpper rules place values worths)
+accumulatorBits rules place values worths =
+    packed (accumulatorsLower rules place values worths ++ accumulatorsUpper rules place values worths)
 
 abbrev pub counterBits : Rules → Place → Values → ℕ
 counterBits rules place values = packed (countersLower rules place values ++ countersUpper rules place values)

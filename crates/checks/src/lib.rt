@@ -47,7 +47,7 @@ fn sum_exceeds(limit: AccumulatorAmount, value: AccumulatorAmount, more: Accumul
     limit.0 - value.0 < more.0
 }
 
-// An amount exceeds a limit, or does so with what is included and converts.
+// A value exceeds a limit, or, with "include this transaction", does with what the purchase is worth.
 fn amount_exceeds(
     limit: AccumulatorAmount,
     value: AccumulatorAmount,
@@ -56,16 +56,18 @@ fn amount_exceeds(
 ) -> bool
     ensures { λ r. ⌜ r ≡ amountExceeds (limit .0) (value .0) include worth ⌝ }
 {
+    let already = limit.0 < value.0;
     match worth {
-        Converted::Amount(more) => (limit.0 < value.0)
-            | (include & sum_exceeds(limit, value, more)),
-        Converted::NoEntry => limit.0 < value.0,
+        Converted::Amount(more) => already | (include & sum_exceeds(limit, value, more)),
+        Converted::NoEntry => already,
     }
 }
 
 // The limits that an accumulator exceeds: bit 0 the lower, bit 4 the upper.
 fn test_accumulator(rule: AccumulatorRule, value: AccumulatorAmount, worth: Converted) -> u8
-    ensures { λ r. ⌜ (r ≡ limitBits (rule .active) (amountExceeds (rule .lower .0) (value .0) (rule .include) worth) (amountExceeds (rule .upper .0) (value .0) (rule .include) worth)) × (r ≤ 17) ⌝ }
+    ensures { λ r. ⌜ (r ≡ limitBits (rule .active)
+        (amountExceeds (rule .lower .0) (value .0) (rule .include) worth)
+        (amountExceeds (rule .upper .0) (value .0) (rule .include) worth)) × (r ≤ 17) ⌝ }
 {
     if rule.active {
         bit(amount_exceeds(rule.lower, value, rule.include, worth))
@@ -75,7 +77,7 @@ fn test_accumulator(rule: AccumulatorRule, value: AccumulatorAmount, worth: Conv
     }
 }
 
-// A count exceeds a limit, or does so with 1 added.
+// A counter likewise, with 1 added.
 fn count_exceeds(limit: u8, value: u8, include: bool) -> bool
     ensures { λ r. ⌜ r ≡ countExceeds limit value include ⌝ }
 {
@@ -83,7 +85,9 @@ fn count_exceeds(limit: u8, value: u8, include: bool) -> bool
 }
 
 fn test_counter(rule: CounterRule, value: u8) -> u8
-    ensures { λ r. ⌜ (r ≡ limitBits (rule .active) (countExceeds (rule .lower) value (rule .include)) (countExceeds (rule .upper) value (rule .include))) × (r ≤ 17) ⌝ }
+    ensures { λ r. ⌜ (r ≡ limitBits (rule .active)
+        (countExceeds (rule .lower) value (rule .include))
+        (countExceeds (rule .upper) value (rule .include))) × (r ≤ 17) ⌝ }
 {
     if rule.active {
         bit(count_exceeds(rule.lower, value, rule.include))
@@ -122,18 +126,13 @@ fn exceeds_maximum(words: &Words, place: Place, purchase: Purchase) -> bool
     ensures { λ r. ⌜ r ≡ maximumExceeded (rulesOf (now (words .entry))) place purchase ⌝ }
 {
     let maximum = rules::maximum_amount(words, place);
-    if maximum.on {
-        match money::convert(
-            purchase.amount,
-            purchase.currency,
-            maximum.currency,
-            rules::rates(words),
-        ) {
-            Converted::Amount(spent) => maximum.amount.0 < spent.0,
-            Converted::NoEntry => false,
-        }
-    } else {
-        false
+    if !maximum.on {
+        return false;
+    }
+    let rates = rules::rates(words);
+    match money::convert(purchase.amount, purchase.currency, maximum.currency, rates) {
+        Converted::Amount(spent) => maximum.amount.0 < spent.0,
+        Converted::NoEntry => false,
     }
 }
 

@@ -46,7 +46,8 @@ fn read_fresh(s: &[u8]) -> Fresh
     }
 }
 
-fn no_card() -> Fresh
+// What stands for a card where there is none.
+pub fn no_card() -> Fresh
     ensures { λ r. ⌜ r ≡ noCard ⌝ }
 {
     Fresh {

@@ -4,10 +4,12 @@ use Rattle.checks.proofs.amount_exceeds.Statement.{statement}
 use Rattle.checks.proofs.amount_exceeds.Tie as tie
 
 returns : tie.Need-returns
-returns c = simp (c .sum-exceeds .ensures, c .before .before .before .before .worth .given .1)
+returns c = simp (c .sum-exceeds .ensures, c .before .before .worth .given .1)
 
 returns-2 : tie.Need-returns-2
-returns-2 c = let a = c .before .before .before .before .args in rw (c .before .before .enum-told .given .1) (unconverted (a .limit .0) (a .value .0) (a .include))
+returns-2 c =
+    let a = c .before .before .before .before .args in
+    rw (c .enum-told .given .1) (unconverted (a .limit .0) (a .value .0) (a .include))
 
 pub amount-exceeds-spec : {M : Type 1} → statement M
 amount-exceeds-spec = tie.close (tie.spec (search needs) (search needs) (search needs) returns returns-2)

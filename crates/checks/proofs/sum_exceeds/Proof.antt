@@ -11,7 +11,7 @@ returns : tie.Need-returns
 returns c = let a = c .before .before .before .args in sym (lt-ltb (a .limit .0) (a .value .0 + a .more .0) (omega arith))
 
 returns-2 : tie.Need-returns-2
-returns-2 c = left-to _ _ _ (c .before .before .before .if1 .left)
+returns-2 c = search (needs, left-to)
 
 pub sum-exceeds-spec : {M : Type 1} → statement M
 sum-exceeds-spec = tie.close (tie.spec returns returns-2)

@@ -1,0 +1,115 @@
+-- The twelve edges of document 01 in one table, over the definitions that the contracts cite. Assumes nothing.
+use mathlib.Core.Bool.{Bool, true, false, _&&_}
+use mathlib.Core.List.{List, [], _∷_}
+use Prim.Native.Nat.{ℕ}
+use lib.Dec.{T, eqb}
+use Rattle.money.specs.declared.Converted.{Converted}
+use Rattle.money.specs.declared.Converted.the-variants.{Amount, NoEntry}
+use Rattle.money.specs.declared.Rates.{Rates}
+use Rattle.money.specs.Money.{max, stopped, blank, rateFor, scaled, convertOf}
+use Rattle.rules.specs.declared.Place.the-variants.{One}
+use Rattle.rules.specs.declared.Values.{Values}
+use Rattle.rules.specs.Rules.{Rules, four, blankAccumulator, blankCounter, blankProfile}
+use Rattle.meters.specs.declared.Purchase.{Purchase}
+use Rattle.meters.specs.Meters.{worth, worthsOf, approved, amountAt, countAt}
+use Rattle.checks.specs.declared.History.{History}
+use Rattle.checks.specs.Checks.{accumulatorsLower, accumulatorsUpper, countersLower, countersUpper, maximumExceeded, testsOf}
+use Rattle.card.specs.declared.Kind.{Kind}
+use Rattle.card.specs.declared.Kind.the-variants.{Aac, Tc, Arqc}
+use Rattle.card.specs.declared.Later.the-variants.{NotRequested}
+use Rattle.card.specs.Cryptogram.{kindCode, verification}
+use Rattle.card.specs.First.{decision, issuerBefore}
+
+-- one conversion, from currency 1 to currency 2
+abbrev rates : ℕ → ℕ → Rates
+rates d t = record { entries = record { from = 1; to = 2; digits = d; shift = t } ∷ blank ∷ blank ∷ blank ∷ blank ∷ [] }
+
+-- a card whose first accumulator, in currency 1, and first counter are active, count and include this transaction
+abbrev card : ℕ → Rules
+card upper =
+    record {
+      key = 0;
+      pin = 0;
+      required = false;
+      currencies = 1 ∷ 2 ∷ 2 ∷ 2 ∷ [];
+      rates = rates 1 9;
+      profiles =
+          record {
+            number = 1;
+            masks = blankProfile .masks;
+            maximum = blankProfile .maximum;
+            accumulators =
+                record { lower = record { 0 = upper }; upper = record { 0 = upper }; active = true; allow = true; include = true }
+                ∷ blankAccumulator
+                ∷ blankAccumulator
+                ∷ blankAccumulator
+                ∷ [];
+            counters =
+                record { lower = 0; upper = 0; active = true; allow = true; include = true; declines = true } ∷ blankCounter ∷ blankCounter ∷ blankCounter ∷ [];
+            sent = blankProfile .sent;
+          }
+          ∷ blankProfile
+          ∷ blankProfile
+          ∷ blankProfile
+          ∷ [];
+    }
+
+abbrev values : ℕ → ℕ → Values
+values amount count =
+    record { accumulators = four (λ i. record { 0 = amount }); counters = four (λ i. count) }
+
+abbrev purchase : ℕ → Purchase
+purchase amount = record { amount = record { 0 = amount }; currency = 1 }
+
+abbrev clear : History
+clear = record { uncompleted = false; online = false; failed = false; unable = false; missing = false }
+
+abbrev isAmount : Converted → ℕ → Bool
+isAmount (Amount amount) n = eqb (amount .0) n
+isAmount NoEntry n = false
+
+-- a value and an amount against a limit: the tests' bits of the first accumulator (1 lower, 16 upper); a conversion; an approval stored
+-- in an accumulator and in a counter; a decision, with the masks Online, Decline, Default; CVR byte 1 of a First
+pub data Row : Type 0 where
+  limitRow : (value amount limit bits : ℕ) → Row
+  rateRow : (amount d t result : ℕ) → Row
+  amountRow : (value more result : ℕ) → Row
+  countRow : (value result : ℕ) → Row
+  kindRow : (requested adr online decline default terminal : ℕ) → Kind → Row
+  byteRow : Kind → ℕ → Row
+
+unfoldable pub holds : Row → Bool
+holds (limitRow value amount upper bits) =
+    eqb (testsOf (card upper) One (values value 0) (purchase amount) (worthsOf (card upper) (purchase amount)) .accumulators) bits
+holds (rateRow amount d t result) = isAmount (convertOf (record { 0 = amount }) 1 2 (rates d t)) result
+holds (amountRow value more result) =
+    eqb (amountAt (approved (card max) One (values value 0) (worthsOf (card max) (purchase more))) 0 .0) result
+holds (countRow value result) = eqb (countAt (approved (card max) One (values 0 value) (worthsOf (card max) (purchase 1))) 0) result
+holds (kindRow requested adr online decline default terminal k) =
+    eqb (kindCode (decision requested adr (record { online = online; decline = decline; default = default }) terminal)) (kindCode k)
+holds (byteRow k n) = eqb (verification (card max) clear 0 k NotRequested (issuerBefore clear) .byte1) n
+
+unfoldable pub table : List Row
+table =
+    limitRow 0 5000 5000 0
+    ∷ limitRow 0 5001 5000 17
+    ∷ rateRow 12345 1234 6 15233
+    ∷ rateRow 999999999999 9999 12 999999999999
+    ∷ rateRow 1 4 8 0
+    ∷ countRow 255 255
+    ∷ amountRow 999999999999 1 999999999999
+    ∷ limitRow 999999999999 1 999999999999 17
+    ∷ kindRow 1 64 64 64 0 0x22 Aac
+    ∷ kindRow 1 64 0 0 64 0x23 Aac
+    ∷ kindRow 1 64 0 0 64 0x22 Tc
+    ∷ byteRow Tc 0x90
+    ∷ []
+
+unfoldable pub all : List Row → Bool
+all [] = true
+all (row ∷ rows) = holds row && all rows
+
+-- a) to l), in document 01's order
+pub edges : T (all table)
+unfolding all table holds testsOf accumulatorsLower accumulatorsUpper countersLower countersUpper maximumExceeded worthsOf worth convertOf rateFor scaled approved decision verification
+edges = tt
