@@ -1,0 +1,68 @@
+-- Bytes in hex: one more at a time, how many digits they have, and that these read back. Assumes nothing.
+use mathlib.Core.Path.{_≡_, refl, sym, ap}
+use mathlib.Core.Bool.{Bool, true, false, cond}
+use mathlib.Core.List.{List, [], _∷_, _++_, append-assoc}
+use Prim.Native.Nat.{ℕ, _+_, _*_, _-_, _/_, _%_, _≤_, _<_}
+use native.Mathlib.Numerals.{add-one}
+use native.Mathlib.Omega.{arith}
+use borrow.Author.Tests.{ltb-true, ltb-false, lt-ltb, le-ltb}
+use lib.Dec.{ltb}
+use lib.ListN.{length, take, getD}
+use lib.Seq.{take-suc}
+use Rattle.lines.specs.Lines.{hexDigit, hexByte, hex}
+use Rattle.lines.proofs.Each.{Each, none, more}
+
+-- the number that a digit stands for
+abbrev unhex : ℕ → ℕ
+unhex d = cond (ltb d 58) (d - 48) (d - 55)
+
+-- a digit: its code as a sum, its least code, and that it reads back
+record Digit (n d : ℕ) : Type 0 where
+  sum : n < 16 → 48 + n + n / 10 * 7 ≡ d
+  least : 48 ≤ d
+  back : unhex d ≡ n
+
+one : (n : ℕ) → Digit n (hexDigit n)
+one n = by (ltb n 10) refl where
+  by : (t : Bool) → ltb n 10 ≡ t → Digit n (hexDigit n)
+  by true e =
+      let small = ltb-true n 10 e in
+      rw e (record { sum = λ h. omega arith; least = omega arith; back = simp (lt-ltb (48 + n) 58 (omega arith)) (omega arith) })
+  by false e =
+      let large = ltb-false n 10 e in
+      rw e (record { sum = λ h. omega arith; least = omega arith; back = simp (le-ltb (55 + n) 58 (omega arith)) (omega arith) })
+
+pub digit-sum : (n : ℕ) → n < 16 → 48 + n + n / 10 * 7 ≡ hexDigit n
+digit-sum n = one n .sum
+
+append : (s t : List ℕ) → hex (s ++ t) ≡ hex s ++ hex t
+unfolding hex
+append [] t = refl
+append (b ∷ s) t = rw (append s t) (sym (append-assoc (hexByte b) (hex s) (hex t)))
+
+pub hex-more : (s : List ℕ) (i : ℕ) → i < length s → hex (take (i + 1) s) ≡ hex (take i s) ++ hexByte (getD s i 0)
+unfolding hex
+hex-more s i h = rw (add-one i, take-suc s i 0) (append (take i s) (getD s i 0 ∷ []))
+
+pub digits : (s : List ℕ) → Each (λ d. 48 ≤ d) (hex s)
+unfolding hex
+digits [] = none
+digits (b ∷ s) = more (one (b / 16) .least) (more (one (b % 16) .least) (digits s))
+
+pub size : (s : List ℕ) → length (hex s) ≡ 2 * length s
+unfolding hex
+size [] = refl
+size (b ∷ s) = let more = size s in omega arith
+
+-- the bytes that digits write, two by two
+abbrev pub bytes : List ℕ → List ℕ
+bytes [] = []
+bytes (h ∷ []) = []
+bytes (h ∷ l ∷ s) = (unhex h * 16 + unhex l) ∷ bytes s
+
+pub reads-back : (s : List ℕ) → bytes (hex s) ≡ s
+unfolding hex
+reads-back [] = refl
+reads-back (b ∷ s) =
+    let whole : b / 16 * 16 + b % 16 ≡ b = omega arith in
+    rw (one (b / 16) .back, one (b % 16) .back, whole, reads-back s)

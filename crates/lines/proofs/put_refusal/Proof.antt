@@ -1,0 +1,24 @@
+use borrow.Author.Needs.{needs}
+use denote.Ref.{now}
+use lib.Dec.{lit≤}
+use native.Mathlib.Omega.{arith}
+use Rattle.lines.proofs.Stores.{next, place, stay}
+use Rattle.lines.specs.Lines.{refusalLine}
+use Rattle.lines.proofs.put_refusal.Statement.{statement}
+use Rattle.lines.proofs.put_refusal.Tie as tie
+
+returns : tie.Need-returns
+returns c =
+    let a = c .before .before .before .args in
+    stay (now (a .room)) (refusalLine (a .number) (a .refusal)) (a .at) (omega arith)
+
+returns-2 : tie.Need-returns-2
+unfolding refusalLine
+returns-2 c =
+    let refusal = c .before .before .before .before .before .before in
+    let space = refusal .before .before .before .before in
+    let number = space .before .before .before .before in
+    place (next (number .put-decimal .ensures) (next (space .put-byte .ensures) (next (refusal .put-decimal2 .ensures) (c .before .before .put-byte2 .ensures)))) (lit≤ tt) (omega arith)
+
+pub put-refusal-spec : {M : Type 1} → statement M
+put-refusal-spec = tie.close (tie.spec (search needs) returns (search needs) (search needs) (search needs) (search needs) (search needs) returns-2)

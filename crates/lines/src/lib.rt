@@ -1,0 +1,139 @@
+// The lines of a sitting, written into lent room from a place on; the place behind is returned.
+ghost use mathlib.Core.Path.{_≡_};
+ghost use mathlib.Core.List.{[], _∷_};
+ghost use Prim.Native.Nat.{_+_, _*_, _-_, _≤_, _<_};
+ghost use lib.ListN.{length, replicate};
+ghost use Rattle.iad.specs.Iad.{written};
+ghost use Rattle.lines.specs.Lines.{digit, decimal, hexDigit, hexByte, hex, refusalLine, startLine, cryptogramLine, placed, placeBehind};
+ghost use Rattle.lines.specs.Stored.{Stored};
+use iad::Iad;
+
+// The most bytes that a line has.
+pub const LONGEST: usize = 82;
+
+// How many bytes there are from a place on.
+fn bytes_left(bytes: usize, at: usize) -> usize
+    ensures { λ r. ⌜ r ≡ bytes - at ⌝ }
+{
+    if at < bytes { bytes - at } else { 0 }
+}
+
+fn put_byte(room: &mut [u8], at: usize, byte: u8) -> usize
+    requires { ⌜ at + 1 ≤ length (now room) ⌝ }
+    ensures { λ r. ⌜ Stored (now (room .entry)) at (byte ∷ []) 1 r (now (room .exit)) ⌝ }
+{
+    room[at] = byte;
+    at + 1
+}
+
+// The digit of a unit, and nothing where the number is smaller.
+fn put_digit(room: &mut [u8], at: usize, n: u16, unit: u16) -> usize
+    requires { ⌜ (at + 1 ≤ length (now room)) × (0 < unit) ⌝ }
+    ensures { λ r. ⌜ Stored (now (room .entry)) at (digit n unit) 1 r (now (room .exit)) ⌝ }
+{
+    if n < unit {
+        return at;
+    }
+    put_byte(room, at, b'0' + (n / unit % 10) as u8)
+}
+
+fn put_decimal(room: &mut [u8], at: usize, n: u16) -> usize
+    requires { ⌜ at + 5 ≤ length (now room) ⌝ }
+    ensures { λ r. ⌜ Stored (now (room .entry)) at (decimal n) 5 r (now (room .exit)) ⌝ }
+{
+    let at = put_digit(room, at, n, 10_000);
+    let at = put_digit(room, at, n, 1_000);
+    let at = put_digit(room, at, n, 100);
+    let at = put_digit(room, at, n, 10);
+    put_byte(room, at, b'0' + (n % 10) as u8)
+}
+
+// "0" to "9", then "A" to "F", whose codes begin 7 further on.
+fn hex_digit(n: u8) -> u8
+    requires { ⌜ n < 16 ⌝ }
+    ensures { λ r. ⌜ r ≡ hexDigit n ⌝ }
+{
+    b'0' + n + n / 10 * 7
+}
+
+fn put_hex_byte(room: &mut [u8], at: usize, byte: u8) -> usize
+    requires { ⌜ at + 2 ≤ length (now room) ⌝ }
+    ensures { λ r. ⌜ Stored (now (room .entry)) at (hexByte byte) 2 r (now (room .exit)) ⌝ }
+{
+    let at = put_byte(room, at, hex_digit(byte / 16));
+    put_byte(room, at, hex_digit(byte % 16))
+}
+
+fn put_hex(room: &mut [u8], at: usize, bytes: &[u8]) -> usize
+    requires { ⌜ at + 2 * length (now bytes) ≤ length (now room) ⌝ }
+    ensures { λ r. ⌜ Stored (now (room .entry)) at (hex (now (bytes .entry))) (2 * length (now (bytes .entry))) r (now (room .exit)) ⌝ }
+{
+    let mut end = at;
+    for i in 0..bytes.len() {
+        end = put_hex_byte(room, end, bytes[i]);
+    }
+    end
+}
+
+// The bytes that an IAD is written as; zeros for one that is out of range.
+fn iad_bytes(iad: Iad) -> [u8; 32]
+    ensures { λ r. ⌜ (r ≡ written iad (replicate 32 0)) × (length r ≡ 32) ⌝ }
+{
+    let mut bytes = [0u8; 32];
+    iad::write(iad, &mut bytes);
+    bytes
+}
+
+// 0, done, with a space before and behind it.
+fn put_done(room: &mut [u8], at: usize) -> usize
+    requires { ⌜ at + 3 ≤ length (now room) ⌝ }
+    ensures { λ r. ⌜ Stored (now (room .entry)) at (32 ∷ 48 ∷ 32 ∷ []) 3 r (now (room .exit)) ⌝ }
+{
+    let at = put_byte(room, at, b' ');
+    let at = put_byte(room, at, b'0');
+    put_byte(room, at, b' ')
+}
+
+// Record number, refusal.
+pub fn put_refusal(room: &mut [u8], at: usize, number: u16, refusal: u8) -> usize
+    ensures { λ r. ⌜ (r ≡ placeBehind (length (now (room .entry))) at (refusalLine number refusal)) × (now (room .exit) ≡ placed (now (room .entry)) at (refusalLine number refusal)) ⌝ }
+{
+    if bytes_left(room.len(), at) < LONGEST {
+        return at;
+    }
+    let at = put_decimal(room, at, number);
+    let at = put_byte(room, at, b' ');
+    let at = put_decimal(room, at, refusal as u16);
+    put_byte(room, at, b'\n')
+}
+
+// After Start: record number, 0, ATC.
+pub fn put_start(room: &mut [u8], at: usize, number: u16, atc: u16) -> usize
+    ensures { λ r. ⌜ (r ≡ placeBehind (length (now (room .entry))) at (startLine number atc)) × (now (room .exit) ≡ placed (now (room .entry)) at (startLine number atc)) ⌝ }
+{
+    if bytes_left(room.len(), at) < LONGEST {
+        return at;
+    }
+    let at = put_decimal(room, at, number);
+    let at = put_done(room, at);
+    let at = put_decimal(room, at, atc);
+    put_byte(room, at, b'\n')
+}
+
+// After First or Second: record number, 0, CID, ATC, IAD.
+pub fn put_cryptogram(room: &mut [u8], at: usize, number: u16, cid: u8, atc: u16, iad: Iad) -> usize
+    ensures { λ r. ⌜ (r ≡ placeBehind (length (now (room .entry))) at (cryptogramLine number cid atc iad)) × (now (room .exit) ≡ placed (now (room .entry)) at (cryptogramLine number cid atc iad)) ⌝ }
+{
+    if bytes_left(room.len(), at) < LONGEST {
+        return at;
+    }
+    let bytes = iad_bytes(iad);
+    let at = put_decimal(room, at, number);
+    let at = put_done(room, at);
+    let at = put_hex_byte(room, at, cid);
+    let at = put_byte(room, at, b' ');
+    let at = put_decimal(room, at, atc);
+    let at = put_byte(room, at, b' ');
+    let at = put_hex(room, at, &bytes);
+    put_byte(room, at, b'\n')
+}

@@ -1,0 +1,71 @@
+-- The set-up of an opened paper lies inside it, and a turn without a line leaves the room as it is. Assumes nothing.
+use mathlib.Core.Path.{_≡_, refl, sym, ap, _∙_}
+use mathlib.Core.Bool.{Bool, true, false, cond}
+use mathlib.Core.List.{List, [], _++_, append-nil}
+use Prim.Native.Nat.{ℕ, _+_, _≤_}
+use native.Mathlib.Nat.{add-zero}
+use native.Mathlib.Omega.{arith}
+use borrow.Author.Tests.{leb-true}
+use lib.Dec.{leb, eqb}
+use lib.ListN.{length, take, drop, take-append-drop}
+use Rattle.refusal.specs.declared.Refusal.the-variants.{Unreadable}
+use Rattle.paper.specs.declared.Next.{Next}
+use Rattle.paper.specs.declared.Next.the-variants.{Record, Fault, End}
+use Rattle.paper.specs.declared.Opened.{Opened}
+use Rattle.paper.specs.declared.Opened.the-variants.{Setup, Refused}
+use Rattle.paper.specs.Paper.{isUnreadable, nextAt, setupIn, openPaper}
+use Rattle.paper.proofs.Walk.{inside}
+use Rattle.lines.specs.Lines.{longest, placed, placeBehind}
+
+pub record-inside : (s : List ℕ) (at kind start end : ℕ) → nextAt s at ≡ Record kind start end → (start ≤ end) × (end ≤ length s)
+record-inside s at kind start end e =
+    let i = inside s at kind start end e in
+    let f = i .start-is in
+    let h = i .holds in
+    (omega arith, i .fits)
+
+startOf : Opened → ℕ
+startOf (Setup start end) = start
+startOf (Refused refusal) = 0
+
+endOf : Opened → ℕ
+endOf (Setup start end) = end
+endOf (Refused refusal) = 0
+
+by-next : (s : List ℕ) (start end : ℕ) (b : Bool) (n : Next) → nextAt s 1 ≡ n → cond b (Refused Unreadable) (setupIn n) ≡ Setup start end
+    → (start ≤ end) × (end ≤ length s)
+unfolding startOf endOf
+by-next s start end true n e o = let z : _≡_ {A = ℕ} 0 1 = cc in (omega arith, omega arith)
+by-next s start end false Fault e o = let z : _≡_ {A = ℕ} 0 1 = cc in (omega arith, omega arith)
+by-next s start end false End e o = let z : _≡_ {A = ℕ} 0 1 = cc in (omega arith, omega arith)
+by-next s start end false (Record kind first last) e o = by-kind (eqb kind 1) o where
+  by-kind : (b : Bool) → cond b (Setup first last) (Refused Unreadable) ≡ Setup start end → (start ≤ end) × (end ≤ length s)
+  by-kind true p =
+      let i = record-inside s 1 kind first last e in
+      let f : first ≡ start = ap startOf p in
+      let l : last ≡ end = ap endOf p in
+      (omega arith, omega arith)
+  by-kind false p = let z : _≡_ {A = ℕ} 0 1 = cc in (omega arith, omega arith)
+
+pub setup-inside : (s : List ℕ) (start end : ℕ) → openPaper s ≡ Setup start end → (start ≤ end) × (end ≤ length s)
+unfolding openPaper
+setup-inside s start end e = by-next s start end (isUnreadable s) (nextAt s 1) refl e
+
+pub nothing-placed : (room : List ℕ) (to : ℕ) → placed room to [] ≡ room
+unfolding placed
+nothing-placed room to = by (leb (to + longest) (length room)) where
+  by : (b : Bool) → cond b (take to room ++ [] ++ drop (to + 0) room) room ≡ room
+  by true = rw (add-zero to, append-nil (take to room)) (take-append-drop to room)
+  by false = refl
+
+pub nothing-behind : (bytes to : ℕ) → placeBehind bytes to [] ≡ to
+unfolding placeBehind
+nothing-behind bytes to = by (leb (to + longest) bytes) where
+  by : (b : Bool) → cond b (to + 0) to ≡ to
+  by true = add-zero to
+  by false = refl
+
+-- without room for a line nothing is placed
+pub no-room : (room : List ℕ) (to : ℕ) (text : List ℕ) → leb (to + longest) (length room) ≡ false → placed room to text ≡ room
+unfolding placed
+no-room room to text e = simp e
