@@ -9,7 +9,7 @@ use turns::Pace;
 const LONGEST_PAPER: usize = 65_536;
 
 // Writes out what stands before a place.
-pub fn flush(room: &[u8], to: usize) {
+fn flush(room: &[u8], to: usize) {
     if to <= room.len() {
         io::write_all(1, &room[..to]);
     }
@@ -35,7 +35,7 @@ fn is_over(pace: Pace) -> bool {
 }
 
 // The turns of a whole paper, their lines behind those in the room.
-pub fn sit(paper: &[u8], words: &mut Words, room: &mut [u8], to: usize) -> usize {
+fn sit(paper: &[u8], words: &mut Words, room: &mut [u8], to: usize) -> usize {
     let begun = turns::begin(paper, words, room, reserve(room, to));
     let pace = begun.pace;
     let mut state = begun.state;
