@@ -1,106 +1,109 @@
--- Each line is one line, no longer than the longest, and says what its fields are. Assumes nothing.
+-- A sitting's line is one line, no longer than the longest, and two that are equal say the same. Assumes nothing.
 use mathlib.Core.Path.{_≡_, refl, sym, ap, _∙_}
 use mathlib.Core.Bool.{Bool, true, false}
-use mathlib.Core.List.{List, [], _∷_, _++_, append-assoc}
-use Prim.Native.Nat.{ℕ, _≤_, _<_}
+use mathlib.Core.List.{List, [], _∷_}
+use Prim.Native.Nat.{ℕ, _<_}
 use native.Mathlib.Omega.{arith}
-use lib.ListN.{length, getD, replicate, length-append}
+use lib.ListN.{length, take, replicate, length-append}
 use Rattle.iad.specs.declared.Iad.{Iad}
 use Rattle.iad.specs.declared.ReadIad.the-variants.{Fields}
 use Rattle.iad.specs.declared.Written.the-variants.{Done}
-use Rattle.iad.specs.Iad.{iadBytes, pairsOf, isWritable, writeIad, written}
+use Rattle.iad.specs.Iad.{iadBytes, pairsOf, isWritable, readIad, writeIad, written}
 use Rattle.iad.proofs.RoundTrip.{whole}
-use Rattle.lines.specs.Lines.{decimal, hexByte, hex, line, refusalLine, startLine, cryptogramLine, longest}
-use Rattle.lines.proofs.Each.{Each, none, more, append, at, weaken}
+use Rattle.lines.specs.Lines.{decimal, hexByte, hex, refusalLine, startLine, cryptogramLine}
+use Rattle.lines.proofs.Each.{Each, none, more}
 use Rattle.lines.proofs.Decimal as Decimal
 use Rattle.lines.proofs.Hex as Hex
+use Rattle.lines.proofs.Fields.{Plain, decimal-plain, hex-plain, OneLine, one-line, same-fields}
 
--- a field has neither a space nor a line feed
-abbrev Plain : List ℕ → Type 0
-Plain = Each (λ b. 32 < b)
+abbrev zeros : List ℕ
+zeros = replicate 32 0
 
-decimal-plain : (n : ℕ) → Plain (decimal n)
-decimal-plain n = weaken (λ b h. omega (arith, h .0)) (Decimal.digits n)
+-- the fields of each line are plain
 
-hex-plain : (s : List ℕ) → Plain (hex s)
-hex-plain s = weaken (λ b h. omega arith) (Hex.digits s)
+refusal-plain : (number refusal : ℕ) → Each Plain (decimal number ∷ decimal refusal ∷ [])
+refusal-plain number refusal = more (decimal-plain number) (more (decimal-plain refusal) none)
 
--- a line, less its line feed
-body : List ℕ → List (List ℕ) → List ℕ
-body f [] = f
-body f (g ∷ fs) = f ++ 32 ∷ body g fs
+start-plain : (number atc : ℕ) → Each Plain (decimal number ∷ decimal 0 ∷ decimal atc ∷ [])
+start-plain number atc = more (decimal-plain number) (more (decimal-plain 0) (more (decimal-plain atc) none))
 
--- the last byte is the line feed, and no other is one
-pub record OneLine (s : List ℕ) : Type 0 where
-  pub front : List ℕ
-  pub ends : s ≡ front ++ 10 ∷ []
-  pub alone : (i : ℕ) → i < length front → getD front i 0 ≡ 10 → ⊥
-  pub short : length s ≤ longest
+cryptogram-plain : (number cid atc : ℕ) (iad : Iad)
+    → Each Plain (decimal number ∷ decimal 0 ∷ hexByte cid ∷ decimal atc ∷ hex (written iad zeros) ∷ [])
+unfolding hex
+cryptogram-plain number cid atc iad =
+    more (decimal-plain number)
+    (more (decimal-plain 0) (more (hex-plain (cid ∷ [])) (more (decimal-plain atc) (more (hex-plain (written iad zeros)) none))))
 
-ended : (f : List ℕ) (fs : List (List ℕ)) → line f fs ≡ body f fs ++ 10 ∷ []
-unfolding body
-ended f [] = refl
-ended f (g ∷ fs) = rw (ended g fs) (sym (append-assoc f (32 ∷ body g fs) (10 ∷ [])))
-
-above : (f : List ℕ) (fs : List (List ℕ)) → Each Plain (f ∷ fs) → Each (λ b. 10 < b) (body f fs)
-unfolding body
-above f [] (more p r) = weaken (λ b h. omega arith) p
-above f (g ∷ fs) (more p r) = append (weaken (λ b h. omega arith) p) (more {a = 32} (omega arith) (above g fs r))
-
-one-line : (f : List ℕ) (fs : List (List ℕ)) → Each Plain (f ∷ fs) → length (line f fs) ≤ longest → OneLine (line f fs)
-one-line f fs p h =
-    record {
-      front = body f fs;
-      ends = ended f fs;
-      alone = λ i l e. let b = at (above f fs p) 0 i l in omega arith;
-      short = h;
-    }
+-- one line
 
 pub refusal-line : (number refusal : ℕ) → OneLine (refusalLine number refusal)
 unfolding refusalLine
 refusal-line number refusal =
-    one-line _ _ (more (decimal-plain number) (more (decimal-plain refusal) none))
-    (simp length-append (omega (arith, Decimal.size number, Decimal.size refusal)))
+    one-line _ _ (refusal-plain number refusal) (simp length-append (omega (arith, Decimal.size number, Decimal.size refusal)))
 
 pub start-line : (number atc : ℕ) → OneLine (startLine number atc)
 unfolding startLine
 start-line number atc =
-    one-line _ _ (more (decimal-plain number) (more (decimal-plain 0) (more (decimal-plain atc) none)))
+    one-line _ _ (start-plain number atc)
     (simp length-append (omega (arith, Decimal.size number, ap length Decimal.zero, Decimal.size atc)))
 
-written-size : (iad : Iad) → length (written iad (replicate 32 0)) ≡ 32
+written-size : (iad : Iad) → length (written iad zeros) ≡ 32
 unfolding written writeIad iadBytes pairsOf
 written-size iad = by (isWritable iad) refl where
-  by : (t : Bool) → isWritable iad ≡ t → length (written iad (replicate 32 0)) ≡ 32
+  by : (t : Bool) → isWritable iad ≡ t → length (written iad zeros) ≡ 32
   by true e = rw e
   by false e = rw e
 
 pub cryptogram-line : (number cid atc : ℕ) (iad : Iad) → OneLine (cryptogramLine number cid atc iad)
-unfolding cryptogramLine hex
+unfolding cryptogramLine
 cryptogram-line number cid atc iad =
-    let s = written iad (replicate 32 0) in
-    one-line _ _
-    (more (decimal-plain number) (more (decimal-plain 0) (more (hex-plain (cid ∷ [])) (more (decimal-plain atc) (more (hex-plain s) none)))))
-    (simp length-append (omega (arith, Decimal.size number, ap length Decimal.zero, Decimal.size atc, Hex.size s, written-size iad)))
+    one-line _ _ (cryptogram-plain number cid atc iad)
+    (simp length-append
+    (omega (arith, Decimal.size number, ap length Decimal.zero, Decimal.size atc, Hex.size (written iad zeros), written-size iad)))
 
--- where a field ends is told by the byte behind it
-cut : {a b : List ℕ} (c d : ℕ) (s t : List ℕ) → Plain a → Plain b → c ≤ 32 → d ≤ 32 → a ++ c ∷ s ≡ b ++ d ∷ t → (a ≡ b) × (c ≡ d) × (s ≡ t)
-cut c d s t none none h k e = (refl, cc, cc)
-cut c d s t none (more {a = y} q b) h k e = let same : c ≡ y = cc in let z : ⊥ = omega arith in absurd z
-cut c d s t (more {a = x} p a) none h k e = let same : x ≡ d = cc in let z : ⊥ = omega arith in absurd z
-cut c d s t (more {a = x} {s = a} p r) (more {a = y} {s = b} q r′) h k e =
-    let (fields, marks, rest) = cut c d s t r r′ h k (cc) in
-    (cc, marks, rest)
+-- two lines of a kind that are equal have the same fields
 
-same-fields : (f g : List ℕ) (fs gs : List (List ℕ)) → Each Plain (f ∷ fs) → Each Plain (g ∷ gs) → line f fs ≡ line g gs → (f ∷ fs) ≡ (g ∷ gs)
-same-fields f g [] [] (more p _) (more q _) e = let (same, _, _) = cut 10 10 [] [] p q (omega arith) (omega arith) e in cc
-same-fields f g [] (n ∷ gs) (more p _) (more q _) e =
-    let (_, marks, _) = cut 10 32 [] (line n gs) p q (omega arith) (omega arith) e in
-    let z : ⊥ = omega arith in absurd z
-same-fields f g (m ∷ fs) [] (more p _) (more q _) e =
-    let (_, marks, _) = cut 32 10 (line m fs) [] p q (omega arith) (omega arith) e in
-    let z : ⊥ = omega arith in absurd z
-same-fields f g (m ∷ fs) (n ∷ gs) (more p r) (more q r′) e =
-    let (same, _, rest) = cut 32 32 (line m fs) (line n gs) p q (omega arith) (omega arith) e in
-    let more-same = same-fields m n fs gs r r′ rest in
-    cc
+abbrev Small : ℕ → Type 0
+Small n = n < 100_000
+
+same-number : (m n : ℕ) → Small m → Small n → decimal m ≡ decimal n → m ≡ n
+same-number m n h k e = sym (Decimal.reads-back m h) ∙ ap Decimal.value e ∙ Decimal.reads-back n k
+
+same-bytes : (s t : List ℕ) → hex s ≡ hex t → s ≡ t
+same-bytes s t e = sym (Hex.reads-back s) ∙ ap Hex.bytes e ∙ Hex.reads-back t
+
+same-byte : (b c : ℕ) → hexByte b ≡ hexByte c → b ≡ c
+same-byte b c e = let bytes : b ∷ [] ≡ c ∷ [] = same-bytes (b ∷ []) (c ∷ []) (unfold hex in e) in cc
+
+reads : (iad : Iad) → isWritable iad ≡ true → readIad (take 32 (written iad zeros)) ≡ Fields iad
+reads iad good = let done : writeIad iad zeros ≡ Done = (unfold writeIad in rw good) in whole iad zeros .0 done .0
+
+same-iad : (iad iad′ : Iad) → isWritable iad ≡ true → isWritable iad′ ≡ true → written iad zeros ≡ written iad′ zeros → iad ≡ iad′
+same-iad iad iad′ good good′ e = cc (reads iad good, reads iad′ good′)
+
+module _ (number number′ : ℕ) (h : Small number) (h′ : Small number′) where
+  pub same-refusal : (refusal refusal′ : ℕ) → Small refusal → Small refusal′ → refusalLine number refusal ≡ refusalLine number′ refusal′
+      → (number ≡ number′) × (refusal ≡ refusal′)
+  unfolding refusalLine
+  same-refusal refusal refusal′ k k′ e =
+      let same = same-fields _ _ _ _ (refusal-plain number refusal) (refusal-plain number′ refusal′) e in
+      (same-number number number′ h h′ (cc), same-number refusal refusal′ k k′ (cc))
+
+  pub same-start : (atc atc′ : ℕ) → Small atc → Small atc′ → startLine number atc ≡ startLine number′ atc′ → (number ≡ number′) × (atc ≡ atc′)
+  unfolding startLine
+  same-start atc atc′ k k′ e =
+      let same = same-fields _ _ _ _ (start-plain number atc) (start-plain number′ atc′) e in
+      (same-number number number′ h h′ (cc), same-number atc atc′ k k′ (cc))
+
+  pub same-cryptogram : (cid cid′ atc atc′ : ℕ) (iad iad′ : Iad) → Small atc → Small atc′ → isWritable iad ≡ true → isWritable iad′ ≡ true
+      → cryptogramLine number cid atc iad ≡ cryptogramLine number′ cid′ atc′ iad′
+      → (number ≡ number′) × (cid ≡ cid′) × (atc ≡ atc′) × (iad ≡ iad′)
+  unfolding cryptogramLine
+  same-cryptogram cid cid′ atc atc′ iad iad′ k k′ good good′ e =
+      let same = same-fields _ _ _ _ (cryptogram-plain number cid atc iad) (cryptogram-plain number′ cid′ atc′ iad′) e in
+      let digits : hex (written iad zeros) ≡ hex (written iad′ zeros) = cc in (
+        same-number number number′ h h′ (cc),
+        same-byte cid cid′ (cc),
+        same-number atc atc′ k k′ (cc),
+        same-iad iad iad′ good good′ (same-bytes (written iad zeros) (written iad′ zeros) digits),
+      )

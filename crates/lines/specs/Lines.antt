@@ -29,7 +29,7 @@ hex (byte ∷ bytes) = hexByte byte ++ hex bytes
 -- fields with one space between them, and a line feed at the end
 abbrev pub line : List ℕ → List (List ℕ) → List ℕ
 line field [] = field ++ 10 ∷ []
-line field (next ∷ more) = field ++ 32 ∷ line next more
+line field (next ∷ more) = field ++ 32 ∷ [] ++ line next more
 
 -- record number, refusal
 unfoldable pub refusalLine : ℕ → ℕ → List ℕ

@@ -1,6 +1,6 @@
 // The lines of a sitting, written into lent room from a place on; the place behind is returned.
 ghost use mathlib.Core.Path.{_≡_};
-ghost use mathlib.Core.List.{[], _∷_};
+ghost use mathlib.Core.List.{[], _∷_, _++_};
 ghost use Prim.Native.Nat.{_+_, _*_, _-_, _≤_, _<_};
 ghost use lib.ListN.{length, replicate};
 ghost use Rattle.iad.specs.Iad.{written};
@@ -37,15 +37,17 @@ fn put_digit(room: &mut [u8], at: usize, n: u16, unit: u16) -> usize
     put_byte(room, at, b'0' + (n / unit % 10) as u8)
 }
 
-fn put_decimal(room: &mut [u8], at: usize, n: u16) -> usize
-    requires { ⌜ at + 5 ≤ length (now room) ⌝ }
-    ensures { λ r. ⌜ Stored (now (room .entry)) at (decimal n) 5 r (now (room .exit)) ⌝ }
+// A number in decimal, and the mark behind it.
+fn put_decimal(room: &mut [u8], at: usize, n: u16, mark: u8) -> usize
+    requires { ⌜ at + 6 ≤ length (now room) ⌝ }
+    ensures { λ r. ⌜ Stored (now (room .entry)) at (decimal n ++ mark ∷ []) 6 r (now (room .exit)) ⌝ }
 {
     let at = put_digit(room, at, n, 10_000);
     let at = put_digit(room, at, n, 1_000);
     let at = put_digit(room, at, n, 100);
     let at = put_digit(room, at, n, 10);
-    put_byte(room, at, b'0' + (n % 10) as u8)
+    let at = put_byte(room, at, b'0' + (n % 10) as u8);
+    put_byte(room, at, mark)
 }
 
 // "0" to "9", then "A" to "F", whose codes begin 7 further on.
@@ -64,15 +66,16 @@ fn put_hex_byte(room: &mut [u8], at: usize, byte: u8) -> usize
     put_byte(room, at, hex_digit(byte % 16))
 }
 
-fn put_hex(room: &mut [u8], at: usize, bytes: &[u8]) -> usize
-    requires { ⌜ at + 2 * length (now bytes) ≤ length (now room) ⌝ }
-    ensures { λ r. ⌜ Stored (now (room .entry)) at (hex (now (bytes .entry))) (2 * length (now (bytes .entry))) r (now (room .exit)) ⌝ }
+// Bytes in hex, and the mark behind them.
+fn put_hex(room: &mut [u8], at: usize, bytes: &[u8], mark: u8) -> usize
+    requires { ⌜ at + 2 * length (now bytes) + 1 ≤ length (now room) ⌝ }
+    ensures { λ r. ⌜ Stored (now (room .entry)) at (hex (now (bytes .entry)) ++ mark ∷ []) (2 * length (now (bytes .entry)) + 1) r (now (room .exit)) ⌝ }
 {
     let mut end = at;
     for i in 0..bytes.len() {
         end = put_hex_byte(room, end, bytes[i]);
     }
-    end
+    put_byte(room, end, mark)
 }
 
 // The bytes that an IAD is written as; zeros for one that is out of range.
@@ -84,12 +87,11 @@ fn iad_bytes(iad: Iad) -> [u8; 32]
     bytes
 }
 
-// 0, done, with a space before and behind it.
+// Refusal 0, done, and the space behind it.
 fn put_done(room: &mut [u8], at: usize) -> usize
-    requires { ⌜ at + 3 ≤ length (now room) ⌝ }
-    ensures { λ r. ⌜ Stored (now (room .entry)) at (32 ∷ 48 ∷ 32 ∷ []) 3 r (now (room .exit)) ⌝ }
+    requires { ⌜ at + 2 ≤ length (now room) ⌝ }
+    ensures { λ r. ⌜ Stored (now (room .entry)) at (decimal 0 ++ 32 ∷ []) 2 r (now (room .exit)) ⌝ }
 {
-    let at = put_byte(room, at, b' ');
     let at = put_byte(room, at, b'0');
     put_byte(room, at, b' ')
 }
@@ -101,10 +103,8 @@ pub fn put_refusal(room: &mut [u8], at: usize, number: u16, refusal: u8) -> usiz
     if bytes_left(room.len(), at) < LONGEST {
         return at;
     }
-    let at = put_decimal(room, at, number);
-    let at = put_byte(room, at, b' ');
-    let at = put_decimal(room, at, refusal as u16);
-    put_byte(room, at, b'\n')
+    let at = put_decimal(room, at, number, b' ');
+    put_decimal(room, at, refusal as u16, b'\n')
 }
 
 // After Start: record number, 0, ATC.
@@ -114,10 +114,9 @@ pub fn put_start(room: &mut [u8], at: usize, number: u16, atc: u16) -> usize
     if bytes_left(room.len(), at) < LONGEST {
         return at;
     }
-    let at = put_decimal(room, at, number);
+    let at = put_decimal(room, at, number, b' ');
     let at = put_done(room, at);
-    let at = put_decimal(room, at, atc);
-    put_byte(room, at, b'\n')
+    put_decimal(room, at, atc, b'\n')
 }
 
 // After First or Second: record number, 0, CID, ATC, IAD.
@@ -128,12 +127,9 @@ pub fn put_cryptogram(room: &mut [u8], at: usize, number: u16, cid: u8, atc: u16
         return at;
     }
     let bytes = iad_bytes(iad);
-    let at = put_decimal(room, at, number);
+    let at = put_decimal(room, at, number, b' ');
     let at = put_done(room, at);
-    let at = put_hex_byte(room, at, cid);
-    let at = put_byte(room, at, b' ');
-    let at = put_decimal(room, at, atc);
-    let at = put_byte(room, at, b' ');
-    let at = put_hex(room, at, &bytes);
-    put_byte(room, at, b'\n')
+    let at = put_hex(room, at, &[cid], b' ');
+    let at = put_decimal(room, at, atc, b' ');
+    put_hex(room, at, &bytes, b'\n')
 }

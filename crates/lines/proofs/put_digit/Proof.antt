@@ -1,3 +1,4 @@
+-- No digit, or one.
 use borrow.Author.Needs.{needs}
 use borrow.Author.Tests.{lt-ltb, le-ltb}
 use Rattle.lines.specs.Lines.{digit}

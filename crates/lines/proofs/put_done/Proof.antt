@@ -1,13 +1,13 @@
+-- "0" is 0 in decimal.
 use borrow.Author.Needs.{needs}
 use Rattle.lines.proofs.Stores.{next}
+use Rattle.lines.specs.Lines.{digit, decimal}
 use Rattle.lines.proofs.put_done.Statement.{statement}
 use Rattle.lines.proofs.put_done.Tie as tie
 
 returns : tie.Need-returns
-returns c =
-    let b2 = c .before .before .before .before .before .before in
-    let b1 = b2 .before .before .before .before in
-    next (b1 .put-byte .ensures) (next (b2 .put-byte2 .ensures) (c .before .before .put-byte3 .ensures))
+unfolding decimal digit
+returns c = next (c .before .before .before .before .before .before .put-byte .ensures) (c .before .before .put-byte2 .ensures)
 
 pub put-done-spec : {M : Type 1} → statement M
-put-done-spec = tie.close (tie.spec (search needs) (search needs) (search needs) (search needs) returns)
+put-done-spec = tie.close (tie.spec (search needs) (search needs) (search needs) returns)

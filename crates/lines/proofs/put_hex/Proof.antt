@@ -13,11 +13,11 @@ use Rattle.lines.proofs.put_hex.Statement.{statement}
 use Rattle.lines.proofs.put_hex.Tie as tie
 
 abbrev Inv-loop : tie.InvT-loop
-Inv-loop room₀ at bytes end₀ i₀ i-end room end i =
+Inv-loop room₀ at bytes mark end₀ i₀ i-end room end i =
     Stored room₀ at (hex (take i bytes)) (2 * i) end room × (i ≤ i-end) × (i-end ≡ length bytes) × (length room ≡ length room₀)
 
 abbrev μ-loop : tie.MeasureT-loop
-μ-loop room₀ at bytes end₀ i₀ i-end room end i = i-end - i
+μ-loop room₀ at bytes mark end₀ i₀ i-end room end i = i-end - i
 
 loop-holds : tie.Need-loop-holds Inv-loop μ-loop
 unfolding hex
@@ -33,11 +33,12 @@ loop-again c =
 
 returns : tie.Need-returns Inv-loop μ-loop
 returns c =
-    let bytes = c .before .before .before .before .args .bytes .now in
-    let all : c .before .loop .i ≡ length bytes = omega arith in
-    rw (all, take-length bytes) at (c .before .loop .inv .0)
+    let at-loop = c .before .before .before .before .before in
+    let bytes = at-loop .before .before .before .args .bytes .now in
+    let all : at-loop .loop .i ≡ length bytes = omega arith in
+    next (rw (all, take-length bytes) at (at-loop .loop .inv .0)) (c .before .before .put-byte .ensures)
 
 pub put-hex-spec : {M : Type 1} → statement M
 put-hex-spec =
     tie.close
-    (tie.spec Inv-loop μ-loop loop-holds (search needs) (search needs) (search needs) (search needs) loop-again (search needs) returns)
+    (tie.spec Inv-loop μ-loop loop-holds (search needs) (search needs) (search needs) (search needs) loop-again (search needs) (search needs) returns)

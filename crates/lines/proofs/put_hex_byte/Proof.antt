@@ -1,3 +1,4 @@
+-- The upper digit, then the lower.
 use borrow.Author.Needs.{needs}
 use Rattle.lines.proofs.Stores.{next}
 use Rattle.lines.proofs.put_hex_byte.Statement.{statement}

@@ -1,26 +1,21 @@
+-- Three fields, or no room.
 use borrow.Author.Needs.{needs}
-use denote.Ref.{now}
 use lib.Dec.{lit≤}
+use denote.Ref.{now}
 use native.Mathlib.Omega.{arith}
 use Rattle.lines.proofs.Stores.{next, place, stay}
 use Rattle.lines.specs.Lines.{startLine}
-use Rattle.lines.proofs.Decimal.{zero}
 use Rattle.lines.proofs.put_start.Statement.{statement}
 use Rattle.lines.proofs.put_start.Tie as tie
 
 returns : tie.Need-returns
-returns c =
-    let a = c .before .before .before .args in
-    stay (now (a .room)) (startLine (a .number) (a .atc)) (a .at) (omega arith)
+returns c = let a = c .before .before .before .args in stay (now (a .room)) _ (a .at) (omega arith)
 
 returns-2 : tie.Need-returns-2
 unfolding startLine
 returns-2 c =
-    let atc = c .before .before .before .before .before .before in
-    let done = atc .before .before .before .before in
-    let number = done .before .before .before .before in
-    rw zero
-    (place (next (number .put-decimal .ensures) (next (done .put-done .ensures) (next (atc .put-decimal2 .ensures) (c .before .before .put-byte .ensures)))) (lit≤ tt) (omega arith))
+    let done = c .before .before .before .before .before .before in
+    place (next (done .before .before .before .before .put-decimal .ensures) (next (done .put-done .ensures) (c .before .before .put-decimal2 .ensures))) (lit≤ tt) (omega arith)
 
 pub put-start-spec : {M : Type 1} → statement M
-put-start-spec = tie.close (tie.spec (search needs) returns (search needs) (search needs) (search needs) (search needs) (search needs) returns-2)
+put-start-spec = tie.close (tie.spec (search needs) returns (search needs) (search needs) (search needs) (search needs) returns-2)
