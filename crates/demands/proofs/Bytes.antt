@@ -1,0 +1,179 @@
+-- What the auditor reads in the bytes is what the card's rules say: a profile's place, its rules, and what a purchase converts to.
+-- Assumes nothing.
+use mathlib.Core.Path.{_≡_, refl, sym, ap, _∙_}
+use mathlib.Core.Bool.{Bool, true, false, cond, _&&_}
+use mathlib.Core.List.{List, [], _∷_}
+use Prim.Native.Nat.{ℕ, zero, suc, _+_, _*_, _/_, _%_, _^_, _≤_, _<_, min}
+use native.Mathlib.Nat.{div-one}
+use native.Mathlib.Omega.{arith}
+use borrow.Author.Tests.{ltb-true, ltb-false, lt-ltb, le-ltb, le-leb, eqb-true, eqb-false, eq-eqb, ne-eqb}
+use lib.Dec.{leb, ltb, eqb}
+use lib.ListN.{getD}
+use Rattle.wire.specs.Wire.{byte, number}
+use Rattle.money.specs.declared.Rate.{Rate}
+use Rattle.money.specs.declared.Converted.{Converted}
+use Rattle.money.specs.declared.Converted.the-variants.{Amount, NoEntry}
+use Rattle.money.specs.Money.{max, stopped, blank, isFor, isRate, rateFor, scaled, amountOf, convertOf}
+use Rattle.rules.specs.declared.Place.{Place}
+use Rattle.rules.specs.declared.Place.the-variants.{One, Two, Three, Four}
+use Rattle.rules.specs.Rules.{four, five, blankProfile, blankAccumulator, blankCounter, indexOf, profileAt, currencyAt, accumulatorRule, counterRule}
+use Rattle.rules.proofs.Places.{four-at}
+use Rattle.ranges.specs.Ranges.{isSetup}
+use Rattle.ranges.proofs.Accepted.{Accepted, ConversionRanges, accepted, conversion-at}
+use Rattle.setup.specs.Setup.{rateIn, accumulatorIn, counterIn, profileIn, rulesIn}
+use Rattle.meters.specs.declared.Purchase.{Purchase}
+use Rattle.meters.specs.Meters.{Entry, put, add, addition, worth}
+use Rattle.demands.specs.Audit.{placeFrom, placeOf, byEntry, converted}
+use Rattle.demands.proofs.Found.{Holds, below-four}
+
+-- the profile at a place of the rules stands at an offset in the bytes
+pub record Stands (s : List ℕ) (place : Place) (at : ℕ) : Type 0 where
+  pub there : indexOf place < byte s 3
+  pub offset : at ≡ 52 + 107 * indexOf place
+
+at-index : (s : List ℕ) (place : Place)
+    → profileAt (rulesIn s) place ≡ cond (ltb (indexOf place) (byte s 3)) (profileIn s (52 + 107 * indexOf place)) blankProfile
+unfolding rulesIn
+at-index s One = refl
+at-index s Two = refl
+at-index s Three = refl
+at-index s Four = refl
+
+module _ (s : List ℕ) (place : Place) (at : ℕ) (stands : Stands s place at) where
+  pub profile-is : profileAt (rulesIn s) place ≡ profileIn s at
+  profile-is =
+      at-index s place
+      ∙ ap (λ b. cond b (profileIn s (52 + 107 * indexOf place)) blankProfile) (lt-ltb (indexOf place) (byte s 3) (stands .there))
+      ∙ ap (profileIn s) (sym (stands .offset))
+
+  pub accumulator-is : (i : ℕ) → i < 4 → accumulatorRule (rulesIn s) place i ≡ accumulatorIn s (at + (24 + 17 * i))
+  unfolding profileIn
+  accumulator-is i l =
+      ap (λ profile. getD (profile .accumulators) i blankAccumulator) profile-is
+      ∙ four-at (λ j. accumulatorIn s (at + (24 + 17 * j))) blankAccumulator i l
+
+  pub counter-is : (i : ℕ) → i < 4 → counterRule (rulesIn s) place i ≡ counterIn s (at + (92 + 3 * i))
+  unfolding profileIn
+  counter-is i l =
+      ap (λ profile. getD (profile .counters) i blankCounter) profile-is
+      ∙ four-at (λ j. counterIn s (at + (92 + 3 * j))) blankCounter i l
+
+module _ (s : List ℕ) (fits : Accepted s) where
+  -- the first profile of a number is the only one
+  reach : (j i n : ℕ) → j < byte s 3 → i ≤ j → j < i + n → placeFrom s (byte s (52 + 107 * j)) i n ≡ 52 + 107 * j
+  reach j i zero p h l = absurd (omega arith)
+  reach j i (suc n) p h l = by (ltb i j) refl (λ m. reach j (suc i) n p m (omega arith)) where
+    by : (b : Bool) → ltb i j ≡ b → (i < j → placeFrom s (byte s (52 + 107 * j)) (suc i) n ≡ 52 + 107 * j)
+        → placeFrom s (byte s (52 + 107 * j)) i (suc n) ≡ 52 + 107 * j
+    by true e r =
+        let m = ltb-true i j e in
+        rw (ne-eqb (byte s (52 + 107 * i)) (byte s (52 + 107 * j)) (fits .numbers i j m p)) (r m)
+    by false e r =
+        let q : i ≡ j = omega (arith, ltb-false i j e) in
+        rw (q, eq-eqb (byte s (52 + 107 * j)) (byte s (52 + 107 * j)) refl)
+
+  number-in : (place : Place) (number : ℕ) → Holds (rulesIn s) number place → (b : Bool) → ltb (indexOf place) (byte s 3) ≡ b
+      → (indexOf place < byte s 3) × (byte s (52 + 107 * indexOf place) ≡ number)
+  unfolding profileIn
+  number-in place number h true e =
+      (ltb-true _ _ e, sym (ap (λ p. p .number) (at-index s place ∙ ap (λ b. cond b (profileIn s (52 + 107 * indexOf place)) blankProfile) e)) ∙ h .its)
+  number-in place number h false e =
+      let z : 0 ≡ number = sym (ap (λ p. p .number) (at-index s place ∙ ap (λ b. cond b (profileIn s (52 + 107 * indexOf place)) blankProfile) e)) ∙ h .its in
+      absurd (omega (arith, h .some))
+
+  -- the profile that a Start opens stands where the auditor looks for it
+  pub stands-at : (place : Place) (number : ℕ) → Holds (rulesIn s) number place → Stands s place (placeOf s number)
+  unfolding placeOf
+  stands-at place number h =
+      let n = number-in place number h (ltb (indexOf place) (byte s 3)) refl in
+      record {
+        there = n .0;
+        offset = ap (λ k. placeFrom s k 0 (byte s 3)) (sym (n .1)) ∙ reach (indexOf place) 0 (byte s 3) (n .0) (omega arith) (omega (arith, n .0));
+      }
+
+  -- ---- conversion
+
+  entry-at : (i : ℕ) → i < 5
+      → getD (rulesIn s .rates .entries) i blank ≡ cond (ltb i (byte s 4)) (rateIn s (52 + 107 * byte s 3 + 7 * i)) blank
+  unfolding rulesIn
+  entry-at zero l = refl
+  entry-at (suc zero) l = refl
+  entry-at (suc (suc zero)) l = refl
+  entry-at (suc (suc (suc zero))) l = refl
+  entry-at (suc (suc (suc (suc zero)))) l = refl
+  entry-at (suc (suc (suc (suc (suc i))))) l = absurd (omega arith)
+
+  stopped-min : (n : ℕ) → stopped n ≡ min max n
+  stopped-min n = by (ltb max n) refl where
+    by : (b : Bool) → ltb max n ≡ b → cond b max n ≡ min max n
+    by true e = let h = ltb-true max n e in omega arith
+    by false e = let h = ltb-false max n e in omega arith
+
+  good-rate : (i : ℕ) → i < byte s 4 → isRate (rateIn s (52 + 107 * byte s 3 + 7 * i)) ≡ true
+  unfolding rateIn
+  good-rate i l = let r = fits .conversions i l in simp (le-leb _ _ (r .digits-least), le-leb _ _ (r .digits-most), le-leb _ _ (r .shift))
+
+  module _ (amount from to : ℕ) where
+    abbrev entries : List Rate
+    entries = rulesIn s .rates .entries
+
+    -- what a rate, or its absence, enters
+    abbrev byRate : Rate → List Entry
+    byRate rate = addition (cond (isRate rate) (amountOf (scaled amount rate)) NoEntry)
+
+    blanks : (i n : ℕ) → byte s 4 ≤ i → i + n ≤ 5 → rateFor entries from to i n ≡ blank
+    unfolding rateFor
+    blanks i zero c l = refl
+    blanks i (suc n) c l =
+        let none : getD entries i blank ≡ blank = entry-at i (omega arith) ∙ ap (λ b. cond b (rateIn s (52 + 107 * byte s 3 + 7 * i)) blank) (le-ltb i (byte s 4) c) in
+        ap (λ rate. cond (isFor rate from to) rate (rateFor entries from to (suc i) n)) none
+        ∙ ap (λ rate. cond (isFor blank from to) blank rate) (blanks (suc i) n (omega arith) (omega arith))
+        ∙ same (isFor blank from to)
+      where
+        same : (b : Bool) → cond b blank blank ≡ blank
+        same true = refl
+        same false = refl
+
+    by-entry : (i n m : ℕ) → byte s 4 ≡ i + n → i + m ≡ 5 → byRate (rateFor entries from to i m) ≡ byEntry s amount from to i n
+    unfolding rateFor rateIn scaled
+    by-entry i zero m c l = ap byRate (blanks i m (omega arith) (omega arith))
+    by-entry i (suc n) zero c l = let most = fits .conversions-most in absurd (omega arith)
+    by-entry i (suc n) (suc m) c l =
+        let at = 52 + 107 * byte s 3 + 7 * i in
+        let here : getD entries i blank ≡ rateIn s at =
+            entry-at i (omega arith) ∙ ap (λ b. cond b (rateIn s at) blank) (lt-ltb i (byte s 4) (omega arith)) in
+        ap (λ rate. byRate (cond (isFor rate from to) rate (rateFor entries from to (suc i) m))) here
+        ∙ found (isFor (rateIn s at) from to) (by-entry (suc i) n m (omega arith) (omega arith))
+      where
+        found : (b : Bool) → byRate (rateFor entries from to (suc i) m) ≡ byEntry s amount from to (suc i) n → byRate (cond b (rateIn s (52 + 107 * byte s 3 + 7 * i)) (rateFor entries from to (suc i) m))
+            ≡ cond b (add (min max (amount * number s (52 + 107 * byte s 3 + 7 * i + 4) 2 * 10 ^ byte s (52 + 107 * byte s 3 + 7 * i + 6) / 10 ^ 9)) ∷ []) (byEntry s amount from to (suc i) n)
+        found true r = rw (good-rate i (omega arith)) (ap (λ q. add q ∷ []) (stopped-min (amount * number s (52 + 107 * byte s 3 + 7 * i + 4) 2 * 10 ^ byte s (52 + 107 * byte s 3 + 7 * i + 6) / 10 ^ 9)))
+        found false r = r
+
+  currency-at : (i : ℕ) → i < 4 → currencyAt (rulesIn s) i ≡ number s (8 + 10 * i) 2
+  unfolding rulesIn
+  currency-at i l = four-at (λ j. number s (8 + 10 * j) 2) 0 i l
+
+  -- the amount of a purchase, converted to a currency by the rules and by the bytes
+  pub converts-to : (purchase : Purchase) (to : ℕ) → purchase .amount .0 ≤ max
+      → addition (convertOf (purchase .amount) (purchase .currency) to (rulesIn s .rates)) ≡ converted s (purchase .amount .0) (purchase .currency) to
+  unfolding convertOf converted
+  converts-to purchase to small =
+      let rate = rateFor (rulesIn s .rates .entries) (purchase .currency) to 0 5 in
+      let stays : stopped (purchase .amount .0) ≡ purchase .amount .0 = stopped-min (purchase .amount .0) ∙ omega arith in
+      ap (λ a. addition (cond (eqb (purchase .currency) to) (amountOf a) (cond (isRate rate) (amountOf (scaled a rate)) NoEntry))) stays
+      ∙ same (purchase .amount .0) (purchase .currency) (eqb (purchase .currency) to)
+    where
+      same : (a from : ℕ) (b : Bool)
+          → addition (cond b (amountOf a) (cond (isRate (rateFor (rulesIn s .rates .entries) from to 0 5)) (amountOf (scaled a (rateFor (rulesIn s .rates .entries) from to 0 5))) NoEntry))
+          ≡ cond b (add a ∷ []) (byEntry s a from to 0 (byte s 4))
+      same a from true = refl
+      same a from false = by-entry a from to 0 (byte s 4) 5 (omega arith) refl
+
+  -- and to the currency of accumulator i + 1
+  pub converts : (purchase : Purchase) (i : ℕ) → i < 4 → purchase .amount .0 ≤ max
+      → addition (worth (rulesIn s) purchase i) ≡ converted s (purchase .amount .0) (purchase .currency) (number s (8 + 10 * i) 2)
+  unfolding worth
+  converts purchase i l small =
+      ap (λ to. addition (convertOf (purchase .amount) (purchase .currency) to (rulesIn s .rates))) (currency-at i l)
+      ∙ converts-to purchase (number s (8 + 10 * i) 2) small

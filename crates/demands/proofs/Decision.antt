@@ -1,0 +1,208 @@
+-- The card's decision bits are the flags of document 01's checks, read in the bytes, and its decision is the table's. Assumes nothing.
+use mathlib.Core.Path.{_≡_, refl, sym, ap, ap₂, _∙_, subst}
+use mathlib.Core.Bool.{Bool, true, false, cond, not, _&&_, _||_}
+use mathlib.Core.List.{List, [], _∷_, _++_}
+use Prim.Native.Nat.{ℕ, zero, suc, _+_, _*_, _/_, _%_, _≤_, _<_, min}
+use native.Mathlib.Nat.{div-one, add-zero}
+use native.Mathlib.Omega.{arith}
+use borrow.Author.Tests.{eqb-true, eqb-false, eq-eqb, ne-eqb, le-ltb}
+use lib.Bits.{bitAnd, and-step}
+use lib.Dec.{ltb, eqb}
+use Rattle.wire.specs.Wire.{byte, number}
+use Rattle.money.specs.declared.Converted.{Converted}
+use Rattle.money.specs.declared.Converted.the-variants.{Amount, NoEntry}
+use Rattle.money.specs.Money.{max, convertOf}
+use Rattle.rules.specs.declared.Place.{Place}
+use Rattle.rules.specs.declared.Values.{Values}
+use Rattle.rules.specs.declared.Masks.{Masks}
+use Rattle.rules.specs.declared.AccumulatorRule.{AccumulatorRule}
+use Rattle.rules.specs.declared.CounterRule.{CounterRule}
+use Rattle.rules.specs.Rules.{Rules, Profile, four, profileAt, accumulatorRule, counterRule}
+use Rattle.ranges.proofs.Accepted.{Accepted}
+use Rattle.setup.specs.Setup.{accumulatorIn, counterIn, profileIn, rulesIn}
+use Rattle.meters.specs.declared.Purchase.{Purchase}
+use Rattle.meters.specs.Meters.{Entry, add, addition, amountAt, countAt, worth, worthAt, worthsOf}
+use Rattle.meters.proofs.Ledger.{worth-at}
+use Rattle.checks.specs.declared.History.{History}
+use Rattle.checks.specs.Checks.{bit, packed, sumExceeds, spentExceeds, accumulatorExceeds, counterExceeds, accumulatorsLower, accumulatorsUpper, countersLower, countersUpper, maximumExceeded, testsOf, decisionBits, decisionFlags, meetsMask}
+use Rattle.checks.proofs.Bits.{decision-packed}
+use Rattle.card.specs.declared.Kind.{Kind}
+use Rattle.card.specs.declared.Kind.the-variants.{Aac, Tc, Arqc}
+use Rattle.card.specs.First.{decision, isOfflineOnly}
+use Rattle.demands.specs.Ledger.{Meter, accumulator, counter, since}
+use Rattle.demands.specs.Conversation.{valueOf}
+use Rattle.demands.specs.Audit.{isOn, isActive, isIncluded, upperOf, additionOf}
+use Rattle.demands.specs.Decision.{lowerOf, exceeds, exceedsMta, eachOf, aboveLower, aboveUpper, flags, meets, Decides, aac-requested, meets-decline, arqc-requested, meets-default, offline-approves, meets-online, online-approves}
+use Rattle.demands.proofs.Bytes.{Stands, profile-is, accumulator-is, counter-is, converts-to, converts}
+
+-- ---- a mask that is met
+
+module _ (m : ℕ) (small : m < 2) (rest : Bool) where
+  joined : (flag : Bool) (x : ℕ) → not (eqb x 0) ≡ rest → not (eqb (x * 2 + min (bit flag) m) 0) ≡ ((flag && eqb m 1) || rest)
+  joined false zero e = rw (eq-eqb (0 * 2 + min 0 m) 0 (omega arith)) e
+  joined false (suc x) e = rw (ne-eqb (suc x * 2 + min 0 m) 0 (λ z. omega arith)) (sym (ap not (ne-eqb (suc x) 0 (λ z. omega arith))) ∙ e)
+  joined true x e = by (eqb m 1) refl x e where
+    by : (b : Bool) → eqb m 1 ≡ b → (x : ℕ) → not (eqb x 0) ≡ rest → not (eqb (x * 2 + min 1 m) 0) ≡ (b || rest)
+    by true h x e = let o = eqb-true m 1 h in rw (ne-eqb (x * 2 + min 1 m) 0 (λ z. omega arith))
+    by false h zero e = let o : m ≡ 0 = omega (arith, eqb-false m 1 h) in rw (eq-eqb (0 * 2 + min 1 m) 0 (omega arith)) e
+    by false h (suc x) e = rw (ne-eqb (suc x * 2 + min 1 m) 0 (λ z. omega arith)) (sym (ap not (ne-eqb (suc x) 0 (λ z. omega arith))) ∙ e)
+
+pub meets-is : (fs : List Bool) (mask : ℕ) → meetsMask (packed fs) mask ≡ meets fs mask
+meets-is [] mask = refl
+meets-is (flag ∷ fs) mask =
+    let h : (bit flag + 2 * packed fs) / 2 ≡ packed fs = half flag in
+    let o : (bit flag + 2 * packed fs) % 2 ≡ bit flag = odd flag in
+    let step : bitAnd (packed (flag ∷ fs)) mask ≡ bitAnd (packed fs) (mask / 2) * 2 + min (bit flag) (mask % 2) =
+        and-step (packed (flag ∷ fs)) mask ∙ ap₂ (λ (a b : ℕ). bitAnd a (mask / 2) * 2 + min b (mask % 2)) h o in
+    ap (λ (n : ℕ). not (eqb n 0)) step
+    ∙ joined (mask % 2) (omega arith) (meets fs (mask / 2)) flag (bitAnd (packed fs) (mask / 2)) (meets-is fs (mask / 2))
+    ∙ rw div-one
+  where
+    half : (flag : Bool) → (bit flag + 2 * packed fs) / 2 ≡ packed fs
+    half true = omega arith
+    half false = omega arith
+
+    odd : (flag : Bool) → (bit flag + 2 * packed fs) % 2 ≡ bit flag
+    odd true = omega arith
+    odd false = omega arith
+
+-- ---- an amount that converts, or none
+
+sum-is : (limit value : ℕ) (include : Bool) (worth : Converted)
+    → (ltb limit value || (include && sumExceeds limit value worth)) ≡ (ltb limit value || (include && ltb limit (value + since (addition worth))))
+sum-is limit value include (Amount more) = rw add-zero
+sum-is limit value include NoEntry = rw add-zero (by (ltb limit value) include) where
+  by : (b include : Bool) → (b || (include && false)) ≡ (b || (include && b))
+  by true include = refl
+  by false true = refl
+  by false false = refl
+
+spent-is : (limit : ℕ) (worth : Converted) → spentExceeds limit worth ≡ ltb limit (since (addition worth))
+spent-is limit (Amount spent) = rw add-zero
+spent-is limit NoEntry = sym (le-ltb limit 0 (omega arith))
+
+-- ---- the flags
+
+module _ (s : List ℕ) (fits : Accepted s) (place : Place) (at : ℕ) (stands : Stands s place at) (values : Values) (purchase : Purchase)
+    (small : purchase .amount .0 ≤ max) where
+  abbrev rules : Rules
+  rules = rulesIn s
+
+  abbrev amount : ℕ
+  amount = purchase .amount .0
+
+  abbrev currency : ℕ
+  currency = purchase .currency
+
+  accumulator-flag : (i : ℕ) → i < 4 → (limit : ℕ)
+      → accumulatorExceeds rules place values (worthsOf rules purchase) limit i ≡ exceeds s at amount currency (valueOf values (accumulator i)) limit (accumulator i)
+  unfolding accumulatorIn
+  accumulator-flag i l limit =
+      let value = amountAt values i .0 in
+      ap (λ (rule : AccumulatorRule). rule .active && (ltb limit value || (rule .include && sumExceeds limit value (worthAt (worthsOf rules purchase) i))))
+      (accumulator-is s place at stands i l)
+      ∙ ap (λ b. eqb (byte s (at + (24 + 17 * i)) % 2) 1 && b)
+      (ap (λ w. ltb limit value || (isIncluded s at (accumulator i) && sumExceeds limit value w)) (worth-at rules purchase i l)
+      ∙ sum-is limit value (isIncluded s at (accumulator i)) (worth rules purchase i)
+      ∙ ap (λ new. ltb limit value || (isIncluded s at (accumulator i) && ltb limit (value + since new))) (converts s fits purchase i l small))
+      ∙ rw div-one
+
+  counter-flag : (i : ℕ) → i < 4 → (limit : ℕ)
+      → counterExceeds rules place values limit i ≡ exceeds s at amount currency (valueOf values (counter i)) limit (counter i)
+  unfolding counterIn
+  counter-flag i l limit =
+      let value = countAt values i in
+      ap (λ (rule : CounterRule). rule .active && (ltb limit value || (rule .include && ltb limit (value + 1)))) (counter-is s place at stands i l)
+      ∙ rw div-one
+
+  mta-flag : maximumExceeded rules place purchase ≡ exceedsMta s at amount currency
+  unfolding maximumExceeded profileIn
+  mta-flag =
+      ap (λ (p : Profile). p .maximum .on && spentExceeds (p .maximum .amount .0) (convertOf (purchase .amount) currency (p .maximum .currency) (rules .rates)))
+      (profile-is s place at stands)
+      ∙ ap (λ b. eqb (byte s (at + 13)) 1 && b)
+      (spent-is (number s (at + 16) 8) (convertOf (purchase .amount) currency (number s (at + 14) 2) (rules .rates))
+      ∙ ap (λ new. ltb (number s (at + 16) 8) (since new)) (converts-to s fits purchase (number s (at + 14) 2) small))
+
+  abbrev value : Meter → ℕ
+  value = valueOf values
+
+  four-same : (f g : ℕ → Bool) → ((i : ℕ) → i < 4 → f i ≡ g i) → four f ≡ four g
+  four-same f g h = simp (h 0 (omega arith), h 1 (omega arith), h 2 (omega arith), h 3 (omega arith))
+
+  pub accumulators-lower : accumulatorsLower rules place values (worthsOf rules purchase) ≡ eachOf accumulator (aboveLower s at amount currency value)
+  unfolding accumulatorsLower accumulatorIn
+  accumulators-lower =
+      four-same _ (λ i. aboveLower s at amount currency value (accumulator i))
+      (λ i l.
+      ap (λ (r : AccumulatorRule). accumulatorExceeds rules place values (worthsOf rules purchase) (r .lower .0) i) (accumulator-is s place at stands i l)
+      ∙ accumulator-flag i l (lowerOf s at (accumulator i)))
+
+  pub accumulators-upper : accumulatorsUpper rules place values (worthsOf rules purchase) ≡ eachOf accumulator (aboveUpper s at amount currency value)
+  unfolding accumulatorsUpper accumulatorIn
+  accumulators-upper =
+      four-same _ (λ i. aboveUpper s at amount currency value (accumulator i))
+      (λ i l.
+      ap (λ (r : AccumulatorRule). accumulatorExceeds rules place values (worthsOf rules purchase) (r .upper .0) i) (accumulator-is s place at stands i l)
+      ∙ accumulator-flag i l (upperOf s at (accumulator i)))
+
+  pub counters-lower : countersLower rules place values ≡ eachOf counter (aboveLower s at amount currency value)
+  unfolding countersLower counterIn
+  counters-lower =
+      four-same _ (λ i. aboveLower s at amount currency value (counter i))
+      (λ i l.
+      ap (λ (r : CounterRule). counterExceeds rules place values (r .lower) i) (counter-is s place at stands i l)
+      ∙ counter-flag i l (lowerOf s at (counter i)))
+
+  pub counters-upper : countersUpper rules place values ≡ eachOf counter (aboveUpper s at amount currency value)
+  unfolding countersUpper counterIn
+  counters-upper =
+      four-same _ (λ i. aboveUpper s at amount currency value (counter i))
+      (λ i l.
+      ap (λ (r : CounterRule). counterExceeds rules place values (r .upper) i) (counter-is s place at stands i l)
+      ∙ counter-flag i l (upperOf s at (counter i)))
+
+  flags-are : (history : History) → decisionFlags history rules place values purchase (worthsOf rules purchase) ≡ flags s at amount currency value history
+  unfolding flags
+  flags-are history = simp (mta-flag, accumulators-lower, accumulators-upper, counters-lower, counters-upper)
+
+  pub adr-is : (history : History)
+      → decisionBits history (testsOf rules place values purchase (worthsOf rules purchase)) ≡ packed (flags s at amount currency value history)
+  adr-is history = decision-packed history rules place values purchase (worthsOf rules purchase) ∙ ap packed (flags-are history)
+
+  -- a mask is met by the card's bits as by the flags
+  pub met-is : (history : History) (mask : ℕ)
+      → meetsMask (decisionBits history (testsOf rules place values purchase (worthsOf rules purchase))) mask ≡ meets (flags s at amount currency value history) mask
+  met-is history mask = ap (λ adr. meetsMask adr mask) (adr-is history) ∙ meets-is (flags s at amount currency value history) mask
+
+-- ---- the table
+
+module _ (adr : ℕ) (masks : Masks) (terminal : ℕ) where
+  abbrev Decided : ℕ → Kind → Type 0
+  Decided requested kind =
+      Decides requested (meetsMask adr (masks .online)) (meetsMask adr (masks .decline)) (meetsMask adr (masks .default)) (isOfflineOnly terminal) kind
+
+  tc-decided : (f : Bool) → meetsMask adr (masks .decline) ≡ false → isOfflineOnly terminal ≡ f
+      → Decided 1 (cond f (cond (meetsMask adr (masks .default)) Aac Tc) (cond (meetsMask adr (masks .online)) Arqc Tc))
+  tc-decided true d f = by (meetsMask adr (masks .default)) refl where
+    by : (b : Bool) → meetsMask adr (masks .default) ≡ b → Decided 1 (cond b Aac Tc)
+    by true e = meets-default refl d f e
+    by false e = offline-approves refl d f e
+  tc-decided false d f = by (meetsMask adr (masks .online)) refl where
+    by : (b : Bool) → meetsMask adr (masks .online) ≡ b → Decided 1 (cond b Arqc Tc)
+    by true e = meets-online refl d f e
+    by false e = online-approves refl d f e
+
+  pub decided : (requested : ℕ) → requested ≤ 2 → Decided requested (decision requested adr masks terminal)
+  unfolding decision
+  decided zero l = aac-requested refl
+  decided (suc zero) l = by (meetsMask adr (masks .decline)) refl where
+    by : (b : Bool) → meetsMask adr (masks .decline) ≡ b
+        → Decided 1 (cond b Aac (cond (isOfflineOnly terminal) (cond (meetsMask adr (masks .default)) Aac Tc) (cond (meetsMask adr (masks .online)) Arqc Tc)))
+    by true e = meets-decline (omega arith) e
+    by false e = tc-decided (isOfflineOnly terminal) e refl
+  decided (suc (suc zero)) l = by (meetsMask adr (masks .decline)) refl where
+    by : (b : Bool) → meetsMask adr (masks .decline) ≡ b → Decided 2 (cond b Aac Arqc)
+    by true e = meets-decline (omega arith) e
+    by false e = arqc-requested refl e
+  decided (suc (suc (suc n))) l = absurd (omega arith)

@@ -1,0 +1,14 @@
+pub mod Found
+pub mod Refusal
+pub mod Step
+pub mod Owed
+pub mod Bytes
+pub mod Moves
+pub mod Total
+pub mod Limit
+pub mod Witness
+pub mod Only
+pub mod Past
+pub mod Decision
+pub mod First
+pub mod Verification

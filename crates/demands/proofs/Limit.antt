@@ -1,0 +1,215 @@
+-- Demand 3, the upper limit: no offline approval under a guarding profile leaves the value above that profile's upper limit.
+-- Assumes nothing.
+use mathlib.Core.Path.{_≡_, refl, sym, ap, _∙_, subst}
+use mathlib.Core.Bool.{Bool, true, false, cond, _&&_, _||_}
+use mathlib.Core.List.{List, [], _∷_}
+use Prim.Native.Nat.{ℕ, zero, suc, _+_, _*_, _/_, _%_, _^_, _≤_, _<_}
+use native.Mathlib.Nat.{div-one}
+use native.Mathlib.Omega.{arith}
+use borrow.Author.Tests.{ltb-true, ltb-false, eqb-true}
+use lib.Dec.{leb, ltb, eqb}
+use lib.ListN.{length, getD}
+use Rattle.wire.specs.Wire.{byte, number, isCurrency}
+use Rattle.money.specs.declared.AccumulatorAmount.{AccumulatorAmount}
+use Rattle.money.specs.declared.Converted.{Converted}
+use Rattle.money.specs.declared.Converted.the-variants.{Amount, NoEntry}
+use Rattle.money.specs.Money.{max}
+use Rattle.iad.specs.declared.Cvr.{Cvr}
+use Rattle.rules.specs.declared.Place.{Place}
+use Rattle.rules.specs.declared.Found.{Found}
+use Rattle.rules.specs.declared.Found.the-variants.{At, Nothing}
+use Rattle.rules.specs.declared.Values.{Values}
+use Rattle.rules.specs.declared.AccumulatorRule.{AccumulatorRule}
+use Rattle.rules.specs.declared.CounterRule.{CounterRule}
+use Rattle.rules.specs.declared.Masks.{Masks}
+use Rattle.rules.specs.Rules.{Rules, rulesOf, Profile, profileAt, accumulatorRule, counterRule, findProfile}
+use Rattle.ranges.specs.Ranges.{isSetup}
+use Rattle.setup.specs.Setup.{accumulatorIn, counterIn, profileIn, rulesIn, wordsAfter}
+use Rattle.setup.proofs.Faithful.{Bytes, faithful}
+use Rattle.command.specs.declared.Start.{Start}
+use Rattle.command.specs.declared.First.{First}
+use Rattle.command.specs.declared.Second.{Second}
+use Rattle.command.specs.declared.Command.{Command}
+use Rattle.command.specs.declared.Command.the-variants.{Start as StartCommand, First as FirstCommand, Second as SecondCommand}
+use Rattle.meters.specs.declared.Purchase.{Purchase}
+use Rattle.meters.specs.declared.Worths.{Worths}
+use Rattle.meters.specs.Meters.{Entry, add, moved, addition, approval, counting, amountAt, countAt, worthAt, worthsOf, approved}
+use Rattle.meters.specs.Meters.{declined as declinedValues}
+use Rattle.meters.proofs.Ledger.{approved-amount, approved-count}
+use Rattle.checks.specs.declared.History.{History}
+use Rattle.checks.specs.Checks.{bit, accumulatorsUpper, countersUpper, testsOf, decisionBits, meetsMask}
+use Rattle.checks.proofs.Bits.{bitOf, meets-at, house-order}
+use Rattle.checks.proofs.Exceeds.{accumulator-kept, counter-kept}
+use Rattle.card.specs.declared.Answer.{Answer}
+use Rattle.card.specs.declared.Answer.the-variants.{Refused}
+use Rattle.card.specs.declared.Issuer.{Issuer}
+use Rattle.card.specs.declared.Kind.{Kind}
+use Rattle.card.specs.declared.Kind.the-variants.{Aac, Tc, Arqc}
+use Rattle.card.specs.declared.Pending.{Pending}
+use Rattle.card.specs.declared.Phase.{Phase}
+use Rattle.card.specs.declared.Phase.the-variants.{Idle, Opened, Asked}
+use Rattle.card.specs.declared.State.{State}
+use Rattle.card.specs.declared.Outcome.{Outcome}
+use Rattle.card.specs.First.{decision, isOfflineOnly, purchaseOf, firstTests, firstKind, firstPerformed, concluded}
+use Rattle.card.specs.Second.{isUnable, unableIn, unableBits, unablePerformed, secondPerformed, closed}
+use Rattle.card.specs.Card.{stepOf}
+use Rattle.demands.specs.Ledger.{Meter, accumulator, counter, IsMeter}
+use Rattle.demands.specs.Conversation.{Exchange, Sitting, sat, next, valueOf}
+use Rattle.demands.specs.Audit.{isOn, isActive, isIncluded, placeOf, upperOf, approves, named, spent, spentIn}
+use Rattle.demands.specs.Guards.{upperBit, Guards}
+use Rattle.demands.proofs.Refusal.{never}
+use Rattle.demands.proofs.Step.{Did, refused-it, started-it, took-first, took-second, did}
+use Rattle.demands.proofs.Bytes.{Stands, profile-is, accumulator-is, counter-is}
+use Rattle.demands.proofs.Total.{Remembers, Agrees, Holding, always}
+
+-- ---- what an approval adds stays within a limit that the value, with the amount, is within
+
+module _ (cap limit : ℕ) where
+  added : (value n : ℕ) → value + n ≤ limit → moved cap value (add n ∷ []) ≤ limit
+  added value n h = by (ltb cap (value + n)) refl where
+    by : (b : Bool) → ltb cap (value + n) ≡ b → cond b cap (value + n) ≤ limit
+    by true e = let l = ltb-true cap (value + n) e in omega arith
+    by false e = h
+
+  approval-within : (value : ℕ) (on : Bool) (worth : Converted) → value ≤ limit
+      → ((more : AccumulatorAmount) → worth ≡ Amount more → value + more .0 ≤ limit) → moved cap value (cond on (addition worth) []) ≤ limit
+  approval-within value true (Amount more) h k = added value (more .0) (k more refl)
+  approval-within value true NoEntry h k = h
+  approval-within value false worth h k = h
+
+  counting-within : (value : ℕ) (on : Bool) → value ≤ limit → value + 1 ≤ limit → moved cap value (cond on (add 1 ∷ []) []) ≤ limit
+  counting-within value true h k = added value 1 k
+  counting-within value false h k = h
+
+-- a flag whose bit is in a mask that isn't met is not set
+unmet : (k adr mask : ℕ) (flag : Bool) → bitOf k adr ≡ bit flag → isOn mask (2 ^ k) ≡ true → meetsMask adr mask ≡ false → flag ≡ false
+unmet k adr mask false e m q = refl
+unmet k adr mask true e m q = absurd (never (sym q ∙ meets-at k adr mask e (eqb-true _ _ m)))
+
+module _ (s : List ℕ) (place : Place) (at : ℕ) (stands : Stands s place at) (values : Values) (history : History) (purchase : Purchase) where
+  abbrev rules : Rules
+  rules = rulesIn s
+
+  abbrev worths : Worths
+  worths = worthsOf rules purchase
+
+  abbrev adr : ℕ
+  adr = decisionBits history (testsOf rules place values purchase worths)
+
+  -- an approval while a mask that holds the upper limit's bit isn't met
+  pub approved-within : (meter : Meter) → IsMeter meter → isActive s at meter ≡ true → isIncluded s at meter ≡ true
+      → (mask : ℕ) → isOn mask (2 ^ upperBit meter) ≡ true → meetsMask adr mask ≡ false
+      → valueOf (approved rules place values worths) meter ≤ upperOf s at meter
+  unfolding accumulatorIn counterIn
+  approved-within (accumulator i) l active included mask on q =
+      let is = accumulator-is s place at stands i l in
+      let active' : accumulatorRule rules place i .active ≡ true = ap (λ (r : AccumulatorRule). r .active) is ∙ (rw div-one at active) in
+      let included' : accumulatorRule rules place i .include ≡ true = ap (λ (r : AccumulatorRule). r .include) is ∙ included in
+      let upper : accumulatorRule rules place i .upper .0 ≡ upperOf s at (accumulator i) = ap (λ (r : AccumulatorRule). r .upper .0) is in
+      let flag = house-order history rules place values purchase worths .accumulatorUpper i l in
+      let kept = accumulator-kept rules place values worths i l active' included' (unmet (10 + i) adr mask _ flag on q) in
+      rw (approved-amount rules place values worths i l, ← upper)
+      (approval-within max (accumulatorRule rules place i .upper .0) (amountAt values i .0)
+      (accumulatorRule rules place i .active && accumulatorRule rules place i .allow) (worthAt worths i) (kept .0) (kept .1))
+  approved-within (counter i) l active included mask on q =
+      let is = counter-is s place at stands i l in
+      let active' : counterRule rules place i .active ≡ true = ap (λ (r : CounterRule). r .active) is ∙ (rw div-one at active) in
+      let included' : counterRule rules place i .include ≡ true = ap (λ (r : CounterRule). r .include) is ∙ included in
+      let upper : counterRule rules place i .upper ≡ upperOf s at (counter i) = ap (λ (r : CounterRule). r .upper) is in
+      let flag = house-order history rules place values purchase worths .counterUpper i l in
+      let kept = counter-kept rules place values i l active' included' (unmet (18 + i) adr mask _ flag on q) in
+      rw (approved-count rules place values worths i l, ← upper)
+      (counting-within 255 (counterRule rules place i .upper) (countAt values i)
+      (counterRule rules place i .active && counterRule rules place i .allow) (kept .0) (kept .1))
+
+both-false : (b : Bool) → (b && false) ≡ true → false ≡ true
+both-false true e = e
+both-false false e = e
+
+-- a TC at First says that Decline isn't met
+tc-unmet : (requested adr : ℕ) (masks : Masks) (terminal : ℕ) → Tc ≡ decision requested adr masks terminal → meetsMask adr (masks .decline) ≡ false
+unfolding decision
+tc-unmet requested bits masks terminal e = by (eqb requested 0) (meetsMask bits (masks .decline)) _ e where
+  by : (a b : Bool) (rest : Kind) → Tc ≡ cond a Aac (cond b Aac rest) → b ≡ false
+  by true b rest e = cc
+  by false true rest e = cc
+  by false false rest e = refl
+
+module _ (s : List ℕ) (sitting : Sitting) (holding : Holding s sitting) (meter : Meter) (l : IsMeter meter)
+    (guards : Guards s (placeOf s (named (sitting .log))) meter) where
+  abbrev card-rules : Rules
+  card-rules = rulesIn s
+
+  abbrev state : State
+  state = sitting .state
+
+  abbrev at : ℕ
+  at = placeOf s (named (sitting .log))
+
+  -- if an answer approves, the value is within
+  abbrev Within : Command → Outcome → Type 0
+  Within command outcome = approves command (outcome .answer) ≡ true → valueOf (outcome .state .values) meter ≤ upperOf s at meter
+
+  concluded-within : (first : First) (place : Place) → Stands s place at → (limits : ℕ) (cvr : Cvr) (kind : Kind)
+      → kind ≡ firstKind card-rules state place first
+      → Within (FirstCommand first) (concluded card-rules state place (purchaseOf first) (worthsOf card-rules (purchaseOf first)) limits cvr kind)
+  unfolding concluded profileIn
+  concluded-within first place stands limits cvr Tc is e =
+      let mask : profileAt card-rules place .masks .decline ≡ number s (at + 5) 4 = ap (λ (p : Profile). p .masks .decline) (profile-is s place at stands) in
+      approved-within s place at stands (state .values) (state .history) (purchaseOf first) meter l (guards .active) (guards .included)
+      (profileAt card-rules place .masks .decline) (rw mask (guards .decline)) (tc-unmet (first .requested) _ (profileAt card-rules place .masks) (first .terminal) is)
+  concluded-within first place stands limits cvr Aac is e = absurd (never e)
+  concluded-within first place stands limits cvr Arqc is e = absurd (never e)
+
+  first-within : (first : First) (place : Place) → Stands s place at → Within (FirstCommand first) (firstPerformed card-rules state first place)
+  unfolding firstPerformed
+  first-within first place stands = concluded-within first place stands _ _ (firstKind card-rules state place first) refl
+
+  unable-within : (second : Second) (pending : Pending) → Stands s (pending .place) at → (b : Bool)
+      → (eqb (second .requested) 0 || meetsMask (unableBits card-rules state pending) (profileAt card-rules (pending .place) .masks .default)) ≡ b
+      → (values : Values) (history : History) (issuer : Issuer)
+      → Within (SecondCommand second) (cond b (closed card-rules (state .atc) pending false values history issuer)
+      (closed card-rules (state .atc) pending true (approved card-rules (pending .place) (state .values) (worthsOf card-rules (pending .purchase))) history issuer))
+  unfolding closed profileIn
+  unable-within second pending stands true q values history issuer e = absurd (never (both-false (isUnable (second .code)) e))
+  unable-within second pending stands false q values history issuer e =
+      let place = pending .place in
+      let mask : profileAt card-rules place .masks .default ≡ number s (at + 9) 4 = ap (λ (p : Profile). p .masks .default) (profile-is s place at stands) in
+      approved-within s place at stands (state .values) (unableIn (pending .history)) (pending .purchase) meter l (guards .active) (guards .included)
+      (profileAt card-rules place .masks .default) (rw mask (guards .default)) (neither (eqb (second .requested) 0) _ q)
+    where
+      neither : (a b : Bool) → (a || b) ≡ false → b ≡ false
+      neither true b e = absurd (never (sym e))
+      neither false b e = e
+
+  second-within : (second : Second) (pending : Pending) → Stands s (pending .place) at → Within (SecondCommand second) (secondPerformed card-rules state second pending)
+  unfolding secondPerformed unablePerformed
+  second-within second pending stands = by (isUnable (second .code)) refl _ where
+    by : (u : Bool) → isUnable (second .code) ≡ u → (rest : Outcome)
+        → Within (SecondCommand second) (cond u (unablePerformed card-rules state (second .requested) pending) rest)
+    by true u rest e = unable-within second pending stands _ refl _ _ _ e
+    by false u rest e = absurd (never (rw u at e))
+
+  did-within : {command : Command} {outcome : Outcome} → Did card-rules state command outcome → Within command outcome
+  did-within {command} (refused-it r) = λ e. absurd (never (not-refused command e)) where
+    not-refused : (command : Command) → approves command (Refused r) ≡ true → false ≡ true
+    not-refused (StartCommand start) e = e
+    not-refused (FirstCommand first) e = e
+    not-refused (SecondCommand second) e = both-false (isUnable (second .code)) e
+  did-within (started-it start place holds) = λ e. absurd (never e)
+  did-within (took-first first place is type small) =
+      first-within first place (subst (Agrees s (named (sitting .log)) (spent (sitting .log)) (spentIn (sitting .log))) is (holding .agrees))
+  did-within (took-second second pending is type issuer) =
+      second-within second pending (subst (Agrees s (named (sitting .log)) (spent (sitting .log)) (spentIn (sitting .log))) is (holding .agrees) .stands)
+
+-- DEMAND 3, THE UPPER LIMIT
+pub limit : (s : List ℕ) → Bytes s → isSetup s ≡ true → (words : List ℕ) → length words ≡ 163
+    → (commands : List Command) (command : Command) (meter : Meter) → IsMeter meter
+    → Guards s (placeOf s (named (sat words s commands .log))) meter
+    → approves command (next words s commands command .answer) ≡ true
+    → valueOf (next words s commands command .state .values) meter ≤ upperOf s (placeOf s (named (sat words s commands .log))) meter
+limit s bytes good words size commands command meter l guards =
+    subst (λ rules. approves command (stepOf rules (sat words s commands .state) command .answer) ≡ true
+    → valueOf (stepOf rules (sat words s commands .state) command .state .values) meter ≤ upperOf s (placeOf s (named (sat words s commands .log))) meter)
+    (sym (faithful s bytes words size good))
+    (did-within s (sat words s commands) (always s bytes good words size commands) meter l guards (did (rulesIn s) (sat words s commands .state) command))

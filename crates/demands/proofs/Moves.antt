@@ -1,0 +1,138 @@
+-- What approvals, declines and orders do to an accumulator or a counter is what the auditor enters, at most one entry each time.
+-- Assumes nothing.
+use mathlib.Core.Path.{_≡_, refl, sym, ap, _∙_}
+use mathlib.Core.Bool.{Bool, true, false, cond, _&&_}
+use mathlib.Core.List.{List, [], _∷_}
+use Prim.Native.Nat.{ℕ, zero, suc, _+_, _*_, _/_, _%_, _≤_, _<_, min}
+use native.Mathlib.Nat.{div-one}
+use native.Mathlib.Omega.{arith}
+use lib.Dec.{eqb}
+use Rattle.wire.specs.Wire.{byte, number}
+use Rattle.money.specs.Money.{max}
+use Rattle.rules.specs.declared.Place.{Place}
+use Rattle.rules.specs.declared.Values.{Values}
+use Rattle.rules.specs.Rules.{Rules, accumulatorRule, counterRule}
+use Rattle.ranges.proofs.Accepted.{Accepted}
+use Rattle.setup.specs.Setup.{accumulatorIn, counterIn, rulesIn}
+use Rattle.setup.proofs.Faithful.{Bytes}
+use Rattle.meters.specs.declared.Purchase.{Purchase}
+use Rattle.meters.specs.Meters.{Entry, put, add, moved, counterCap, addition, approval, counting, declining, putting, amountAt, countAt, worth, worthAt, worthsOf, approved, limited, cleared}
+use Rattle.meters.specs.Meters.{declined as declinedValues}
+use Rattle.meters.proofs.Ledger.{worth-at, approved-amount, approved-count, declined-amount, declined-count, limited-amount, limited-count, cleared-amount, cleared-count}
+use Rattle.card.specs.Second.{updateByte, ordered as orderedValues}
+use Rattle.demands.specs.Ledger.{Meter, accumulator, counter, IsMeter}
+use Rattle.demands.specs.Conversation.{valueOf}
+use Rattle.demands.specs.Audit.{isActive, isAllowed, countsDeclines, upperOf, capOf, byEntry, converted, additionOf, counted, declined, ordered}
+use Rattle.demands.proofs.Owed.{Fair, nothing, putting as fair-put, adding, fair-or}
+use Rattle.demands.proofs.Bytes.{Stands, accumulator-is, counter-is, converts}
+
+-- what is put where a meter is active
+abbrev pub whereActive : List ℕ → ℕ → Meter → ℕ → List Entry
+whereActive s at meter n = cond (isActive s at meter) (put n ∷ []) []
+
+module _ (s : List ℕ) (fits : Accepted s) (place : Place) (at : ℕ) (stands : Stands s place at) (values : Values) where
+  abbrev rules : Rules
+  rules = rulesIn s
+
+  module _ (purchase : Purchase) (small : purchase .amount .0 ≤ max) where
+    approval-is : (i : ℕ) → i < 4
+        → approval (accumulatorRule rules place i) (worthAt (worthsOf rules purchase) i) ≡ counted s at (purchase .amount .0) (purchase .currency) (accumulator i)
+    unfolding accumulatorIn
+    approval-is i l =
+        ap (λ rule. approval rule (worthAt (worthsOf rules purchase) i)) (accumulator-is s place at stands i l)
+        ∙ ap (λ w. approval (accumulatorIn s (at + (24 + 17 * i))) w) (worth-at rules purchase i l)
+        ∙ rw (div-one, converts s fits purchase i l small)
+
+    counting-is : (i : ℕ) → i < 4 → counting (counterRule rules place i) ≡ counted s at (purchase .amount .0) (purchase .currency) (counter i)
+    unfolding counterIn
+    counting-is i l = ap counting (counter-is s place at stands i l) ∙ rw div-one
+
+    pub approved-moves : (meter : Meter) → IsMeter meter → valueOf (approved rules place values (worthsOf rules purchase)) meter
+        ≡ moved (capOf meter) (valueOf values meter) (counted s at (purchase .amount .0) (purchase .currency) meter)
+    approved-moves (accumulator i) l =
+        approved-amount rules place values (worthsOf rules purchase) i l ∙ ap (moved max (amountAt values i .0)) (approval-is i l)
+    approved-moves (counter i) l =
+        approved-count rules place values (worthsOf rules purchase) i l ∙ ap (moved counterCap (countAt values i)) (counting-is i l)
+
+  pub declined-moves : (meter : Meter) → IsMeter meter
+      → valueOf (declinedValues rules place values) meter ≡ moved (capOf meter) (valueOf values meter) (declined s at meter)
+  unfolding counterIn
+  declined-moves (accumulator i) l = ap (λ a. a .0) (declined-amount rules place values i) ∙ none (isActive s at (accumulator i)) _ where
+    none : (a b : Bool) → amountAt values i .0 ≡ moved max (amountAt values i .0) (cond (a && b && false) (add 1 ∷ []) [])
+    none true true = refl
+    none true false = refl
+    none false b = refl
+  declined-moves (counter i) l =
+      declined-count rules place values i l
+      ∙ ap (λ rule. moved counterCap (countAt values i) (declining rule)) (counter-is s place at stands i l)
+      ∙ rw div-one
+
+  pub limited-moves : (meter : Meter) → IsMeter meter
+      → valueOf (limited rules place values) meter ≡ moved (capOf meter) (valueOf values meter) (whereActive s at meter (upperOf s at meter))
+  unfolding accumulatorIn counterIn
+  limited-moves (accumulator i) l =
+      limited-amount rules place values i l
+      ∙ ap (λ rule. moved max (amountAt values i .0) (putting (rule .active) (rule .upper .0))) (accumulator-is s place at stands i l)
+      ∙ rw div-one
+  limited-moves (counter i) l =
+      limited-count rules place values i l
+      ∙ ap (λ rule. moved counterCap (countAt values i) (putting (rule .active) (rule .upper))) (counter-is s place at stands i l)
+      ∙ rw div-one
+
+  pub cleared-moves : (meter : Meter) → IsMeter meter
+      → valueOf (cleared rules place values) meter ≡ moved (capOf meter) (valueOf values meter) (whereActive s at meter 0)
+  unfolding accumulatorIn counterIn
+  cleared-moves (accumulator i) l =
+      cleared-amount rules place values i l
+      ∙ ap (λ rule. moved max (amountAt values i .0) (putting (rule .active) 0)) (accumulator-is s place at stands i l)
+      ∙ rw div-one
+  cleared-moves (counter i) l =
+      cleared-count rules place values i l
+      ∙ ap (λ rule. moved counterCap (countAt values i) (putting (rule .active) 0)) (counter-is s place at stands i l)
+      ∙ rw div-one
+
+  pub ordered-moves : (purchase : Purchase) → purchase .amount .0 ≤ max → (csu : ℕ) (meter : Meter) → IsMeter meter
+      → valueOf (orderedValues rules place values purchase (updateByte csu)) meter
+      ≡ moved (capOf meter) (valueOf values meter) (ordered s at (purchase .amount .0) (purchase .currency) csu meter)
+  unfolding orderedValues
+  ordered-moves purchase small csu meter l =
+      let two-bits : csu / 65536 % 256 % 4 ≡ csu / 65536 % 4 = omega arith in
+      rw two-bits (by (csu / 65536 % 4) (omega arith))
+    where
+      by : (order : ℕ) → order < 4
+          → valueOf (cond (eqb order 0) values (cond (eqb order 1) (limited rules place values)
+          (cond (eqb order 2) (cleared rules place values) (approved rules place values (worthsOf rules purchase))))) meter
+          ≡ moved (capOf meter) (valueOf values meter)
+          (cond (eqb order 1) (whereActive s at meter (upperOf s at meter)) (cond (eqb order 2) (whereActive s at meter 0)
+          (cond (eqb order 3) (counted s at (purchase .amount .0) (purchase .currency) meter) [])))
+      by zero h = refl
+      by (suc zero) h = limited-moves meter l
+      by (suc (suc zero)) h = cleared-moves meter l
+      by (suc (suc (suc zero))) h = approved-moves purchase small meter l
+      by (suc (suc (suc (suc order)))) h = absurd (omega arith)
+
+-- ---- at most one entry each time, and nothing put above the cap
+
+module _ (s : List ℕ) (profile amount currency : ℕ) (cap : ℕ) where
+  entry-fair : (from to i n : ℕ) → Fair cap (byEntry s amount from to i n)
+  entry-fair from to i zero = nothing
+  entry-fair from to i (suc n) =
+      let at = 52 + 107 * byte s 3 + 7 * i in
+      fair-or (eqb (number s at 2) from && eqb (number s (at + 2) 2) to) adding (entry-fair from to (suc i) n)
+
+  addition-fair : (meter : Meter) → Fair cap (additionOf s amount currency meter)
+  unfolding converted
+  addition-fair (accumulator i) = fair-or (eqb currency (number s (8 + 10 * i) 2)) adding (entry-fair currency (number s (8 + 10 * i) 2) 0 (byte s 4))
+  addition-fair (counter i) = adding
+
+  pub counted-fair : (meter : Meter) → Fair cap (counted s profile amount currency meter)
+  counted-fair meter = fair-or (isActive s profile meter && isAllowed s profile meter) (addition-fair meter) nothing
+
+  pub declined-fair : (meter : Meter) → Fair cap (declined s profile meter)
+  declined-fair meter = fair-or (isActive s profile meter && isAllowed s profile meter && countsDeclines s profile meter) adding nothing
+
+  pub ordered-fair : (meter : Meter) (csu : ℕ) → upperOf s profile meter ≤ cap → Fair cap (ordered s profile amount currency csu meter)
+  ordered-fair meter csu h =
+      fair-or (eqb (csu / 65536 % 4) 1) (fair-or (isActive s profile meter) (fair-put h) nothing)
+      (fair-or (eqb (csu / 65536 % 4) 2) (fair-or (isActive s profile meter) (fair-put (omega arith)) nothing)
+      (fair-or (eqb (csu / 65536 % 4) 3) (counted-fair meter) nothing))

@@ -1,0 +1,76 @@
+-- What a step can be: a refusal, or a Start, a First or a Second that is in turn and in range. Assumes nothing.
+use mathlib.Core.Path.{_≡_, refl}
+use mathlib.Core.Bool.{Bool, true, false, cond, _&&_}
+use Prim.Native.Nat.{ℕ, _≤_}
+use borrow.Author.Tests.{ltb-false, leb-true}
+use lib.Dec.{leb, ltb, eqb}
+use Rattle.wire.specs.Wire.{isCurrency}
+use Rattle.money.specs.Money.{max}
+use Rattle.refusal.specs.declared.Refusal.{Refusal}
+use Rattle.refusal.specs.declared.Refusal.the-variants.{OutOfTurn, UnknownProfile, AtcUsedUp, BadType, OutOfRange}
+use Rattle.rules.specs.declared.Place.{Place}
+use Rattle.rules.specs.declared.Found.{Found}
+use Rattle.rules.specs.declared.Found.the-variants.{At, Nothing}
+use Rattle.rules.specs.Rules.{Rules, findProfile}
+use Rattle.command.specs.declared.Start.{Start}
+use Rattle.command.specs.declared.First.{First}
+use Rattle.command.specs.declared.Second.{Second}
+use Rattle.command.specs.declared.Command.{Command}
+use Rattle.command.specs.declared.Command.the-variants.{Start as StartCommand, First as FirstCommand, Second as SecondCommand}
+use Rattle.card.specs.declared.Pending.{Pending}
+use Rattle.card.specs.declared.Phase.{Phase}
+use Rattle.card.specs.declared.Phase.the-variants.{Idle, Opened, Asked}
+use Rattle.card.specs.declared.State.{State}
+use Rattle.card.specs.declared.Outcome.{Outcome}
+use Rattle.card.specs.First.{firstPerformed}
+use Rattle.card.specs.Second.{secondPerformed}
+use Rattle.card.specs.Card.{refuse, take, ruleOpening, ruleFirst, ruleSecond, carried, refused, startPerformed, startStep, firstStep, secondStep, stepOf}
+use Rattle.demands.proofs.Found.{Holds, Known, known}
+
+pub data Did (rules : Rules) (state : State) : Command → Outcome → Type 0 where
+  refused-it : {command : Command} (refusal : Refusal) → Did rules state command (refused state refusal)
+  started-it : (start : Start) (place : Place) → Holds rules (start .profile) place → Did rules state (StartCommand start) (startPerformed state place)
+  took-first : (first : First) (place : Place) → state .phase ≡ Opened place → first .requested ≤ 2 → first .amount .0 ≤ max
+      → Did rules state (FirstCommand first) (firstPerformed rules state first place)
+  took-second : (second : Second) (pending : Pending) → state .phase ≡ Asked pending → second .requested ≤ 1 → second .issuer ≤ 2
+      → Did rules state (SecondCommand second) (secondPerformed rules state second pending)
+
+module _ (rules : Rules) (state : State) where
+  start-did : (start : Start) (found : Found) → Known rules (start .profile) found
+      → Did rules state (StartCommand start) (carried state (startPerformed state) (ruleOpening (state .atc) found))
+  start-did start Nothing missing = refused-it UnknownProfile
+  start-did start (At place) holds = by (eqb (state .atc) 65535) where
+    by : (b : Bool) → Did rules state (StartCommand start) (carried state (startPerformed state) (cond b (refuse AtcUsedUp) (take place)))
+    by true = refused-it AtcUsedUp
+    by false = started-it start place holds
+
+  first-did : (first : First) (phase : Phase) → state .phase ≡ phase
+      → Did rules state (FirstCommand first) (carried state (firstPerformed rules state first) (ruleFirst phase first))
+  first-did first Idle is = refused-it OutOfTurn
+  first-did first (Asked pending) is = refused-it OutOfTurn
+  first-did first (Opened place) is = by (ltb 2 (first .requested)) refl (leb (first .amount .0) max) refl (isCurrency (first .currency)) where
+    by : (a : Bool) → ltb 2 (first .requested) ≡ a → (b : Bool) → leb (first .amount .0) max ≡ b → (c : Bool)
+        → Did rules state (FirstCommand first) (carried state (firstPerformed rules state first)
+        (cond a (refuse BadType) (cond (b && c) (take place) (refuse OutOfRange))))
+    by true t b m c = refused-it BadType
+    by false t true m true = took-first first place is (ltb-false 2 (first .requested) t) (leb-true (first .amount .0) max m)
+    by false t true m false = refused-it OutOfRange
+    by false t false m c = refused-it OutOfRange
+
+  second-did : (second : Second) (phase : Phase) → state .phase ≡ phase
+      → Did rules state (SecondCommand second) (carried state (secondPerformed rules state second) (ruleSecond phase second))
+  second-did second Idle is = refused-it OutOfTurn
+  second-did second (Opened place) is = refused-it OutOfTurn
+  second-did second (Asked pending) is = by (ltb 1 (second .requested)) refl (ltb 2 (second .issuer)) refl where
+    by : (a : Bool) → ltb 1 (second .requested) ≡ a → (b : Bool) → ltb 2 (second .issuer) ≡ b
+        → Did rules state (SecondCommand second) (carried state (secondPerformed rules state second)
+        (cond a (refuse BadType) (cond b (refuse OutOfRange) (take pending))))
+    by true t b i = refused-it BadType
+    by false t true i = refused-it OutOfRange
+    by false t false i = took-second second pending is (ltb-false 1 (second .requested) t) (ltb-false 2 (second .issuer) i)
+
+  pub did : (command : Command) → Did rules state command (stepOf rules state command)
+  unfolding stepOf startStep firstStep secondStep
+  did (StartCommand start) = start-did start (findProfile rules (start .profile)) (known rules (start .profile))
+  did (FirstCommand first) = first-did first (state .phase) refl
+  did (SecondCommand second) = second-did second (state .phase) refl

@@ -1,0 +1,165 @@
+-- The CVR's bits and the IAD's fields are those that document 01 names. Assumes nothing.
+use mathlib.Core.Path.{_≡_, refl, sym, ap, ap₂, _∙_, subst}
+use mathlib.Core.Bool.{Bool, true, false, cond, not, _||_}
+use mathlib.Core.List.{List, [], _∷_, _++_}
+use Prim.Native.Nat.{ℕ, zero, suc, _+_, _*_, _/_, _%_, _≤_, _<_}
+use native.Mathlib.Omega.{arith}
+use lib.Dec.{eqb}
+use lib.ListN.{getD}
+use Rattle.wire.specs.Wire.{byte, number}
+use Rattle.money.specs.declared.AccumulatorAmount.{AccumulatorAmount}
+use Rattle.money.specs.Money.{max}
+use Rattle.iad.specs.declared.Cvr.{Cvr}
+use Rattle.iad.specs.declared.Iad.{Iad}
+use Rattle.rules.specs.declared.Place.{Place}
+use Rattle.rules.specs.declared.Values.{Values}
+use Rattle.rules.specs.Rules.{Rules, Profile, four, profileAt, accumulatorRule, counterRule, indexOf}
+use Rattle.ranges.proofs.Accepted.{Accepted}
+use Rattle.setup.specs.Setup.{profileIn, rulesIn}
+use Rattle.meters.specs.declared.Purchase.{Purchase}
+use Rattle.meters.specs.Meters.{worthsOf}
+use Rattle.checks.specs.declared.History.{History}
+use Rattle.checks.specs.declared.Tests.{Tests}
+use Rattle.checks.specs.Checks.{bit, any, packed, accumulatorExceeds, counterExceeds, accumulatorsLower, accumulatorsUpper, countersLower, countersUpper, testsOf}
+use Rattle.checks.proofs.Bits.{any-lower, any-upper}
+use Rattle.card.specs.declared.Issuer.{Issuer}
+use Rattle.card.specs.declared.Kind.{Kind}
+use Rattle.card.specs.declared.Kind.the-variants.{Aac, Tc, Arqc}
+use Rattle.card.specs.declared.Later.{Later}
+use Rattle.card.specs.declared.Later.the-variants.{Aac as LaterAac, Tc as LaterTc, NotRequested}
+use Rattle.card.specs.Cryptogram.{kindCode, laterCode, verification, sentIad}
+use Rattle.card.specs.Cryptogram.{sentOf as cardSent}
+use Rattle.card.specs.First.{limitsByte}
+use Rattle.demands.specs.Ledger.{Meter, accumulator, counter, IsMeter}
+use Rattle.demands.specs.Conversation.{valueOf}
+use Rattle.demands.specs.Decision.{eachOf, aboveLower, aboveUpper}
+use Rattle.demands.specs.Verification.{typeOf, anyOf, Issuing, Verifies, sentOf, Sends}
+use Rattle.demands.proofs.Bytes.{Stands, profile-is}
+use Rattle.demands.proofs.Decision.{accumulators-lower, accumulators-upper, counters-lower, counters-upper}
+
+bit-small : (b : Bool) → bit b < 2
+bit-small true = omega arith
+bit-small false = omega arith
+
+kind-small : (kind : Kind) → kindCode kind < 4
+kind-small Aac = omega arith
+kind-small Tc = omega arith
+kind-small Arqc = omega arith
+
+-- CVR byte 3, of four causes
+abbrev pub limitsOf : (countersLower countersUpper accumulatorsLower accumulatorsUpper : Bool) → ℕ
+limitsOf a b c d = bit a * 128 + bit b * 64 + bit c * 32 + bit d * 16
+
+limits-same : {a b c d a' b' c' d' : Bool} → a ≡ a' → b ≡ b' → c ≡ c' → d ≡ d' → limitsOf a b c d ≡ limitsOf a' b' c' d'
+limits-same p q r t = λ i. limitsOf (p i) (q i) (r i) (t i)
+
+module _ (s : List ℕ) (fits : Accepted s) (place : Place) (at : ℕ) (stands : Stands s place at) (values : Values) (purchase : Purchase)
+    (small : purchase .amount .0 ≤ max) where
+  abbrev rules : Rules
+  rules = rulesIn s
+
+  abbrev lower : Meter → Bool
+  lower = aboveLower s at (purchase .amount .0) (purchase .currency) (valueOf values)
+
+  abbrev upper : Meter → Bool
+  upper = aboveUpper s at (purchase .amount .0) (purchase .currency) (valueOf values)
+
+  causes : limitsByte (testsOf rules place values purchase (worthsOf rules purchase))
+      ≡ limitsOf (any (countersLower rules place values)) (any (countersUpper rules place values))
+      (any (accumulatorsLower rules place values (worthsOf rules purchase))) (any (accumulatorsUpper rules place values (worthsOf rules purchase)))
+  unfolding limitsByte testsOf accumulatorsLower accumulatorsUpper countersLower countersUpper
+  causes =
+      let worths = worthsOf rules purchase in
+      let cl : ℕ → Bool = λ i. counterExceeds rules place values (counterRule rules place i .lower) i in
+      let cu : ℕ → Bool = λ i. counterExceeds rules place values (counterRule rules place i .upper) i in
+      let al : ℕ → Bool = λ i. accumulatorExceeds rules place values worths (accumulatorRule rules place i .lower .0) i in
+      let au : ℕ → Bool = λ i. accumulatorExceeds rules place values worths (accumulatorRule rules place i .upper .0) i in
+      sym (limits-same (any-lower cl cu) (any-upper cl cu) (any-lower al au) (any-upper al au))
+
+  pub limits-are : limitsByte (testsOf rules place values purchase (worthsOf rules purchase))
+      ≡ limitsOf (anyOf counter lower) (anyOf counter upper) (anyOf accumulator lower) (anyOf accumulator upper)
+  limits-are =
+      causes
+      ∙ simp (counters-lower s fits place at stands values purchase small, counters-upper s fits place at stands values purchase small,
+        accumulators-lower s fits place at stands values purchase small, accumulators-upper s fits place at stands values purchase small)
+
+-- a CVR whose byte 3 has its four causes
+module _ (s : List ℕ) (profile amount currency : ℕ) (value : Meter → ℕ) (history : History) where
+  abbrev below : Meter → Bool
+  below = aboveLower s profile amount currency value
+
+  abbrev over : Meter → Bool
+  over = aboveUpper s profile amount currency value
+
+  pub verifies : (limits : ℕ) → limits ≡ limitsOf (anyOf counter below) (anyOf counter over) (anyOf accumulator below) (anyOf accumulator over)
+      → (first : Kind) (later : Later) (issuer : Issuer)
+      → Verifies s profile amount currency value history (laterCode later) (kindCode first)
+      (record { unperformed = issuer .unperformed; failed = issuer .failed; unable = issuer .unable }) (verification (rulesIn s) history limits first later issuer)
+  unfolding verification rulesIn
+  verifies limits is first later issuer =
+      let a = bit-small (issuer .unperformed) in
+      let b = bit-small (issuer .failed) in
+      let k = kind-small first in
+      let c = bit-small (eqb (byte s 1) 0) in
+      let d = bit-small (history .uncompleted) in
+      let e = bit-small (history .online) in
+      let f = bit-small (issuer .unable) in
+      let g = bit-small (anyOf counter below) in
+      let h = bit-small (anyOf counter over) in
+      let i = bit-small (anyOf accumulator below) in
+      let j = bit-small (anyOf accumulator over) in
+      record {
+        byte1-b87 = omega arith;
+        byte1-b65 = omega arith;
+        byte1-b43 = omega arith;
+        byte1-b2 = omega arith;
+        byte1-b1 = omega arith;
+        byte2-high = omega arith;
+        byte2-b43 = omega arith;
+        byte2-b2 = omega arith;
+        byte2-b1 = omega arith;
+        byte3-b8 = omega arith;
+        byte3-b7 = omega arith;
+        byte3-b6 = omega arith;
+        byte3-b5 = omega arith;
+        byte3-low = omega arith;
+        byte4-high = omega arith;
+        byte4-b2 = omega arith;
+        byte4-b1 = omega arith;
+        byte5-all = refl;
+      }
+
+-- ---- what is sent
+
+sent-amount : (values : Values) (n : ℕ) → n ≤ 4 → cardSent (values .accumulators) (record { 0 = 0 }) n .0 ≡ sentOf (valueOf values) accumulator n
+sent-amount values zero l = refl
+sent-amount values (suc zero) l = refl
+sent-amount values (suc (suc zero)) l = refl
+sent-amount values (suc (suc (suc zero))) l = refl
+sent-amount values (suc (suc (suc (suc zero)))) l = refl
+sent-amount values (suc (suc (suc (suc (suc n))))) l = absurd (omega arith)
+
+sent-count : (values : Values) (n : ℕ) → n ≤ 4 → cardSent (values .counters) 0 n ≡ sentOf (valueOf values) counter n
+sent-count values zero l = refl
+sent-count values (suc zero) l = refl
+sent-count values (suc (suc zero)) l = refl
+sent-count values (suc (suc (suc zero))) l = refl
+sent-count values (suc (suc (suc (suc zero)))) l = refl
+sent-count values (suc (suc (suc (suc (suc n))))) l = absurd (omega arith)
+
+module _ (s : List ℕ) (fits : Accepted s) (place : Place) (at : ℕ) (stands : Stands s place at) (values : Values) (cvr : Cvr) where
+  pub sends : Sends s at (byte s at) (valueOf values) (sentIad (rulesIn s) place values cvr)
+  unfolding sentIad rulesIn profileIn
+  sends =
+      let ranges = fits .profiles (indexOf place) (stands .there) in
+      let profile = profile-is s place at stands in
+      let few : (k : ℕ) → byte s (52 + 107 * indexOf place + k) ≤ 4 → byte s (at + k) ≤ 4 = λ k l. subst (λ a. byte s (a + k) ≤ 4) (sym (stands .offset)) l in
+      record {
+        key = refl;
+        profile-number = ap (λ (p : Profile). p .number) profile;
+        accumulator-sent =
+            ap (λ (p : Profile). cardSent (values .accumulators) (record { 0 = 0 }) (p .sent .accumulator) .0) profile
+            ∙ sent-amount values (byte s (at + 104)) (few 104 (ranges .accumulator-sent));
+        first-sent = ap (λ (p : Profile). cardSent (values .counters) 0 (p .sent .first)) profile ∙ sent-count values (byte s (at + 105)) (few 105 (ranges .first-sent));
+        second-sent = ap (λ (p : Profile). cardSent (values .counters) 0 (p .sent .second)) profile ∙ sent-count values (byte s (at + 106)) (few 106 (ranges .second-sent));
+      }

@@ -1,0 +1,177 @@
+-- What an auditor reads off the conversation with the set-up's bytes in hand, and no card: the ledger of one accumulator or counter.
+-- Each offset and each rule is spelled from document 01 ("The paper", "First: the answer", "Second: the answer", "Numbers"); nothing
+-- here knows of a card's state, of its step or of the rules that it decoded.
+use Prim.Native.Nat.{ℕ, zero, suc, _+_, _*_, _/_, _%_, _^_, min}
+use mathlib.Core.Bool.{Bool, true, false, cond, _&&_, _||_}
+use mathlib.Core.List.{List, [], _∷_, _++_}
+use lib.Dec.{eqb}
+use lib.ListN.{length}
+use Rattle.wire.specs.Wire.{byte, number}
+use Rattle.money.specs.Money.{max}
+use Rattle.command.specs.declared.Command.{Command}
+use Rattle.command.specs.declared.Command.the-variants.{Start as StartCommand, First as FirstCommand, Second as SecondCommand}
+use Rattle.card.specs.declared.Answer.{Answer}
+use Rattle.card.specs.declared.Answer.the-variants.{Refused, Started, Given}
+use Rattle.card.specs.declared.Kind.{Kind}
+use Rattle.card.specs.declared.Kind.the-variants.{Aac, Tc, Arqc}
+use Rattle.meters.specs.Meters.{Entry, put, add}
+use Rattle.demands.specs.Ledger.{Meter, accumulator, counter, owed}
+use Rattle.demands.specs.Conversation.{Exchange}
+
+-- ---- the bytes
+
+-- the switch of value k (1, 2, 4 or 8) is on; bit k of a mask is on
+abbrev pub isOn : (switches k : ℕ) → Bool
+isOn switches k = eqb (switches / k % 2) 1
+
+-- profile i + 1 stands at 52 + 107 i, its number first: the place of the profile of a number among n of them from i on
+abbrev pub placeFrom : List ℕ → (wanted i n : ℕ) → ℕ
+placeFrom s wanted i zero = length s
+placeFrom s wanted i (suc n) = cond (eqb (byte s (52 + 107 * i)) wanted) (52 + 107 * i) (placeFrom s wanted (suc i) n)
+
+-- among the p profiles of the set-up
+unfoldable pub placeOf : List ℕ → ℕ → ℕ
+placeOf s wanted = placeFrom s wanted 0 (byte s 3)
+
+-- a profile's four accumulators, of 17 bytes each, stand at 24, its four counters, of 3 bytes each, at 92
+abbrev pub ruleAt : ℕ → Meter → ℕ
+ruleAt profile (accumulator i) = profile + (24 + 17 * i)
+ruleAt profile (counter i) = profile + (92 + 3 * i)
+
+abbrev pub isActive : List ℕ → ℕ → Meter → Bool
+isActive s profile meter = isOn (byte s (ruleAt profile meter)) 1
+
+abbrev pub isAllowed : List ℕ → ℕ → Meter → Bool
+isAllowed s profile meter = isOn (byte s (ruleAt profile meter)) 2
+
+abbrev pub isIncluded : List ℕ → ℕ → Meter → Bool
+isIncluded s profile meter = isOn (byte s (ruleAt profile meter)) 4
+
+-- "include offline declines" is a counter's
+abbrev pub countsDeclines : List ℕ → ℕ → Meter → Bool
+countsDeclines s profile (accumulator i) = false
+countsDeclines s profile (counter i) = isOn (byte s (ruleAt profile (counter i))) 8
+
+abbrev pub upperOf : List ℕ → ℕ → Meter → ℕ
+upperOf s profile (accumulator i) = number s (ruleAt profile (accumulator i) + 9) 8
+upperOf s profile (counter i) = byte s (ruleAt profile (counter i) + 2)
+
+-- what the card starts from, and where a sum stops
+abbrev pub startOf : List ℕ → Meter → ℕ
+startOf s (accumulator i) = number s (10 + 10 * i) 8
+startOf s (counter i) = byte s (48 + i)
+
+abbrev pub capOf : Meter → ℕ
+capOf (accumulator i) = max
+capOf (counter i) = 255
+
+-- conversion i + 1 stands behind the profiles: from, to, d, s + 9; amount x d x 10^s, its fraction dropped, and MAX if larger; with no
+-- entry the amount doesn't count
+abbrev pub byEntry : List ℕ → (amount from to i n : ℕ) → List Entry
+byEntry s amount from to i zero = []
+byEntry s amount from to i (suc n) =
+    let at = 52 + 107 * byte s 3 + 7 * i in
+    cond (eqb (number s at 2) from && eqb (number s (at + 2) 2) to)
+    (add (min max (amount * number s (at + 4) 2 * 10 ^ byte s (at + 6) / 10 ^ 9)) ∷ [])
+    (byEntry s amount from to (suc i) n)
+
+-- same currency: the amount itself; otherwise by one of the c entries
+unfoldable pub converted : List ℕ → (amount from to : ℕ) → List Entry
+converted s amount from to = cond (eqb from to) (add amount ∷ []) (byEntry s amount from to 0 (byte s 4))
+
+-- what a purchase adds: to an accumulator the amount in its currency, to a counter 1
+abbrev pub additionOf : List ℕ → (amount currency : ℕ) → Meter → List Entry
+additionOf s amount currency (accumulator i) = converted s amount currency (number s (8 + 10 * i) 2)
+additionOf s amount currency (counter i) = add 1 ∷ []
+
+-- ---- the conversation
+
+abbrev pub isAccepted : Answer → Bool
+isAccepted (Refused refusal) = false
+isAccepted (Started atc) = true
+isAccepted (Given kind atc iad) = true
+
+-- the profile that the last accepted Start named
+abbrev pub namedBy : Command → Answer → ℕ → ℕ
+namedBy (StartCommand start) answer before = cond (isAccepted answer) (start .profile) before
+namedBy (FirstCommand first) answer before = before
+namedBy (SecondCommand second) answer before = before
+
+unfoldable pub named : List Exchange → ℕ
+named [] = 0
+named (exchange ∷ older) = namedBy (exchange .command) (exchange .answer) (named older)
+
+-- the amount and the currency that the last accepted First brought
+abbrev pub amountBy : Command → Answer → ℕ → ℕ
+amountBy (StartCommand start) answer before = before
+amountBy (FirstCommand first) answer before = cond (isAccepted answer) (first .amount .0) before
+amountBy (SecondCommand second) answer before = before
+
+abbrev pub currencyBy : Command → Answer → ℕ → ℕ
+currencyBy (StartCommand start) answer before = before
+currencyBy (FirstCommand first) answer before = cond (isAccepted answer) (first .currency) before
+currencyBy (SecondCommand second) answer before = before
+
+unfoldable pub spent : List Exchange → ℕ
+spent [] = 0
+spent (exchange ∷ older) = amountBy (exchange .command) (exchange .answer) (spent older)
+
+unfoldable pub spentIn : List Exchange → ℕ
+spentIn [] = 0
+spentIn (exchange ∷ older) = currencyBy (exchange .command) (exchange .answer) (spentIn older)
+
+-- Y3 (5933) or Z3 (5A33)
+abbrev pub couldNotGoOnline : ℕ → Bool
+couldNotGoOnline code = eqb code 0x5933 || eqb code 0x5A33
+
+abbrev pub isTc : Answer → Bool
+isTc (Refused refusal) = false
+isTc (Started atc) = false
+isTc (Given Aac atc iad) = false
+isTc (Given Tc atc iad) = true
+isTc (Given Arqc atc iad) = false
+
+-- an offline approval is a TC at First, or at Second after Y3 or Z3, and nothing else
+abbrev pub approves : Command → Answer → Bool
+approves (StartCommand start) answer = false
+approves (FirstCommand first) answer = isTc answer
+approves (SecondCommand second) answer = couldNotGoOnline (second .code) && isTc answer
+
+-- each active accumulator with "allow accumulation" grows by the converted amount, each active counter with "allow counting" by 1
+abbrev pub counted : List ℕ → (profile amount currency : ℕ) → Meter → List Entry
+counted s profile amount currency meter =
+    cond (isActive s profile meter && isAllowed s profile meter) (additionOf s amount currency meter) []
+
+-- AAC after Y3 or Z3: each active counter with both "allow counting" and "include offline declines" grows by 1
+abbrev pub declined : List ℕ → ℕ → Meter → List Entry
+declined s profile meter =
+    cond (isActive s profile meter && isAllowed s profile meter && countsDeclines s profile meter) (add 1 ∷ []) []
+
+-- CSU byte 2 b2-b1: 00 nothing, 01 the active take this profile's upper limits, 10 they become zero, 11 add as in an offline approval
+abbrev pub ordered : List ℕ → (profile amount currency csu : ℕ) → Meter → List Entry
+ordered s profile amount currency csu meter =
+    cond (eqb (csu / 65536 % 4) 1) (cond (isActive s profile meter) (put (upperOf s profile meter) ∷ []) [])
+    (cond (eqb (csu / 65536 % 4) 2) (cond (isActive s profile meter) (put 0 ∷ []) [])
+    (cond (eqb (csu / 65536 % 4) 3) (counted s profile amount currency meter) []))
+
+-- what a command and its answer enter, for the profile, the amount and the currency of the transaction
+abbrev pub entered : List ℕ → (profile amount currency : ℕ) → Meter → Command → Answer → List Entry
+entered s profile amount currency meter (StartCommand start) answer = []
+entered s profile amount currency meter (FirstCommand first) answer = cond (isTc answer) (counted s profile amount currency meter) []
+entered s profile amount currency meter (SecondCommand second) answer =
+    cond (isAccepted answer)
+    (cond (couldNotGoOnline (second .code))
+    (cond (isTc answer) (counted s profile amount currency meter) (declined s profile meter))
+    (cond (eqb (second .issuer) 1) (ordered s profile amount currency (second .csu) meter) []))
+    []
+
+unfoldable pub ledger : List ℕ → Meter → List Exchange → List Entry
+ledger s meter [] = []
+ledger s meter (exchange ∷ older) =
+    entered s (placeOf s (named older)) (amountBy (exchange .command) (exchange .answer) (spent older))
+    (currencyBy (exchange .command) (exchange .answer) (spentIn older)) meter (exchange .command) (exchange .answer)
+    ++ ledger s meter older
+
+-- what it then must hold
+abbrev pub audited : List ℕ → List Exchange → Meter → ℕ
+audited s log meter = owed (capOf meter) (startOf s meter) (ledger s meter log)

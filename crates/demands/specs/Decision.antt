@@ -1,0 +1,72 @@
+-- The checks and First's decision as document 01 states them ("Start and the checks", "First: the answer"), from the set-up's bytes, the
+-- values and the history; nothing here knows of a card's step or of the rules that it decoded.
+use mathlib.Core.Path.{_≡_}
+use Prim.Native.Nat.{ℕ, _+_, _/_, _≤_}
+use mathlib.Core.Bool.{Bool, true, false, cond, _&&_, _||_}
+use mathlib.Core.List.{List, [], _∷_, _++_}
+use lib.Dec.{ltb, eqb}
+use Rattle.wire.specs.Wire.{byte, number}
+use Rattle.checks.specs.declared.History.{History}
+use Rattle.command.specs.declared.First.{First}
+use Rattle.card.specs.declared.Kind.{Kind}
+use Rattle.card.specs.declared.Kind.the-variants.{Aac, Tc, Arqc}
+use Rattle.demands.specs.Ledger.{Meter, accumulator, counter, since}
+use Rattle.demands.specs.Audit.{isOn, ruleAt, isActive, isIncluded, upperOf, converted, additionOf}
+
+abbrev pub lowerOf : List ℕ → ℕ → Meter → ℕ
+lowerOf s profile (accumulator i) = number s (ruleAt profile (accumulator i) + 1) 8
+lowerOf s profile (counter i) = byte s (ruleAt profile (counter i) + 1)
+
+-- one that is active exceeds a limit if its value does, or, with "include this transaction" and an amount that converts, if value plus
+-- converted amount does; this sum isn't stopped. A counter likewise, with 1 added.
+abbrev pub exceeds : List ℕ → (profile amount currency value limit : ℕ) → Meter → Bool
+exceeds s profile amount currency value limit meter =
+    isActive s profile meter
+    && (ltb limit value || (isIncluded s profile meter && ltb limit (value + since (additionOf s amount currency meter))))
+
+-- MTA is on (13) and the amount, converted to its currency (14), exceeds it (16); without a conversion it doesn't
+abbrev pub exceedsMta : List ℕ → (profile amount currency : ℕ) → Bool
+exceedsMta s profile amount currency =
+    eqb (byte s (profile + 13)) 1 && ltb (number s (profile + 16) 8) (since (converted s amount currency (number s (profile + 14) 2)))
+
+abbrev pub eachOf : (ℕ → Meter) → (Meter → Bool) → List Bool
+eachOf meter test = test (meter 0) ∷ test (meter 1) ∷ test (meter 2) ∷ test (meter 3) ∷ []
+
+abbrev pub aboveLower : List ℕ → (profile amount currency : ℕ) → (Meter → ℕ) → Meter → Bool
+aboveLower s profile amount currency value meter = exceeds s profile amount currency (value meter) (lowerOf s profile meter) meter
+
+abbrev pub aboveUpper : List ℕ → (profile amount currency : ℕ) → (Meter → ℕ) → Meter → Bool
+aboveUpper s profile amount currency value meter = exceeds s profile amount currency (value meter) (upperOf s profile meter) meter
+
+-- house order, bit 0 upward
+unfoldable pub flags : List ℕ → (profile amount currency : ℕ) → (Meter → ℕ) → History → List Bool
+flags s profile amount currency value history =
+    history .uncompleted ∷ history .online ∷ history .failed ∷ history .unable ∷ history .missing ∷ exceedsMta s profile amount currency
+    ∷ eachOf accumulator (aboveLower s profile amount currency value)
+    ++ eachOf accumulator (aboveUpper s profile amount currency value)
+    ++ eachOf counter (aboveLower s profile amount currency value)
+    ++ eachOf counter (aboveUpper s profile amount currency value)
+
+-- some flag that is set has its bit in the mask
+abbrev pub meets : List Bool → ℕ → Bool
+meets [] mask = false
+meets (flag ∷ flags) mask = (flag && isOn mask 1) || meets flags (mask / 2)
+
+abbrev pub isOfflineOnly : ℕ → Bool
+isOfflineOnly terminal = eqb terminal 0x13 || eqb terminal 0x16 || eqb terminal 0x23 || eqb terminal 0x26 || eqb terminal 0x36
+
+-- the seven cases, in order: what is requested (0 AAC, 1 TC, 2 ARQC), whether the masks are met, whether the terminal is offline-only
+pub data Decides (requested : ℕ) (online decline default offline : Bool) : Kind → Type 0 where
+  aac-requested : requested ≡ 0 → Decides requested online decline default offline Aac
+  meets-decline : 1 ≤ requested → decline ≡ true → Decides requested online decline default offline Aac
+  arqc-requested : requested ≡ 2 → decline ≡ false → Decides requested online decline default offline Arqc
+  meets-default : requested ≡ 1 → decline ≡ false → offline ≡ true → default ≡ true → Decides requested online decline default offline Aac
+  offline-approves : requested ≡ 1 → decline ≡ false → offline ≡ true → default ≡ false → Decides requested online decline default offline Tc
+  meets-online : requested ≡ 1 → decline ≡ false → offline ≡ false → online ≡ true → Decides requested online decline default offline Arqc
+  online-approves : requested ≡ 1 → decline ≡ false → offline ≡ false → online ≡ false → Decides requested online decline default offline Tc
+
+-- the table over flags and the masks that stand in the bytes behind the profile's number: Online, Decline, Default
+abbrev pub FirstAnswers : List ℕ → (profile : ℕ) → First → List Bool → Kind → Type 0
+FirstAnswers s profile first fs kind =
+    Decides (first .requested) (meets fs (number s (profile + 1) 4)) (meets fs (number s (profile + 5) 4)) (meets fs (number s (profile + 9) 4))
+    (isOfflineOnly (first .terminal)) kind

@@ -1,0 +1,9 @@
+pub mod Rows
+pub mod Ledger
+pub mod Conversation
+pub mod Audit
+pub mod Guards
+pub mod Printed
+pub mod Past
+pub mod Decision
+pub mod Verification

@@ -1,0 +1,89 @@
+-- What an auditor reads off the conversation and the set-up's bytes of the card's history and its ATC (document 01, "Start and the
+-- checks", "First: the answer", "Second: the answer"), with no card.
+use mathlib.Core.Path.{_≡_}
+use Prim.Native.Nat.{ℕ, _+_, _/_}
+use mathlib.Core.Bool.{Bool, true, false, cond, _&&_}
+use mathlib.Core.List.{List, [], _∷_}
+use lib.Dec.{eqb}
+use Rattle.wire.specs.Wire.{byte, number}
+use Rattle.command.specs.declared.Second.{Second}
+use Rattle.command.specs.declared.Command.{Command}
+use Rattle.command.specs.declared.Command.the-variants.{Start as StartCommand, First as FirstCommand, Second as SecondCommand}
+use Rattle.checks.specs.declared.History.{History}
+use Rattle.card.specs.declared.Answer.{Answer}
+use Rattle.card.specs.declared.Answer.the-variants.{Refused, Started, Given}
+use Rattle.card.specs.declared.Kind.the-variants.{Aac, Tc, Arqc}
+use Rattle.demands.specs.Conversation.{Exchange}
+use Rattle.demands.specs.Audit.{isOn, isAccepted, couldNotGoOnline}
+
+abbrev pub isArqc : Answer → Bool
+isArqc (Refused refusal) = false
+isArqc (Started atc) = false
+isArqc (Given Aac atc iad) = false
+isArqc (Given Tc atc iad) = false
+isArqc (Given Arqc atc iad) = true
+
+-- what a Second comes with: Y3 or Z3; or any other code and issuer data verified (1), failed (2) or absent
+abbrev pub byOutcome : {A : Type 0} → Second → (unable verified failed absent : A) → A
+byOutcome second unable verified failed absent =
+    cond (couldNotGoOnline (second .code)) unable (cond (eqb (second .issuer) 1) verified (cond (eqb (second .issuer) 2) failed absent))
+
+-- what an answered Second makes of a history bit
+abbrev pub bySecond : Command → Answer → (before : Bool) → (Second → Bool) → Bool
+bySecond (StartCommand start) answer before after = before
+bySecond (FirstCommand first) answer before after = before
+bySecond (SecondCommand second) answer before after = cond (isAccepted answer) (after second) before
+
+-- bit 0, last online not completed: an ARQC sets it; verified clears it, and so does absent where authentication isn't required
+abbrev pub uncompletedBy : List ℕ → Command → Answer → Bool → Bool
+uncompletedBy s (StartCommand start) answer before = before
+uncompletedBy s (FirstCommand first) answer before = cond (isArqc answer) true before
+uncompletedBy s (SecondCommand second) answer before =
+    cond (isAccepted answer) (byOutcome second before false before (before && eqb (byte s 2) 1)) before
+
+-- bit 1, go online next: verified makes it CSU byte 2 b4
+abbrev pub onlineBy : Command → Answer → Bool → Bool
+onlineBy command answer before = bySecond command answer before (λ second. byOutcome second before (isOn (second .csu / 65536) 8) before before)
+
+-- bit 2, issuer authentication failed
+abbrev pub failedBy : Command → Answer → Bool → Bool
+failedBy command answer before = bySecond command answer before (λ second. byOutcome second before false true before)
+
+-- bit 3, unable to go online
+abbrev pub unableBy : Command → Answer → Bool → Bool
+unableBy command answer before = bySecond command answer before (λ second. byOutcome second true false before before)
+
+-- bit 4, issuer data not received
+abbrev pub missingBy : Command → Answer → Bool → Bool
+missingBy command answer before = bySecond command answer before (λ second. byOutcome second before false before true)
+
+-- a fresh card's history is clear but for go online next
+unfoldable pub past : List ℕ → List Exchange → History
+past s [] = record { uncompleted = false; online = eqb (byte s 7) 1; failed = false; unable = false; missing = false }
+past s (exchange ∷ older) =
+    let command = exchange .command in
+    let answer = exchange .answer in
+    let before = past s older in
+    record {
+      uncompleted = uncompletedBy s command answer (before .uncompleted);
+      online = onlineBy command answer (before .online);
+      failed = failedBy command answer (before .failed);
+      unable = unableBy command answer (before .unable);
+      missing = missingBy command answer (before .missing);
+    }
+
+abbrev pub isStarted : Answer → Bool
+isStarted (Refused refusal) = false
+isStarted (Started atc) = true
+isStarted (Given kind atc iad) = false
+
+-- the set-up's ATC, and 1 for each accepted Start
+unfoldable pub atcBy : List ℕ → List Exchange → ℕ
+atcBy s [] = number s 5 2
+atcBy s (exchange ∷ older) = cond (isStarted (exchange .answer)) (atcBy s older + 1) (atcBy s older)
+
+-- the ATC that an answer says
+abbrev pub Says : Answer → ℕ → Type 0
+Says (Refused refusal) n = Unit
+Says (Started atc) n = atc ≡ n
+Says (Given kind atc iad) n = atc ≡ n
