@@ -6,7 +6,7 @@ use lib.Dec.{T, eqb}
 use Rattle.money.specs.declared.Converted.{Converted}
 use Rattle.money.specs.declared.Converted.the-variants.{Amount, NoEntry}
 use Rattle.money.specs.declared.Rates.{Rates}
-use Rattle.money.specs.Money.{max, stopped, blank, rateFor, scaled, convertOf}
+use Rattle.money.specs.Money.{max, blank, rateFor, scaled, convertOf}
 use Rattle.rules.specs.declared.Place.the-variants.{One}
 use Rattle.rules.specs.declared.Values.{Values}
 use Rattle.rules.specs.Rules.{Rules, four, blankAccumulator, blankCounter, blankProfile}
@@ -15,7 +15,7 @@ use Rattle.meters.specs.Meters.{worth, worthsOf, approved, amountAt, countAt}
 use Rattle.checks.specs.declared.History.{History}
 use Rattle.checks.specs.Checks.{accumulatorsLower, accumulatorsUpper, countersLower, countersUpper, maximumExceeded, testsOf}
 use Rattle.card.specs.declared.Kind.{Kind}
-use Rattle.card.specs.declared.Kind.the-variants.{Aac, Tc, Arqc}
+use Rattle.card.specs.declared.Kind.the-variants.{Aac, Tc}
 use Rattle.card.specs.declared.Later.the-variants.{NotRequested}
 use Rattle.card.specs.Cryptogram.{kindCode, verification}
 use Rattle.card.specs.First.{decision, issuerBefore}

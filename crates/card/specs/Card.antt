@@ -1,6 +1,6 @@
 -- The card: a ruling, then a performance (document 01, "Refusal numbers", "Start and the checks").
 use Prim.Native.Nat.{ℕ, _+_}
-use mathlib.Core.Bool.{Bool, false, cond, _&&_}
+use mathlib.Core.Bool.{false, cond, _&&_}
 use lib.Dec.{eqb, ltb, leb}
 use Rattle.wire.specs.Wire.{isCurrency}
 use Rattle.money.specs.Money.{max}

@@ -1,5 +1,5 @@
 -- Second GENERATE AC (document 01, "Second: the answer").
-use Prim.Native.Nat.{ℕ, _+_, _*_, _/_, _%_}
+use Prim.Native.Nat.{ℕ, _/_, _%_}
 use mathlib.Core.Bool.{Bool, true, false, cond, not, _||_, _&&_}
 use lib.Dec.{eqb, leb}
 use Rattle.rules.specs.declared.Place.{Place}

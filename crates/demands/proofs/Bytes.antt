@@ -141,7 +141,7 @@ module _ (s : List ℕ) (fits : Accepted s) where
     by-entry i (suc n) (suc m) c l =
         let at = 52 + 107 * byte s 3 + 7 * i in
         let here : getD entries i blank ≡ rateIn s at =
-            entry-at i (omega arith) ∙ ap (λ b. cond b (rateIn s at) blank) (lt-ltb i (byte s 4) (omega arith)) in
+        entry-at i (omega arith) ∙ ap (λ b. cond b (rateIn s at) blank) (lt-ltb i (byte s 4) (omega arith)) in
         ap (λ rate. byRate (cond (isFor rate from to) rate (rateFor entries from to (suc i) m))) here
         ∙ found (isFor (rateIn s at) from to) (by-entry (suc i) n m (omega arith) (omega arith))
       where

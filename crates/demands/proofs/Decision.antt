@@ -53,7 +53,7 @@ meets-is (flag ∷ fs) mask =
     let h : (bit flag + 2 * packed fs) / 2 ≡ packed fs = half flag in
     let o : (bit flag + 2 * packed fs) % 2 ≡ bit flag = odd flag in
     let step : bitAnd (packed (flag ∷ fs)) mask ≡ bitAnd (packed fs) (mask / 2) * 2 + min (bit flag) (mask % 2) =
-        and-step (packed (flag ∷ fs)) mask ∙ ap₂ (λ (a b : ℕ). bitAnd a (mask / 2) * 2 + min b (mask % 2)) h o in
+    and-step (packed (flag ∷ fs)) mask ∙ ap₂ (λ (a b : ℕ). bitAnd a (mask / 2) * 2 + min b (mask % 2)) h o in
     ap (λ (n : ℕ). not (eqb n 0)) step
     ∙ joined (mask % 2) (omega arith) (meets fs (mask / 2)) flag (bitAnd (packed fs) (mask / 2)) (meets-is fs (mask / 2))
     ∙ rw div-one

@@ -86,10 +86,10 @@ module _ (s : List ℕ) (fits : Accepted s) (sitting : Sitting) (holding : Holdi
       let profile = profile-is s place at stands in
       let fs = flags s at (first .amount .0) (first .currency) (audited s log) (past s log) in
       let same : flags s at (first .amount .0) (first .currency) (valueOf (sitting .state .values)) (sitting .state .history) ≡ fs =
-          flags-same s at (first .amount .0) (first .currency) (valueOf (sitting .state .values)) (audited s log) (sitting .state .history) (holding .values)
-          ∙ ap (flags s at (first .amount .0) (first .currency) (audited s log)) remembered in
+      flags-same s at (first .amount .0) (first .currency) (valueOf (sitting .state .values)) (audited s log) (sitting .state .history) (holding .values)
+      ∙ ap (flags s at (first .amount .0) (first .currency) (audited s log)) remembered in
       let met : (mask : ℕ) → meetsMask adr mask ≡ meets fs mask =
-          λ mask. met-is s fits place at stands (sitting .state .values) (purchaseOf first) small (sitting .state .history) mask ∙ ap (λ f. meets f mask) same in
+      λ mask. met-is s fits place at stands (sitting .state .values) (purchaseOf first) small (sitting .state .history) mask ∙ ap (λ f. meets f mask) same in
       let online : meetsMask adr (masks .online) ≡ meets fs (number s (at + 1) 4) = met (masks .online) ∙ ap (λ (p : Profile). meets fs (p .masks .online)) profile in
       let decline : meetsMask adr (masks .decline) ≡ meets fs (number s (at + 5) 4) = met (masks .decline) ∙ ap (λ (p : Profile). meets fs (p .masks .decline)) profile in
       let default : meetsMask adr (masks .default) ≡ meets fs (number s (at + 9) 4) = met (masks .default) ∙ ap (λ (p : Profile). meets fs (p .masks .default)) profile in

@@ -80,8 +80,12 @@ module _ (s : List ℕ) (fits : Accepted s) (place : Place) (at : ℕ) (stands :
       ≡ limitsOf (anyOf counter lower) (anyOf counter upper) (anyOf accumulator lower) (anyOf accumulator upper)
   limits-are =
       causes
-      ∙ simp (counters-lower s fits place at stands values purchase small, counters-upper s fits place at stands values purchase small,
-        accumulators-lower s fits place at stands values purchase small, accumulators-upper s fits place at stands values purchase small)
+      ∙ simp (
+        counters-lower s fits place at stands values purchase small,
+        counters-upper s fits place at stands values purchase small,
+        accumulators-lower s fits place at stands values purchase small,
+        accumulators-upper s fits place at stands values purchase small,
+      )
 
 -- a CVR whose byte 3 has its four causes
 module _ (s : List ℕ) (profile amount currency : ℕ) (value : Meter → ℕ) (history : History) where

@@ -1,5 +1,5 @@
 -- The words that a set-up's body is loaded into (document 01, "The paper"; what the words mean is said in `rules`).
-use Prim.Native.Nat.{ℕ, _+_, _*_}
+use Prim.Native.Nat.{ℕ, _+_}
 use mathlib.Core.List.{List, [], _∷_, _++_}
 use lib.Seq.{sets}
 use Rattle.wire.specs.Wire.{byte, number}

@@ -1,11 +1,10 @@
 -- Amounts and their conversion (document 01, "Numbers").
-use Prim.Native.Nat.{ℕ, zero, suc, _+_, _*_, _/_, _^_}
+use Prim.Native.Nat.{ℕ, zero, suc, _*_, _/_, _^_}
 use mathlib.Core.Bool.{Bool, cond, _&&_}
 use mathlib.Core.List.{List}
 use lib.ListN.{getD}
 use lib.Dec.{ltb, leb, eqb}
 use Rattle.money.specs.declared.TransactionAmount.{TransactionAmount}
-use Rattle.money.specs.declared.AccumulatorAmount.{AccumulatorAmount}
 use Rattle.money.specs.declared.Rate.{Rate}
 use Rattle.money.specs.declared.Rates.{Rates}
 use Rattle.money.specs.declared.Converted.{Converted}

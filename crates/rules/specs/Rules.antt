@@ -1,10 +1,9 @@
 -- What a set-up says (document 01, "The paper"), and the words that it is lent in: one word to a field.
 use Prim.Native.Nat.{ℕ, _+_, _*_, _/_, _%_}
-use mathlib.Core.Bool.{Bool, true, false, cond}
+use mathlib.Core.Bool.{Bool, false, cond}
 use mathlib.Core.List.{List, [], _∷_}
 use lib.ListN.{getD}
 use lib.Dec.{eqb}
-use Rattle.money.specs.declared.AccumulatorAmount.{AccumulatorAmount}
 use Rattle.money.specs.declared.Rate.{Rate}
 use Rattle.money.specs.declared.Rates.{Rates}
 use Rattle.rules.specs.declared.Place.{Place}

@@ -5,7 +5,6 @@ use mathlib.Core.List.{List}
 use Prim.Native.Nat.{ℕ, zero, suc, _+_, _*_, _%_, _^_, _≤_, _<_}
 use native.Mathlib.Nat.{add-assoc, mod-eq-of-lt, pow-suc}
 use native.Mathlib.Omega.{arith}
-use borrow.Author.Tests.{ltb-true, ltb-false}
 use lib.Dec.{ltb, eqb}
 use lib.ListN.{length, List·getD-eq-default}
 use Rattle.wire.specs.Wire.{byte, number}
@@ -13,7 +12,7 @@ use Rattle.wire.proofs.Numbers.{past}
 use Rattle.money.specs.Money.{blank}
 use Rattle.body.specs.Body.{profilePlace, conversionPlace}
 use Rattle.rules.specs.Rules.{Rules, four, five, profileOf, rulesOf, rateAt, blankProfile, blankAccumulator, blankCounter}
-use Rattle.load.specs.Load.{rateWords, amountWords, threeBytes, profileHeadWords, accumulatorsWords, countersWords, profileWords, headWords, ratesWords, profilesWords, loaded, stored}
+use Rattle.load.specs.Load.{rateWords, amountWords, threeBytes, profileHeadWords, accumulatorsWords, countersWords, profileWords, headWords, ratesWords, profilesWords, loaded}
 use Rattle.load.proofs.Sizes.{loaded-size}
 use Rattle.load.proofs.Stores.{all}
 use Rattle.ranges.specs.Ranges.{isSetup}

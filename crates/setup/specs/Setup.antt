@@ -1,7 +1,7 @@
 -- What a set-up's body says, byte by byte at document 01's offsets, and what reading it answers.
 use Prim.Native.Nat.{ℕ, _+_, _*_, _/_, _%_}
-use mathlib.Core.Bool.{Bool, false, cond}
-use mathlib.Core.List.{List, [], _∷_}
+use mathlib.Core.Bool.{false, cond}
+use mathlib.Core.List.{List}
 use lib.Dec.{ltb, eqb}
 use Rattle.wire.specs.Wire.{byte, number}
 use Rattle.money.specs.declared.Rate.{Rate}

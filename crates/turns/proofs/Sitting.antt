@@ -1,7 +1,6 @@
 -- Every paper's lines are defined: each turn that goes on goes further, so the sitting ends, and more turns would say no more.
 -- Assumes nothing.
-use mathlib.Core.Path.{_≡_, refl, sym, ap, _∙_}
-use mathlib.Core.Bool.{true}
+use mathlib.Core.Path.{_≡_, refl, ap}
 use mathlib.Core.List.{List, [], _∷_}
 use Prim.Native.Nat.{ℕ, zero, suc, _+_, _-_, _≤_, _<_}
 use native.Mathlib.Omega.{arith}
@@ -19,7 +18,7 @@ use Rattle.command.specs.Command.{commandOf}
 use Rattle.card.specs.declared.State.{State}
 use Rattle.turns.specs.declared.Pace.{Pace}
 use Rattle.turns.specs.declared.Pace.the-variants.{On, Over, NoRoom}
-use Rattle.turns.specs.Turns.{Told, commandTold, recordTold, nextTold, turnTold}
+use Rattle.turns.specs.Turns.{commandTold, recordTold, nextTold, turnTold}
 use Rattle.turns.specs.Sitting.{followed, linesFrom}
 
 module _ (rules : Rules) (paper : List ℕ) where
@@ -32,11 +31,11 @@ module _ (rules : Rules) (paper : List ℕ) where
 
   -- a turn that goes on goes further, and stays in the paper
   pub further : (state : State) (at number : ℕ) → turnTold rules state paper at number .pace ≡ On
-    → (at < turnTold rules state paper at number .at) × (turnTold rules state paper at number .at ≤ length paper)
+      → (at < turnTold rules state paper at number .at) × (turnTold rules state paper at number .at ≤ length paper)
   unfolding turnTold
   further state at number = by (nextAt paper at) refl where
     by : (n : Next) → nextAt paper at ≡ n → nextTold rules state paper at number n .pace ≡ On
-      → (at < nextTold rules state paper at number n .at) × (nextTold rules state paper at number n .at ≤ length paper)
+        → (at < nextTold rules state paper at number n .at) × (nextTold rules state paper at number n .at ≤ length paper)
     by End e p = let z : _≡_ {A = ℕ} 0 1 = cc in (omega arith, omega arith)
     by Fault e p = let z : _≡_ {A = ℕ} 0 1 = cc in (omega arith, omega arith)
     by (Record kind start end) e p =
@@ -47,19 +46,19 @@ module _ (rules : Rules) (paper : List ℕ) where
         (omega arith, omega arith)
 
   at-end : (state : State) (at number : ℕ) → length paper ≤ at
-    → turnTold rules state paper at number ≡ record { state = state; at = at; pace = Over; line = [] }
+      → turnTold rules state paper at number ≡ record { state = state; at = at; pace = Over; line = [] }
   unfolding turnTold nextAt
   at-end state at number h = simp (le-leb (length paper) at h)
 
   same-lines : (pace : Pace) (line : List ℕ) (more other : List (List ℕ)) → (pace ≡ On → more ≡ other)
-    → followed pace line more ≡ followed pace line other
+      → followed pace line more ≡ followed pace line other
   same-lines On line more other e = ap (λ l. line ∷ l) (e refl)
   same-lines Over line more other e = refl
   same-lines NoRoom line more other e = refl
 
   -- as many turns as there are bytes left say all there is to say
   pub settled : (n m : ℕ) (state : State) (at number : ℕ) → length paper - at ≤ n → n ≤ m
-    → linesFrom m rules state paper at number ≡ linesFrom n rules state paper at number
+      → linesFrom m rules state paper at number ≡ linesFrom n rules state paper at number
   unfolding linesFrom
   settled zero zero state at number h l = refl
   settled zero (suc m) state at number h l = rw (at-end state at number (omega arith))

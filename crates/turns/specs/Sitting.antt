@@ -7,7 +7,7 @@ use Rattle.paper.specs.Paper.{openPaper}
 use Rattle.card.specs.declared.State.{State}
 use Rattle.turns.specs.declared.Pace.{Pace}
 use Rattle.turns.specs.declared.Pace.the-variants.{On, Over, NoRoom}
-use Rattle.turns.specs.Turns.{Told, turnTold, begunTold, openedWords}
+use Rattle.turns.specs.Turns.{turnTold, begunTold, openedWords}
 
 -- what ends a paper says one line more, or, at its end, none
 abbrev pub lastly : List ℕ → List (List ℕ)

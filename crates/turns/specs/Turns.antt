@@ -5,7 +5,6 @@ use mathlib.Core.Bool.{Bool, cond}
 use mathlib.Core.List.{List, []}
 use lib.Dec.{leb}
 use lib.ListN.{length}
-use Rattle.refusal.specs.declared.Refusal.{Refusal}
 use Rattle.refusal.specs.declared.Refusal.the-variants.{Unreadable}
 use Rattle.refusal.specs.Refusal.{refusalNumber}
 use Rattle.rules.specs.Rules.{Rules}

@@ -1,6 +1,5 @@
 // The turns of a sitting: a record of a paper taken, answered, and its line written into lent room.
 ghost use mathlib.Core.Path.{_≡_};
-ghost use Prim.Native.Nat.{_+_, _≤_};
 ghost use lib.ListN.{length};
 ghost use Rattle.rules.specs.Rules.{rulesOf};
 ghost use Rattle.lines.specs.Lines.{placed, placeBehind};

@@ -1,7 +1,7 @@
 use borrow.Author.Needs.{needs}
 use denote.Ref.{now}
 use mathlib.Core.Path.{refl}
-use Rattle.load.specs.Load.{loaded, headWords, profilesWords, ratesWords}
+use Rattle.load.specs.Load.{loaded, headWords}
 use Rattle.load.proofs.Sizes.{head-size, profiles-size, rates-size}
 use Rattle.load.proofs.Stores.{Run, behind}
 use Rattle.load.proofs.load.Statement.{statement}

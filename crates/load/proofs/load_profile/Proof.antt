@@ -3,7 +3,7 @@ use denote.Ref.{now}
 use mathlib.Core.Path.{refl, ap, _∙_}
 use Prim.Native.Nat.{_+_, _*_}
 use lib.Seq.{sets}
-use Rattle.load.specs.Load.{profileWords, accumulatorsWords, countersWords, profileHeadWords, threeBytes}
+use Rattle.load.specs.Load.{profileWords, profileHeadWords}
 use Rattle.load.proofs.Sizes.{accumulators-size, counters-size, profile-head-size, three-size}
 use Rattle.load.proofs.Stores.{Run, behind}
 use Rattle.load.proofs.load_profile.Statement.{statement}

@@ -1,4 +1,3 @@
-use borrow.Author.Needs.{needs}
 use Rattle.meters.proofs.limit_accumulator.Statement.{statement}
 use Rattle.meters.proofs.limit_accumulator.Tie as tie
 

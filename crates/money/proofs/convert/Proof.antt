@@ -1,8 +1,8 @@
 use borrow.Author.Needs.{needs}
-use borrow.Author.Tests.{eq-eqb, ne-eqb, leb-true}
+use borrow.Author.Tests.{eq-eqb, ne-eqb}
 use mathlib.Core.Path.{_≡_, sym, _∙_}
 use mathlib.Core.Bool.{true, false}
-use Rattle.money.specs.Money.{stopped, isRate, convertOf}
+use Rattle.money.specs.Money.{isRate, convertOf}
 use Rattle.money.proofs.Power.{stopped-most, rate-bounds}
 use Rattle.money.proofs.convert.Statement.{statement}
 use Rattle.money.proofs.convert.Tie as tie

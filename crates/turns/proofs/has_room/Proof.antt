@@ -1,4 +1,3 @@
-use borrow.Author.Needs.{needs}
 use borrow.Author.Tests.{lt-leb}
 use mathlib.Core.Path.{sym}
 use Prim.Native.Nat.{_+_}

@@ -1,5 +1,5 @@
 use borrow.Author.Needs.{needs}
-use mathlib.Core.Path.{_≡_, sym, _∙_}
+use mathlib.Core.Path.{sym, _∙_}
 use Rattle.turns.specs.Turns.{recordTold}
 use Rattle.turns.proofs.take_record.Statement.{statement}
 use Rattle.turns.proofs.take_record.Tie as tie

@@ -1,6 +1,6 @@
 use borrow.Author.Needs.{needs}
 use borrow.Author.Tests.{eq-eqb, ne-eqb}
-use mathlib.Core.Path.{_≡_, sym, _∙_}
+use mathlib.Core.Path.{sym, _∙_}
 use Rattle.card.specs.Second.{secondPerformed}
 use Rattle.card.proofs.second.perform.Statement.{statement}
 use Rattle.card.proofs.second.perform.Tie as tie
