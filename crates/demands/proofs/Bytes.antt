@@ -1,30 +1,27 @@
 -- What the auditor reads in the bytes is what the card's rules say: a profile's place, its rules, and what a purchase converts to.
 -- Assumes nothing.
 use mathlib.Core.Path.{_≡_, refl, sym, ap, _∙_}
-use mathlib.Core.Bool.{Bool, true, false, cond, _&&_}
+use mathlib.Core.Bool.{Bool, true, false, cond}
 use mathlib.Core.List.{List, [], _∷_}
-use Prim.Native.Nat.{ℕ, zero, suc, _+_, _*_, _/_, _%_, _^_, _≤_, _<_, min}
-use native.Mathlib.Nat.{div-one}
+use Prim.Native.Nat.{ℕ, zero, suc, _+_, _*_, _/_, _^_, _≤_, _<_, min}
 use native.Mathlib.Omega.{arith}
-use borrow.Author.Tests.{ltb-true, ltb-false, lt-ltb, le-ltb, le-leb, eqb-true, eqb-false, eq-eqb, ne-eqb}
-use lib.Dec.{leb, ltb, eqb}
-use lib.ListN.{getD}
+use borrow.Author.Tests.{ltb-true, ltb-false, lt-ltb, le-ltb, le-leb, eqb-true, eq-eqb, ne-eqb}
+use lib.Dec.{ltb, eqb}
+use lib.ListN.{length, getD}
 use Rattle.wire.specs.Wire.{byte, number}
 use Rattle.money.specs.declared.Rate.{Rate}
-use Rattle.money.specs.declared.Converted.{Converted}
-use Rattle.money.specs.declared.Converted.the-variants.{Amount, NoEntry}
+use Rattle.money.specs.declared.Converted.the-variants.{NoEntry}
 use Rattle.money.specs.Money.{max, stopped, blank, isFor, isRate, rateFor, scaled, amountOf, convertOf}
 use Rattle.rules.specs.declared.Place.{Place}
 use Rattle.rules.specs.declared.Place.the-variants.{One, Two, Three, Four}
-use Rattle.rules.specs.Rules.{four, five, blankProfile, blankAccumulator, blankCounter, indexOf, profileAt, currencyAt, accumulatorRule, counterRule}
+use Rattle.rules.specs.Rules.{blankProfile, blankAccumulator, blankCounter, indexOf, profileAt, currencyAt, accumulatorRule, counterRule}
 use Rattle.rules.proofs.Places.{four-at}
-use Rattle.ranges.specs.Ranges.{isSetup}
-use Rattle.ranges.proofs.Accepted.{Accepted, ConversionRanges, accepted, conversion-at}
+use Rattle.ranges.proofs.Accepted.{Accepted}
 use Rattle.setup.specs.Setup.{rateIn, accumulatorIn, counterIn, profileIn, rulesIn}
 use Rattle.meters.specs.declared.Purchase.{Purchase}
-use Rattle.meters.specs.Meters.{Entry, put, add, addition, worth}
+use Rattle.meters.specs.Meters.{Entry, add, addition, worth}
 use Rattle.demands.specs.Audit.{placeFrom, placeOf, byEntry, converted}
-use Rattle.demands.proofs.Found.{Holds, below-four}
+use Rattle.demands.proofs.Found.{Holds}
 
 -- the profile at a place of the rules stands at an offset in the bytes
 pub record Stands (s : List ℕ) (place : Place) (at : ℕ) : Type 0 where
@@ -177,3 +174,20 @@ module _ (s : List ℕ) (fits : Accepted s) where
   converts purchase i l small =
       ap (λ to. addition (convertOf (purchase .amount) (purchase .currency) to (rulesIn s .rates))) (currency-at i l)
       ∙ converts-to purchase (number s (8 + 10 * i) 2) small
+
+  -- and the number that stands there is the one looked for
+  there-is : (wanted at i n : ℕ) → placeFrom s wanted i n ≡ at → at < length s → byte s at ≡ wanted
+  there-is wanted at i zero e l = absurd (omega arith)
+  there-is wanted at i (suc n) e l = by (eqb (byte s (52 + 107 * i)) wanted) refl e (λ d. there-is wanted at (suc i) n d l) where
+    by : (b : Bool) → eqb (byte s (52 + 107 * i)) wanted ≡ b → cond b (52 + 107 * i) (placeFrom s wanted (suc i) n) ≡ at
+        → (placeFrom s wanted (suc i) n ≡ at → byte s at ≡ wanted) → byte s at ≡ wanted
+    by true q e r = ap (byte s) (sym e) ∙ eqb-true _ _ q
+    by false q e r = r e
+
+  pub number-there : (wanted : ℕ) (place : Place) → Stands s place (placeOf s wanted) → byte s (placeOf s wanted) ≡ wanted
+  unfolding placeOf
+  number-there wanted place stands =
+      let size = fits .size in
+      let there = stands .there in
+      let offset = stands .offset in
+      there-is wanted (placeFrom s wanted 0 (byte s 3)) 0 (byte s 3) refl (omega arith)

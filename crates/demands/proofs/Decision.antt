@@ -1,7 +1,7 @@
 -- The card's decision bits are the flags of document 01's checks, read in the bytes, and its decision is the table's. Assumes nothing.
-use mathlib.Core.Path.{_≡_, refl, sym, ap, ap₂, _∙_, subst}
+use mathlib.Core.Path.{_≡_, refl, sym, ap, ap₂, _∙_}
 use mathlib.Core.Bool.{Bool, true, false, cond, not, _&&_, _||_}
-use mathlib.Core.List.{List, [], _∷_, _++_}
+use mathlib.Core.List.{List, [], _∷_}
 use Prim.Native.Nat.{ℕ, zero, suc, _+_, _*_, _/_, _%_, _≤_, _<_, min}
 use native.Mathlib.Nat.{div-one, add-zero}
 use native.Mathlib.Omega.{arith}
@@ -17,11 +17,11 @@ use Rattle.rules.specs.declared.Values.{Values}
 use Rattle.rules.specs.declared.Masks.{Masks}
 use Rattle.rules.specs.declared.AccumulatorRule.{AccumulatorRule}
 use Rattle.rules.specs.declared.CounterRule.{CounterRule}
-use Rattle.rules.specs.Rules.{Rules, Profile, four, profileAt, accumulatorRule, counterRule}
+use Rattle.rules.specs.Rules.{Rules, Profile, four}
 use Rattle.ranges.proofs.Accepted.{Accepted}
 use Rattle.setup.specs.Setup.{accumulatorIn, counterIn, profileIn, rulesIn}
 use Rattle.meters.specs.declared.Purchase.{Purchase}
-use Rattle.meters.specs.Meters.{Entry, add, addition, amountAt, countAt, worth, worthAt, worthsOf}
+use Rattle.meters.specs.Meters.{addition, amountAt, countAt, worth, worthAt, worthsOf}
 use Rattle.meters.proofs.Ledger.{worth-at}
 use Rattle.checks.specs.declared.History.{History}
 use Rattle.checks.specs.Checks.{bit, packed, sumExceeds, spentExceeds, accumulatorExceeds, counterExceeds, accumulatorsLower, accumulatorsUpper, countersLower, countersUpper, maximumExceeded, testsOf, decisionBits, decisionFlags, meetsMask}
@@ -31,7 +31,7 @@ use Rattle.card.specs.declared.Kind.the-variants.{Aac, Tc, Arqc}
 use Rattle.card.specs.First.{decision, isOfflineOnly}
 use Rattle.demands.specs.Ledger.{Meter, accumulator, counter, since}
 use Rattle.demands.specs.Conversation.{valueOf}
-use Rattle.demands.specs.Audit.{isOn, isActive, isIncluded, upperOf, additionOf}
+use Rattle.demands.specs.Audit.{isIncluded, upperOf}
 use Rattle.demands.specs.Decision.{lowerOf, exceeds, exceedsMta, eachOf, aboveLower, aboveUpper, flags, meets, Decides, aac-requested, meets-decline, arqc-requested, meets-default, offline-approves, meets-online, online-approves}
 use Rattle.demands.proofs.Bytes.{Stands, profile-is, accumulator-is, counter-is, converts-to, converts}
 

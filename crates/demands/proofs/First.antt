@@ -1,17 +1,16 @@
 -- What First answers, over every list of commands: document 01's table, by flags read off the conversation and the set-up's bytes.
 -- Assumes nothing.
-use mathlib.Core.Path.{_≡_, refl, sym, ap, ap₂, _∙_, subst}
-use mathlib.Core.Bool.{Bool, true, false, cond}
-use mathlib.Core.List.{List, [], _∷_}
-use Prim.Native.Nat.{ℕ, _+_, _≤_, _<_}
+use mathlib.Core.Path.{_≡_, sym, ap, _∙_, subst}
+use mathlib.Core.Bool.{true}
+use mathlib.Core.List.{List}
+use Prim.Native.Nat.{ℕ, _+_, _≤_}
 use native.Mathlib.Omega.{arith}
 use lib.ListN.{length}
-use Rattle.wire.specs.Wire.{byte, number}
+use Rattle.wire.specs.Wire.{number}
 use Rattle.money.specs.Money.{max}
 use Rattle.iad.specs.declared.Cvr.{Cvr}
 use Rattle.iad.specs.declared.Iad.{Iad}
 use Rattle.rules.specs.declared.Place.{Place}
-use Rattle.rules.specs.declared.Masks.{Masks}
 use Rattle.rules.specs.Rules.{Rules, Profile, profileAt}
 use Rattle.ranges.specs.Ranges.{isSetup}
 use Rattle.ranges.proofs.Accepted.{Accepted, accepted}
@@ -22,20 +21,17 @@ use Rattle.command.specs.declared.Command.{Command}
 use Rattle.command.specs.declared.Command.the-variants.{Start as StartCommand, First as FirstCommand, Second as SecondCommand}
 use Rattle.meters.specs.declared.Purchase.{Purchase}
 use Rattle.meters.specs.declared.Worths.{Worths}
-use Rattle.meters.specs.Meters.{worthsOf}
 use Rattle.checks.specs.declared.History.{History}
-use Rattle.checks.specs.Checks.{testsOf, decisionBits, meetsMask}
-use Rattle.card.specs.declared.Answer.{Answer}
-use Rattle.card.specs.declared.Answer.the-variants.{Refused, Started, Given}
+use Rattle.checks.specs.Checks.{decisionBits, meetsMask}
+use Rattle.card.specs.declared.Answer.the-variants.{Given}
 use Rattle.card.specs.declared.Kind.{Kind}
 use Rattle.card.specs.declared.Kind.the-variants.{Aac, Tc, Arqc}
-use Rattle.card.specs.declared.Phase.{Phase}
 use Rattle.card.specs.declared.State.{State}
 use Rattle.card.specs.declared.Outcome.{Outcome}
-use Rattle.card.specs.First.{decision, purchaseOf, firstTests, firstKind, firstPerformed, concluded}
+use Rattle.card.specs.First.{purchaseOf, firstTests, firstKind, firstPerformed, concluded}
 use Rattle.card.specs.Card.{stepOf, refused}
 use Rattle.refusal.specs.declared.Refusal.{Refusal}
-use Rattle.demands.specs.Ledger.{Meter, accumulator, counter, IsMeter, owed}
+use Rattle.demands.specs.Ledger.{Meter, accumulator, counter, IsMeter}
 use Rattle.demands.specs.Conversation.{Exchange, Sitting, sat, next, valueOf}
 use Rattle.demands.specs.Audit.{placeOf, named, spent, spentIn, audited}
 use Rattle.demands.specs.Past.{past}
@@ -47,7 +43,7 @@ use Rattle.demands.proofs.Past.{history}
 use Rattle.demands.proofs.Decision.{met-is, decided}
 
 -- flags look at the eight values alone
-flags-same : (s : List ℕ) (profile amount currency : ℕ) (f g : Meter → ℕ) (history : History) → ((meter : Meter) → IsMeter meter → f meter ≡ g meter)
+pub flags-same : (s : List ℕ) (profile amount currency : ℕ) (f g : Meter → ℕ) (history : History) → ((meter : Meter) → IsMeter meter → f meter ≡ g meter)
     → flags s profile amount currency f history ≡ flags s profile amount currency g history
 unfolding flags
 flags-same s profile amount currency f g history h =
@@ -63,7 +59,7 @@ flags-same s profile amount currency f g history h =
     )
 
 -- a concluded First answers with the kind that was decided
-concluded-kind : (rules : Rules) (state : State) (place : Place) (purchase : Purchase) (worths : Worths) (limits : ℕ) (cvr : Cvr) (decided kind : Kind) (atc : ℕ) (iad : Iad)
+pub concluded-kind : (rules : Rules) (state : State) (place : Place) (purchase : Purchase) (worths : Worths) (limits : ℕ) (cvr : Cvr) (decided kind : Kind) (atc : ℕ) (iad : Iad)
     → concluded rules state place purchase worths limits cvr decided .answer ≡ Given kind atc iad → decided ≡ kind
 unfolding concluded
 concluded-kind rules state place purchase worths limits cvr Aac kind atc iad e = cc
@@ -77,7 +73,7 @@ module _ (s : List ℕ) (fits : Accepted s) (sitting : Sitting) (holding : Holdi
   abbrev at : ℕ
   at = placeOf s (named log)
 
-  kind-answers : (first : First) (place : Place) → Stands s place at → first .requested ≤ 2 → first .amount .0 ≤ max
+  pub kind-answers : (first : First) (place : Place) → Stands s place at → first .requested ≤ 2 → first .amount .0 ≤ max
       → FirstAnswers s at first (flags s at (first .amount .0) (first .currency) (audited s log) (past s log)) (firstKind (rulesIn s) (sitting .state) place first)
   unfolding profileIn
   kind-answers first place stands type small =

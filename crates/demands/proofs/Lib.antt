@@ -12,3 +12,4 @@ pub mod Past
 pub mod Decision
 pub mod First
 pub mod Verification
+pub mod Answers

@@ -3,64 +3,57 @@
 use mathlib.Core.Path.{_≡_, refl, sym, ap, _∙_, subst}
 use mathlib.Core.Bool.{Bool, true, false, cond, _&&_, _||_}
 use mathlib.Core.List.{List, [], _∷_}
-use Prim.Native.Nat.{ℕ, zero, suc, _+_, _*_, _/_, _%_, _^_, _≤_, _<_}
+use Prim.Native.Nat.{ℕ, _+_, _^_, _≤_}
 use native.Mathlib.Nat.{div-one}
 use native.Mathlib.Omega.{arith}
-use borrow.Author.Tests.{ltb-true, ltb-false, eqb-true}
-use lib.Dec.{leb, ltb, eqb}
-use lib.ListN.{length, getD}
-use Rattle.wire.specs.Wire.{byte, number, isCurrency}
+use borrow.Author.Tests.{ltb-true, eqb-true}
+use lib.Dec.{ltb, eqb}
+use lib.ListN.{length}
+use Rattle.wire.specs.Wire.{number}
 use Rattle.money.specs.declared.AccumulatorAmount.{AccumulatorAmount}
 use Rattle.money.specs.declared.Converted.{Converted}
 use Rattle.money.specs.declared.Converted.the-variants.{Amount, NoEntry}
 use Rattle.money.specs.Money.{max}
 use Rattle.iad.specs.declared.Cvr.{Cvr}
 use Rattle.rules.specs.declared.Place.{Place}
-use Rattle.rules.specs.declared.Found.{Found}
-use Rattle.rules.specs.declared.Found.the-variants.{At, Nothing}
 use Rattle.rules.specs.declared.Values.{Values}
 use Rattle.rules.specs.declared.AccumulatorRule.{AccumulatorRule}
 use Rattle.rules.specs.declared.CounterRule.{CounterRule}
 use Rattle.rules.specs.declared.Masks.{Masks}
-use Rattle.rules.specs.Rules.{Rules, rulesOf, Profile, profileAt, accumulatorRule, counterRule, findProfile}
+use Rattle.rules.specs.Rules.{Rules, Profile, profileAt, accumulatorRule, counterRule}
 use Rattle.ranges.specs.Ranges.{isSetup}
-use Rattle.setup.specs.Setup.{accumulatorIn, counterIn, profileIn, rulesIn, wordsAfter}
+use Rattle.setup.specs.Setup.{accumulatorIn, counterIn, profileIn, rulesIn}
 use Rattle.setup.proofs.Faithful.{Bytes, faithful}
-use Rattle.command.specs.declared.Start.{Start}
 use Rattle.command.specs.declared.First.{First}
 use Rattle.command.specs.declared.Second.{Second}
 use Rattle.command.specs.declared.Command.{Command}
 use Rattle.command.specs.declared.Command.the-variants.{Start as StartCommand, First as FirstCommand, Second as SecondCommand}
 use Rattle.meters.specs.declared.Purchase.{Purchase}
 use Rattle.meters.specs.declared.Worths.{Worths}
-use Rattle.meters.specs.Meters.{Entry, add, moved, addition, approval, counting, amountAt, countAt, worthAt, worthsOf, approved}
-use Rattle.meters.specs.Meters.{declined as declinedValues}
+use Rattle.meters.specs.Meters.{add, moved, addition, amountAt, countAt, worthAt, worthsOf, approved}
 use Rattle.meters.proofs.Ledger.{approved-amount, approved-count}
 use Rattle.checks.specs.declared.History.{History}
-use Rattle.checks.specs.Checks.{bit, accumulatorsUpper, countersUpper, testsOf, decisionBits, meetsMask}
+use Rattle.checks.specs.Checks.{bit, testsOf, decisionBits, meetsMask}
 use Rattle.checks.proofs.Bits.{bitOf, meets-at, house-order}
 use Rattle.checks.proofs.Exceeds.{accumulator-kept, counter-kept}
-use Rattle.card.specs.declared.Answer.{Answer}
 use Rattle.card.specs.declared.Answer.the-variants.{Refused}
 use Rattle.card.specs.declared.Issuer.{Issuer}
 use Rattle.card.specs.declared.Kind.{Kind}
 use Rattle.card.specs.declared.Kind.the-variants.{Aac, Tc, Arqc}
 use Rattle.card.specs.declared.Pending.{Pending}
-use Rattle.card.specs.declared.Phase.{Phase}
-use Rattle.card.specs.declared.Phase.the-variants.{Idle, Opened, Asked}
 use Rattle.card.specs.declared.State.{State}
 use Rattle.card.specs.declared.Outcome.{Outcome}
-use Rattle.card.specs.First.{decision, isOfflineOnly, purchaseOf, firstTests, firstKind, firstPerformed, concluded}
+use Rattle.card.specs.First.{decision, purchaseOf, firstKind, firstPerformed, concluded}
 use Rattle.card.specs.Second.{isUnable, unableIn, unableBits, unablePerformed, secondPerformed, closed}
 use Rattle.card.specs.Card.{stepOf}
 use Rattle.demands.specs.Ledger.{Meter, accumulator, counter, IsMeter}
-use Rattle.demands.specs.Conversation.{Exchange, Sitting, sat, next, valueOf}
+use Rattle.demands.specs.Conversation.{Sitting, sat, next, valueOf}
 use Rattle.demands.specs.Audit.{isOn, isActive, isIncluded, placeOf, upperOf, approves, named, spent, spentIn}
 use Rattle.demands.specs.Guards.{upperBit, Guards}
 use Rattle.demands.proofs.Refusal.{never}
 use Rattle.demands.proofs.Step.{Did, refused-it, started-it, took-first, took-second, did}
 use Rattle.demands.proofs.Bytes.{Stands, profile-is, accumulator-is, counter-is}
-use Rattle.demands.proofs.Total.{Remembers, Agrees, Holding, always}
+use Rattle.demands.proofs.Total.{Agrees, Holding, always}
 
 -- ---- what an approval adds stays within a limit that the value, with the amount, is within
 

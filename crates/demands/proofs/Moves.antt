@@ -1,9 +1,9 @@
 -- What approvals, declines and orders do to an accumulator or a counter is what the auditor enters, at most one entry each time.
 -- Assumes nothing.
-use mathlib.Core.Path.{_≡_, refl, sym, ap, _∙_}
+use mathlib.Core.Path.{_≡_, refl, ap, _∙_}
 use mathlib.Core.Bool.{Bool, true, false, cond, _&&_}
 use mathlib.Core.List.{List, [], _∷_}
-use Prim.Native.Nat.{ℕ, zero, suc, _+_, _*_, _/_, _%_, _≤_, _<_, min}
+use Prim.Native.Nat.{ℕ, zero, suc, _+_, _*_, _/_, _%_, _≤_, _<_}
 use native.Mathlib.Nat.{div-one}
 use native.Mathlib.Omega.{arith}
 use lib.Dec.{eqb}
@@ -14,9 +14,8 @@ use Rattle.rules.specs.declared.Values.{Values}
 use Rattle.rules.specs.Rules.{Rules, accumulatorRule, counterRule}
 use Rattle.ranges.proofs.Accepted.{Accepted}
 use Rattle.setup.specs.Setup.{accumulatorIn, counterIn, rulesIn}
-use Rattle.setup.proofs.Faithful.{Bytes}
 use Rattle.meters.specs.declared.Purchase.{Purchase}
-use Rattle.meters.specs.Meters.{Entry, put, add, moved, counterCap, addition, approval, counting, declining, putting, amountAt, countAt, worth, worthAt, worthsOf, approved, limited, cleared}
+use Rattle.meters.specs.Meters.{Entry, put, add, moved, counterCap, approval, counting, declining, putting, amountAt, countAt, worthAt, worthsOf, approved, limited, cleared}
 use Rattle.meters.specs.Meters.{declined as declinedValues}
 use Rattle.meters.proofs.Ledger.{worth-at, approved-amount, approved-count, declined-amount, declined-count, limited-amount, limited-count, cleared-amount, cleared-count}
 use Rattle.card.specs.Second.{updateByte, ordered as orderedValues}

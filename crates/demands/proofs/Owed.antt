@@ -2,12 +2,12 @@
 use mathlib.Core.Path.{_≡_, refl}
 use mathlib.Core.Bool.{Bool, true, false, cond}
 use mathlib.Core.List.{List, [], _∷_, _++_}
-use Prim.Native.Nat.{ℕ, _+_, _≤_, min}
+use Prim.Native.Nat.{ℕ, _+_, _≤_}
 use native.Mathlib.Omega.{arith}
 use borrow.Author.Tests.{ltb-true, ltb-false}
 use lib.Dec.{ltb}
 use Rattle.meters.specs.Meters.{Entry, put, add, moved}
-use Rattle.demands.specs.Ledger.{base, since, owed}
+use Rattle.demands.specs.Ledger.{owed}
 
 -- what one step enters: at most one entry, and nothing is put above the cap
 pub data Fair (cap : ℕ) : List Entry → Type 0 where

@@ -1,12 +1,12 @@
 -- The card's history and its ATC are those that the conversation and the set-up's bytes say. Assumes nothing.
-use mathlib.Core.Path.{_≡_, refl, sym, ap, _∙_, subst}
+use mathlib.Core.Path.{_≡_, refl, sym, ap, subst}
 use mathlib.Core.Bool.{Bool, true, false, cond, _&&_, _||_}
 use mathlib.Core.List.{List, [], _∷_}
 use Prim.Native.Nat.{ℕ, _+_, _/_, _%_}
 use native.Mathlib.Omega.{arith}
 use lib.Dec.{eqb}
 use lib.ListN.{length}
-use Rattle.wire.specs.Wire.{byte, number}
+use Rattle.wire.specs.Wire.{byte}
 use Rattle.refusal.specs.declared.Refusal.{Refusal}
 use Rattle.iad.specs.declared.Cvr.{Cvr}
 use Rattle.rules.specs.declared.Place.{Place}
@@ -32,7 +32,7 @@ use Rattle.card.specs.declared.Outcome.{Outcome}
 use Rattle.card.specs.First.{firstKind, firstPerformed, concluded, uncompleted}
 use Rattle.card.specs.Second.{isUnable, unableIn, unableBits, unablePerformed, verifiedPerformed, failedPerformed, absentPerformed, secondPerformed, closed, updateByte}
 use Rattle.card.specs.Card.{freshState, refused, stepOf}
-use Rattle.demands.specs.Conversation.{Exchange, Sitting, told, run, begin, sat, next}
+use Rattle.demands.specs.Conversation.{Sitting, told, run, begin, sat, next}
 use Rattle.demands.specs.Past.{past, atcBy, Says}
 use Rattle.demands.proofs.Step.{Did, refused-it, started-it, took-first, took-second, did}
 use Rattle.demands.proofs.Total.{then}
@@ -135,7 +135,7 @@ module _ (s : List ℕ) (sitting : Sitting) (recalls : Recalls s sitting) where
     by false u false p true q = failed-keeps second pending u _ _ _ p q
     by false u false p false q = absent-keeps second pending u _ _ _ p q
 
-  did-keeps : {command : Command} {outcome : Outcome} → Did rules state command outcome → Keeps s sitting command outcome
+  pub did-keeps : {command : Command} {outcome : Outcome} → Did rules state command outcome → Keeps s sitting command outcome
   unfolding past atcBy firstPerformed
   did-keeps {command} (refused-it r) = refused-keeps command r
   did-keeps (started-it start place holds) =
@@ -147,7 +147,7 @@ module _ (s : List ℕ) (sitting : Sitting) (recalls : Recalls s sitting) where
   did-keeps (took-second second pending is type issuer) = second-keeps second pending
 
 module _ (s : List ℕ) (bytes : Bytes s) (good : isSetup s ≡ true) where
-  begin-recalls : Recalls s (begin s)
+  pub begin-recalls : Recalls s (begin s)
   unfolding freshState freshIn readSetup past atcBy
   begin-recalls = rw good (record { history-is = refl; atc-is = refl })
 

@@ -1,16 +1,14 @@
 -- Demand 1: every command gets an answer; its number is the first that applies; a refusal leaves the card as it was. Assumes nothing.
 use mathlib.Core.Path.{_≡_, refl, sym, ap, _∙_}
 use mathlib.Core.Bool.{Bool, true, false, cond, _&&_, _||_}
-use mathlib.Core.Logic.{_↔_}
-use Prim.Native.Nat.{ℕ, zero, suc, _≤_, _<_}
+use Prim.Native.Nat.{ℕ, _≤_, _<_}
 use native.Mathlib.Omega.{arith}
-use borrow.Author.Tests.{ltb-true, ltb-false, leb-true, leb-false, eqb-true, eqb-false, eq-eqb}
+use borrow.Author.Tests.{ltb-true, ltb-false, leb-true, leb-false, eqb-true, eqb-false}
 use lib.Dec.{leb, ltb, eqb}
-use lib.ListN.{getD}
 use Rattle.wire.specs.Wire.{isCurrency}
 use Rattle.money.specs.Money.{max}
 use Rattle.refusal.specs.declared.Refusal.{Refusal}
-use Rattle.refusal.specs.declared.Refusal.the-variants.{OutOfTurn, UnknownProfile, AtcUsedUp, BadType, OutOfRange}
+use Rattle.refusal.specs.declared.Refusal.the-variants.{AtcUsedUp, BadType, OutOfRange}
 use Rattle.refusal.specs.Refusal.{refusalNumber}
 use Rattle.iad.specs.declared.Cvr.{Cvr}
 use Rattle.checks.specs.declared.History.{History}
@@ -19,12 +17,11 @@ use Rattle.rules.specs.declared.Values.{Values}
 use Rattle.card.specs.declared.Issuer.{Issuer}
 use Rattle.meters.specs.declared.Purchase.{Purchase}
 use Rattle.meters.specs.declared.Worths.{Worths}
-use Rattle.ranges.proofs.Accepted.{Currency, currency}
+use Rattle.ranges.proofs.Accepted.{currency}
 use Rattle.rules.specs.declared.Place.{Place}
-use Rattle.rules.specs.declared.Place.the-variants.{One, Two, Three, Four}
 use Rattle.rules.specs.declared.Found.{Found}
 use Rattle.rules.specs.declared.Found.the-variants.{At, Nothing}
-use Rattle.rules.specs.Rules.{Rules, blankProfile, indexOf, profileAt, placeOr, findProfile}
+use Rattle.rules.specs.Rules.{Rules, indexOf, profileAt, findProfile}
 use Rattle.command.specs.declared.Start.{Start}
 use Rattle.command.specs.declared.First.{First}
 use Rattle.command.specs.declared.Second.{Second}
@@ -41,9 +38,9 @@ use Rattle.card.specs.declared.State.{State}
 use Rattle.card.specs.declared.Outcome.{Outcome}
 use Rattle.card.specs.First.{firstPerformed, firstKind, concluded}
 use Rattle.card.specs.Second.{secondPerformed, isUnable, unableBits, unablePerformed, verifiedPerformed, failedPerformed, absentPerformed, closed}
-use Rattle.card.specs.Card.{Ruling, refuse, take, ruleStart, ruleOpening, ruleFirst, ruleFirstFields, ruleSecond, ruleSecondFields, carried, startPerformed, startStep, firstStep, secondStep, stepOf, answerNumber}
+use Rattle.card.specs.Card.{Ruling, refuse, take, ruleStart, ruleOpening, ruleFirst, ruleSecond, carried, startPerformed, startStep, firstStep, secondStep, stepOf, answerNumber}
 use Rattle.demands.proofs.Found.{Holds, Known, known, below-four}
-use Rattle.demands.specs.Rows.{InSetup, NoStart, NoArqc, StartRow, not-in-setup, used-up, FirstRow, no-start, type-three, above-max, not-digits, SecondRow, no-arqc, type-two, issuer-data, Applies, Numbered, done, refused}
+use Rattle.demands.specs.Rows.{InSetup, StartRow, not-in-setup, used-up, FirstRow, no-start, type-three, above-max, not-digits, SecondRow, no-arqc, type-two, issuer-data, Applies, Numbered, done, refused}
 
 -- what is taken is answered, and no answer to it is a refusal
 abbrev isRefused : Answer → Bool

@@ -1,7 +1,7 @@
 -- What a step can be: a refusal, or a Start, a First or a Second that is in turn and in range. Assumes nothing.
 use mathlib.Core.Path.{_≡_, refl}
 use mathlib.Core.Bool.{Bool, true, false, cond, _&&_}
-use Prim.Native.Nat.{ℕ, _≤_}
+use Prim.Native.Nat.{_≤_}
 use borrow.Author.Tests.{ltb-false, leb-true}
 use lib.Dec.{leb, ltb, eqb}
 use Rattle.wire.specs.Wire.{isCurrency}

@@ -1,40 +1,34 @@
 -- Demand 3, the total: over every list of commands each accumulator and each counter holds what the conversation and the set-up's
 -- bytes say that it owes. Assumes nothing.
 use mathlib.Core.Path.{_≡_, refl, sym, ap, ap₂, _∙_, subst}
-use mathlib.Core.Bool.{Bool, true, false, cond, not, _&&_, _||_}
+use mathlib.Core.Bool.{Bool, true, false, cond, _||_}
 use mathlib.Core.List.{List, [], _∷_, _++_}
-use Prim.Native.Nat.{ℕ, zero, suc, _+_, _*_, _≤_, _<_}
+use Prim.Native.Nat.{ℕ, _+_, _*_, _≤_}
 use native.Mathlib.Omega.{arith}
-use borrow.Author.Tests.{leb-true}
-use lib.Dec.{leb, ltb, eqb}
+use lib.Dec.{eqb}
 use lib.ListN.{length}
-use Rattle.wire.specs.Wire.{byte, number, isCurrency}
+use Rattle.wire.specs.Wire.{byte, number}
 use Rattle.money.specs.declared.AccumulatorAmount.{AccumulatorAmount}
 use Rattle.money.specs.Money.{max}
 use Rattle.refusal.specs.declared.Refusal.{Refusal}
 use Rattle.iad.specs.declared.Cvr.{Cvr}
 use Rattle.rules.specs.declared.Place.{Place}
-use Rattle.rules.specs.declared.Found.{Found}
-use Rattle.rules.specs.declared.Found.the-variants.{At, Nothing}
 use Rattle.rules.specs.declared.Values.{Values}
-use Rattle.rules.specs.Rules.{Rules, rulesOf, indexOf, profileAt, findProfile}
+use Rattle.rules.specs.Rules.{Rules, indexOf, profileAt}
 use Rattle.rules.proofs.Places.{four-at}
 use Rattle.ranges.specs.Ranges.{isSetup}
 use Rattle.ranges.proofs.Accepted.{Accepted, accepted}
-use Rattle.setup.specs.Setup.{rulesIn, freshIn, readSetup, wordsAfter}
-use Rattle.setup.proofs.Faithful.{Bytes, faithful, started}
+use Rattle.setup.specs.Setup.{rulesIn, freshIn, readSetup}
+use Rattle.setup.proofs.Faithful.{Bytes, faithful}
 use Rattle.command.specs.declared.Start.{Start}
 use Rattle.command.specs.declared.First.{First}
 use Rattle.command.specs.declared.Second.{Second}
 use Rattle.command.specs.declared.Command.{Command}
 use Rattle.command.specs.declared.Command.the-variants.{Start as StartCommand, First as FirstCommand, Second as SecondCommand}
-use Rattle.meters.specs.declared.Purchase.{Purchase}
 use Rattle.meters.specs.Meters.{Entry, moved, worthsOf, approved}
 use Rattle.meters.specs.Meters.{declined as declinedValues}
 use Rattle.checks.specs.declared.History.{History}
 use Rattle.checks.specs.Checks.{meetsMask}
-use Rattle.card.specs.declared.Answer.{Answer}
-use Rattle.card.specs.declared.Answer.the-variants.{Refused, Started, Given}
 use Rattle.card.specs.declared.Issuer.{Issuer}
 use Rattle.card.specs.declared.Kind.{Kind}
 use Rattle.card.specs.declared.Kind.the-variants.{Aac, Tc, Arqc}
@@ -51,7 +45,7 @@ use Rattle.demands.specs.Ledger.{Meter, accumulator, counter, IsMeter, o
 use Rattle.demands.specs.Conversation.{Exchange, Sitting, told, run, begin, sat, valueOf}
 use Rattle.demands.specs.Audit.{placeOf, upperOf, startOf, capOf, counted, declined, ordered, entered, named, spent, spentIn, ledger}
 use Rattle.demands.proofs.Step.{Did, refused-it, started-it, took-first, took-second, did}
-use Rattle.demands.proofs.Owed.{Fair, nothing, fair-or, starts, grows}
+use Rattle.demands.proofs.Owed.{Fair, nothing, starts, grows}
 use Rattle.demands.proofs.Bytes.{Stands, stands-at}
 use Rattle.demands.proofs.Moves.{approved-moves, declined-moves, ordered-moves, counted-fair, declined-fair, ordered-fair}
 
@@ -218,7 +212,7 @@ module _ (s : List ℕ) (bytes : Bytes s) (fits : Accepted s) (sitting : Sitting
       by false u false e true = kept-holds _ u e _ _
       by false u false e false = kept-holds _ u e _ _
 
-  did-holds : {command : Command} {outcome : Outcome} → Did rules state command outcome → Holding s (then sitting command outcome)
+  pub did-holds : {command : Command} {outcome : Outcome} → Did rules state command outcome → Holding s (then sitting command outcome)
   did-holds {command} (refused-it r) = refused-holds command r
   did-holds (started-it start place holds) = start-taken start place (stands-at s fits place (start .profile) holds)
   did-holds (took-first first place is type small) =
@@ -236,7 +230,7 @@ module _ (s : List ℕ) (bytes : Bytes s) (good : isSetup s ≡ true) where
       ap (λ (a : AccumulatorAmount). a .0) (four-at (λ j. record { 0 = number s (10 + 10 * j) 8 }) (record { 0 = 0 }) i l)
   fresh (counter i) l = four-at (λ j. byte s (48 + j)) 0 i l
 
-  begin-holds : Holding s (begin s)
+  pub begin-holds : Holding s (begin s)
   unfolding freshState readSetup ledger
   begin-holds =
       rw good

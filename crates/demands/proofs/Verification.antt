@@ -1,40 +1,36 @@
 -- The CVR's bits and the IAD's fields are those that document 01 names. Assumes nothing.
-use mathlib.Core.Path.{_≡_, refl, sym, ap, ap₂, _∙_, subst}
-use mathlib.Core.Bool.{Bool, true, false, cond, not, _||_}
-use mathlib.Core.List.{List, [], _∷_, _++_}
-use Prim.Native.Nat.{ℕ, zero, suc, _+_, _*_, _/_, _%_, _≤_, _<_}
+use mathlib.Core.Path.{_≡_, refl, sym, ap, _∙_, subst}
+use mathlib.Core.Bool.{Bool, true, false}
+use mathlib.Core.List.{List}
+use Prim.Native.Nat.{ℕ, zero, suc, _+_, _*_, _≤_, _<_}
 use native.Mathlib.Omega.{arith}
 use lib.Dec.{eqb}
-use lib.ListN.{getD}
 use Rattle.wire.specs.Wire.{byte, number}
-use Rattle.money.specs.declared.AccumulatorAmount.{AccumulatorAmount}
 use Rattle.money.specs.Money.{max}
 use Rattle.iad.specs.declared.Cvr.{Cvr}
-use Rattle.iad.specs.declared.Iad.{Iad}
 use Rattle.rules.specs.declared.Place.{Place}
 use Rattle.rules.specs.declared.Values.{Values}
-use Rattle.rules.specs.Rules.{Rules, Profile, four, profileAt, accumulatorRule, counterRule, indexOf}
+use Rattle.rules.specs.Rules.{Rules, Profile, accumulatorRule, counterRule, indexOf}
 use Rattle.ranges.proofs.Accepted.{Accepted}
 use Rattle.setup.specs.Setup.{profileIn, rulesIn}
 use Rattle.meters.specs.declared.Purchase.{Purchase}
 use Rattle.meters.specs.Meters.{worthsOf}
 use Rattle.checks.specs.declared.History.{History}
-use Rattle.checks.specs.declared.Tests.{Tests}
-use Rattle.checks.specs.Checks.{bit, any, packed, accumulatorExceeds, counterExceeds, accumulatorsLower, accumulatorsUpper, countersLower, countersUpper, testsOf}
+use Rattle.checks.specs.Checks.{bit, any, accumulatorExceeds, counterExceeds, accumulatorsLower, accumulatorsUpper, countersLower, countersUpper, testsOf}
 use Rattle.checks.proofs.Bits.{any-lower, any-upper}
 use Rattle.card.specs.declared.Issuer.{Issuer}
 use Rattle.card.specs.declared.Kind.{Kind}
 use Rattle.card.specs.declared.Kind.the-variants.{Aac, Tc, Arqc}
 use Rattle.card.specs.declared.Later.{Later}
-use Rattle.card.specs.declared.Later.the-variants.{Aac as LaterAac, Tc as LaterTc, NotRequested}
 use Rattle.card.specs.Cryptogram.{kindCode, laterCode, verification, sentIad}
 use Rattle.card.specs.Cryptogram.{sentOf as cardSent}
 use Rattle.card.specs.First.{limitsByte}
 use Rattle.demands.specs.Ledger.{Meter, accumulator, counter, IsMeter}
 use Rattle.demands.specs.Conversation.{valueOf}
-use Rattle.demands.specs.Decision.{eachOf, aboveLower, aboveUpper}
-use Rattle.demands.specs.Verification.{typeOf, anyOf, Issuing, Verifies, sentOf, Sends}
-use Rattle.demands.proofs.Bytes.{Stands, profile-is}
+use Rattle.demands.specs.Decision.{aboveLower, aboveUpper}
+use Rattle.demands.specs.Verification.{anyOf, Verifies, sentOf, Sends}
+use Rattle.demands.specs.Audit.{placeOf}
+use Rattle.demands.proofs.Bytes.{Stands, profile-is, number-there}
 use Rattle.demands.proofs.Decision.{accumulators-lower, accumulators-upper, counters-lower, counters-upper}
 
 bit-small : (b : Bool) → bit b < 2
@@ -167,3 +163,47 @@ module _ (s : List ℕ) (fits : Accepted s) (place : Place) (at : ℕ) (stands :
         first-sent = ap (λ (p : Profile). cardSent (values .counters) 0 (p .sent .first)) profile ∙ sent-count values (byte s (at + 105)) (few 105 (ranges .first-sent));
         second-sent = ap (λ (p : Profile). cardSent (values .counters) 0 (p .sent .second)) profile ∙ sent-count values (byte s (at + 106)) (few 106 (ranges .second-sent));
       }
+
+-- what is sent of values that are equal
+sent-same : (f g : Meter → ℕ) → ((meter : Meter) → IsMeter meter → f meter ≡ g meter) → (n : ℕ) → n ≤ 4
+    → (sentOf f accumulator n ≡ sentOf g accumulator n) × (sentOf f counter n ≡ sentOf g counter n)
+sent-same f g h zero l = (refl, refl)
+sent-same f g h (suc i) l = (h (accumulator i) (omega arith), h (counter i) (omega arith))
+
+module _ (s : List ℕ) (fits : Accepted s) (wanted : ℕ) (place : Place) (stands : Stands s place (placeOf s wanted)) (values : Values) (cvr : Cvr) where
+  -- of the values that the auditor finds
+  pub sends-audited : (value : Meter → ℕ) → ((meter : Meter) → IsMeter meter → valueOf values meter ≡ value meter)
+      → Sends s (placeOf s wanted) wanted value (sentIad (rulesIn s) place values cvr)
+  sends-audited value same =
+      let at = placeOf s wanted in
+      let sent = sends s fits place at stands values cvr in
+      let ranges = fits .profiles (indexOf place) (stands .there) in
+      let few : (k : ℕ) → byte s (52 + 107 * indexOf place + k) ≤ 4 → byte s (at + k) ≤ 4 = λ k l. subst (λ a. byte s (a + k) ≤ 4) (sym (stands .offset)) l in
+      record {
+        key = sent .key;
+        profile-number = sent .profile-number ∙ number-there s fits wanted place stands;
+        accumulator-sent = sent .accumulator-sent ∙ sent-same (valueOf values) value same (byte s (at + 104)) (few 104 (ranges .accumulator-sent)) .0;
+        first-sent = sent .first-sent ∙ sent-same (valueOf values) value same (byte s (at + 105)) (few 105 (ranges .first-sent)) .1;
+        second-sent = sent .second-sent ∙ sent-same (valueOf values) value same (byte s (at + 106)) (few 106 (ranges .second-sent)) .1;
+      }
+
+-- CVR byte 3 of the values that the auditor finds
+abbrev pub limitsBy : List ℕ → (profile amount currency : ℕ) → (Meter → ℕ) → ℕ
+limitsBy s profile amount currency value =
+    limitsOf (anyOf counter (aboveLower s profile amount currency value)) (anyOf counter (aboveUpper s profile amount currency value))
+    (anyOf accumulator (aboveLower s profile amount currency value))
+    (anyOf accumulator (aboveUpper s profile amount currency value))
+
+pub limits-audited : (s : List ℕ) (profile amount currency : ℕ) (f g : Meter → ℕ) → ((meter : Meter) → IsMeter meter → f meter ≡ g meter)
+    → limitsBy s profile amount currency f ≡ limitsBy s profile amount currency g
+limits-audited s profile amount currency f g h =
+    simp (
+      h (accumulator 0) (omega arith),
+      h (accumulator 1) (omega arith),
+      h (accumulator 2) (omega arith),
+      h (accumulator 3) (omega arith),
+      h (counter 0) (omega arith),
+      h (counter 1) (omega arith),
+      h (counter 2) (omega arith),
+      h (counter 3) (omega arith),
+    )

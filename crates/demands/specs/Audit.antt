@@ -12,7 +12,6 @@ use Rattle.command.specs.declared.Command.{Command}
 use Rattle.command.specs.declared.Command.the-variants.{Start as StartCommand, First as FirstCommand, Second as SecondCommand}
 use Rattle.card.specs.declared.Answer.{Answer}
 use Rattle.card.specs.declared.Answer.the-variants.{Refused, Started, Given}
-use Rattle.card.specs.declared.Kind.{Kind}
 use Rattle.card.specs.declared.Kind.the-variants.{Aac, Tc, Arqc}
 use Rattle.meters.specs.Meters.{Entry, put, add}
 use Rattle.demands.specs.Ledger.{Meter, accumulator, counter, owed}

@@ -87,3 +87,13 @@ abbrev pub Says : Answer → ℕ → Type 0
 Says (Refused refusal) n = Unit
 Says (Started atc) n = atc ≡ n
 Says (Given kind atc iad) n = atc ≡ n
+
+-- the conversation before the last accepted First
+abbrev pub beforeBy : Command → Answer → (older before : List Exchange) → List Exchange
+beforeBy (StartCommand start) answer older before = before
+beforeBy (FirstCommand first) answer older before = cond (isAccepted answer) older before
+beforeBy (SecondCommand second) answer older before = before
+
+unfoldable pub beforeFirst : List Exchange → List Exchange
+beforeFirst [] = []
+beforeFirst (exchange ∷ older) = beforeBy (exchange .command) (exchange .answer) older (beforeFirst older)

@@ -1,18 +1,23 @@
 -- The CVR bit by bit, each with its cause, and what else an answer sends (document 01, "CVR and IAD").
 use mathlib.Core.Path.{_≡_}
 use Prim.Native.Nat.{ℕ, zero, suc, _+_, _/_, _%_}
-use mathlib.Core.Bool.{Bool, true, false, _||_}
+use mathlib.Core.Bool.{Bool, true, false, cond, not, _&&_, _||_}
 use mathlib.Core.List.{List}
 use lib.Dec.{eqb}
-use Rattle.wire.specs.Wire.{byte}
+use Rattle.wire.specs.Wire.{byte, number}
 use Rattle.iad.specs.declared.Cvr.{Cvr}
 use Rattle.iad.specs.declared.Iad.{Iad}
+use Rattle.command.specs.declared.First.{First}
+use Rattle.command.specs.declared.Second.{Second}
 use Rattle.checks.specs.declared.History.{History}
 use Rattle.checks.specs.Checks.{bit}
 use Rattle.card.specs.declared.Kind.{Kind}
 use Rattle.card.specs.declared.Kind.the-variants.{Aac, Tc, Arqc}
 use Rattle.demands.specs.Ledger.{Meter, accumulator, counter}
-use Rattle.demands.specs.Decision.{aboveLower, aboveUpper}
+use Rattle.demands.specs.Conversation.{Exchange}
+use Rattle.demands.specs.Audit.{isOn, placeOf, named, spent, spentIn, audited}
+use Rattle.demands.specs.Past.{byOutcome, past, beforeFirst}
+use Rattle.demands.specs.Decision.{aboveLower, aboveUpper, flags, meets, FirstAnswers}
 
 -- 00 AAC, 01 TC, 10 ARQC (first type) or not requested (second type)
 abbrev pub typeOf : Kind → ℕ
@@ -71,3 +76,42 @@ pub record Sends (s : List ℕ) (profile number : ℕ) (value : Meter → ℕ) (
   pub accumulator-sent : iad .accumulator .0 ≡ sentOf value accumulator (byte s (profile + 104))
   pub first-sent : iad .first ≡ sentOf value counter (byte s (profile + 105))
   pub second-sent : iad .second ≡ sentOf value counter (byte s (profile + 106))
+
+-- WHAT FIRST GIVES, by the conversation before it and the one with it
+pub record FirstGives (s : List ℕ) (before after : List Exchange) (first : First) (kind : Kind) (iad : Iad) : Type 0 where
+  pub decides : FirstAnswers s (placeOf s (named before)) first
+      (flags s (placeOf s (named before)) (first .amount .0) (first .currency) (audited s before) (past s before)) kind
+  pub verifies : Verifies s (placeOf s (named before)) (first .amount .0) (first .currency) (audited s before) (past s before) notRequested (typeOf kind)
+      (issuingAtFirst (past s before)) (iad .cvr)
+  pub sends : Sends s (placeOf s (named before)) (named before) (audited s after) iad
+
+-- Second keeps First's b2 and b1; Y3/Z3 and absent set b2; failed sets b1; verified clears both
+abbrev pub issuingAtSecond : Second → History → Issuing
+issuingAtSecond second history =
+    byOutcome second (record { unperformed = true; failed = history .failed; unable = true })
+    (record { unperformed = false; failed = false; unable = false })
+    (record { unperformed = history .unable || history .missing; failed = true; unable = false })
+    (record { unperformed = true; failed = history .failed; unable = false })
+
+-- Y3 or Z3: TC if requested and ADR doesn't meet Default; verified: TC if requested and CSU byte 2 b8 is set; failed: AAC; absent: TC if
+-- requested and authentication isn't required
+abbrev pub secondApproves : List ℕ → (profile : ℕ) → List Bool → Second → Bool
+secondApproves s profile fs second =
+    byOutcome second (eqb (second .requested) 1 && not (meets fs (number s (profile + 9) 4)))
+    (eqb (second .requested) 1 && isOn (second .csu / 65536) 128)
+    false
+    (eqb (second .requested) 1 && eqb (byte s 2) 0)
+
+-- bit 3 set
+abbrev pub withUnable : History → History
+withUnable history =
+    record { uncompleted = history .uncompleted; online = history .online; failed = history .failed; unable = true; missing = history .missing }
+
+-- WHAT SECOND GIVES: the amount is First's, the tests are repeated, the CVR is First's but for what is replaced
+pub record SecondGives (s : List ℕ) (before after : List Exchange) (second : Second) (kind : Kind) (iad : Iad) : Type 0 where
+  pub decides : kind
+      ≡ cond (secondApproves s (placeOf s (named before))
+      (flags s (placeOf s (named before)) (spent before) (spentIn before) (audited s before) (withUnable (past s (beforeFirst before)))) second) Tc Aac
+  pub verifies : Verifies s (placeOf s (named before)) (spent before) (spentIn before) (audited s (beforeFirst before)) (past s (beforeFirst before)) (typeOf kind)
+      (typeOf Arqc) (issuingAtSecond second (past s (beforeFirst before))) (iad .cvr)
+  pub sends : Sends s (placeOf s (named before)) (named before) (audited s after) iad
