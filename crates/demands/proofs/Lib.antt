@@ -13,3 +13,4 @@ pub mod Decision
 pub mod First
 pub mod Verification
 pub mod Answers
+pub mod Edges
