@@ -1,4 +1,1 @@
-pub mod Cryptogram
-pub mod First
-pub mod Second
 pub mod Card

@@ -1,79 +1,22 @@
-// The card: its state, and what Start, First and Second answer and do to it.
+// The card: which commands it takes, and what each comes to.
 ghost use mathlib.Core.Path.{_≡_};
 ghost use Rattle.rules.specs.Rules.{rulesOf};
 ghost use Rattle.card.specs.Card.{freshState, refused, startStep, firstTaken, firstStep, secondTaken, secondStep, stepOf};
-
-mod cryptogram;
-mod first;
-mod second;
-
 use checks::History;
 use command::Command;
 use command::First;
 use command::Second;
 use command::Start;
-use iad::Iad;
-use meters::Purchase;
 use refusal::Refusal;
 use rules::Found;
 use rules::Place;
-use rules::Values;
 use rules::Words;
 use setup::Fresh;
-
-// What a Second needs of its First: the purchase, CVR byte 3, the profile, and the history as the
-// First found it.
-pub struct Pending {
-    pub purchase: Purchase,
-    pub limits: u8,
-    pub place: Place,
-    pub history: History,
-}
-
-pub enum Phase {
-    Idle,
-    Opened(Place),
-    Asked(Pending),
-}
-
-pub struct State {
-    pub values: Values,
-    pub phase: Phase,
-    pub atc: u16,
-    pub history: History,
-}
-
-// A cryptogram's type.
-pub enum Kind {
-    Aac,
-    Tc,
-    Arqc,
-}
-
-// The type of the second cryptogram.
-pub enum Later {
-    Aac,
-    Tc,
-    NotRequested,
-}
-
-// How the issuer was reached: issuer authentication not performed, failed; unable to go online.
-pub struct Issuer {
-    pub unperformed: bool,
-    pub failed: bool,
-    pub unable: bool,
-}
-
-pub enum Answer {
-    Refused(Refusal),
-    Started { atc: u16 },
-    Given { kind: Kind, atc: u16, iad: Iad },
-}
-
-pub struct Outcome {
-    pub state: State,
-    pub answer: Answer,
-}
+use state::Answer;
+use state::Outcome;
+use state::Pending;
+use state::Phase;
+use state::State;
 
 // A fresh card's history is clear but for "go online next", and no transaction is open.
 pub fn fresh_card(fresh: Fresh) -> State

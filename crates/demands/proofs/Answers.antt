@@ -27,19 +27,19 @@ use Rattle.command.specs.declared.Command.the-variants.{Start as StartCommand, 
 use Rattle.meters.specs.Meters.{worthsOf, approved}
 use Rattle.checks.specs.declared.History.{History}
 use Rattle.checks.specs.Checks.{meetsMask}
-use Rattle.card.specs.declared.Answer.the-variants.{Given}
-use Rattle.card.specs.declared.Issuer.{Issuer}
-use Rattle.card.specs.declared.Kind.{Kind}
-use Rattle.card.specs.declared.Kind.the-variants.{Aac, Tc, Arqc}
-use Rattle.card.specs.declared.Later.the-variants.{NotRequested}
-use Rattle.card.specs.declared.Pending.{Pending}
-use Rattle.card.specs.declared.Phase.{Phase}
-use Rattle.card.specs.declared.Phase.the-variants.{Idle, Opened, Asked}
-use Rattle.card.specs.declared.State.{State}
-use Rattle.card.specs.declared.Outcome.{Outcome}
-use Rattle.card.specs.Cryptogram.{verification, sentIad}
-use Rattle.card.specs.First.{issuerBefore, limitsByte, purchaseOf, firstTests, firstKind, firstPerformed, concluded}
-use Rattle.card.specs.Second.{isUnable, unableIn, unableBits, issuerUnable, closingKind, laterKind, unablePerformed, verifiedPerformed, failedPerformed, absentPerformed, secondPerformed, closed, updateByte}
+use Rattle.state.specs.declared.Answer.the-variants.{Given}
+use Rattle.cryptogram.specs.declared.Issuer.{Issuer}
+use Rattle.state.specs.declared.Kind.{Kind}
+use Rattle.state.specs.declared.Kind.the-variants.{Aac, Tc, Arqc}
+use Rattle.cryptogram.specs.declared.Later.the-variants.{NotRequested}
+use Rattle.state.specs.declared.Pending.{Pending}
+use Rattle.state.specs.declared.Phase.{Phase}
+use Rattle.state.specs.declared.Phase.the-variants.{Idle, Opened, Asked}
+use Rattle.state.specs.declared.State.{State}
+use Rattle.state.specs.declared.Outcome.{Outcome}
+use Rattle.cryptogram.specs.Cryptogram.{verification, issuerBefore, sentIad}
+use Rattle.first.specs.First.{limitsByte, purchaseOf, firstTests, firstKind, firstPerformed, concluded}
+use Rattle.second.specs.Second.{isUnable, unableIn, unableBits, issuerUnable, closingKind, laterKind, unablePerformed, verifiedPerformed, failedPerformed, absentPerformed, secondPerformed, closed, updateByte}
 use Rattle.card.specs.Card.{stepOf, refused, freshState}
 use Rattle.demands.specs.Conversation.{Exchange, Sitting, told, run, begin, sat, next, valueOf}
 use Rattle.demands.specs.Audit.{isOn, placeOf, named, spent, spentIn, audited}

@@ -26,9 +26,9 @@ use Rattle.meters.proofs.Ledger.{worth-at}
 use Rattle.checks.specs.declared.History.{History}
 use Rattle.checks.specs.Checks.{bit, packed, sumExceeds, spentExceeds, accumulatorExceeds, counterExceeds, accumulatorsLower, accumulatorsUpper, countersLower, countersUpper, maximumExceeded, testsOf, decisionBits, decisionFlags, meetsMask}
 use Rattle.checks.proofs.Bits.{decision-packed}
-use Rattle.card.specs.declared.Kind.{Kind}
-use Rattle.card.specs.declared.Kind.the-variants.{Aac, Tc, Arqc}
-use Rattle.card.specs.First.{decision, isOfflineOnly}
+use Rattle.state.specs.declared.Kind.{Kind}
+use Rattle.state.specs.declared.Kind.the-variants.{Aac, Tc, Arqc}
+use Rattle.first.specs.First.{decision, isOfflineOnly}
 use Rattle.demands.specs.Ledger.{Meter, accumulator, counter, since}
 use Rattle.demands.specs.Conversation.{valueOf}
 use Rattle.demands.specs.Audit.{isIncluded, upperOf}

@@ -14,11 +14,11 @@ use Rattle.meters.specs.declared.Purchase.{Purchase}
 use Rattle.meters.specs.Meters.{worth, worthsOf, approved, amountAt, countAt}
 use Rattle.checks.specs.declared.History.{History}
 use Rattle.checks.specs.Checks.{accumulatorsLower, accumulatorsUpper, countersLower, countersUpper, maximumExceeded, testsOf}
-use Rattle.card.specs.declared.Kind.{Kind}
-use Rattle.card.specs.declared.Kind.the-variants.{Aac, Tc}
-use Rattle.card.specs.declared.Later.the-variants.{NotRequested}
-use Rattle.card.specs.Cryptogram.{kindCode, verification}
-use Rattle.card.specs.First.{decision, issuerBefore}
+use Rattle.state.specs.declared.Kind.{Kind}
+use Rattle.state.specs.declared.Kind.the-variants.{Aac, Tc}
+use Rattle.cryptogram.specs.declared.Later.the-variants.{NotRequested}
+use Rattle.cryptogram.specs.Cryptogram.{kindCode, verification, issuerBefore}
+use Rattle.first.specs.First.{decision}
 
 -- one conversion, from currency 1 to currency 2
 abbrev rates : ℕ → ℕ → Rates

@@ -23,12 +23,12 @@ use Rattle.meters.specs.declared.Purchase.{Purchase}
 use Rattle.meters.specs.declared.Worths.{Worths}
 use Rattle.checks.specs.declared.History.{History}
 use Rattle.checks.specs.Checks.{decisionBits, meetsMask}
-use Rattle.card.specs.declared.Answer.the-variants.{Given}
-use Rattle.card.specs.declared.Kind.{Kind}
-use Rattle.card.specs.declared.Kind.the-variants.{Aac, Tc, Arqc}
-use Rattle.card.specs.declared.State.{State}
-use Rattle.card.specs.declared.Outcome.{Outcome}
-use Rattle.card.specs.First.{purchaseOf, firstTests, firstKind, firstPerformed, concluded}
+use Rattle.state.specs.declared.Answer.the-variants.{Given}
+use Rattle.state.specs.declared.Kind.{Kind}
+use Rattle.state.specs.declared.Kind.the-variants.{Aac, Tc, Arqc}
+use Rattle.state.specs.declared.State.{State}
+use Rattle.state.specs.declared.Outcome.{Outcome}
+use Rattle.first.specs.First.{purchaseOf, firstTests, firstKind, firstPerformed, concluded}
 use Rattle.card.specs.Card.{stepOf, refused}
 use Rattle.refusal.specs.declared.Refusal.{Refusal}
 use Rattle.demands.specs.Ledger.{Meter, accumulator, counter, IsMeter}

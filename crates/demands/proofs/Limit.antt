@@ -36,15 +36,15 @@ use Rattle.checks.specs.declared.History.{History}
 use Rattle.checks.specs.Checks.{bit, testsOf, decisionBits, meetsMask}
 use Rattle.checks.proofs.Bits.{bitOf, meets-at, house-order}
 use Rattle.checks.proofs.Exceeds.{accumulator-kept, counter-kept}
-use Rattle.card.specs.declared.Answer.the-variants.{Refused}
-use Rattle.card.specs.declared.Issuer.{Issuer}
-use Rattle.card.specs.declared.Kind.{Kind}
-use Rattle.card.specs.declared.Kind.the-variants.{Aac, Tc, Arqc}
-use Rattle.card.specs.declared.Pending.{Pending}
-use Rattle.card.specs.declared.State.{State}
-use Rattle.card.specs.declared.Outcome.{Outcome}
-use Rattle.card.specs.First.{decision, purchaseOf, firstKind, firstPerformed, concluded}
-use Rattle.card.specs.Second.{isUnable, unableIn, unableBits, unablePerformed, secondPerformed, closed}
+use Rattle.state.specs.declared.Answer.the-variants.{Refused}
+use Rattle.cryptogram.specs.declared.Issuer.{Issuer}
+use Rattle.state.specs.declared.Kind.{Kind}
+use Rattle.state.specs.declared.Kind.the-variants.{Aac, Tc, Arqc}
+use Rattle.state.specs.declared.Pending.{Pending}
+use Rattle.state.specs.declared.State.{State}
+use Rattle.state.specs.declared.Outcome.{Outcome}
+use Rattle.first.specs.First.{decision, purchaseOf, firstKind, firstPerformed, concluded}
+use Rattle.second.specs.Second.{isUnable, unableIn, unableBits, unablePerformed, secondPerformed, closed}
 use Rattle.card.specs.Card.{stepOf}
 use Rattle.demands.specs.Ledger.{Meter, accumulator, counter, IsMeter}
 use Rattle.demands.specs.Conversation.{Sitting, sat, next, valueOf}

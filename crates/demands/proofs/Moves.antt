@@ -18,7 +18,7 @@ use Rattle.meters.specs.declared.Purchase.{Purchase}
 use Rattle.meters.specs.Meters.{Entry, put, add, moved, counterCap, approval, counting, declining, putting, amountAt, countAt, worthAt, worthsOf, approved, limited, cleared}
 use Rattle.meters.specs.Meters.{declined as declinedValues}
 use Rattle.meters.proofs.Ledger.{worth-at, approved-amount, approved-count, declined-amount, declined-count, limited-amount, limited-count, cleared-amount, cleared-count}
-use Rattle.card.specs.Second.{updateByte, ordered as orderedValues}
+use Rattle.second.specs.Second.{updateByte, ordered as orderedValues}
 use Rattle.demands.specs.Ledger.{Meter, accumulator, counter, IsMeter}
 use Rattle.demands.specs.Conversation.{valueOf}
 use Rattle.demands.specs.Audit.{isActive, isAllowed, countsDeclines, upperOf, capOf, byEntry, converted, additionOf, counted, declined, ordered}

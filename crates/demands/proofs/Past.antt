@@ -23,14 +23,14 @@ use Rattle.meters.specs.declared.Purchase.{Purchase}
 use Rattle.meters.specs.declared.Worths.{Worths}
 use Rattle.checks.specs.declared.History.{History}
 use Rattle.checks.specs.Checks.{meetsMask}
-use Rattle.card.specs.declared.Issuer.{Issuer}
-use Rattle.card.specs.declared.Kind.{Kind}
-use Rattle.card.specs.declared.Kind.the-variants.{Aac, Tc, Arqc}
-use Rattle.card.specs.declared.Pending.{Pending}
-use Rattle.card.specs.declared.State.{State}
-use Rattle.card.specs.declared.Outcome.{Outcome}
-use Rattle.card.specs.First.{firstKind, firstPerformed, concluded, uncompleted}
-use Rattle.card.specs.Second.{isUnable, unableIn, unableBits, unablePerformed, verifiedPerformed, failedPerformed, absentPerformed, secondPerformed, closed, updateByte}
+use Rattle.cryptogram.specs.declared.Issuer.{Issuer}
+use Rattle.state.specs.declared.Kind.{Kind}
+use Rattle.state.specs.declared.Kind.the-variants.{Aac, Tc, Arqc}
+use Rattle.state.specs.declared.Pending.{Pending}
+use Rattle.state.specs.declared.State.{State}
+use Rattle.state.specs.declared.Outcome.{Outcome}
+use Rattle.first.specs.First.{firstKind, firstPerformed, concluded, uncompleted}
+use Rattle.second.specs.Second.{isUnable, unableIn, unableBits, unablePerformed, verifiedPerformed, failedPerformed, absentPerformed, secondPerformed, closed, updateByte}
 use Rattle.card.specs.Card.{freshState, refused, stepOf}
 use Rattle.demands.specs.Conversation.{Sitting, told, run, begin, sat, next}
 use Rattle.demands.specs.Past.{past, atcBy, Says}

@@ -14,7 +14,7 @@ use Rattle.iad.specs.declared.Cvr.{Cvr}
 use Rattle.checks.specs.declared.History.{History}
 use Rattle.checks.specs.Checks.{meetsMask}
 use Rattle.rules.specs.declared.Values.{Values}
-use Rattle.card.specs.declared.Issuer.{Issuer}
+use Rattle.cryptogram.specs.declared.Issuer.{Issuer}
 use Rattle.meters.specs.declared.Purchase.{Purchase}
 use Rattle.meters.specs.declared.Worths.{Worths}
 use Rattle.ranges.proofs.Accepted.{currency}
@@ -27,17 +27,17 @@ use Rattle.command.specs.declared.First.{First}
 use Rattle.command.specs.declared.Second.{Second}
 use Rattle.command.specs.declared.Command.{Command}
 use Rattle.command.specs.declared.Command.the-variants.{Start as StartCommand, First as FirstCommand, Second as SecondCommand}
-use Rattle.card.specs.declared.Answer.{Answer}
-use Rattle.card.specs.declared.Answer.the-variants.{Refused, Started, Given}
-use Rattle.card.specs.declared.Kind.{Kind}
-use Rattle.card.specs.declared.Kind.the-variants.{Aac, Tc, Arqc}
-use Rattle.card.specs.declared.Pending.{Pending}
-use Rattle.card.specs.declared.Phase.{Phase}
-use Rattle.card.specs.declared.Phase.the-variants.{Idle, Opened, Asked}
-use Rattle.card.specs.declared.State.{State}
-use Rattle.card.specs.declared.Outcome.{Outcome}
-use Rattle.card.specs.First.{firstPerformed, firstKind, concluded}
-use Rattle.card.specs.Second.{secondPerformed, isUnable, unableBits, unablePerformed, verifiedPerformed, failedPerformed, absentPerformed, closed}
+use Rattle.state.specs.declared.Answer.{Answer}
+use Rattle.state.specs.declared.Answer.the-variants.{Refused, Started, Given}
+use Rattle.state.specs.declared.Kind.{Kind}
+use Rattle.state.specs.declared.Kind.the-variants.{Aac, Tc, Arqc}
+use Rattle.state.specs.declared.Pending.{Pending}
+use Rattle.state.specs.declared.Phase.{Phase}
+use Rattle.state.specs.declared.Phase.the-variants.{Idle, Opened, Asked}
+use Rattle.state.specs.declared.State.{State}
+use Rattle.state.specs.declared.Outcome.{Outcome}
+use Rattle.first.specs.First.{firstPerformed, firstKind, concluded}
+use Rattle.second.specs.Second.{secondPerformed, isUnable, unableBits, unablePerformed, verifiedPerformed, failedPerformed, absentPerformed, closed}
 use Rattle.card.specs.Card.{Ruling, refuse, take, ruleStart, ruleOpening, ruleFirst, ruleSecond, carried, startPerformed, startStep, firstStep, secondStep, stepOf, answerNumber}
 use Rattle.demands.proofs.Found.{Holds, Known, known, below-four}
 use Rattle.demands.specs.Rows.{InSetup, StartRow, not-in-setup, used-up, FirstRow, no-start, type-three, above-max, not-digits, SecondRow, no-arqc, type-two, issuer-data, Applies, Numbered, done, refused}

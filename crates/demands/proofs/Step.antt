@@ -17,13 +17,13 @@ use Rattle.command.specs.declared.First.{First}
 use Rattle.command.specs.declared.Second.{Second}
 use Rattle.command.specs.declared.Command.{Command}
 use Rattle.command.specs.declared.Command.the-variants.{Start as StartCommand, First as FirstCommand, Second as SecondCommand}
-use Rattle.card.specs.declared.Pending.{Pending}
-use Rattle.card.specs.declared.Phase.{Phase}
-use Rattle.card.specs.declared.Phase.the-variants.{Idle, Opened, Asked}
-use Rattle.card.specs.declared.State.{State}
-use Rattle.card.specs.declared.Outcome.{Outcome}
-use Rattle.card.specs.First.{firstPerformed}
-use Rattle.card.specs.Second.{secondPerformed}
+use Rattle.state.specs.declared.Pending.{Pending}
+use Rattle.state.specs.declared.Phase.{Phase}
+use Rattle.state.specs.declared.Phase.the-variants.{Idle, Opened, Asked}
+use Rattle.state.specs.declared.State.{State}
+use Rattle.state.specs.declared.Outcome.{Outcome}
+use Rattle.first.specs.First.{firstPerformed}
+use Rattle.second.specs.Second.{secondPerformed}
 use Rattle.card.specs.Card.{refuse, take, ruleOpening, ruleFirst, ruleSecond, carried, refused, startPerformed, startStep, firstStep, secondStep, stepOf}
 use Rattle.demands.proofs.Found.{Holds, Known, known}
 

@@ -29,16 +29,16 @@ use Rattle.meters.specs.Meters.{Entry, moved, worthsOf, approved}
 use Rattle.meters.specs.Meters.{declined as declinedValues}
 use Rattle.checks.specs.declared.History.{History}
 use Rattle.checks.specs.Checks.{meetsMask}
-use Rattle.card.specs.declared.Issuer.{Issuer}
-use Rattle.card.specs.declared.Kind.{Kind}
-use Rattle.card.specs.declared.Kind.the-variants.{Aac, Tc, Arqc}
-use Rattle.card.specs.declared.Pending.{Pending}
-use Rattle.card.specs.declared.Phase.{Phase}
-use Rattle.card.specs.declared.Phase.the-variants.{Idle, Opened, Asked}
-use Rattle.card.specs.declared.State.{State}
-use Rattle.card.specs.declared.Outcome.{Outcome}
-use Rattle.card.specs.First.{purchaseOf, firstKind, firstPerformed, concluded}
-use Rattle.card.specs.Second.{isUnable, unableBits, unablePerformed, verifiedPerformed, failedPerformed, absentPerformed, secondPerformed, closed, ordered as orderedValues, updateByte}
+use Rattle.cryptogram.specs.declared.Issuer.{Issuer}
+use Rattle.state.specs.declared.Kind.{Kind}
+use Rattle.state.specs.declared.Kind.the-variants.{Aac, Tc, Arqc}
+use Rattle.state.specs.declared.Pending.{Pending}
+use Rattle.state.specs.declared.Phase.{Phase}
+use Rattle.state.specs.declared.Phase.the-variants.{Idle, Opened, Asked}
+use Rattle.state.specs.declared.State.{State}
+use Rattle.state.specs.declared.Outcome.{Outcome}
+use Rattle.first.specs.First.{purchaseOf, firstKind, firstPerformed, concluded}
+use Rattle.second.specs.Second.{isUnable, unableBits, unablePerformed, verifiedPerformed, failedPerformed, absentPerformed, secondPerformed, closed, ordered as orderedValues, updateByte}
 use Rattle.card.specs.Card.{startPerformed, freshState}
 use Rattle.card.specs.Card.{refused as refusal}
 use Rattle.demands.specs.Ledger.{Meter, accumulator, counter, IsMeter, owed}

@@ -18,13 +18,13 @@ use Rattle.meters.specs.Meters.{worthsOf}
 use Rattle.checks.specs.declared.History.{History}
 use Rattle.checks.specs.Checks.{bit, any, accumulatorExceeds, counterExceeds, accumulatorsLower, accumulatorsUpper, countersLower, countersUpper, testsOf}
 use Rattle.checks.proofs.Bits.{any-lower, any-upper}
-use Rattle.card.specs.declared.Issuer.{Issuer}
-use Rattle.card.specs.declared.Kind.{Kind}
-use Rattle.card.specs.declared.Kind.the-variants.{Aac, Tc, Arqc}
-use Rattle.card.specs.declared.Later.{Later}
-use Rattle.card.specs.Cryptogram.{kindCode, laterCode, verification, sentIad}
-use Rattle.card.specs.Cryptogram.{sentOf as cardSent}
-use Rattle.card.specs.First.{limitsByte}
+use Rattle.cryptogram.specs.declared.Issuer.{Issuer}
+use Rattle.state.specs.declared.Kind.{Kind}
+use Rattle.state.specs.declared.Kind.the-variants.{Aac, Tc, Arqc}
+use Rattle.cryptogram.specs.declared.Later.{Later}
+use Rattle.cryptogram.specs.Cryptogram.{kindCode, laterCode, verification, sentIad}
+use Rattle.cryptogram.specs.Cryptogram.{sentOf as cardSent}
+use Rattle.first.specs.First.{limitsByte}
 use Rattle.demands.specs.Ledger.{Meter, accumulator, counter, IsMeter}
 use Rattle.demands.specs.Conversation.{valueOf}
 use Rattle.demands.specs.Decision.{aboveLower, aboveUpper}

@@ -16,9 +16,9 @@ use Rattle.money.specs.Money.{rateFor, scaled, convertOf}
 use Rattle.iad.specs.Iad.{pairsOf, iadBytes}
 use Rattle.meters.specs.Meters.{worth, worthsOf, approved, declined}
 use Rattle.checks.specs.Checks.{accumulatorsLower, accumulatorsUpper, countersLower, countersUpper, maximumExceeded, testsOf, decisionBits}
-use Rattle.card.specs.Cryptogram.{verification, sentIad}
-use Rattle.card.specs.First.{decision, limitsByte, concluded, firstPerformed}
-use Rattle.card.specs.Second.{closed, unablePerformed, secondPerformed}
+use Rattle.cryptogram.specs.Cryptogram.{verification, sentIad}
+use Rattle.first.specs.First.{decision, limitsByte, concluded, firstPerformed}
+use Rattle.second.specs.Second.{closed, unablePerformed, secondPerformed}
 use Rattle.card.specs.Card.{freshState, startStep, firstStep, secondStep, stepOf}
 use Rattle.setup.proofs.Faithful.{Bytes, faithful}
 use Rattle.command.specs.declared.Command.{Command}

@@ -10,9 +10,9 @@ use Rattle.wire.specs.Wire.{byte, number}
 use Rattle.money.specs.Money.{max}
 use Rattle.command.specs.declared.Command.{Command}
 use Rattle.command.specs.declared.Command.the-variants.{Start as StartCommand, First as FirstCommand, Second as SecondCommand}
-use Rattle.card.specs.declared.Answer.{Answer}
-use Rattle.card.specs.declared.Answer.the-variants.{Refused, Started, Given}
-use Rattle.card.specs.declared.Kind.the-variants.{Aac, Tc, Arqc}
+use Rattle.state.specs.declared.Answer.{Answer}
+use Rattle.state.specs.declared.Answer.the-variants.{Refused, Started, Given}
+use Rattle.state.specs.declared.Kind.the-variants.{Aac, Tc, Arqc}
 use Rattle.meters.specs.Meters.{Entry, put, add}
 use Rattle.demands.specs.Ledger.{Meter, accumulator, counter, owed}
 use Rattle.demands.specs.Conversation.{Exchange}

@@ -6,9 +6,9 @@ use Rattle.rules.specs.Rules.{Rules, rulesOf}
 use Rattle.setup.specs.Setup.{readSetup, wordsAfter}
 use Rattle.meters.specs.Meters.{amountAt, countAt}
 use Rattle.command.specs.declared.Command.{Command}
-use Rattle.card.specs.declared.Answer.{Answer}
-use Rattle.card.specs.declared.State.{State}
-use Rattle.card.specs.declared.Outcome.{Outcome}
+use Rattle.state.specs.declared.Answer.{Answer}
+use Rattle.state.specs.declared.State.{State}
+use Rattle.state.specs.declared.Outcome.{Outcome}
 use Rattle.card.specs.Card.{stepOf, freshState}
 use Rattle.demands.specs.Ledger.{Meter, accumulator, counter}
 

@@ -8,8 +8,8 @@ use lib.Dec.{ltb, eqb}
 use Rattle.wire.specs.Wire.{byte, number}
 use Rattle.checks.specs.declared.History.{History}
 use Rattle.command.specs.declared.First.{First}
-use Rattle.card.specs.declared.Kind.{Kind}
-use Rattle.card.specs.declared.Kind.the-variants.{Aac, Tc, Arqc}
+use Rattle.state.specs.declared.Kind.{Kind}
+use Rattle.state.specs.declared.Kind.the-variants.{Aac, Tc, Arqc}
 use Rattle.demands.specs.Ledger.{Meter, accumulator, counter, since}
 use Rattle.demands.specs.Audit.{isOn, ruleAt, isActive, isIncluded, upperOf, converted, additionOf}
 

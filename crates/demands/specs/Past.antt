@@ -10,9 +10,9 @@ use Rattle.command.specs.declared.Second.{Second}
 use Rattle.command.specs.declared.Command.{Command}
 use Rattle.command.specs.declared.Command.the-variants.{Start as StartCommand, First as FirstCommand, Second as SecondCommand}
 use Rattle.checks.specs.declared.History.{History}
-use Rattle.card.specs.declared.Answer.{Answer}
-use Rattle.card.specs.declared.Answer.the-variants.{Refused, Started, Given}
-use Rattle.card.specs.declared.Kind.the-variants.{Aac, Tc, Arqc}
+use Rattle.state.specs.declared.Answer.{Answer}
+use Rattle.state.specs.declared.Answer.the-variants.{Refused, Started, Given}
+use Rattle.state.specs.declared.Kind.the-variants.{Aac, Tc, Arqc}
 use Rattle.demands.specs.Conversation.{Exchange}
 use Rattle.demands.specs.Audit.{isOn, isAccepted, couldNotGoOnline}
 

@@ -6,8 +6,8 @@ use Rattle.refusal.specs.Refusal.{refusalNumber}
 use Rattle.iad.specs.Iad.{iadBytes}
 use Rattle.command.specs.declared.Command.{Command}
 use Rattle.command.specs.declared.Command.the-variants.{Start as StartCommand, First as FirstCommand, Second as SecondCommand}
-use Rattle.card.specs.declared.Answer.{Answer}
-use Rattle.card.specs.declared.Answer.the-variants.{Refused, Started, Given}
+use Rattle.state.specs.declared.Answer.{Answer}
+use Rattle.state.specs.declared.Answer.the-variants.{Refused, Started, Given}
 use Rattle.card.specs.Card.{cidOf}
 use Rattle.demands.specs.Conversation.{Exchange}
 

@@ -10,9 +10,9 @@ use Rattle.command.specs.declared.First.{First}
 use Rattle.command.specs.declared.Second.{Second}
 use Rattle.command.specs.declared.Command.{Command}
 use Rattle.command.specs.declared.Command.the-variants.{Start as StartCommand, First as FirstCommand, Second as SecondCommand}
-use Rattle.card.specs.declared.Phase.{Phase}
-use Rattle.card.specs.declared.Phase.the-variants.{Idle, Opened, Asked}
-use Rattle.card.specs.declared.State.{State}
+use Rattle.state.specs.declared.Phase.{Phase}
+use Rattle.state.specs.declared.Phase.the-variants.{Idle, Opened, Asked}
+use Rattle.state.specs.declared.State.{State}
 
 -- a profile of this number is in the set-up: the numbers are 1 to 124, and 0 stands for one that is not there
 pub record InSetup (rules : Rules) (number : ℕ) : Type 0 where

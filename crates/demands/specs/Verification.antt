@@ -11,8 +11,8 @@ use Rattle.command.specs.declared.First.{First}
 use Rattle.command.specs.declared.Second.{Second}
 use Rattle.checks.specs.declared.History.{History}
 use Rattle.checks.specs.Checks.{bit}
-use Rattle.card.specs.declared.Kind.{Kind}
-use Rattle.card.specs.declared.Kind.the-variants.{Aac, Tc, Arqc}
+use Rattle.state.specs.declared.Kind.{Kind}
+use Rattle.state.specs.declared.Kind.the-variants.{Aac, Tc, Arqc}
 use Rattle.demands.specs.Ledger.{Meter, accumulator, counter}
 use Rattle.demands.specs.Conversation.{Exchange}
 use Rattle.demands.specs.Audit.{isOn, placeOf, named, spent, spentIn, audited}

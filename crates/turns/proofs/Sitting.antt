@@ -15,7 +15,7 @@ use Rattle.paper.proofs.Walk.{inside}
 use Rattle.command.specs.declared.ReadCommand.{ReadCommand}
 use Rattle.command.specs.declared.ReadCommand.the-variants.{Taken, Refused}
 use Rattle.command.specs.Command.{commandOf}
-use Rattle.card.specs.declared.State.{State}
+use Rattle.state.specs.declared.State.{State}
 use Rattle.turns.specs.declared.Pace.{Pace}
 use Rattle.turns.specs.declared.Pace.the-variants.{On, Over, NoRoom}
 use Rattle.turns.specs.Turns.{commandTold, recordTold, nextTold, turnTold}

@@ -4,7 +4,7 @@ use mathlib.Core.List.{List, [], _∷_}
 use lib.ListN.{length}
 use Rattle.rules.specs.Rules.{Rules, rulesOf}
 use Rattle.paper.specs.Paper.{openPaper}
-use Rattle.card.specs.declared.State.{State}
+use Rattle.state.specs.declared.State.{State}
 use Rattle.turns.specs.declared.Pace.{Pace}
 use Rattle.turns.specs.declared.Pace.the-variants.{On, Over, NoRoom}
 use Rattle.turns.specs.Turns.{turnTold, begunTold, openedWords}

@@ -20,9 +20,9 @@ use Rattle.paper.specs.Walk.{part}
 use Rattle.command.specs.declared.ReadCommand.{ReadCommand}
 use Rattle.command.specs.declared.ReadCommand.the-variants.{Taken, Refused as ReadRefused}
 use Rattle.command.specs.Command.{commandOf}
-use Rattle.card.specs.declared.Answer.{Answer}
-use Rattle.card.specs.declared.Answer.the-variants.{Refused, Started, Given}
-use Rattle.card.specs.declared.State.{State}
+use Rattle.state.specs.declared.Answer.{Answer}
+use Rattle.state.specs.declared.Answer.the-variants.{Refused, Started, Given}
+use Rattle.state.specs.declared.State.{State}
 use Rattle.card.specs.Card.{stepOf, freshState, cidOf}
 use Rattle.lines.specs.Lines.{longest, refusalLine, startLine, cryptogramLine, placed, placeBehind}
 use Rattle.turns.specs.declared.Pace.{Pace}

@@ -6,15 +6,15 @@ ghost use Rattle.lines.specs.Lines.{placed, placeBehind};
 ghost use Rattle.card.specs.Card.{cidOf};
 ghost use Rattle.setup.specs.Setup.{setupNumber, wordsAfter};
 ghost use Rattle.turns.specs.Turns.{hasRoom, answerLine, Written, recordTold, turnTold, turnOf, paceOf, setupTold, begunTold, beginning, wordsBegun};
-use card::Answer;
-use card::Kind;
-use card::State;
 use command::ReadCommand;
 use paper::Next;
 use paper::Opened;
 use refusal::Refusal;
 use rules::Words;
 use setup::SetupAnswer;
+use state::Answer;
+use state::Kind;
+use state::State;
 
 // The sitting goes on, is over, or waits until a line has room.
 pub enum Pace {

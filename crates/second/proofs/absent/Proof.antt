@@ -1,0 +1,11 @@
+use borrow.Author.Needs.{needs}
+use Rattle.second.specs.Second.{absentPerformed}
+use Rattle.second.proofs.absent.Statement.{statement}
+use Rattle.second.proofs.absent.Tie as tie
+
+returns : tie.Need-returns
+unfolding absentPerformed
+returns c = simp (c .close .ensures, c .before .before .is-required .ensures)
+
+pub absent-spec : {M : Type 1} → statement M
+absent-spec = tie.close (tie.spec (search needs) (search needs) returns)

@@ -1,0 +1,122 @@
+-- Second GENERATE AC (document 01, "Second: the answer").
+use Prim.Native.Nat.{ℕ, _/_, _%_}
+use mathlib.Core.Bool.{Bool, true, false, cond, not, _||_, _&&_}
+use lib.Dec.{eqb, leb}
+use Rattle.rules.specs.declared.Place.{Place}
+use Rattle.rules.specs.declared.Values.{Values}
+use Rattle.rules.specs.Rules.{Rules, profileAt}
+use Rattle.meters.specs.declared.Purchase.{Purchase}
+use Rattle.meters.specs.Meters.{worthsOf, approved, declined, limited, cleared}
+use Rattle.checks.specs.declared.History.{History}
+use Rattle.checks.specs.Checks.{testsOf, decisionBits, meetsMask}
+use Rattle.command.specs.declared.Second.{Second}
+use Rattle.state.specs.declared.Answer.the-variants.{Given}
+use Rattle.cryptogram.specs.declared.Issuer.{Issuer}
+use Rattle.state.specs.declared.Kind.{Kind}
+use Rattle.state.specs.declared.Kind.the-variants.{Aac, Tc, Arqc}
+use Rattle.cryptogram.specs.declared.Later.{Later}
+use Rattle.cryptogram.specs.declared.Later.the-variants.{Aac as LaterAac, Tc as LaterTc}
+use Rattle.state.specs.declared.Pending.{Pending}
+use Rattle.state.specs.declared.Phase.the-variants.{Idle}
+use Rattle.state.specs.declared.State.{State}
+use Rattle.state.specs.declared.Outcome.{Outcome}
+use Rattle.cryptogram.specs.Cryptogram.{verification, issuerBefore, sentIad}
+
+abbrev pub closingKind : Bool → Kind
+closingKind true = Tc
+closingKind false = Aac
+
+abbrev pub laterKind : Bool → Later
+laterKind true = LaterTc
+laterKind false = LaterAac
+
+-- closes the transaction; the CVR is First's but for second type, b2 and b1 of byte 1, and b1 of byte 4
+unfoldable pub closed : Rules → ℕ → Pending → Bool → Values → History → Issuer → Outcome
+closed rules atc pending approves values history issuer =
+    record {
+      state = record { values = values; phase = Idle; atc = atc; history = history };
+      answer =
+          Given (closingKind approves) atc
+          (sentIad rules (pending .place) values
+          (verification rules (pending .history) (pending .limits) Arqc (laterKind approves) issuer));
+    }
+
+-- Y3 (5933) or Z3 (5A33)
+abbrev pub isUnable : ℕ → Bool
+isUnable code = eqb code 0x5933 || eqb code 0x5A33
+
+abbrev pub unableIn : History → History
+unableIn history =
+    record {
+      uncompleted = history .uncompleted;
+      online = history .online;
+      failed = history .failed;
+      unable = true;
+      missing = history .missing;
+    }
+
+-- First's ADR with bit 3 set, and the MTA, accumulator and counter checks repeated
+abbrev pub unableBits : Rules → State → Pending → ℕ
+unableBits rules state pending =
+    decisionBits (unableIn (pending .history))
+    (testsOf rules (pending .place) (state .values) (pending .purchase) (worthsOf rules (pending .purchase)))
+
+abbrev pub issuerUnable : History → Issuer
+issuerUnable history = record { unperformed = true; failed = history .failed; unable = true }
+
+-- AAC if requested or if ADR meets Default; else TC, an offline approval
+unfoldable pub unablePerformed : Rules → State → ℕ → Pending → Outcome
+unablePerformed rules state requested pending =
+    let place = pending .place in
+    cond (eqb requested 0 || meetsMask (unableBits rules state pending) (profileAt rules place .masks .default))
+    (closed rules (state .atc) pending false (declined rules place (state .values)) (unableIn (state .history)) (issuerUnable (pending .history)))
+    (closed rules (state .atc) pending true (approved rules place (state .values) (worthsOf rules (pending .purchase))) (unableIn (state .history))
+    (issuerUnable (pending .history)))
+
+-- CSU byte 2
+abbrev pub updateByte : ℕ → ℕ
+updateByte csu = csu / 65536 % 256
+
+-- CSU byte 2 b2-b1: 00 nothing, 01 upper limits, 10 zero, 11 add as in an offline approval
+unfoldable pub ordered : Rules → Place → Values → Purchase → ℕ → Values
+ordered rules place values purchase update =
+    cond (eqb (update % 4) 0) values
+    (cond (eqb (update % 4) 1) (limited rules place values)
+    (cond (eqb (update % 4) 2) (cleared rules place values) (approved rules place values (worthsOf rules purchase))))
+
+-- verified: history bits 0, 2, 3, 4 are cleared, "go online next" becomes CSU byte 2 b4; TC if requested and b8 is set
+unfoldable pub verifiedPerformed : Rules → State → Second → Pending → Outcome
+verifiedPerformed rules state second pending =
+    let update = updateByte (second .csu) in
+    closed rules (state .atc) pending (eqb (second .requested) 1 && leb 128 update)
+    (ordered rules (pending .place) (state .values) (pending .purchase) update)
+    (record { uncompleted = false; online = eqb (update / 8 % 2) 1; failed = false; unable = false; missing = false })
+    (record { unperformed = false; failed = false; unable = false })
+
+-- failed: history bit 2 is set; AAC
+unfoldable pub failedPerformed : Rules → State → Pending → Outcome
+failedPerformed rules state pending =
+    let history = state .history in
+    closed rules (state .atc) pending false (state .values)
+    (record { uncompleted = history .uncompleted; online = history .online; failed = true; unable = history .unable; missing = history .missing })
+    (record { unperformed = issuerBefore (pending .history) .unperformed; failed = true; unable = false })
+
+-- absent: history bit 4 is set; TC if requested and authentication isn't required; when it isn't required, bit 0 is cleared
+unfoldable pub absentPerformed : Rules → State → ℕ → Pending → Outcome
+absentPerformed rules state requested pending =
+    let history = state .history in
+    closed rules (state .atc) pending (eqb requested 1 && not (rules .required)) (state .values)
+    (record {
+      uncompleted = history .uncompleted && rules .required;
+      online = history .online;
+      failed = history .failed;
+      unable = history .unable;
+      missing = true;
+    })
+    (record { unperformed = true; failed = pending .history .failed; unable = false })
+
+unfoldable pub secondPerformed : Rules → State → Second → Pending → Outcome
+secondPerformed rules state second pending =
+    cond (isUnable (second .code)) (unablePerformed rules state (second .requested) pending)
+    (cond (eqb (second .issuer) 1) (verifiedPerformed rules state second pending)
+    (cond (eqb (second .issuer) 2) (failedPerformed rules state pending) (absentPerformed rules state (second .requested) pending)))

@@ -1,0 +1,215 @@
+// Second GENERATE AC.
+ghost use mathlib.Core.Path.{_≡_};
+ghost use Rattle.rules.specs.Rules.{rulesOf};
+ghost use Rattle.second.specs.Second.{isUnable, closingKind, laterKind, closed, ordered, unablePerformed, verifiedPerformed, failedPerformed, absentPerformed, secondPerformed};
+use checks::History;
+use command::Second;
+use cryptogram::Issuer;
+use cryptogram::Later;
+use meters::Purchase;
+use rules::Place;
+use rules::Values;
+use rules::Words;
+use state::Answer;
+use state::Kind;
+use state::Outcome;
+use state::Pending;
+use state::Phase;
+use state::State;
+
+fn closing_kind(approves: bool) -> Kind
+    ensures { λ r. ⌜ r ≡ closingKind approves ⌝ }
+{
+    if approves { Kind::Tc } else { Kind::Aac }
+}
+
+fn later_kind(approves: bool) -> Later
+    ensures { λ r. ⌜ r ≡ laterKind approves ⌝ }
+{
+    if approves { Later::Tc } else { Later::Aac }
+}
+
+// Closes the transaction with a TC or an AAC.
+fn close(
+    words: &Words,
+    atc: u16,
+    pending: Pending,
+    approves: bool,
+    values: Values,
+    history: History,
+    issuer: Issuer,
+) -> Outcome
+    ensures { λ r. ⌜ r ≡ closed (rulesOf (now (words .entry))) atc pending approves values history issuer ⌝ }
+{
+    let place = pending.place;
+    let before = pending.history;
+    let cvr = cryptogram::verify(
+        words,
+        before,
+        pending.limits,
+        Kind::Arqc,
+        later_kind(approves),
+        issuer,
+    );
+    let iad = cryptogram::send(words, place, values, cvr);
+    let kind = closing_kind(approves);
+    Outcome {
+        state: State {
+            values,
+            phase: Phase::Idle,
+            atc,
+            history,
+        },
+        answer: Answer::Given { kind, atc, iad },
+    }
+}
+
+// What the issuer orders for the values: CSU byte 2, b2-b1.
+fn order(words: &Words, place: Place, values: Values, purchase: Purchase, update: u8) -> Values
+    ensures { λ r. ⌜ r ≡ ordered (rulesOf (now (words .entry))) place values purchase update ⌝ }
+{
+    let what = update % 4;
+    if what == 0 {
+        return values;
+    }
+    if what == 1 {
+        return meters::set_to_limits(words, place, values);
+    }
+    if what == 2 {
+        return meters::reset(words, place, values);
+    }
+    meters::approve(words, place, values, meters::worths_of(words, purchase))
+}
+
+// Response code Y3 or Z3.
+fn is_unable(code: u16) -> bool
+    ensures { λ r. ⌜ r ≡ isUnable code ⌝ }
+{
+    (code == 0x5933) | (code == 0x5A33)
+}
+
+// Unable to go online.
+fn unable(words: &Words, state: State, pending: Pending, requested: u8) -> Outcome
+    ensures { λ r. ⌜ r ≡ unablePerformed (rulesOf (now (words .entry))) state requested pending ⌝ }
+{
+    let values = state.values;
+    let place = pending.place;
+    let purchase = pending.purchase;
+    let before = pending.history;
+    let present = state.history;
+    let history = History {
+        uncompleted: present.uncompleted,
+        online: present.online,
+        failed: present.failed,
+        unable: true,
+        missing: present.missing,
+    };
+    let shown = History {
+        uncompleted: before.uncompleted,
+        online: before.online,
+        failed: before.failed,
+        unable: true,
+        missing: before.missing,
+    };
+    let worths = meters::worths_of(words, purchase);
+    let tests = checks::test(words, place, values, purchase, worths);
+    let adr = checks::decision_bits(shown, tests);
+    let issuer = Issuer {
+        unperformed: true,
+        failed: before.failed,
+        unable: true,
+    };
+    let masks = rules::profile_masks(words, place);
+    if (requested == 0) | checks::meets(adr, masks.default) {
+        let values = meters::decline(words, place, values);
+        return close(words, state.atc, pending, false, values, history, issuer);
+    }
+    let values = meters::approve(words, place, values, worths);
+    close(words, state.atc, pending, true, values, history, issuer)
+}
+
+// The issuer's data verified.
+fn verified(words: &Words, state: State, pending: Pending, second: Second) -> Outcome
+    ensures { λ r. ⌜ r ≡ verifiedPerformed (rulesOf (now (words .entry))) state second pending ⌝ }
+{
+    let place = pending.place;
+    let purchase = pending.purchase;
+    let values = state.values;
+    let update = (second.csu / 65_536 % 256) as u8;
+    let history = History {
+        uncompleted: false,
+        online: update / 8 % 2 == 1,
+        failed: false,
+        unable: false,
+        missing: false,
+    };
+    let values = order(words, place, values, purchase, update);
+    let issuer = Issuer {
+        unperformed: false,
+        failed: false,
+        unable: false,
+    };
+    let approved = (second.requested == 1) & (128 <= update);
+    close(words, state.atc, pending, approved, values, history, issuer)
+}
+
+// The issuer's data failed.
+fn failed(words: &Words, state: State, pending: Pending) -> Outcome
+    ensures { λ r. ⌜ r ≡ failedPerformed (rulesOf (now (words .entry))) state pending ⌝ }
+{
+    let values = state.values;
+    let present = state.history;
+    let before = pending.history;
+    let history = History {
+        uncompleted: present.uncompleted,
+        online: present.online,
+        failed: true,
+        unable: present.unable,
+        missing: present.missing,
+    };
+    let issuer = Issuer {
+        unperformed: before.unable | before.missing,
+        failed: true,
+        unable: false,
+    };
+    close(words, state.atc, pending, false, values, history, issuer)
+}
+
+// The issuer's data absent.
+fn absent(words: &Words, state: State, pending: Pending, requested: u8) -> Outcome
+    ensures { λ r. ⌜ r ≡ absentPerformed (rulesOf (now (words .entry))) state requested pending ⌝ }
+{
+    let values = state.values;
+    let present = state.history;
+    let before = pending.history;
+    let required = rules::is_required(words);
+    let history = History {
+        uncompleted: present.uncompleted & required,
+        online: present.online,
+        failed: present.failed,
+        unable: present.unable,
+        missing: true,
+    };
+    let issuer = Issuer {
+        unperformed: true,
+        failed: before.failed,
+        unable: false,
+    };
+    let approved = (requested == 1) & !required;
+    close(words, state.atc, pending, approved, values, history, issuer)
+}
+
+pub fn perform(words: &Words, state: State, pending: Pending, second: Second) -> Outcome
+    ensures { λ r. ⌜ r ≡ secondPerformed (rulesOf (now (words .entry))) state second pending ⌝ }
+{
+    if is_unable(second.code) {
+        return unable(words, state, pending, second.requested);
+    }
+    if second.issuer == 1 {
+        return verified(words, state, pending, second);
+    }
+    if second.issuer == 2 {
+        return failed(words, state, pending);
+    }
+    absent(words, state, pending, second.requested)
+}
