@@ -14,3 +14,4 @@ pub mod First
 pub mod Verification
 pub mod Answers
 pub mod Edges
+pub mod Samples

@@ -1,0 +1,144 @@
+-- The statements of `demands`, computed for a few sittings: what a card holds and what the auditor finds, value by value. They follow
+-- from `total`, `history`, `atc` and `first-answers`; said apart, they show of a wrong card that the statement itself is false of it.
+-- Assumes nothing.
+use mathlib.Core.Bool.{Bool, true, false, not, _&&_}
+use mathlib.Core.List.{List, [], _∷_, _++_}
+use Prim.Native.Nat.{ℕ, _*_}
+use lib.Dec.{T, eqb}
+use lib.ListN.{replicate}
+use Rattle.wire.specs.Wire.{number}
+use Rattle.ranges.specs.Ranges.{isSetup, hasLength, isHead, areAccumulators, isAccumulator, areProfiles, isProfileOrAbsent, isProfile, areMasks, isMaximumAmount, areAccumulatorRules, isAccumulatorRule, areCounterRules, areSent, areNumbersApart, profileNumber, areConversions, isConversionOrAbsent, isConversion, conversionPair, arePairsApart}
+use Rattle.rules.specs.Rules.{findProfile}
+use Rattle.setup.specs.Setup.{rateIn, accumulatorIn, counterIn, profileIn, rulesIn, freshIn, readSetup}
+use Rattle.money.specs.Money.{rateFor, scaled, convertOf}
+use Rattle.meters.specs.Meters.{worth, worthsOf, approved, declined, limited, cleared}
+use Rattle.checks.specs.declared.History.{History}
+use Rattle.checks.specs.Checks.{accumulatorsLower, accumulatorsUpper, countersLower, countersUpper, maximumExceeded, testsOf, decisionBits}
+use Rattle.card.specs.declared.Answer.{Answer}
+use Rattle.card.specs.declared.Answer.the-variants.{Refused, Started, Given}
+use Rattle.card.specs.declared.Kind.{Kind}
+use Rattle.card.specs.declared.Kind.the-variants.{Aac, Tc, Arqc}
+use Rattle.card.specs.Cryptogram.{kindCode, verification, sentIad}
+use Rattle.card.specs.First.{decision, limitsByte, concluded, firstPerformed}
+use Rattle.card.specs.Second.{closed, ordered, unablePerformed, verifiedPerformed, failedPerformed, absentPerformed, secondPerformed}
+use Rattle.card.specs.Card.{freshState, startStep, firstStep, secondStep, stepOf}
+use Rattle.command.specs.declared.Command.{Command}
+use Rattle.command.specs.declared.Command.the-variants.{Start as StartCommand, First as FirstCommand, Second as SecondCommand}
+use Rattle.demands.specs.Ledger.{Meter, accumulator, counter, owed}
+use Rattle.demands.specs.Conversation.{Sitting, run, begin, valueOf}
+use Rattle.demands.specs.Audit.{placeOf, converted, named, spent, spentIn, ledger, audited}
+use Rattle.demands.specs.Past.{past, atcBy}
+
+abbrev zeros : ℕ → List ℕ
+zeros n = replicate n 0
+
+-- ---- set-ups
+
+-- p profiles, c conversions, ATC 0; accumulators in 0978 from a number below 65536, in 0840 from 0, in 0978 from 7
+abbrev head : (p c high low : ℕ) → List ℕ
+head p c high low =
+    1 ∷ 3 ∷ 0 ∷ p ∷ c ∷ zeros 3 ++ 0x09 ∷ 0x78 ∷ zeros 6 ++ high ∷ low ∷ 0x08 ∷ 0x40 ∷ zeros 8 ++ 0x09 ∷ 0x78 ∷ zeros 7 ++ 7 ∷ zeros 14
+
+-- switches, lower and upper, each below 65536
+abbrev rule : (switches high low high' low' : ℕ) → List ℕ
+rule switches high low high' low' = switches ∷ zeros 6 ++ high ∷ low ∷ zeros 6 ++ high' ∷ low' ∷ []
+
+-- masks 0, MTA off; accumulator 1 by its switches, 100 and 5000; 2 counts, 100 and 5000; 3 is active and doesn't, 8 and 9; counter 1 counts
+abbrev profile : (n switches : ℕ) → List ℕ
+profile n switches =
+    n ∷ zeros 23 ++ rule switches 0 100 0x13 0x88 ++ rule 3 0 100 0x13 0x88 ++ rule 5 0 8 0 9 ++ zeros 17 ++ 3 ∷ 255 ∷ 255 ∷ zeros 12
+
+-- profile 2 leaves accumulator 1 out; 0978 to 0840 by 2
+unfoldable pub counting : List ℕ
+counting = head 2 1 0 0 ++ profile 1 3 ++ profile 2 0 ++ 0x09 ∷ 0x78 ∷ 0x08 ∷ 0x40 ∷ 0 ∷ 2 ∷ 9 ∷ []
+
+-- Online accumulator 1's lower limit, 1000; Decline MTA, which is off, and accumulator 1's upper limit, 5000; no conversion
+unfoldable pub limiting : (high low : ℕ) → List ℕ
+limiting high low =
+    head 1 0 high low ++ 1 ∷ zeros 3 ++ 0x40 ∷ 0 ∷ 0 ∷ 0x04 ∷ 0x20 ∷ zeros 15 ++ rule 1 0x03 0xE8 0x13 0x88 ++ zeros 66
+
+-- ---- sittings
+
+abbrev start : ℕ → Command
+start n = StartCommand (record { profile = n })
+
+-- requested 1 TC, 2 ARQC
+abbrev first : (amount currency requested : ℕ) → Command
+first amount currency requested =
+    FirstCommand (record { amount = record { 0 = amount }; currency = currency; requested = requested; terminal = 0x22 })
+
+-- TC requested, the issuer's data verified, CSU byte 2
+abbrev second : ℕ → Command
+second update = SecondCommand (record { csu = update * 65536; code = 0x3030; requested = 1; issuer = 1 })
+
+-- approvals, in one of them nothing of an ARQC that the issuer approves, and one after a Start that another Start drops
+unfoldable pub approvals : List Command
+approvals =
+    start 1 ∷ first 100 0x0978 1 ∷ start 1 ∷ first 30 0x0978 2 ∷ second 0x80 ∷ start 1 ∷ first 10 0x0978 1
+    ∷ start 2
+    ∷ start 1
+    ∷ first 1 0x0978 1
+    ∷ []
+
+-- and then the upper limits from an issuer that declines; and then zero
+unfoldable pub limits : List Command
+limits = approvals ++ start 1 ∷ first 1 0x0978 2 ∷ second 0x01 ∷ []
+
+unfoldable pub resets : List Command
+resets = limits ++ start 1 ∷ first 1 0x0978 2 ∷ second 0x82 ∷ []
+
+-- ---- what is compared
+
+abbrev same : Bool → Bool → Bool
+same true b = b
+same false b = not b
+
+abbrev sameHistory : History → History → Bool
+sameHistory a b =
+    same (a .uncompleted) (b .uncompleted) && same (a .online) (b .online) && same (a .failed) (b .failed)
+    && same (a .unable) (b .unable)
+    && same (a .missing) (b .missing)
+
+abbrev holds : List ℕ → Sitting → Meter → Bool
+holds s sitting meter = eqb (valueOf (sitting .state .values) meter) (audited s (sitting .log) meter)
+
+-- `total`, `history` and `atc` of a card after a list of commands
+unfoldable pub agrees : List ℕ → List Command → Bool
+agrees s commands =
+    let sitting = run (rulesIn s) (begin s) commands in
+    holds s sitting (accumulator 0) && holds s sitting (accumulator 1) && holds s sitting (accumulator 2) && holds s sitting (counter 0)
+    && sameHistory (sitting .state .history) (past s (sitting .log))
+    && eqb (sitting .state .atc) (atcBy s (sitting .log))
+
+abbrev isOf : Answer → Kind → Bool
+isOf (Refused refusal) kind = false
+isOf (Started atc) kind = false
+isOf (Given given atc iad) kind = eqb (kindCode given) (kindCode kind)
+
+-- what First answers, requested a TC of 1 in a currency, with accumulator 1 from a number
+unfoldable pub answers : (high low currency : ℕ) → Kind → Bool
+answers high low currency kind =
+    let s = limiting high low in
+    isOf (stepOf (rulesIn s) (run (rulesIn s) (begin s) (start 1 ∷ []) .state) (first 1 currency 1) .answer) kind
+
+pub record Samples : Type 0 where
+  pub accepted : T (isSetup counting && isSetup (limiting 0x07 0xD0) && isSetup (limiting 0x17 0x70))
+  pub approvals-agree : T (agrees counting approvals)
+  pub limits-agree : T (agrees counting limits)
+  pub resets-agree : T (agrees counting resets)
+  -- accumulator 1 at 2000 is above its lower limit: online
+  pub lower-online : T (answers 0x07 0xD0 0x0978 Arqc)
+  -- at 6000 above its upper: declined, in a currency without a conversion too
+  pub upper-declined : T (answers 0x17 0x70 0x0840 Aac)
+
+pub samples : Samples
+unfolding counting limiting approvals limits resets agrees answers run freshState readSetup freshIn isSetup hasLength isHead areAccumulators isAccumulator number areProfiles isProfileOrAbsent isProfile areMasks isMaximumAmount areAccumulatorRules isAccumulatorRule areCounterRules areSent areNumbersApart profileNumber areConversions isConversionOrAbsent isConversion conversionPair arePairsApart rulesIn rateIn profileIn accumulatorIn counterIn stepOf startStep firstStep secondStep findProfile firstPerformed decision limitsByte concluded testsOf decisionBits accumulatorsLower accumulatorsUpper countersLower countersUpper maximumExceeded worth worthsOf convertOf rateFor scaled approved declined limited cleared verification sentIad secondPerformed unablePerformed verifiedPerformed failedPerformed absentPerformed closed ordered placeOf converted named spent spentIn ledger owed past atcBy
+samples =
+    record {
+      accepted = tt;
+      approvals-agree = tt;
+      limits-agree = tt;
+      resets-agree = tt;
+      lower-online = tt;
+      upper-declined = tt;
+    }
