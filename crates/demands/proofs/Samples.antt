@@ -14,13 +14,13 @@ use Rattle.money.specs.Money.{rateFor, scaled, convertOf}
 use Rattle.meters.specs.Meters.{worth, worthsOf, approved, declined, limited, cleared}
 use Rattle.checks.specs.declared.History.{History}
 use Rattle.checks.specs.Checks.{accumulatorsLower, accumulatorsUpper, countersLower, countersUpper, maximumExceeded, testsOf, decisionBits}
-use Rattle.card.specs.declared.Answer.{Answer}
-use Rattle.card.specs.declared.Answer.the-variants.{Refused, Started, Given}
-use Rattle.card.specs.declared.Kind.{Kind}
-use Rattle.card.specs.declared.Kind.the-variants.{Aac, Tc, Arqc}
-use Rattle.card.specs.Cryptogram.{kindCode, verification, sentIad}
-use Rattle.card.specs.First.{decision, limitsByte, concluded, firstPerformed}
-use Rattle.card.specs.Second.{closed, ordered, unablePerformed, verifiedPerformed, failedPerformed, absentPerformed, secondPerformed}
+use Rattle.state.specs.declared.Answer.{Answer}
+use Rattle.state.specs.declared.Answer.the-variants.{Refused, Started, Given}
+use Rattle.state.specs.declared.Kind.{Kind}
+use Rattle.state.specs.declared.Kind.the-variants.{Aac, Tc, Arqc}
+use Rattle.cryptogram.specs.Cryptogram.{kindCode, verification, sentIad}
+use Rattle.first.specs.First.{decision, limitsByte, concluded, firstPerformed}
+use Rattle.second.specs.Second.{closed, ordered, unablePerformed, verifiedPerformed, failedPerformed, absentPerformed, secondPerformed}
 use Rattle.card.specs.Card.{freshState, startStep, firstStep, secondStep, stepOf}
 use Rattle.command.specs.declared.Command.{Command}
 use Rattle.command.specs.declared.Command.the-variants.{Start as StartCommand, First as FirstCommand, Second as SecondCommand}
