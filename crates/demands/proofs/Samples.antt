@@ -52,10 +52,10 @@ profile n switches =
 unfoldable pub counting : List ℕ
 counting = head 2 1 0 0 ++ profile 1 3 ++ profile 2 0 ++ 0x09 ∷ 0x78 ∷ 0x08 ∷ 0x40 ∷ 0 ∷ 2 ∷ 9 ∷ []
 
--- Online accumulator 1's lower limit, 1000; Decline MTA, which is off, and accumulator 1's upper limit, 5000; no conversion
+-- Online accumulator 1's lower limit, 1000; Decline MTA, 0 in 0978 and off, and accumulator 1's upper limit, 5000; no conversion
 unfoldable pub limiting : (high low : ℕ) → List ℕ
 limiting high low =
-    head 1 0 high low ++ 1 ∷ zeros 3 ++ 0x40 ∷ 0 ∷ 0 ∷ 0x04 ∷ 0x20 ∷ zeros 15 ++ rule 1 0x03 0xE8 0x13 0x88 ++ zeros 66
+    head 1 0 high low ++ 1 ∷ zeros 3 ++ 0x40 ∷ 0 ∷ 0 ∷ 0x04 ∷ 0x20 ∷ zeros 5 ++ 0x09 ∷ 0x78 ∷ zeros 8 ++ rule 1 0x03 0xE8 0x13 0x88 ++ zeros 66
 
 -- ---- sittings
 
