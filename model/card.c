@@ -265,14 +265,23 @@ static unsigned decide(const struct profile *profile, uint32_t adr,
     return adr & profile->online_mask ? ARQC : TC;
 }
 
-unsigned card_start(struct card *card, uint8_t number)
+unsigned card_start(struct card *card, const struct start *start,
+                    unsigned *visits)
 {
     const struct profile *profile = card->setup.profile;
     const struct profile *end = profile + card->setup.profiles;
+    uint8_t number;
 
+    if (!card->setup.selection.on) {
+        number = start->data[0];
+    } else if (!select_profile(&card->setup.selection, start, &number,
+                               visits)) {
+        observe_unselected(card);
+        return 12;
+    }
     while (profile < end && profile->number != number)
         profile++;
-    observe_start(card, profile);
+    observe_start(card, profile, number);
     if (profile == end)
         return 3;
     if (card->atc == ATC_MAX)

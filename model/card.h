@@ -1,5 +1,5 @@
-/* The card of document 01: what a set-up says, what the card remembers, and
- * its three commands. A command returns its refusal number, 0 when done; a
+/* The card of documents 01 and 02: what a set-up says, what the card
+ * remembers, and its three commands. A command returns its refusal number, 0 when done; a
  * refused command has changed nothing. */
 #ifndef MODEL_CARD_H
 #define MODEL_CARD_H
@@ -17,7 +17,10 @@ enum {
     CONVERSIONS_MAX = 5,
     COUNTER_MAX = 255,
     ATC_MAX = 65535,
-    IAD_BYTES = 32
+    IAD_BYTES = 32,
+
+    VERSION_SELECTION = 2, /* papers from this version on have it */
+    VERSION_MAX = 2
 };
 
 /* The decision bits (ADR) in house order; bits 0 to 4 are the history. */
@@ -81,10 +84,19 @@ struct conversion {
     int8_t shift;
 };
 
+/* The Profile Selection File: entries one after the other, each behind its
+ * length in one byte. It stays where it stands in the paper. */
+struct selection {
+    const uint8_t *file;
+    uint8_t entries;
+    bool on;
+};
+
 /* What a set-up fixes for the whole paper. */
 struct setup {
     struct profile profile[PROFILES_MAX];
     struct conversion conversion[CONVERSIONS_MAX];
+    struct selection selection;
     uint16_t currency[ACCUMULATORS];
     uint8_t profiles, conversions;
     uint8_t key_index;
@@ -117,6 +129,12 @@ struct card {
     struct transaction open; /* points into `setup`: a card stays where it is */
 };
 
+/* The terminal's data; with selection off, the profile's number alone. */
+struct start {
+    const uint8_t *data;
+    size_t length;
+};
+
 struct first {
     uint64_t amount;
     uint16_t currency;
@@ -142,11 +160,21 @@ static inline bool is_currency(uint16_t code)
     return code <= 0x0999 && (code & 0xF0) <= 0x90 && (code & 0x0F) <= 9;
 }
 
-/* Reads a set-up's body into a fresh card; false is refusal 1, after which
- * the card is not to be used. */
-bool card_set_up(struct card *card, const uint8_t *body, size_t length);
+/* Reads the set-up's body of a paper of a known version into a fresh card;
+ * false is refusal 1, after which the card is not to be used. The body must
+ * stay in place. */
+bool card_set_up(struct card *card, unsigned version, const uint8_t *body,
+                 size_t length);
 
-unsigned card_start(struct card *card, uint8_t profile);
+/* The profile that the file gives for the terminal's data, and how many
+ * entries were visited; false is refusal 12. */
+bool select_profile(const struct selection *selection,
+                    const struct start *start, uint8_t *profile,
+                    unsigned *visits);
+
+/* With selection on it also says how many entries were visited. */
+unsigned card_start(struct card *card, const struct start *start,
+                    unsigned *visits);
 unsigned card_first(struct card *card, const struct first *first,
                     struct answer *answer);
 unsigned card_second(struct card *card, const struct second *second,

@@ -1,5 +1,6 @@
-/* Papers made by hand, their lines worked out by hand from document 01: the
- * printed sitting, the edges a) to l), and what surrounds them. */
+/* Papers made by hand, their lines worked out by hand from documents 01 and
+ * 02: the printed sitting, the edges a) to l), CPA's examples of selection, and
+ * what surrounds them. */
 #include <stdio.h>
 #include <string.h>
 
@@ -405,6 +406,219 @@ static void counters(void)
            IAD("9002800000", "000000000001", "FF00"));
 }
 
+/* Bytes in hex, blanks between as one likes. */
+struct hex {
+    size_t length;
+    uint8_t at[255];
+};
+
+static struct hex hex(const char *text)
+{
+    struct hex hex = {0};
+    unsigned value;
+    int used;
+
+    while (sscanf(text, " %2x%n", &value, &used) == 1) {
+        hex.at[hex.length++] = (uint8_t)value;
+        text += used;
+    }
+    return hex;
+}
+
+/* The printed set-up at version 02, selection on, profiles as named; entries
+ * are written with their length before them. */
+static void selecting(const char *numbers, const char *const *entries,
+                      size_t count)
+{
+    const struct hex profiles = hex(numbers);
+
+    lenient();
+    setup.version = 2;
+    setup.profiles = (uint8_t)profiles.length;
+    for (size_t i = 0; i < profiles.length; i++) {
+        setup.profile[i] = setup.profile[0];
+        setup.profile[i].number = profiles.at[i];
+    }
+    setup.file.on = 1;
+    for (size_t i = 0; i < count; i++) {
+        const struct hex entry = hex(entries[i]);
+        draft_entry(&setup.file, entry.at + 1, entry.length - 1);
+        setup.file.bytes[setup.file.length - entry.length] = entry.at[0];
+    }
+}
+
+/* The profile and visits that these data give; the profile is read off the
+ * IAD of a First. Refusal 0 is none. */
+static void select_case(const char *data, unsigned refusal, unsigned number,
+                        unsigned visits)
+{
+    const struct hex bytes = hex(data);
+    char lines[200];
+
+    begin();
+    draft_data(&draft, bytes.at, bytes.length);
+    first(1, 7);
+    if (refusal > 0)
+        snprintf(lines, sizeof lines, "0 0\n1 %u\n2 2\n", refusal);
+    else
+        snprintf(lines, sizeof lines,
+                 "0 0\n1 0 1 %u\n"
+                 "2 0 40 1 0FA501903000000000000000000701000F%02X" ZEROS "\n",
+                 visits, number);
+    expect(data, lines);
+}
+
+static void selection(void)
+{
+    static const char *const simple[] = {"0A 02 02 02 FFFF 0056 00 04 01"};
+    static const char *const complex[] = {
+        "08 01 01 02 FF 02 00 02 81",
+        "08 02 01 02 FF 34 00 81 82",
+        "0A 03 02 02 FFFF 0000 00 7E 81",
+        "08 02 01 02 F0 10 00 81 82",
+        "08 03 01 02 80 80 00 04 81",
+        "0A 05 02 02 FFFF 0056 00 81 85",
+        "0C 07 03 02 000040 000040 00 81 84",
+        "0A 02 01 04 FF 22 25 35 00 05 81",
+        "09 02 01 03 FF 12 15 00 81 82",
+        "08 03 01 02 80 80 00 81 05",
+        "0A 02 01 04 FF 23 26 36 00 06 81",
+        "09 02 01 03 FF 13 16 00 81 07",
+        "08 03 01 02 80 80 00 07 06"};
+    static const char *const less[] = {"08 01 01 02 FF 10 01 03 04"};
+    static const char *const greater[] = {"08 01 01 02 FF 10 02 03 04"};
+    static const char *const masked[] = {"0A 01 02 02 FFF0 1230 00 03 04"};
+    static const char *const unmasked[] = {"0A 01 02 02 FFF0 123F 00 03 04"};
+    static const char *const refused[] = {
+        "08 01 01 02 FF 10 00 00 01", "08 01 01 02 FF 10 00 80 01",
+        "08 01 01 02 FF 10 00 7F 01", "08 01 01 02 FF 10 00 81 01",
+        "08 01 01 02 FF 10 03 01 01", "08 00 01 02 FF 10 00 01 01",
+        "08 02 01 02 FF 10 00 01 01", "07 01 01 01 FF 00 01 01",
+        "06 01 00 02 00 01 01",       "05 01 01 02 FF 10",
+        "06 01 80 02 00 01 01",       "00"};
+
+    selecting("01 04", simple, 1);
+    select_case("01 0056", 0, 4, 1);
+    select_case("01 0840", 0, 1, 1);
+    select_case("0056", 12, 0, 0);
+    select_case("", 12, 0, 0);
+
+    selecting("02 04 05 07", complex, 13);
+    select_case("022200000056000040", 0, 2, 1);
+    select_case("013400000056000000", 3, 0, 0);
+    select_case("013480000056000040", 0, 7, 10);
+    select_case("011480000840000000", 0, 4, 4);
+    select_case("0113E0000840E0F0C8", 0, 4, 4);
+    select_case("011260000056E0F0C8", 0, 5, 9);
+    select_case("012260000056E0F0C8", 0, 5, 6);
+    select_case("012560000056E0F0C8", 0, 5, 6);
+    select_case("012260000056E0F088", 0, 7, 7);
+    select_case("012260000840E0F0C8", 0, 7, 6);
+    select_case("012160000056E0F0C8", 0, 7, 9);
+    select_case("011160000056E0F0C8", 0, 7, 10);
+    select_case("012360000056E0F0C8", 3, 0, 0);
+    selecting("06", complex, 13);
+    select_case("012360000056E0F0C8", 0, 6, 8);
+    select_case("012360000840E0F0C8", 0, 6, 5);
+    select_case("012660000840E0F0C8", 0, 6, 5);
+    select_case("011360000840E0F0C8", 0, 6, 8);
+    setup.profile[0].number = 0x7E - 2; /* 124: 7E is never in a set-up */
+    select_case("013400000056000000", 3, 0, 0);
+
+    selecting("03 04", less, 1);
+    select_case("0F", 0, 3, 1);
+    select_case("10", 0, 4, 1);
+    select_case("11", 0, 4, 1);
+    selecting("03 04", greater, 1);
+    select_case("0F", 0, 4, 1);
+    select_case("10", 0, 4, 1);
+    select_case("11", 0, 3, 1);
+    selecting("03 04", masked, 1);
+    select_case("123F", 0, 3, 1);
+    selecting("03 04", unmasked, 1);
+    select_case("123F", 0, 4, 1);
+
+    for (size_t i = 0; i < sizeof refused / sizeof *refused; i++) {
+        selecting("01", &refused[i], 1);
+        select_case("10", 12, 0, 0);
+        setup.atc = 65535;
+        select_case("10", 12, 0, 0);
+    }
+    selecting("01", NULL, 0);
+    select_case("10", 12, 0, 0);
+
+    /* Refused, so nothing changes: what is open stays open. */
+    selecting("01", less, 1);
+    profile->number = 3;
+    setup.atc = 65533;
+    begin();
+    draft_data(&draft, (const uint8_t[]){0x0F, 1, 2}, 3);
+    draft_data(&draft, NULL, 0);
+    first(2, 7);
+    draft_data(&draft, NULL, 0);
+    draft_start(&draft, 0x10);
+    second(1, OTHER, VERIFIED, 0x83);
+    draft_start(&draft, 0x0F);
+    draft_start(&draft, 0x0F);
+    draft_start(&draft, 0x10);
+    draft_data(&draft, NULL, 0);
+    expect("12, 3, 4",
+           "0 0\n"
+           "1 0 65534 1\n"
+           "2 12\n"
+           "3 0 80 65534 0FA501A03000000000000000000000000F03" ZEROS "\n"
+           "4 12\n"
+           "5 3\n"
+           "6 0 40 65534 0FA501603000000000000000000701000F03" ZEROS "\n"
+           "7 0 65535 1\n"
+           "8 4\n"
+           "9 3\n"
+           "10 12\n");
+}
+
+static void selection_tails(void)
+{
+    static const struct {
+        const char *tail, *lines;
+    } cases[] = {
+        {"", "0 1\n"},
+        {"00", "0 0\n1 0 1\n"},
+        {"02", "0 1\n"},
+        {"00 00", "0 1\n"},
+        {"01", "0 1\n"},
+        {"01 00", "0 0\n1 12\n"},
+        {"01 00 00", "0 1\n"},
+        {"01 01", "0 1\n"},
+        {"01 01 00", "0 0\n1 12\n"},
+        {"01 01 01", "0 1\n"},
+        {"01 02 00", "0 1\n"},
+        {"01 02 00 01 00", "0 0\n1 12\n"},
+        {"01 01 08 01 01 02 FF 01 00 01 02", "0 0\n1 0 1 1\n"},
+        {"01 01 08 01 01 02 FF 01 00 01", "0 1\n"},
+        {"01 01 08 01 01 02 FF 01 00 01 02 00", "0 1\n"},
+        {"01 02 08 01 01 02 FF 01 00 01 02", "0 1\n"},
+        {"01 02 08 01 01 02 FF 01 00 01 02 00", "0 0\n1 0 1 1\n"}};
+
+    printed();
+    for (size_t i = 0; i < sizeof cases / sizeof *cases; i++) {
+        const struct hex tail = hex(cases[i].tail);
+        uint8_t body[SETUP_ROOM];
+        const size_t base = draft_setup_body(&setup, body);
+        for (uint8_t version = 1; version <= 2; version++) {
+            memcpy(body + base, tail.at, tail.length);
+            draft_begin(&draft);
+            draft_record(&draft, 1, body, base + tail.length);
+            draft.bytes[0] = version;
+            start();
+            if (version == 2)
+                expect(cases[i].tail, cases[i].lines);
+            else
+                expect(cases[i].tail,
+                       tail.length > 0 ? "0 1\n" : "0 0\n1 0 1\n");
+        }
+    }
+}
+
 static void refusals(void)
 {
     printed();
@@ -480,8 +694,12 @@ static void papers(void)
     expect("no set-up", "0 9\n");
     begin();
     expect("a set-up alone", "0 0\n");
+    draft.bytes[0] = 0;
+    expect("version 00", "0 9\n");
     draft.bytes[0] = 2;
-    expect("version", "0 9\n");
+    expect("version 02 without a tail", "0 1\n");
+    draft.bytes[0] = 3;
+    expect("version 03", "0 9\n");
     begin();
     draft.length--;
     expect("set-up cut short", "0 9\n");
@@ -501,6 +719,13 @@ static void papers(void)
     draft_record(&draft, 2, (const uint8_t[]){1, 1}, 2);
     start();
     expect("Start too long", "0 0\n1 9\n");
+    setup.version = 2;
+    begin();
+    start();
+    draft_data(&draft, NULL, 0);
+    start();
+    expect("Start too short, selection off", "0 0\n1 0 1\n2 9\n");
+    setup.version = 1;
     begin();
     start();
     draft_setup(&draft, &setup);
@@ -541,6 +766,8 @@ int main(void)
     unable();
     unconverted();
     counters();
+    selection();
+    selection_tails();
     refusals();
     papers();
     printf("%u cases, %u wrong\n", cases, wrong);

@@ -77,6 +77,31 @@ static void damage_setup_length(struct chance *chance, struct draft *draft)
     }
 }
 
+/* One byte of the tail that delimits: the switch, the number of entries, or
+ * the length of one of them. */
+static void damage_tail(struct chance *chance, const struct draft_setup *setup,
+                        struct draft *draft)
+{
+    uint8_t *at = draft->bytes + SETUP_BODY + draft_setup_base(setup);
+    const uint8_t value = any_byte(chance);
+
+    if (setup->version < 2)
+        return;
+    if (percent(chance, 20) || !setup->file.on) {
+        *at = percent(chance, 50) ? 2 : value;
+        return;
+    }
+    at++;
+    if (percent(chance, 40) || setup->file.entries == 0) {
+        *at = percent(chance, 50) ? (uint8_t)(*at + 1) : (uint8_t)(*at - 1);
+        return;
+    }
+    at++;
+    for (uint64_t i = below(chance, setup->file.entries); i > 0; i--)
+        at += 1 + at[0];
+    *at = percent(chance, 50) ? value : (uint8_t)(*at + 1);
+}
+
 /* A record that cannot be read, before any record or after the last. */
 static void damage_record(struct chance *chance, struct draft *draft)
 {
@@ -173,7 +198,7 @@ static void damage_size(struct chance *chance, struct draft *draft)
 void damage(struct chance *chance, const struct draft_setup *setup,
             struct draft *draft)
 {
-    static const uint8_t versions[] = {0, 2, 3, 0x10, 0x80, 0x81, 0xFF};
+    static const uint8_t versions[] = {0, 1, 2, 3, 0x10, 0x80, 0x81, 0xFF};
     uint8_t tail[4];
     size_t place;
 
@@ -181,7 +206,7 @@ void damage(struct chance *chance, const struct draft_setup *setup,
         damage_size(chance, draft);
         return;
     }
-    switch (below(chance, 20)) {
+    switch (below(chance, 22)) {
     case 0:
         draft->bytes[0] = PICK(chance, versions);
         break;
@@ -222,6 +247,10 @@ void damage(struct chance *chance, const struct draft_setup *setup,
     case 14:
     case 15:
         damage_bytes(chance, draft);
+        break;
+    case 16:
+    case 17:
+        damage_tail(chance, setup, draft);
         break;
     default:
         damage_field(chance, setup, draft);

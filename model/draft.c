@@ -22,7 +22,8 @@ void draft_record(struct draft *draft, uint8_t kind, const uint8_t *body,
     draft->start[draft->records++] = draft->length;
     put16(at, (unsigned)(length + 1));
     at[2] = kind;
-    memcpy(at + 3, body, length);
+    if (length > 0)
+        memcpy(at + 3, body, length);
     draft->length += 3 + length;
 }
 
@@ -74,7 +75,34 @@ size_t draft_setup_body(const struct draft_setup *setup, uint8_t *body)
         put16(at + 4, setup->conversion[c].digits);
         at[6] = setup->conversion[c].shift;
     }
+    if (setup->version < 2)
+        return (size_t)(at - body);
+
+    *at++ = setup->file.on;
+    if (setup->file.on) {
+        *at++ = setup->file.entries;
+        memcpy(at, setup->file.bytes, setup->file.length);
+        at += setup->file.length;
+    }
     return (size_t)(at - body);
+}
+
+size_t draft_setup_base(const struct draft_setup *setup)
+{
+    return SETUP_HEAD + (size_t)SETUP_PROFILE * setup->profiles
+        + (size_t)SETUP_CONVERSION * setup->conversions;
+}
+
+void draft_entry(struct draft_file *file, const uint8_t *entry, size_t length)
+{
+    assert(length < 256 && file->length + 1 + length <= FILE_ROOM);
+    assert(file->entries < 255);
+    file->on = 1;
+    file->entries++;
+    file->bytes[file->length++] = (uint8_t)length;
+    if (length > 0)
+        memcpy(file->bytes + file->length, entry, length);
+    file->length += length;
 }
 
 void draft_setup(struct draft *draft, const struct draft_setup *setup)
@@ -83,11 +111,17 @@ void draft_setup(struct draft *draft, const struct draft_setup *setup)
     const size_t length = draft_setup_body(setup, body);
 
     draft_record(draft, 1, body, length);
+    draft->bytes[0] = setup->version;
 }
 
 void draft_start(struct draft *draft, uint8_t profile)
 {
     draft_record(draft, 2, &profile, 1);
+}
+
+void draft_data(struct draft *draft, const uint8_t *data, size_t length)
+{
+    draft_record(draft, 2, data, length);
 }
 
 void draft_first(struct draft *draft, uint8_t type, uint64_t amount,
@@ -136,6 +170,7 @@ void draft_printed_setup(struct draft_setup *setup)
     struct draft_profile *profile = &setup->profile[0];
 
     memset(setup, 0, sizeof *setup);
+    setup->version = 1;
     setup->key = 1;
     setup->pin = 3;
     setup->profiles = 1;

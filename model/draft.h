@@ -17,7 +17,9 @@ enum {
     SETUP_HEAD = 52,
     SETUP_PROFILE = 107,
     SETUP_CONVERSION = 7,
-    SETUP_ROOM = SETUP_HEAD + 5 * SETUP_PROFILE + 6 * SETUP_CONVERSION
+    SETUP_BASE = SETUP_HEAD + 5 * SETUP_PROFILE + 6 * SETUP_CONVERSION,
+    FILE_ROOM = 8192,
+    SETUP_ROOM = SETUP_BASE + 2 + FILE_ROOM
 };
 
 struct draft_profile {
@@ -36,8 +38,17 @@ struct draft_profile {
     uint8_t accumulator_sent, counter_sent[2];
 };
 
+/* Profile selection: a switch, the number of entries, and the entries, each
+ * behind its length. */
+struct draft_file {
+    uint8_t on, entries;
+    size_t length;
+    uint8_t bytes[FILE_ROOM];
+};
+
 /* One profile and one conversion more than a set-up may have. */
 struct draft_setup {
+    uint8_t version;
     uint8_t key, pin, required;
     uint8_t profiles, conversions;
     uint16_t atc;
@@ -52,6 +63,7 @@ struct draft_setup {
         uint16_t from, to, digits;
         uint8_t shift; /* s + 9 */
     } conversion[6];
+    struct draft_file file; /* written from version 02 on */
 };
 
 struct draft {
@@ -61,19 +73,24 @@ struct draft {
     uint8_t bytes[DRAFT_BYTES];
 };
 
-/* The version byte, and no record yet. */
+/* The version byte, 01 unless a set-up changes it, and no record yet. */
 void draft_begin(struct draft *draft);
 void draft_record(struct draft *draft, uint8_t kind, const uint8_t *body,
                   size_t length);
 void draft_setup(struct draft *draft, const struct draft_setup *setup);
 void draft_start(struct draft *draft, uint8_t profile);
+void draft_data(struct draft *draft, const uint8_t *data, size_t length);
 void draft_first(struct draft *draft, uint8_t type, uint64_t amount,
                  uint16_t currency, uint8_t terminal);
 void draft_second(struct draft *draft, uint8_t type, uint16_t code,
                   uint8_t issuer_data, uint32_t csu);
 
-/* The body alone; returns its length. */
+/* The body alone, and where its tail begins; both return a length. */
 size_t draft_setup_body(const struct draft_setup *setup, uint8_t *body);
+size_t draft_setup_base(const struct draft_setup *setup);
+
+/* The next entry of a file, its length before it; it may be ill-formed. */
+void draft_entry(struct draft_file *file, const uint8_t *entry, size_t length);
 
 /* Puts bytes before place, or takes them away; what follows moves. */
 void draft_insert(struct draft *draft, size_t place, const uint8_t *bytes,

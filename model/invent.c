@@ -219,6 +219,7 @@ void invent_setup(struct chance *chance, struct world *world,
 
     invent_world(chance, world);
     memset(setup, 0, sizeof *setup);
+    setup->version = 1;
     setup->key = any_byte(chance);
     setup->pin = PICK(chance, tries);
     setup->required = percent(chance, 50);
@@ -261,10 +262,149 @@ uint16_t bad_currency(struct chance *chance, unsigned digit)
     return code;
 }
 
-static void invent_start(struct chance *chance,
+/* A byte of the terminal's data or of a block: few, so that they meet. */
+static uint8_t invent_octet(struct chance *chance)
+{
+    static const uint8_t octets[] = {0x00, 0x01, 0x02, 0x10, 0x12,
+                                     0x22, 0x80, 0xFF};
+
+    if (percent(chance, 5))
+        return any_byte(chance);
+    return PICK(chance, octets);
+}
+
+static uint8_t invent_mask_octet(struct chance *chance)
+{
+    static const uint8_t masks[] = {0xF0, 0x0F, 0x80, 0x02, 0x00, 0x7F};
+
+    if (percent(chance, 60))
+        return 0xFF;
+    return PICK(chance, masks);
+}
+
+/* Moves while there are entries to move to, in the main. */
+static uint8_t invent_action(struct chance *chance,
+                             const struct draft_setup *setup, unsigned left)
+{
+    static const uint8_t refused[] = {0x00, 0x80, 0x7F, 0xFF};
+    static const uint8_t unknown[] = {0x7D, 0x7E, 0x55};
+    const size_t place = below(chance, setup->profiles);
+
+    if (percent(chance, 2))
+        return PICK(chance, refused);
+    if (percent(chance, 2))
+        return PICK(chance, unknown);
+    if (percent(chance, 2)) /* just past the last */
+        return (uint8_t)(0x81 + (left < 127 ? left : 126));
+    if (left == 0 || percent(chance, 25))
+        return setup->profile[place].number;
+    if (percent(chance, 60))
+        return 0x81;
+    return (uint8_t)(0x81 + below(chance, left < 4 ? left : 4));
+}
+
+/* Makes an entry ill-formed in one of the ways there are. */
+static void spoil_entry(struct chance *chance, uint8_t *entry, size_t *length)
+{
+    switch (below(chance, 6)) {
+    case 0:
+        *length = below(chance, 7);
+        break;
+    case 1:
+        *length += percent(chance, 50) ? 1 : (size_t)-1;
+        break;
+    case 2:
+        entry[0] = 0;
+        break;
+    case 3:
+        entry[1] = (uint8_t)below(chance, 5);
+        break;
+    case 4:
+        entry[2] = (uint8_t)below(chance, 5);
+        break;
+    default:
+        entry[*length - 3] = 3;
+        if (percent(chance, 50))
+            entry[*length - 3] = (uint8_t)(3 + below(chance, 253));
+        break;
+    }
+}
+
+static void invent_entry(struct chance *chance, const struct world *world,
+                         struct draft_setup *setup, unsigned left)
+{
+    uint8_t entry[256];
+    const size_t room = world->data;
+    const size_t most = percent(chance, 60) ? 1 : 3;
+    const size_t width = 1 + below(chance, room < most ? room : most);
+    const size_t position = 1 + below(chance, room - width + 1);
+    const size_t blocks = 2 + below(chance, percent(chance, 70) ? 2 : 5);
+    size_t at = 3;
+
+    entry[0] = (uint8_t)position;
+    entry[1] = (uint8_t)width;
+    entry[2] = (uint8_t)blocks;
+    for (size_t i = 0; i < width; i++)
+        entry[at++] = invent_mask_octet(chance);
+    for (size_t i = 0; i < (blocks - 1) * width; i++)
+        entry[at++] = invent_octet(chance);
+    entry[at++] = (uint8_t)below(chance, 3);
+    entry[at++] = invent_action(chance, setup, left);
+    entry[at++] = invent_action(chance, setup, left);
+    if (percent(chance, 3))
+        spoil_entry(chance, entry, &at);
+    draft_entry(&setup->file, entry, at);
+}
+
+static void invent_file(struct chance *chance, struct world *world,
+                        struct draft_setup *setup)
+{
+    unsigned entries = 1 + (unsigned)below(chance, 12);
+
+    world->data = 1 + below(chance, 6);
+    if (percent(chance, 3))
+        entries = 0;
+    if (percent(chance, 2))
+        entries = 140 + (unsigned)below(chance, 40);
+    setup->file.on = 1;
+    while (entries > 0)
+        invent_entry(chance, world, setup, --entries);
+}
+
+void invent_version(struct chance *chance, struct world *world,
+                    struct draft_setup *setup)
+{
+    if (percent(chance, 50))
+        return;
+    setup->version = 2;
+    if (percent(chance, 80))
+        invent_file(chance, world, setup);
+}
+
+/* The terminal's data, now and then shorter or longer than the rule. */
+static void invent_data(struct chance *chance, const struct world *world,
+                        struct draft *draft)
+{
+    uint8_t data[300];
+    size_t length = world->data;
+
+    if (percent(chance, 5))
+        length = below(chance, world->data + 3);
+    if (percent(chance, 1))
+        length = below(chance, sizeof data);
+    for (size_t i = 0; i < length; i++)
+        data[i] = invent_octet(chance);
+    draft_data(draft, data, length);
+}
+
+static void invent_start(struct chance *chance, const struct world *world,
                          const struct draft_setup *setup, struct draft *draft,
                          bool tidy)
 {
+    if (setup->file.on) {
+        invent_data(chance, world, draft);
+        return;
+    }
     const size_t place = below(chance, setup->profiles);
     uint8_t number = setup->profile[place].number;
 
@@ -365,7 +505,7 @@ static void invent_any(struct chance *chance, const struct world *world,
 {
     switch (below(chance, 3)) {
     case 0:
-        invent_start(chance, setup, draft, false);
+        invent_start(chance, world, setup, draft, false);
         break;
     case 1:
         invent_first(chance, world, draft, false);
@@ -388,7 +528,7 @@ void invent_commands(struct chance *chance, const struct world *world,
             invent_any(chance, world, setup, draft);
             continue;
         }
-        invent_start(chance, setup, draft, tidy);
+        invent_start(chance, world, setup, draft, tidy);
         if (draft->records == end)
             break;
         const uint8_t type = invent_first(chance, world, draft, tidy);

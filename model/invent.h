@@ -7,17 +7,22 @@
 
 enum { POOL = 4 };
 
-/* What one paper's amounts and currencies look like. */
+/* What one paper's amounts, currencies and terminal's data look like. */
 struct world {
     enum { SMALL, THOUSANDS, TOP, WIDE, WORLDS } amounts;
     uint16_t currency[POOL]; /* all different */
+    size_t data;             /* how long, as a rule */
 };
 
-/* A set-up in range; 0 profiles: as many as chance gives; 6 conversions:
- * likewise. */
+/* A set-up of version 01 in range; 0 profiles: as many as chance gives; 6
+ * conversions: likewise. */
 void invent_setup(struct chance *chance, struct world *world,
                   struct draft_setup *setup, unsigned profiles,
                   unsigned conversions);
+
+/* Another version by chance, with what it adds. */
+void invent_version(struct chance *chance, struct world *world,
+                    struct draft_setup *setup);
 
 /* So many commands. Tidy ones are in range and in turn as far as the card
  * decides so; the others stray now and then. */

@@ -207,7 +207,7 @@ static void raw(const uint8_t *bytes, size_t count)
 
 static void papers_unreadable(void)
 {
-    static const uint8_t versions[] = {0, 2, 0xFF};
+    static const uint8_t versions[] = {0, 3, 0xFF};
     static const uint8_t cut[] = {1, 0, 0xA0, 1};
     static const uint8_t kinds[] = {0, 2, 3, 4, 5, 0xFF};
 
@@ -829,6 +829,7 @@ static void extremes(void)
 {
     for (unsigned most = 0; most < 2; most++) {
         memset(&setup, 0, sizeof setup);
+        setup.version = 1;
         setup.profiles = (uint8_t)(most ? 4 : 1);
         setup.conversions = (uint8_t)(most ? 5 : 0);
         setup.key = (uint8_t)(most ? 255 : 0);
@@ -905,4 +906,5 @@ void listed_papers(uint64_t seed, struct draft *to,
     conversions();
     mta();
     leftovers();
+    listed_selection(to, then);
 }

@@ -1,6 +1,8 @@
 /* The bodies of observe.h, compiled only into the program `reached`. */
 #include "observe.h"
 
+#include <string.h>
+
 static void reached_if(bool holds, unsigned cause)
 {
     if (holds)
@@ -219,13 +221,110 @@ void observe_sent(const struct card *card)
     }
 }
 
-void observe_start(const struct card *card, const struct profile *found)
+void observe_setup(const struct setup *setup, unsigned version)
+{
+    reached(SETUP_TAKEN
+            + (version < VERSION_SELECTION ? 0 : 1 + setup->selection.on));
+}
+
+void observe_file(const struct selection *selection,
+                  const struct start *start)
+{
+    if (selection->entries == 0)
+        return;
+    if (start->length < 2)
+        reached(DATA_LENGTH + (unsigned)start->length);
+    else
+        reached(DATA_LENGTH + (start->length < 256 ? 2 : 3));
+}
+
+void observe_test(unsigned type, unsigned values, size_t width,
+                  const uint8_t *data, const uint8_t *mask,
+                  const uint8_t *value)
+{
+    uint8_t masked[255], masked_value[255];
+    unsigned match = 0;
+    bool bare = false, loose = false;
+
+    for (size_t i = 0; i < width; i++)
+        masked[i] = data[i] & mask[i];
+    if (type != 0) {
+        const int order = memcmp(masked, value, width);
+        reached((type == 1 ? LESS_THAN : GREATER_THAN)
+                + (order < 0 ? 0 : 1 + (order > 0)));
+        reached_if(masked[0] == value[0] && order != 0, LATER_BYTE);
+        reached_if(values > 1, FURTHER_VALUE);
+        return;
+    }
+    while (match < values
+           && memcmp(masked, value + match * width, width) != 0)
+        match++;
+    reached(MATCH_WITH + (match == values ? 2 : match > 0));
+    for (unsigned v = 0; v < values; v++) {
+        for (size_t i = 0; i < width; i++)
+            masked_value[i] = value[v * width + i] & mask[i];
+        bare = bare || memcmp(data, value + v * width, width) == 0;
+        loose = loose || memcmp(masked, masked_value, width) == 0;
+    }
+    reached_if(match < values && !bare, MASKED_MATCH);
+    reached_if(match == values && loose, VALUE_UNMASKED);
+}
+
+static bool ill_formed(const uint8_t *at)
+{
+    const unsigned blocks = at[0] < 6 ? 0 : (unsigned)at[2] * at[3];
+
+    return at[0] != blocks + 6 || blocks == 0 || at[3] < 2 || at[1] == 0
+        || at[4 + blocks] > 2;
+}
+
+void observe_move(const uint8_t *at, unsigned left, unsigned move)
+{
+    static const unsigned place[] = {0, 0, 1};
+
+    reached(MOVES + (move < 3 ? place[move] : 2 + (move == 127)));
+    reached_if(move + 1 == left, MOVE_TO_LAST);
+    for (unsigned i = 1; i < move; i++) {
+        at += 1 + at[0];
+        reached_if(ill_formed(at), UNVISITED_BAD + 0);
+    }
+}
+
+void observe_selected(const uint8_t *at, unsigned left, unsigned visits,
+                      uint8_t untaken)
+{
+    if (visits < 3)
+        reached(VISITS + visits - 1);
+    else
+        reached(VISITS + (visits < 10 ? 2 : 3 + (visits == 255)));
+    reached_if(untaken == 0x00, ACTION_UNTAKEN + 0);
+    reached_if(untaken == 0x80, ACTION_UNTAKEN + 1);
+    reached_if(untaken == 0x7F, ACTION_UNTAKEN + 2);
+    reached_if(untaken > 0x80 && untaken - 0x80u >= left, ACTION_UNTAKEN + 3);
+    for (; left > 1; left--) {
+        at += 1 + at[0];
+        reached_if(ill_formed(at), UNVISITED_BAD + 1);
+    }
+}
+
+void observe_unselected(const struct card *card)
+{
+    reached_if(card->atc == ATC_MAX, START_REFUSED_12_OF_4);
+    reached_if(card->due != NOTHING_DUE,
+               START_REFUSED_12_OPEN + (unsigned)card->due - 1);
+}
+
+void observe_start(const struct card *card, const struct profile *found,
+                   uint8_t number)
 {
     const unsigned place = (unsigned)(found - card->setup.profile);
     const bool unknown = place == card->setup.profiles;
     const bool last = card->atc == ATC_MAX;
 
     reached_if(unknown, START_REFUSED_3);
+    if (unknown && card->setup.selection.on)
+        reached(UNKNOWN_SELECTED
+                + (number == 0x7D || number == 0x7E ? number - 0x7Du : 2));
     reached_if(unknown && last, START_REFUSED_3_OF_4);
     reached_if(!unknown && last, START_REFUSED_4);
     reached_if((unknown || last) && card->due != NOTHING_DUE,

@@ -1,5 +1,5 @@
 /* What the program `reached` sees of a card's steps. Each function is called
- * at one place of card.c and counts what is about to happen there, or just
+ * at one place of the model and counts what is about to happen there, or just
  * did. Compiled without REACHED the calls are nothing at all. */
 #ifndef MODEL_OBSERVE_H
 #define MODEL_OBSERVE_H
@@ -11,7 +11,20 @@
 
 void observe_conversion(unsigned place, const struct conversion *entry,
                         uint64_t amount, uint64_t product);
-void observe_start(const struct card *card, const struct profile *found);
+void observe_setup(const struct setup *setup, unsigned version);
+void observe_file(const struct selection *selection,
+                  const struct start *start);
+/* A test of so many values, each so wide, before it is made. */
+void observe_test(unsigned type, unsigned values, size_t width,
+                  const uint8_t *data, const uint8_t *mask,
+                  const uint8_t *value);
+/* At an entry with so many left, itself included. */
+void observe_move(const uint8_t *at, unsigned left, unsigned move);
+void observe_selected(const uint8_t *at, unsigned left, unsigned visits,
+                      uint8_t untaken);
+void observe_unselected(const struct card *card);
+void observe_start(const struct card *card, const struct profile *found,
+                   uint8_t number);
 void observe_first_refusal(const struct card *card, const struct first *first);
 void observe_first(const struct card *card, const struct first *first,
                    unsigned given);
@@ -31,7 +44,13 @@ void observe_sent(const struct card *card);
 #else
 
 #define observe_conversion(place, entry, amount, product) ((void)0)
-#define observe_start(card, found) ((void)0)
+#define observe_setup(setup, version) ((void)0)
+#define observe_file(selection, start) ((void)0)
+#define observe_test(type, values, width, data, mask, value) ((void)0)
+#define observe_move(at, left, move) ((void)0)
+#define observe_selected(at, left, visits, untaken) ((void)0)
+#define observe_unselected(card) ((void)0)
+#define observe_start(card, found, number) ((void)0)
 #define observe_first_refusal(card, first) ((void)0)
 #define observe_first(card, first, given) ((void)0)
 #define observe_checks(card) ((void)0)

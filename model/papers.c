@@ -1,6 +1,7 @@
 /* papers COUNT SEED: a stack of papers on standard output, the same for the
  * same seed: first those of listed.h, then by chance, good ones and damaged.
- * papers COUNT SEED COMMANDS: good papers only, so many commands in each. */
+ * papers COUNT SEED COMMANDS: good papers of version 01 only, so many commands
+ * in each. */
 #include <errno.h>
 #include <stdio.h>
 #include <stdlib.h>
@@ -54,6 +55,7 @@ static void write_invented(void)
     struct draft_setup setup;
 
     invent_setup(&chance, &world, &setup, 0, 6);
+    invent_version(&chance, &world, &setup);
     draft_begin(&draft);
     draft_setup(&draft, &setup);
     const size_t most = percent(&chance, 80) ? 12 : 40;

@@ -15,7 +15,7 @@
 #define REACHED_LIST(X)                                                        \
     X(PAPER_EMPTY, 1, "refusal 9", "paper empty", "")                          \
     X(PAPER_LONG, 1, "refusal 9", "paper over 65,536 bytes", "")               \
-    X(PAPER_VERSION, 2, "refusal 9", "version not 01", "00|above")             \
+    X(PAPER_VERSION, 2, "refusal 9", "version unknown", "00|above 02")         \
     X(PAPER_BARE, 1, "refusal 9", "set-up missing: no record at all", "")      \
     X(SETUP_MISSING, 3, "refusal 9",                                           \
       "set-up missing, first record of another kind",                          \
@@ -30,13 +30,16 @@
     X(KIND_NONE, 2, "refusal 9", "no kind (length 0)", "record 0|later")       \
     X(KIND_ZERO, 2, "refusal 9", "kind 0", "record 0|later")                   \
     X(KIND_ABOVE, 2, "refusal 9", "kind above 4", "record 0|later")            \
-    X(START_LENGTH, 2, "refusal 9", "Start's body length", "short|long")       \
+    X(START_LENGTH, 2, "refusal 9", "Start's body length, selection off",      \
+      "short|long")                                                            \
     X(FIRST_LENGTH, 2, "refusal 9", "First's body length", "short|long")       \
     X(SECOND_LENGTH, 2, "refusal 9", "Second's body length", "short|long")     \
                                                                                \
     X(BODY_HEAD, 1, "refusal 1", "body under 52 bytes", "")                    \
     X(BODY_SHORT, 1, "refusal 1", "body shorter than 52 + 107p + 7c", "")      \
-    X(BODY_LONG, 1, "refusal 1", "body longer than 52 + 107p + 7c", "")        \
+    X(BODY_LONG, 1, "refusal 1",                                               \
+      "version 01, body longer than 52 + 107p + 7c",                           \
+      "")                                                                      \
     X(BAD_PIN_TRIES, 1, "refusal 1", "PIN tries above 15", "")                 \
     X(BAD_REQUIRED, 1, "refusal 1", "issuer authentication required above 1",  \
       "")                                                                      \
@@ -71,6 +74,64 @@
     X(BAD_PAIR, 1, "refusal 1", "from equals to", "")                          \
     X(BAD_PAIR_TWICE, 1, "refusal 1", "a pair twice", "")                      \
     X(BAD_CONVERSION_AT, 5, "refusal 1", "the fault is in conversion", "#1")   \
+    X(TAIL_MISSING, 1, "refusal 1", "selection: no switch", "")                \
+    X(BAD_SELECTION, 1, "refusal 1", "selection: switch above 1", "")          \
+    X(ENTRIES_MISSING, 1, "refusal 1", "selection on, no number of entries",   \
+      "")                                                                      \
+    X(ENTRY_MISSING, 2, "refusal 1",                                           \
+      "selection on, fewer entries than their number says",                    \
+      "all missing|a later one")                                               \
+    X(ENTRY_CUT, 2, "refusal 1", "selection on, entry cut short",              \
+      "the first|a later one")                                                 \
+    X(TAIL_LONG, 2, "refusal 1", "bytes left over behind the selection",       \
+      "off|on")                                                                \
+                                                                               \
+    X(SETUP_TAKEN, 3, "set-up", "taken, of version", "01|02 off|02 on")        \
+                                                                               \
+    X(FILE_EMPTY, 1, "refusal 12", "empty file", "")                           \
+    X(ENTRY_SHORT, 2, "refusal 12", "E under 6", "0|1 to 5")                   \
+    X(ENTRY_BLOCKS, 2, "refusal 12", "n under 2", "#0")                        \
+    X(ENTRY_WIDTH, 1, "refusal 12", "L is 0", "")                              \
+    X(ENTRY_MISMATCH, 2, "refusal 12", "E is not nL + 6", "less|more")         \
+    X(ENTRY_TYPE, 2, "refusal 12", "check type", "3|above")                    \
+    X(ENTRY_POSITION, 1, "refusal 12", "P is 0", "")                           \
+    X(ENTRY_PAST, 2, "refusal 12", "reaches past the data", "no data|some")    \
+    X(FAULT_VISITED, 2, "refusal 12", "the fault is in the entry visited",     \
+      "first|later")                                                           \
+    X(ACTION_00, 2, "refusal 12", "action 00", "positive|negative")            \
+    X(ACTION_80, 2, "refusal 12", "action 80", "positive|negative")            \
+    X(ACTION_7F, 2, "refusal 12", "action 7F", "positive|negative")            \
+    X(MOVE_PAST, 2, "refusal 12", "move past the end", "by one|by more")       \
+    X(START_REFUSED_12_OF_4, 1, "refusal 12", "where 4 applies too", "")       \
+    X(START_REFUSED_12_OPEN, 2, "refusal 12", "the transaction stays open",    \
+      "First due|Second due")                                                  \
+                                                                               \
+    X(DATA_LENGTH, 4, "selection", "length of the terminal's data",            \
+      "0|1|2 to 255|256 and more")                                             \
+    X(DATA_TO_END, 1, "selection", "the stretch ends with the data", "")       \
+    X(MATCH_WITH, 3, "selection", "match", "the first value|a later one|none") \
+    X(LESS_THAN, 3, "selection", "less than", "less|equal|greater")            \
+    X(GREATER_THAN, 3, "selection", "greater than", "less|equal|greater")      \
+    X(LATER_BYTE, 1, "selection", "decided after the first byte", "")          \
+    X(FURTHER_VALUE, 1, "selection",                                           \
+      "less or greater than, further values have no effect",                   \
+      "")                                                                      \
+    X(MASKED_MATCH, 1, "selection", "match only because masked", "")           \
+    X(VALUE_UNMASKED, 1, "selection",                                          \
+      "no match, though the value masked would",                               \
+      "")                                                                      \
+    X(MOVES, 4, "selection", "moves down", "1|2|3 to 126|127")                 \
+    X(MOVE_TO_LAST, 1, "selection", "moves to the last entry", "")             \
+    X(UNVISITED_BAD, 2, "selection", "ill-formed and not visited",             \
+      "passed over|below the last visited")                                    \
+    X(ACTION_UNTAKEN, 4, "selection",                                          \
+      "profile found, the other action would be refused",                      \
+      "00|80|7F|a move past the end")                                          \
+    X(VISITS, 5, "selection", "profile found, entries visited",                \
+      "1|2|3 to 9|10 to 254|255")                                              \
+    X(UNKNOWN_SELECTED, 3, "selection",                                        \
+      "3: the profile found is not in the set-up",                             \
+      "7D|7E|another")                                                         \
                                                                                \
     X(START_REFUSED_3, 1, "Start", "3: profile not in the set-up", "")         \
     X(START_REFUSED_4, 1, "Start", "4: ATC 65,535", "")                        \

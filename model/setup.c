@@ -1,6 +1,8 @@
-/* The set-up: 52 + 107p + 7c bytes, each field within its range. */
+/* The set-up: 52 + 107p + 7c bytes, each field within its range, and behind
+ * them what the paper's version adds. */
 #include "bytes.h"
 #include "card.h"
+#include "observe.h"
 #include "reached.h"
 
 enum { HEAD_BYTES = 52, PROFILE_BYTES = 107, CONVERSION_BYTES = 7 };
@@ -89,7 +91,37 @@ static bool read_conversion(struct conversion *entry, const uint8_t *at)
     return true;
 }
 
-bool card_set_up(struct card *card, const uint8_t *body, size_t length)
+/* A switch, 0 or 1; if 1, the number of entries and so many entries, each
+ * behind its length. What is in them is not looked at here. */
+static bool read_selection(struct selection *selection, const uint8_t **place,
+                           const uint8_t *end)
+{
+    const uint8_t *at = *place;
+
+    if (at == end)
+        return fault(TAIL_MISSING);
+    if (*at > 1)
+        return fault(BAD_SELECTION);
+    selection->on = *at++;
+    if (selection->on) {
+        if (at == end)
+            return fault(ENTRIES_MISSING);
+        selection->entries = *at++;
+        selection->file = at;
+        for (unsigned i = 0; i < selection->entries; i++) {
+            if (at == end)
+                return fault(ENTRY_MISSING + (i > 0));
+            if (*at > end - at - 1)
+                return fault(ENTRY_CUT + (i > 0));
+            at += 1 + *at;
+        }
+    }
+    *place = at;
+    return true;
+}
+
+bool card_set_up(struct card *card, unsigned version, const uint8_t *body,
+                 size_t length)
 {
     struct setup *setup = &card->setup;
 
@@ -117,7 +149,7 @@ bool card_set_up(struct card *card, const uint8_t *body, size_t length)
         + (size_t)CONVERSION_BYTES * setup->conversions;
     if (length < expected)
         return fault(BODY_SHORT);
-    if (length > expected)
+    if (version < VERSION_SELECTION && length > expected)
         return fault(BODY_LONG);
 
     card->atc = get16(body + 5);
@@ -155,5 +187,13 @@ bool card_set_up(struct card *card, const uint8_t *body, size_t length)
                 && setup->conversion[j].to == entry->to)
                 return fault(BAD_PAIR_TWICE);
     }
+
+    setup->selection.on = false;
+    if (version >= VERSION_SELECTION
+        && !read_selection(&setup->selection, &at, body + length))
+        return false;
+    if (at != body + length)
+        return fault(TAIL_LONG + setup->selection.on);
+    observe_setup(setup, version);
     return true;
 }

@@ -52,16 +52,18 @@ static unsigned set_up(struct sitting *sitting)
         return unreadable(PAPER_EMPTY);
     if (sitting->length > PAPER_MAX)
         return unreadable(PAPER_LONG);
-    if (*sitting->at != 1)
-        return unreadable(PAPER_VERSION + (*sitting->at > 1));
-    sitting->at++;
+    const unsigned version = *sitting->at++;
+    if (version == 0 || version > VERSION_MAX)
+        return unreadable(PAPER_VERSION + (version > 0));
     if (sitting->at == sitting->end)
         return unreadable(PAPER_BARE);
     if (!take(sitting, &record))
         return 9;
     if (record.kind != KIND_SETUP)
         return unreadable(SETUP_MISSING + record.kind - KIND_START);
-    return card_set_up(&sitting->card, record.body, record.length) ? 0 : 1;
+    if (!card_set_up(&sitting->card, version, record.body, record.length))
+        return 1;
+    return 0;
 }
 
 static char *put_number(char *at, unsigned value)
@@ -112,7 +114,7 @@ void sitting_open(struct sitting *sitting, const uint8_t *paper, size_t length)
     sitting->over = false;
 }
 
-/* Answers a command record; *rest is what follows the refusal in its line. */
+/* Answers a command record; *rest is what follows the 0 of a done one. */
 static unsigned command(struct card *card, const struct record *record,
                         char **rest)
 {
@@ -121,15 +123,23 @@ static unsigned command(struct card *card, const struct record *record,
     unsigned refusal;
 
     switch (record->kind) {
-    case KIND_START:
-        if (record->length != START_BYTES)
+    case KIND_START: {
+        const bool selects = card->setup.selection.on;
+        if (!selects && record->length != START_BYTES)
             return unreadable(START_LENGTH + (record->length > START_BYTES));
-        refusal = card_start(card, body[0]);
-        if (refusal == 0) {
+        const struct start start = {.data = body, .length = record->length};
+        unsigned visits;
+        refusal = card_start(card, &start, &visits);
+        if (refusal > 0)
+            return refusal;
+        *(*rest)++ = ' ';
+        *rest = put_number(*rest, card->atc);
+        if (selects) {
             *(*rest)++ = ' ';
-            *rest = put_number(*rest, card->atc);
+            *rest = put_number(*rest, visits);
         }
-        return refusal;
+        return 0;
+    }
     case KIND_FIRST: {
         if (record->length != FIRST_BYTES)
             return unreadable(FIRST_LENGTH + (record->length > FIRST_BYTES));
@@ -171,7 +181,7 @@ size_t sitting_line(struct sitting *sitting, char *line)
 
     char *at = put_number(line, sitting->record);
     *at++ = ' ';
-    char *rest = at + 1; /* a refusal here has one digit */
+    char *rest = at + 1;
     unsigned refusal;
     struct record record;
     if (sitting->record == 0)
@@ -180,7 +190,10 @@ size_t sitting_line(struct sitting *sitting, char *line)
         refusal = command(&sitting->card, &record, &rest);
     else
         refusal = 9;
-    *at = (char)('0' + refusal);
+    if (refusal == 0)
+        *at = '0';
+    else
+        rest = put_number(at, refusal);
     *rest++ = '\n';
 
     sitting->record++;

@@ -1,17 +1,20 @@
--- The card: a ruling, then a performance (document 01, "Refusal numbers", "Start and the checks").
+-- The card: a ruling, then a performance (document 01, "Refusal numbers", "Start and the checks"; document 02, Three).
 use Prim.Native.Nat.{ℕ, _+_}
 use mathlib.Core.Bool.{false, cond, _&&_}
 use lib.Dec.{eqb, ltb, leb}
 use Rattle.wire.specs.Wire.{isCurrency}
 use Rattle.money.specs.Money.{max}
 use Rattle.refusal.specs.declared.Refusal.{Refusal}
-use Rattle.refusal.specs.declared.Refusal.the-variants.{OutOfTurn, UnknownProfile, AtcUsedUp, BadType, OutOfRange}
+use Rattle.refusal.specs.declared.Refusal.the-variants.{OutOfTurn, UnknownProfile, AtcUsedUp, BadType, OutOfRange, NotSelected}
 use Rattle.refusal.specs.Refusal.{refusalNumber}
 use Rattle.rules.specs.declared.Place.{Place}
 use Rattle.rules.specs.declared.Found.{Found}
 use Rattle.rules.specs.declared.Found.the-variants.{At, Nothing}
 use Rattle.rules.specs.Rules.{Rules, findProfile}
 use Rattle.setup.specs.declared.Fresh.{Fresh}
+use Rattle.selection.specs.declared.Selection.{Selection}
+use Rattle.selection.specs.declared.Selection.the-variants.{Selected, NotSelected as NoneSelected}
+use Rattle.selection.specs.Selection.{visitsOf}
 use Rattle.command.specs.declared.Start.{Start}
 use Rattle.command.specs.declared.First.{First}
 use Rattle.command.specs.declared.Second.{Second}
@@ -44,13 +47,14 @@ pub data Ruling (A : Type 0) : Type 0 where
   refuse : Refusal → Ruling A
   take : A → Ruling A
 
--- Start: 3 then 4
+-- Start: 12, then 3, then 4
 abbrev pub ruleOpening : ℕ → Found → Ruling Place
 ruleOpening atc Nothing = refuse UnknownProfile
 ruleOpening atc (At place) = cond (eqb atc 65535) (refuse AtcUsedUp) (take place)
 
-abbrev pub ruleStart : Rules → ℕ → Start → Ruling Place
-ruleStart rules atc start = ruleOpening atc (findProfile rules (start .profile))
+abbrev pub ruleStart : Rules → ℕ → Selection → Ruling Place
+ruleStart rules atc NoneSelected = refuse NotSelected
+ruleStart rules atc (Selected profile visits) = ruleOpening atc (findProfile rules profile)
 
 -- First: 2, 5, 6
 abbrev pub ruleFirstFields : First → Place → Ruling Place
@@ -81,16 +85,21 @@ abbrev pub carried : {A : Type 0} → State → (A → Outcome) → Ruling A →
 carried state perform (refuse refusal) = refused state refusal
 carried state perform (take what) = perform what
 
--- Start drops an unfinished transaction, adds 1 to ATC and opens the profile
-abbrev pub startPerformed : State → Place → Outcome
-startPerformed state place =
+-- Start drops an unfinished transaction, adds 1 to ATC and opens the profile; the answer also says how many entries were visited
+abbrev pub startPerformed : State → (visits : ℕ) → Place → Outcome
+startPerformed state visits place =
     record {
       state = record { values = state .values; phase = Opened place; atc = state .atc + 1; history = state .history };
-      answer = Started (state .atc + 1);
+      answer = Started (state .atc + 1) visits;
     }
 
+unfoldable pub openingStep : Rules → State → (profile visits : ℕ) → Outcome
+openingStep rules state profile visits =
+    carried state (startPerformed state visits) (ruleOpening (state .atc) (findProfile rules profile))
+
 unfoldable pub startStep : Rules → State → Start → Outcome
-startStep rules state start = carried state (startPerformed state) (ruleStart rules (state .atc) start)
+startStep rules state start =
+    carried state (startPerformed state (visitsOf (start .chosen))) (ruleStart rules (state .atc) (start .chosen))
 
 unfoldable pub firstTaken : Rules → State → First → Place → Outcome
 firstTaken rules state first place = carried state (firstPerformed rules state first) (ruleFirstFields first place)
@@ -112,7 +121,7 @@ stepOf rules state (SecondCommand second) = secondStep rules state second
 -- the number of each answer, and the CID of a cryptogram: TC 40, ARQC 80, AAC 00
 abbrev pub answerNumber : Answer → ℕ
 answerNumber (Refused refusal) = refusalNumber refusal
-answerNumber (Started atc) = 0
+answerNumber (Started atc visits) = 0
 answerNumber (Given kind atc iad) = 0
 
 abbrev pub cidOf : Kind → ℕ

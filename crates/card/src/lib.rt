@@ -1,7 +1,7 @@
 // The card: which commands it takes, and what each comes to.
 ghost use mathlib.Core.Path.{_≡_};
 ghost use Rattle.rules.specs.Rules.{rulesOf};
-ghost use Rattle.card.specs.Card.{freshState, refused, startStep, firstTaken, firstStep, secondTaken, secondStep, stepOf};
+ghost use Rattle.card.specs.Card.{freshState, refused, openingStep, startStep, firstTaken, firstStep, secondTaken, secondStep, stepOf};
 use checks::History;
 use command::Command;
 use command::First;
@@ -11,6 +11,7 @@ use refusal::Refusal;
 use rules::Found;
 use rules::Place;
 use rules::Words;
+use selection::Selection;
 use setup::Fresh;
 use state::Answer;
 use state::Outcome;
@@ -47,10 +48,10 @@ fn refuse(state: State, refusal: Refusal) -> Outcome
 }
 
 // Opens a profile, dropping what was unfinished, and adds 1 to the ATC.
-fn answer_start(words: &Words, state: State, start: Start) -> Outcome
-    ensures { λ r. ⌜ r ≡ startStep (rulesOf (now (words .entry))) state start ⌝ }
+fn open_profile(words: &Words, state: State, profile: u8, visits: u8) -> Outcome
+    ensures { λ r. ⌜ r ≡ openingStep (rulesOf (now (words .entry))) state profile visits ⌝ }
 {
-    let Found::At(place) = rules::find_profile(words, start.profile) else {
+    let Found::At(place) = rules::find_profile(words, profile) else {
         return refuse(state, Refusal::UnknownProfile);
     };
     if state.atc == 65_535 {
@@ -66,7 +67,17 @@ fn answer_start(words: &Words, state: State, start: Start) -> Outcome
             atc,
             history,
         },
-        answer: Answer::Started { atc },
+        answer: Answer::Started { atc, visits },
+    }
+}
+
+fn answer_start(words: &Words, state: State, start: Start) -> Outcome
+    ensures { λ r. ⌜ r ≡ startStep (rulesOf (now (words .entry))) state start ⌝ }
+{
+    let chosen = start.chosen;
+    match chosen {
+        Selection::NotSelected => refuse(state, Refusal::NotSelected),
+        Selection::Selected { profile, visits } => open_profile(words, state, profile, visits),
     }
 }
 

@@ -1,4 +1,4 @@
--- The commands of a paper (document 01, "The paper" and "Refusal numbers").
+-- The commands of a paper (document 01, "The paper" and "Refusal numbers"; document 02, Three).
 use Prim.Native.Nat.{ℕ}
 use mathlib.Core.Bool.{cond, _&&_}
 use mathlib.Core.List.{List}
@@ -7,6 +7,8 @@ use lib.Dec.{eqb}
 use Rattle.wire.specs.Wire.{byte, number}
 use Rattle.refusal.specs.declared.Refusal.the-variants.{Unreadable}
 use Rattle.refusal.specs.Refusal.{refusalNumber}
+use Rattle.selection.specs.declared.Selection.the-variants.{Selected}
+use Rattle.selection.specs.Selection.{selectionOf}
 use Rattle.command.specs.declared.Start.{Start}
 use Rattle.command.specs.declared.First.{First}
 use Rattle.command.specs.declared.Second.{Second}
@@ -14,9 +16,9 @@ use Rattle.command.specs.declared.Command.the-variants.{Start as StartCo
 use Rattle.command.specs.declared.ReadCommand.{ReadCommand}
 use Rattle.command.specs.declared.ReadCommand.the-variants.{Taken, Refused}
 
--- profile (1)
+-- profile (1): named, with no entry visited
 unfoldable pub startOf : List ℕ → Start
-startOf body = record { profile = byte body 0 }
+startOf body = record { chosen = Selected (byte body 0) 0 }
 
 -- type (1), amount (8), currency (2), terminal type (1)
 unfoldable pub firstOf : List ℕ → First
@@ -32,6 +34,11 @@ commandOf kind body =
     cond (eqb kind 2 && eqb (length body) 1) (Taken (StartCommand (startOf body)))
     (cond (eqb kind 3 && eqb (length body) 12) (Taken (FirstCommand (firstOf body)))
     (cond (eqb kind 4 && eqb (length body) 8) (Taken (SecondCommand (secondOf body))) (Refused Unreadable)))
+
+-- where profiles are selected a Start's body is the terminal's data, of any length
+unfoldable pub selectingOf : (file : List ℕ) (entries kind : ℕ) (body : List ℕ) → ReadCommand
+selectingOf file entries kind body =
+    cond (eqb kind 2) (Taken (StartCommand (record { chosen = selectionOf file entries body }))) (commandOf kind body)
 
 abbrev pub readNumber : ReadCommand → ℕ
 readNumber (Taken command) = 0

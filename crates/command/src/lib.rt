@@ -1,8 +1,9 @@
 // Commands out of record bodies. What a command says is judged by the card.
 ghost use mathlib.Core.Path.{_≡_};
-ghost use Rattle.command.specs.Command.{startOf, firstOf, secondOf, commandOf};
+ghost use Rattle.command.specs.Command.{startOf, firstOf, secondOf, commandOf, selectingOf};
 use money::TransactionAmount;
 use refusal::Refusal;
+use selection::Selection;
 
 const START: u8 = 2;
 
@@ -10,8 +11,9 @@ const FIRST: u8 = 3;
 
 const SECOND: u8 = 4;
 
+// The profile that was named, with no entry visited, or what selection gave.
 pub struct Start {
-    pub profile: u8,
+    pub chosen: Selection,
 }
 
 pub struct First {
@@ -44,7 +46,10 @@ fn read_start(body: &[u8]) -> Start
     ensures { λ r. ⌜ r ≡ startOf (now (body .entry)) ⌝ }
 {
     Start {
-        profile: wire::byte_at(body, 0),
+        chosen: Selection::Selected {
+            profile: wire::byte_at(body, 0),
+            visits: 0,
+        },
     }
 }
 
@@ -87,4 +92,15 @@ pub fn read_command(kind: u8, body: &[u8]) -> ReadCommand
         return ReadCommand::Taken(Command::Second(read_second(body)));
     }
     ReadCommand::Refused(Refusal::Unreadable)
+}
+
+// The same where profiles are selected: a Start's body is the terminal's data, of any length.
+pub fn read_selecting(file: &[u8], entries: u8, kind: u8, body: &[u8]) -> ReadCommand
+    ensures { λ r. ⌜ r ≡ selectingOf (now (file .entry)) entries kind (now (body .entry)) ⌝ }
+{
+    if kind == START {
+        let chosen = selection::select(file, entries, body);
+        return ReadCommand::Taken(Command::Start(Start { chosen }));
+    }
+    read_command(kind, body)
 }

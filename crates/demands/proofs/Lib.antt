@@ -14,4 +14,5 @@ pub mod First
 pub mod Verification
 pub mod Answers
 pub mod Edges
+pub mod Selected
 pub mod Samples

@@ -22,6 +22,7 @@ use Rattle.cryptogram.specs.Cryptogram.{kindCode, verification, sentIad}
 use Rattle.first.specs.First.{decision, limitsByte, concluded, firstPerformed}
 use Rattle.second.specs.Second.{closed, ordered, unablePerformed, verifiedPerformed, failedPerformed, absentPerformed, secondPerformed}
 use Rattle.card.specs.Card.{freshState, startStep, firstStep, secondStep, stepOf}
+use Rattle.selection.specs.declared.Selection.the-variants.{Selected}
 use Rattle.command.specs.declared.Command.{Command}
 use Rattle.command.specs.declared.Command.the-variants.{Start as StartCommand, First as FirstCommand, Second as SecondCommand}
 use Rattle.demands.specs.Ledger.{Meter, accumulator, counter, owed}
@@ -60,7 +61,7 @@ limiting high low =
 -- ---- sittings
 
 abbrev start : ℕ → Command
-start n = StartCommand (record { profile = n })
+start n = StartCommand (record { chosen = Selected n 0 })
 
 -- requested 1 TC, 2 ARQC
 abbrev first : (amount currency requested : ℕ) → Command
@@ -112,7 +113,7 @@ agrees s commands =
 
 abbrev isOf : Answer → Kind → Bool
 isOf (Refused refusal) kind = false
-isOf (Started atc) kind = false
+isOf (Started atc visits) kind = false
 isOf (Given given atc iad) kind = eqb (kindCode given) (kindCode kind)
 
 -- what First answers, requested a TC of 1 in a currency, with accumulator 1 from a number

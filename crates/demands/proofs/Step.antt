@@ -1,5 +1,5 @@
 -- What a step can be: a refusal, or a Start, a First or a Second that is in turn and in range. Assumes nothing.
-use mathlib.Core.Path.{_≡_, refl}
+use mathlib.Core.Path.{_≡_, refl, subst}
 use mathlib.Core.Bool.{Bool, true, false, cond, _&&_}
 use Prim.Native.Nat.{_≤_}
 use borrow.Author.Tests.{ltb-false, leb-true}
@@ -7,11 +7,14 @@ use lib.Dec.{leb, ltb, eqb}
 use Rattle.wire.specs.Wire.{isCurrency}
 use Rattle.money.specs.Money.{max}
 use Rattle.refusal.specs.declared.Refusal.{Refusal}
-use Rattle.refusal.specs.declared.Refusal.the-variants.{OutOfTurn, UnknownProfile, AtcUsedUp, BadType, OutOfRange}
+use Rattle.refusal.specs.declared.Refusal.the-variants.{OutOfTurn, UnknownProfile, AtcUsedUp, BadType, OutOfRange, NotSelected}
 use Rattle.rules.specs.declared.Place.{Place}
 use Rattle.rules.specs.declared.Found.{Found}
 use Rattle.rules.specs.declared.Found.the-variants.{At, Nothing}
 use Rattle.rules.specs.Rules.{Rules, findProfile}
+use Rattle.selection.specs.declared.Selection.{Selection}
+use Rattle.selection.specs.declared.Selection.the-variants.{Selected, NotSelected as None}
+use Rattle.selection.specs.Selection.{profileOf, visitsOf}
 use Rattle.command.specs.declared.Start.{Start}
 use Rattle.command.specs.declared.First.{First}
 use Rattle.command.specs.declared.Second.{Second}
@@ -24,25 +27,34 @@ use Rattle.state.specs.declared.State.{State}
 use Rattle.state.specs.declared.Outcome.{Outcome}
 use Rattle.first.specs.First.{firstPerformed}
 use Rattle.second.specs.Second.{secondPerformed}
-use Rattle.card.specs.Card.{refuse, take, ruleOpening, ruleFirst, ruleSecond, carried, refused, startPerformed, startStep, firstStep, secondStep, stepOf}
+use Rattle.card.specs.Card.{refuse, take, ruleStart, ruleOpening, ruleFirst, ruleSecond, carried, refused, startPerformed, startStep, firstStep, secondStep, stepOf}
 use Rattle.demands.proofs.Found.{Holds, Known, known}
 
 pub data Did (rules : Rules) (state : State) : Command → Outcome → Type 0 where
   refused-it : {command : Command} (refusal : Refusal) → Did rules state command (refused state refusal)
-  started-it : (start : Start) (place : Place) → Holds rules (start .profile) place → Did rules state (StartCommand start) (startPerformed state place)
+  started-it : (start : Start) (place : Place) → Holds rules (profileOf (start .chosen)) place
+      → Did rules state (StartCommand start) (startPerformed state (visitsOf (start .chosen)) place)
   took-first : (first : First) (place : Place) → state .phase ≡ Opened place → first .requested ≤ 2 → first .amount .0 ≤ max
       → Did rules state (FirstCommand first) (firstPerformed rules state first place)
   took-second : (second : Second) (pending : Pending) → state .phase ≡ Asked pending → second .requested ≤ 1 → second .issuer ≤ 2
       → Did rules state (SecondCommand second) (secondPerformed rules state second pending)
 
 module _ (rules : Rules) (state : State) where
-  start-did : (start : Start) (found : Found) → Known rules (start .profile) found
-      → Did rules state (StartCommand start) (carried state (startPerformed state) (ruleOpening (state .atc) found))
-  start-did start Nothing missing = refused-it UnknownProfile
-  start-did start (At place) holds = by (eqb (state .atc) 65535) where
-    by : (b : Bool) → Did rules state (StartCommand start) (carried state (startPerformed state) (cond b (refuse AtcUsedUp) (take place)))
+  opening-did : (start : Start) (found : Found) → Known rules (profileOf (start .chosen)) found
+      → Did rules state (StartCommand start) (carried state (startPerformed state (visitsOf (start .chosen))) (ruleOpening (state .atc) found))
+  opening-did start Nothing missing = refused-it UnknownProfile
+  opening-did start (At place) holds = by (eqb (state .atc) 65535) where
+    by : (b : Bool)
+        → Did rules state (StartCommand start) (carried state (startPerformed state (visitsOf (start .chosen))) (cond b (refuse AtcUsedUp) (take place)))
     by true = refused-it AtcUsedUp
     by false = started-it start place holds
+
+  start-did : (start : Start) (chosen : Selection) → start .chosen ≡ chosen
+      → Did rules state (StartCommand start) (carried state (startPerformed state (visitsOf chosen)) (ruleStart rules (state .atc) chosen))
+  start-did start None is = refused-it NotSelected
+  start-did start (Selected profile visits) is =
+      subst (λ c. Did rules state (StartCommand start) (carried state (startPerformed state (visitsOf c)) (ruleOpening (state .atc) (findProfile rules (profileOf c))))) is
+      (opening-did start (findProfile rules (profileOf (start .chosen))) (known rules (profileOf (start .chosen))))
 
   first-did : (first : First) (phase : Phase) → state .phase ≡ phase
       → Did rules state (FirstCommand first) (carried state (firstPerformed rules state first) (ruleFirst phase first))
@@ -71,6 +83,6 @@ module _ (rules : Rules) (state : State) where
 
   pub did : (command : Command) → Did rules state command (stepOf rules state command)
   unfolding stepOf startStep firstStep secondStep
-  did (StartCommand start) = start-did start (findProfile rules (start .profile)) (known rules (start .profile))
+  did (StartCommand start) = start-did start (start .chosen) refl
   did (FirstCommand first) = first-did first (state .phase) refl
   did (SecondCommand second) = second-did second (state .phase) refl

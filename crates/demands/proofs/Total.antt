@@ -20,6 +20,7 @@ use Rattle.ranges.specs.Ranges.{isSetup}
 use Rattle.ranges.proofs.Accepted.{Accepted, accepted}
 use Rattle.setup.specs.Setup.{rulesIn, freshIn, readSetup}
 use Rattle.setup.proofs.Faithful.{Bytes, faithful}
+use Rattle.selection.specs.Selection.{profileOf, visitsOf}
 use Rattle.command.specs.declared.Start.{Start}
 use Rattle.command.specs.declared.First.{First}
 use Rattle.command.specs.declared.Second.{Second}
@@ -104,8 +105,8 @@ module _ (s : List ℕ) (bytes : Bytes s) (fits : Accepted s) (sitting : Sitting
   refused-holds (FirstCommand first) r = record { agrees = holding .agrees; values = holding .values }
   refused-holds (SecondCommand second) r = record { agrees = holding .agrees; values = holding .values }
 
-  start-taken : (start : Start) (place : Place) → Stands s place (placeOf s (start .profile))
-      → Holding s (then sitting (StartCommand start) (startPerformed state place))
+  start-taken : (start : Start) (place : Place) → Stands s place (placeOf s (profileOf (start .chosen)))
+      → Holding s (then sitting (StartCommand start) (startPerformed state (visitsOf (start .chosen)) place))
   unfolding named spent spentIn ledger
   start-taken start place stands = record { agrees = stands; values = holding .values }
 
@@ -214,7 +215,7 @@ module _ (s : List ℕ) (bytes : Bytes s) (fits : Accepted s) (sitting : Sitting
 
   pub did-holds : {command : Command} {outcome : Outcome} → Did rules state command outcome → Holding s (then sitting command outcome)
   did-holds {command} (refused-it r) = refused-holds command r
-  did-holds (started-it start place holds) = start-taken start place (stands-at s fits place (start .profile) holds)
+  did-holds (started-it start place holds) = start-taken start place (stands-at s fits place (profileOf (start .chosen)) holds)
   did-holds (took-first first place is type small) =
       first-taken first place (subst (Agrees s (named log) (spent log) (spentIn log)) is (holding .agrees)) small
   did-holds (took-second second pending is type issuer) =

@@ -8,6 +8,7 @@ use lib.Dec.{eqb}
 use lib.ListN.{length}
 use Rattle.wire.specs.Wire.{byte, number}
 use Rattle.money.specs.Money.{max}
+use Rattle.selection.specs.Selection.{profileOf}
 use Rattle.command.specs.declared.Command.{Command}
 use Rattle.command.specs.declared.Command.the-variants.{Start as StartCommand, First as FirstCommand, Second as SecondCommand}
 use Rattle.state.specs.declared.Answer.{Answer}
@@ -87,12 +88,12 @@ additionOf s amount currency (counter i) = add 1 ∷ []
 
 abbrev pub isAccepted : Answer → Bool
 isAccepted (Refused refusal) = false
-isAccepted (Started atc) = true
+isAccepted (Started atc visits) = true
 isAccepted (Given kind atc iad) = true
 
--- the profile that the last accepted Start named
+-- the profile that the last accepted Start named, or that selection gave it
 abbrev pub namedBy : Command → Answer → ℕ → ℕ
-namedBy (StartCommand start) answer before = cond (isAccepted answer) (start .profile) before
+namedBy (StartCommand start) answer before = cond (isAccepted answer) (profileOf (start .chosen)) before
 namedBy (FirstCommand first) answer before = before
 namedBy (SecondCommand second) answer before = before
 
@@ -125,7 +126,7 @@ couldNotGoOnline code = eqb code 0x5933 || eqb code 0x5A33
 
 abbrev pub isTc : Answer → Bool
 isTc (Refused refusal) = false
-isTc (Started atc) = false
+isTc (Started atc visits) = false
 isTc (Given Aac atc iad) = false
 isTc (Given Tc atc iad) = true
 isTc (Given Arqc atc iad) = false

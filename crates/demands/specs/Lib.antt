@@ -7,3 +7,4 @@ pub mod Printed
 pub mod Past
 pub mod Decision
 pub mod Verification
+pub mod Selecting

@@ -18,7 +18,7 @@ use Rattle.demands.specs.Audit.{isOn, isAccepted, couldNotGoOnline}
 
 abbrev pub isArqc : Answer → Bool
 isArqc (Refused refusal) = false
-isArqc (Started atc) = false
+isArqc (Started atc visits) = false
 isArqc (Given Aac atc iad) = false
 isArqc (Given Tc atc iad) = false
 isArqc (Given Arqc atc iad) = true
@@ -74,7 +74,7 @@ past s (exchange ∷ older) =
 
 abbrev pub isStarted : Answer → Bool
 isStarted (Refused refusal) = false
-isStarted (Started atc) = true
+isStarted (Started atc visits) = true
 isStarted (Given kind atc iad) = false
 
 -- the set-up's ATC, and 1 for each accepted Start
@@ -85,7 +85,7 @@ atcBy s (exchange ∷ older) = cond (isStarted (exchange .answer)) (atcBy s olde
 -- the ATC that an answer says
 abbrev pub Says : Answer → ℕ → Type 0
 Says (Refused refusal) n = Unit
-Says (Started atc) n = atc ≡ n
+Says (Started atc visits) n = atc ≡ n
 Says (Given kind atc iad) n = atc ≡ n
 
 -- the conversation before the last accepted First

@@ -6,6 +6,7 @@ use Rattle.refusal.specs.Refusal.{refusalNumber}
 use Rattle.iad.specs.Iad.{iadBytes}
 use Rattle.command.specs.declared.Command.{Command}
 use Rattle.command.specs.declared.Command.the-variants.{Start as StartCommand, First as FirstCommand, Second as SecondCommand}
+use Rattle.selection.specs.declared.Selection.the-variants.{Selected}
 use Rattle.state.specs.declared.Answer.{Answer}
 use Rattle.state.specs.declared.Answer.the-variants.{Refused, Started, Given}
 use Rattle.card.specs.Card.{cidOf}
@@ -34,7 +35,7 @@ unfoldable pub body : List ℕ
 body = head ++ profileHead ++ accumulators ++ counters
 
 abbrev pub start : Command
-start = StartCommand (record { profile = 1 })
+start = StartCommand (record { chosen = Selected 1 0 })
 
 -- TC requested, in 0978, terminal 22 hex
 abbrev pub first : ℕ → Command
@@ -50,7 +51,7 @@ commands = start ∷ first 5000 ∷ start ∷ first 1 ∷ second ∷ start ∷ f
 -- a line: the refusal; after Start the ATC; after First or Second the CID, the ATC and the IAD
 abbrev pub lineOf : Answer → List ℕ
 lineOf (Refused refusal) = refusalNumber refusal ∷ []
-lineOf (Started atc) = 0 ∷ atc ∷ []
+lineOf (Started atc visits) = 0 ∷ atc ∷ []
 lineOf (Given kind atc iad) = 0 ∷ cidOf kind ∷ atc ∷ iadBytes iad
 
 abbrev pub linesOf : List Exchange → List (List ℕ)

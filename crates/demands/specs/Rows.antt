@@ -1,10 +1,15 @@
--- Document 01's table of refusal numbers, row by row, for the three commands: when a number applies.
+-- Document 01's table of refusal numbers, with document 02's 12, row by row, for the three commands: when a number applies.
 use mathlib.Core.Path.{_≡_}
+use mathlib.Core.Bool.{cond}
 use Prim.Native.Nat.{ℕ, _≤_, _<_}
+use lib.Dec.{eqb}
 use lib.ListN.{getD}
 use Rattle.money.specs.Money.{max}
 use Rattle.ranges.proofs.Accepted.{Currency}
 use Rattle.rules.specs.Rules.{Rules, blankProfile}
+use Rattle.selection.specs.declared.Selection.{Selection}
+use Rattle.selection.specs.declared.Selection.the-variants.{Selected, NotSelected}
+use Rattle.selection.specs.Selection.{profileOf}
 use Rattle.command.specs.declared.Start.{Start}
 use Rattle.command.specs.declared.First.{First}
 use Rattle.command.specs.declared.Second.{Second}
@@ -32,8 +37,14 @@ NoArqc Idle = Unit
 NoArqc (Opened place) = Unit
 NoArqc (Asked pending) = ⊥
 
+-- no profile was selected
+abbrev pub Unselected : Selection → Type 0
+Unselected (Selected profile visits) = ⊥
+Unselected NotSelected = Unit
+
 pub data StartRow (rules : Rules) (atc : ℕ) (start : Start) (n : ℕ) : Type 0 where
-  not-in-setup : n ≡ 3 → (InSetup rules (start .profile) → ⊥) → StartRow rules atc start n
+  not-selected : n ≡ 12 → Unselected (start .chosen) → StartRow rules atc start n
+  not-in-setup : n ≡ 3 → (InSetup rules (profileOf (start .chosen)) → ⊥) → StartRow rules atc start n
   used-up : n ≡ 4 → atc ≡ 65535 → StartRow rules atc start n
 
 pub data FirstRow (phase : Phase) (first : First) (n : ℕ) : Type 0 where
@@ -53,7 +64,11 @@ Applies rules state (StartCommand start) n = StartRow rules (state .atc) start n
 Applies rules state (FirstCommand first) n = FirstRow (state .phase) first n
 Applies rules state (SecondCommand second) n = SecondRow (state .phase) second n
 
--- 0 where no row applies; where several apply, the first: Start 3 then 4, First and Second 2, 5, 6 (so the least)
+-- where several apply: Start 12, 3, 4; First and Second 2, 5, 6. So 12 comes first, and otherwise the least
+abbrev pub rank : ℕ → ℕ
+rank n = cond (eqb n 12) 0 n
+
+-- 0 where no row applies; where several apply, the first
 pub data Numbered (rules : Rules) (state : State) (command : Command) (n : ℕ) : Type 0 where
   done : n ≡ 0 → ((m : ℕ) → Applies rules state command m → ⊥) → Numbered rules state command n
-  refused : Applies rules state command n → ((m : ℕ) → m < n → Applies rules state command m → ⊥) → Numbered rules state command n
+  refused : Applies rules state command n → ((m : ℕ) → rank m < rank n → Applies rules state command m → ⊥) → Numbered rules state command n

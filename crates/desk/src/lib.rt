@@ -36,6 +36,7 @@ fn is_over(pace: Pace) -> bool {
 
 // The turns of a whole paper, their lines behind those in the room.
 fn sit(paper: &[u8], words: &mut Words, room: &mut [u8], to: usize) -> usize {
+    let selecting = turns::selecting_in(paper);
     let begun = turns::begin(paper, words, room, reserve(room, to));
     let pace = begun.pace;
     let mut state = begun.state;
@@ -48,7 +49,7 @@ fn sit(paper: &[u8], words: &mut Words, room: &mut [u8], to: usize) -> usize {
             return to;
         }
         to = reserve(room, to);
-        let turn = turns::take_turn(words, state, paper, at, number, room, to);
+        let turn = turns::take_turn(words, selecting, state, paper, at, number, room, to);
         let pace = turn.pace;
         state = turn.state;
         at = turn.at;

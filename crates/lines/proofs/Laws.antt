@@ -10,7 +10,7 @@ use Rattle.iad.specs.declared.ReadIad.the-variants.{Fields}
 use Rattle.iad.specs.declared.Written.the-variants.{Done}
 use Rattle.iad.specs.Iad.{iadBytes, pairsOf, isWritable, readIad, writeIad, written}
 use Rattle.iad.proofs.RoundTrip.{whole}
-use Rattle.lines.specs.Lines.{decimal, hexByte, hex, refusalLine, startLine, cryptogramLine}
+use Rattle.lines.specs.Lines.{decimal, hexByte, hex, refusalLine, startLine, selectedLine, cryptogramLine}
 use Rattle.lines.proofs.Each.{Each, none, more}
 use Rattle.lines.proofs.Decimal as Decimal
 use Rattle.lines.proofs.Hex as Hex
@@ -26,6 +26,10 @@ refusal-plain number refusal = more (decimal-plain number) (more (decimal-plain 
 
 start-plain : (number atc : ℕ) → Each Plain (decimal number ∷ decimal 0 ∷ decimal atc ∷ [])
 start-plain number atc = more (decimal-plain number) (more (decimal-plain 0) (more (decimal-plain atc) none))
+
+selected-plain : (number atc visits : ℕ) → Each Plain (decimal number ∷ decimal 0 ∷ decimal atc ∷ decimal visits ∷ [])
+selected-plain number atc visits =
+    more (decimal-plain number) (more (decimal-plain 0) (more (decimal-plain atc) (more (decimal-plain visits) none)))
 
 cryptogram-plain : (number cid atc : ℕ) (iad : Iad)
     → Each Plain (decimal number ∷ decimal 0 ∷ hexByte cid ∷ decimal atc ∷ hex (written iad zeros) ∷ [])
@@ -46,6 +50,12 @@ unfolding startLine
 start-line number atc =
     one-line _ _ (start-plain number atc)
     (simp length-append (omega (arith, Decimal.size number, ap length Decimal.zero, Decimal.size atc)))
+
+pub selected-line : (number atc visits : ℕ) → OneLine (selectedLine number atc visits)
+unfolding selectedLine
+selected-line number atc visits =
+    one-line _ _ (selected-plain number atc visits)
+    (simp length-append (omega (arith, Decimal.size number, ap length Decimal.zero, Decimal.size atc, Decimal.size visits)))
 
 written-size : (iad : Iad) → length (written iad zeros) ≡ 32
 unfolding written writeIad iadBytes pairsOf
@@ -94,6 +104,13 @@ module _ (number number′ : ℕ) (h : Small number) (h′ : Small number′) wh
   same-start atc atc′ k k′ e =
       let same = same-fields _ _ _ _ (start-plain number atc) (start-plain number′ atc′) e in
       (same-number number number′ h h′ (cc), same-number atc atc′ k k′ (cc))
+
+  pub same-selected : (atc atc′ visits visits′ : ℕ) → Small atc → Small atc′ → Small visits → Small visits′
+      → selectedLine number atc visits ≡ selectedLine number′ atc′ visits′ → (number ≡ number′) × (atc ≡ atc′) × (visits ≡ visits′)
+  unfolding selectedLine
+  same-selected atc atc′ visits visits′ k k′ j j′ e =
+      let same = same-fields _ _ _ _ (selected-plain number atc visits) (selected-plain number′ atc′ visits′) e in
+      (same-number number number′ h h′ (cc), same-number atc atc′ k k′ (cc), same-number visits visits′ j j′ (cc))
 
   pub same-cryptogram : (cid cid′ atc atc′ : ℕ) (iad iad′ : Iad) → Small atc → Small atc′ → isWritable iad ≡ true → isWritable iad′ ≡ true
       → cryptogramLine number cid atc iad ≡ cryptogramLine number′ cid′ atc′ iad′

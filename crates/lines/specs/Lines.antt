@@ -39,6 +39,10 @@ refusalLine number refusal = line (decimal number) (decimal refusal ∷ [])
 unfoldable pub startLine : ℕ → ℕ → List ℕ
 startLine number atc = line (decimal number) (decimal 0 ∷ decimal atc ∷ [])
 
+-- after a Start that selected its profile: record number, 0, ATC, the entries visited
+unfoldable pub selectedLine : ℕ → ℕ → ℕ → List ℕ
+selectedLine number atc visits = line (decimal number) (decimal 0 ∷ decimal atc ∷ decimal visits ∷ [])
+
 -- after First or Second: record number, 0, CID in hex, ATC, the IAD written into 32 zeros in hex
 unfoldable pub cryptogramLine : ℕ → ℕ → ℕ → Iad → List ℕ
 cryptogramLine number cid atc iad =

@@ -4,7 +4,7 @@ ghost use mathlib.Core.List.{[], _∷_, _++_};
 ghost use Prim.Native.Nat.{_+_, _*_, _-_, _≤_, _<_};
 ghost use lib.ListN.{length, replicate};
 ghost use Rattle.iad.specs.Iad.{written};
-ghost use Rattle.lines.specs.Lines.{digit, decimal, hexDigit, hexByte, hex, refusalLine, startLine, cryptogramLine, placed, placeBehind};
+ghost use Rattle.lines.specs.Lines.{digit, decimal, hexDigit, hexByte, hex, refusalLine, startLine, selectedLine, cryptogramLine, placed, placeBehind};
 ghost use Rattle.lines.specs.Stored.{Stored};
 use iad::Iad;
 
@@ -117,6 +117,19 @@ pub fn put_start(room: &mut [u8], at: usize, number: u16, atc: u16) -> usize
     let at = put_decimal(room, at, number, b' ');
     let at = put_done(room, at);
     put_decimal(room, at, atc, b'\n')
+}
+
+// After a Start that selected its profile: record number, 0, ATC, the entries visited.
+pub fn put_selected(room: &mut [u8], at: usize, number: u16, atc: u16, visits: u8) -> usize
+    ensures { λ r. ⌜ (r ≡ placeBehind (length (now (room .entry))) at (selectedLine number atc visits)) × (now (room .exit) ≡ placed (now (room .entry)) at (selectedLine number atc visits)) ⌝ }
+{
+    if bytes_left(room.len(), at) < LONGEST {
+        return at;
+    }
+    let at = put_decimal(room, at, number, b' ');
+    let at = put_done(room, at);
+    let at = put_decimal(room, at, atc, b' ');
+    put_decimal(room, at, visits as u16, b'\n')
 }
 
 // After First or Second: record number, 0, CID, ATC, IAD.

@@ -1,6 +1,6 @@
 -- The paper and its records (document 01, "The paper" and "Refusal numbers").
 use Prim.Native.Nat.{ℕ, _+_}
-use mathlib.Core.Bool.{Bool, cond, _||_, not}
+use mathlib.Core.Bool.{Bool, cond, _||_}
 use mathlib.Core.List.{List}
 use lib.ListN.{length}
 use lib.Dec.{leb, ltb, eqb}
@@ -46,19 +46,23 @@ placeAfter s at = onward at (nextAt s at)
 abbrev pub passed : Reader → Reader
 passed reader = record { paper = reader .paper; at = placeAfter (now (reader .paper)) (reader .at) }
 
--- paper empty or over 65,536 bytes, version not 01
+-- the highest version known: 01 is document 01's, 02 adds what selects a profile
+abbrev pub latest : ℕ
+latest = 2
+
+-- paper empty or over 65,536 bytes, version 0 or above the highest known
 abbrev pub isUnreadable : List ℕ → Bool
-isUnreadable s = eqb (length s) 0 || ltb 65536 (length s) || not (eqb (byte s 0) 1)
+isUnreadable s = eqb (length s) 0 || ltb 65536 (length s) || eqb (byte s 0) 0 || ltb latest (byte s 0)
 
 -- the first record is the set-up
-abbrev pub setupIn : Next → Opened
-setupIn (Record kind start end) = cond (eqb kind 1) (Setup start end) (Refused Unreadable)
-setupIn Fault = Refused Unreadable
-setupIn End = Refused Unreadable
+abbrev pub setupIn : ℕ → Next → Opened
+setupIn version (Record kind start end) = cond (eqb kind 1) (Setup version start end) (Refused Unreadable)
+setupIn version Fault = Refused Unreadable
+setupIn version End = Refused Unreadable
 
 unfoldable pub openPaper : List ℕ → Opened
-openPaper s = cond (isUnreadable s) (Refused Unreadable) (setupIn (nextAt s 1))
+openPaper s = cond (isUnreadable s) (Refused Unreadable) (setupIn (byte s 0) (nextAt s 1))
 
 abbrev pub openedNumber : Opened → ℕ
-openedNumber (Setup start end) = 0
+openedNumber (Setup version start end) = 0
 openedNumber (Refused refusal) = refusalNumber refusal

@@ -3,7 +3,8 @@ ghost use mathlib.Core.Path.{_≡_};
 ghost use Rattle.paper.specs.Paper.{nextAt, placeAfter, passed, openPaper};
 use refusal::Refusal;
 
-const VERSION: u8 = 1;
+// Version 02 adds to a set-up what selects a profile.
+const LATEST: u8 = 2;
 
 const LONGEST: usize = 65_536;
 
@@ -18,7 +19,11 @@ pub enum Next {
 
 // The body of the set-up is s[start..end], and end is the place of the first command.
 pub enum Opened {
-    Setup { start: usize, end: usize },
+    Setup {
+        version: u8,
+        start: usize,
+        end: usize,
+    },
     Refused(Refusal),
 }
 
@@ -85,7 +90,8 @@ pub fn record_at(s: &[u8], at: usize) -> Next
 pub fn open_paper(s: &[u8]) -> Opened
     ensures { λ r. ⌜ r ≡ openPaper (now (s .entry)) ⌝ }
 {
-    if (s.len() == 0) | (LONGEST < s.len()) | (wire::byte_at(s, 0) != VERSION) {
+    let version = wire::byte_at(s, 0);
+    if (s.len() == 0) | (LONGEST < s.len()) | (version == 0) | (LATEST < version) {
         return Opened::Refused(Refusal::Unreadable);
     }
     let Next::Record { kind, start, end } = record_at(s, 1) else {
@@ -94,5 +100,9 @@ pub fn open_paper(s: &[u8]) -> Opened
     if kind != SETUP {
         return Opened::Refused(Refusal::Unreadable);
     }
-    Opened::Setup { start, end }
+    Opened::Setup {
+        version,
+        start,
+        end,
+    }
 }

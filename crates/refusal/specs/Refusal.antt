@@ -1,7 +1,7 @@
--- The numbers of document 01, "Refusal numbers".
+-- The numbers of document 01, "Refusal numbers", and of document 02's requests.
 use Prim.Native.Nat.{ℕ}
 use Rattle.refusal.specs.declared.Refusal.{Refusal}
-use Rattle.refusal.specs.declared.Refusal.the-variants.{BadSetup, OutOfTurn, UnknownProfile, AtcUsedUp, BadType, OutOfRange, RoomTooSmall, NotAnIad, Unreadable}
+use Rattle.refusal.specs.declared.Refusal.the-variants.{BadSetup, OutOfTurn, UnknownProfile, AtcUsedUp, BadType, OutOfRange, RoomTooSmall, NotAnIad, Unreadable, NotSelected}
 
 abbrev pub refusalNumber : Refusal → ℕ
 refusalNumber BadSetup = 1
@@ -13,3 +13,4 @@ refusalNumber OutOfRange = 6
 refusalNumber RoomTooSmall = 7
 refusalNumber NotAnIad = 8
 refusalNumber Unreadable = 9
+refusalNumber NotSelected = 12

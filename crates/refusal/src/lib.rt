@@ -12,9 +12,10 @@ pub enum Refusal {
     RoomTooSmall,
     NotAnIad,
     Unreadable,
+    NotSelected,
 }
 
-// The number that document 01 gives a refusal.
+// The number that documents 01 and 02 give a refusal.
 pub fn number_of(refusal: Refusal) -> u8
     ensures { λ r. ⌜ r ≡ refusalNumber refusal ⌝ }
 {
@@ -28,5 +29,6 @@ pub fn number_of(refusal: Refusal) -> u8
         Refusal::RoomTooSmall => 7,
         Refusal::NotAnIad => 8,
         Refusal::Unreadable => 9,
+        Refusal::NotSelected => 12,
     }
 }

@@ -37,7 +37,8 @@ pub enum Kind {
 
 pub enum Answer {
     Refused(Refusal),
-    Started { atc: u16 },
+    // The entries visited, none where the profile was named.
+    Started { atc: u16, visits: u8 },
     Given { kind: Kind, atc: u16, iad: Iad },
 }
 

@@ -1,3 +1,4 @@
 pub mod Parts
 pub mod Rooms
 pub mod Sitting
+pub mod Versions

@@ -1,12 +1,16 @@
 -- The set-up of an opened paper lies inside it, and a turn without a line leaves the room as it is. Assumes nothing.
 use mathlib.Core.Path.{_≡_, refl, ap}
-use mathlib.Core.Bool.{Bool, true, false, cond}
+use mathlib.Core.Bool.{Bool, true, false, cond, _&&_}
 use mathlib.Core.List.{List, [], _++_, append-nil}
-use Prim.Native.Nat.{ℕ, _+_, _≤_}
+use Prim.Native.Nat.{ℕ, _+_, _-_, _≤_}
 use native.Mathlib.Nat.{add-zero}
 use native.Mathlib.Omega.{arith}
+use borrow.Author.Tests.{leb-true}
 use lib.Dec.{leb, eqb}
-use lib.ListN.{length, take, drop, take-append-drop}
+use lib.ListN.{length, take, drop, take-append-drop, length-drop}
+use lib.Seq.{length-take-le}
+use Rattle.paper.specs.Walk.{part}
+use Rattle.wire.specs.Wire.{byte}
 use Rattle.refusal.specs.declared.Refusal.the-variants.{Unreadable}
 use Rattle.paper.specs.declared.Next.{Next}
 use Rattle.paper.specs.declared.Next.the-variants.{Record, Fault, End}
@@ -24,21 +28,22 @@ record-inside s at kind start end e =
     (omega arith, i .fits)
 
 startOf : Opened → ℕ
-startOf (Setup start end) = start
+startOf (Setup version start end) = start
 startOf (Refused refusal) = 0
 
 endOf : Opened → ℕ
-endOf (Setup start end) = end
+endOf (Setup version start end) = end
 endOf (Refused refusal) = 0
 
-by-next : (s : List ℕ) (start end : ℕ) (b : Bool) (n : Next) → nextAt s 1 ≡ n → cond b (Refused Unreadable) (setupIn n) ≡ Setup start end
+by-next : (s : List ℕ) (version start end : ℕ) (b : Bool) (n : Next) → nextAt s 1 ≡ n
+    → cond b (Refused Unreadable) (setupIn (byte s 0) n) ≡ Setup version start end
     → (start ≤ end) × (end ≤ length s)
 unfolding startOf endOf
-by-next s start end true n e o = let z : _≡_ {A = ℕ} 0 1 = cc in (omega arith, omega arith)
-by-next s start end false Fault e o = let z : _≡_ {A = ℕ} 0 1 = cc in (omega arith, omega arith)
-by-next s start end false End e o = let z : _≡_ {A = ℕ} 0 1 = cc in (omega arith, omega arith)
-by-next s start end false (Record kind first last) e o = by-kind (eqb kind 1) o where
-  by-kind : (b : Bool) → cond b (Setup first last) (Refused Unreadable) ≡ Setup start end → (start ≤ end) × (end ≤ length s)
+by-next s version start end true n e o = let z : _≡_ {A = ℕ} 0 1 = cc in (omega arith, omega arith)
+by-next s version start end false Fault e o = let z : _≡_ {A = ℕ} 0 1 = cc in (omega arith, omega arith)
+by-next s version start end false End e o = let z : _≡_ {A = ℕ} 0 1 = cc in (omega arith, omega arith)
+by-next s version start end false (Record kind first last) e o = by-kind (eqb kind 1) o where
+  by-kind : (b : Bool) → cond b (Setup (byte s 0) first last) (Refused Unreadable) ≡ Setup version start end → (start ≤ end) × (end ≤ length s)
   by-kind true p =
       let i = record-inside s 1 kind first last e in
       let f : first ≡ start = ap startOf p in
@@ -46,9 +51,9 @@ by-next s start end false (Record kind first last) e o = by-kind (eqb kind 1) o 
       (omega arith, omega arith)
   by-kind false p = let z : _≡_ {A = ℕ} 0 1 = cc in (omega arith, omega arith)
 
-pub setup-inside : (s : List ℕ) (start end : ℕ) → openPaper s ≡ Setup start end → (start ≤ end) × (end ≤ length s)
+pub setup-inside : (s : List ℕ) (version start end : ℕ) → openPaper s ≡ Setup version start end → (start ≤ end) × (end ≤ length s)
 unfolding openPaper
-setup-inside s start end e = by-next s start end (isUnreadable s) (nextAt s 1) refl e
+setup-inside s version start end e = by-next s version start end (isUnreadable s) (nextAt s 1) refl e
 
 pub nothing-placed : (room : List ℕ) (to : ℕ) → placed room to [] ≡ room
 unfolding placed
@@ -68,3 +73,14 @@ nothing-behind bytes to = by (leb (to + longest) bytes) where
 pub no-room : (room : List ℕ) (to : ℕ) (text : List ℕ) → leb (to + longest) (length room) ≡ false → placed room to text ≡ room
 unfolding placed
 no-room room to text e = simp e
+
+-- what two tests say where both hold
+pub both : (a b c d : ℕ) → (leb a b && leb c d) ≡ true → (a ≤ b) × (c ≤ d)
+both a b c d e = by (leb a b) (leb c d) refl refl e where
+  by : (p q : Bool) → leb a b ≡ p → leb c d ≡ q → (p && q) ≡ true → (a ≤ b) × (c ≤ d)
+  by true true h k e = (leb-true a b h, leb-true c d k)
+  by true false h k e = let z : _≡_ {A = ℕ} 0 1 = cc in (omega arith, omega arith)
+  by false q h k e = let z : _≡_ {A = ℕ} 0 1 = cc in (omega arith, omega arith)
+
+pub part-length : (s : List ℕ) (start end : ℕ) → start ≤ end → end ≤ length s → length (part s start end) ≡ end - start
+part-length s start end h l = length-take-le (end - start) (drop start s) (rw (length-drop start s) (omega arith))

@@ -4,10 +4,11 @@ use mathlib.Core.List.{List, [], _∷_}
 use lib.ListN.{length}
 use Rattle.rules.specs.Rules.{Rules, rulesOf}
 use Rattle.paper.specs.Paper.{openPaper}
+use Rattle.tail.specs.declared.Selecting.{Selecting}
 use Rattle.state.specs.declared.State.{State}
 use Rattle.turns.specs.declared.Pace.{Pace}
 use Rattle.turns.specs.declared.Pace.the-variants.{On, Over, NoRoom}
-use Rattle.turns.specs.Turns.{turnTold, begunTold, openedWords}
+use Rattle.turns.specs.Turns.{turnTold, begunTold, openedWords, selectingIn}
 
 -- what ends a paper says one line more, or, at its end, none
 abbrev pub lastly : List ℕ → List (List ℕ)
@@ -21,15 +22,15 @@ followed Over line more = lastly line
 followed NoRoom line more = []
 
 -- the lines of n turns from a place on
-unfoldable pub linesFrom : ℕ → Rules → State → List ℕ → (at number : ℕ) → List (List ℕ)
-linesFrom zero rules state paper at record-number = []
-linesFrom (suc n) rules state paper at record-number =
-    let turn = turnTold rules state paper at record-number in
-    followed (turn .pace) (turn .line) (linesFrom n rules (turn .state) paper (turn .at) (record-number + 1))
+unfoldable pub linesFrom : ℕ → Rules → Selecting → State → List ℕ → (at number : ℕ) → List (List ℕ)
+linesFrom zero rules selecting state paper at record-number = []
+linesFrom (suc n) rules selecting state paper at record-number =
+    let turn = turnTold rules selecting state paper at record-number in
+    followed (turn .pace) (turn .line) (linesFrom n rules selecting (turn .state) paper (turn .at) (record-number + 1))
 
 -- the lines of a paper, with the words that it was lent; no paper has more turns than bytes
 unfoldable pub sittingLines : (words paper : List ℕ) → List (List ℕ)
 sittingLines words paper =
     let begun = begunTold paper in
     followed (begun .pace) (begun .line)
-    (linesFrom (length paper) (rulesOf (openedWords words paper (openPaper paper))) (begun .state) paper (begun .at) 1)
+    (linesFrom (length paper) (rulesOf (openedWords words paper (openPaper paper))) (selectingIn paper) (begun .state) paper (begun .at) 1)

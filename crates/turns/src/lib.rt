@@ -1,11 +1,13 @@
 // The turns of a sitting: a record of a paper taken, answered, and its line written into lent room.
 ghost use mathlib.Core.Path.{_≡_};
+ghost use Prim.Native.Nat.{_+_, _<_, _^_};
 ghost use lib.ListN.{length};
 ghost use Rattle.rules.specs.Rules.{rulesOf};
 ghost use Rattle.lines.specs.Lines.{placed, placeBehind};
 ghost use Rattle.card.specs.Card.{cidOf};
 ghost use Rattle.setup.specs.Setup.{setupNumber, wordsAfter};
-ghost use Rattle.turns.specs.Turns.{hasRoom, answerLine, Written, recordTold, turnTold, turnOf, paceOf, setupTold, begunTold, beginning, wordsBegun};
+ghost use Rattle.tail.specs.Tail.{readTail};
+ghost use Rattle.turns.specs.Turns.{hasRoom, startedLine, answerLine, Written, commandIn, commandTold, turnTold, turnOf, paceOf, baseTold, inPaper, selectingIn, setupTold, wordsSetUp, begunTold, beginning, wordsBegun};
 use command::ReadCommand;
 use paper::Next;
 use paper::Opened;
@@ -15,6 +17,8 @@ use setup::SetupAnswer;
 use state::Answer;
 use state::Kind;
 use state::State;
+use tail::ReadTail;
+use tail::Selecting;
 
 // The sitting goes on, is over, or waits until a line has room.
 pub enum Pace {
@@ -51,6 +55,16 @@ fn cid_of(kind: Kind) -> u8
     }
 }
 
+// The visits show where a profile was selected.
+fn put_started(room: &mut [u8], to: usize, number: u16, atc: u16, visits: u8) -> usize
+    ensures { λ r. ⌜ (r ≡ placeBehind (length (now (room .entry))) to (startedLine number atc visits)) × (now (room .exit) ≡ placed (now (room .entry)) to (startedLine number atc visits)) ⌝ }
+{
+    if visits == 0 {
+        return lines::put_start(room, to, number, atc);
+    }
+    lines::put_selected(room, to, number, atc, visits)
+}
+
 fn put_answer(room: &mut [u8], to: usize, number: u16, answer: Answer) -> usize
     ensures { λ r. ⌜ (r ≡ placeBehind (length (now (room .entry))) to (answerLine number answer)) × (now (room .exit) ≡ placed (now (room .entry)) to (answerLine number answer)) ⌝ }
 {
@@ -61,7 +75,7 @@ fn put_answer(room: &mut [u8], to: usize, number: u16, answer: Answer) -> usize
             number,
             refusal::number_of(refusal),
         ),
-        Answer::Started { atc } => lines::put_start(room, to, number, atc),
+        Answer::Started { atc, visits } => put_started(room, to, number, atc, visits),
         Answer::Given { kind, atc, iad } => lines::put_cryptogram(
             room,
             to,
@@ -73,20 +87,38 @@ fn put_answer(room: &mut [u8], to: usize, number: u16, answer: Answer) -> usize
     }
 }
 
+// The command in a record of a paper. A file that does not lie in the paper is empty.
+fn read_record(selecting: Selecting, paper: &[u8], kind: u8, body: &[u8]) -> ReadCommand
+    ensures { λ r. ⌜ r ≡ commandIn selecting (now (paper .entry)) kind (now (body .entry)) ⌝ }
+{
+    match selecting {
+        Selecting::Off => command::read_command(kind, body),
+        Selecting::On {
+            start,
+            end,
+            entries,
+        } => {
+            if (start <= end) & (end <= paper.len()) {
+                return command::read_selecting(&paper[start..end], entries, kind, body);
+            }
+            command::read_selecting(&paper[..0], entries, kind, body)
+        }
+    }
+}
+
 // A record's turn: its command is answered, or refusal 9 ends the paper.
 fn take_record(
     words: &Words,
     state: State,
-    kind: u8,
-    body: &[u8],
+    read: ReadCommand,
     end: usize,
     number: u16,
     room: &mut [u8],
     to: usize,
 ) -> Turn
-    ensures { λ r. ⌜ Written (recordTold (rulesOf (now (words .entry))) state kind (now (body .entry)) end number) (now (room .entry)) to r (now (room .exit)) ⌝ }
+    ensures { λ r. ⌜ Written (commandTold (rulesOf (now (words .entry))) state end number read) (now (room .entry)) to r (now (room .exit)) ⌝ }
 {
-    match command::read_command(kind, body) {
+    match read {
         ReadCommand::Refused(refusal) => Turn {
             state,
             at: end,
@@ -110,6 +142,7 @@ fn take_record(
 // The turn of the record at a place of a paper.
 pub fn take_turn(
     words: &Words,
+    selecting: Selecting,
     state: State,
     paper: &[u8],
     at: usize,
@@ -117,7 +150,7 @@ pub fn take_turn(
     room: &mut [u8],
     to: usize,
 ) -> Turn
-    ensures { λ r. ⌜ (r ≡ turnOf (rulesOf (now (words .entry))) state (now (paper .entry)) at number (length (now (room .entry))) to) × (now (room .exit) ≡ placed (now (room .entry)) to (turnTold (rulesOf (now (words .entry))) state (now (paper .entry)) at number .line)) ⌝ }
+    ensures { λ r. ⌜ (r ≡ turnOf (rulesOf (now (words .entry))) selecting state (now (paper .entry)) at number (length (now (room .entry))) to) × (now (room .exit) ≡ placed (now (room .entry)) to (turnTold (rulesOf (now (words .entry))) selecting state (now (paper .entry)) at number .line)) ⌝ }
 {
     if has_room(room.len(), to) {
         match paper::record_at(paper, at) {
@@ -133,16 +166,10 @@ pub fn take_turn(
                 to: lines::put_refusal(room, to, number, refusal::number_of(Refusal::Unreadable)),
                 pace: Pace::Over,
             },
-            Next::Record { kind, start, end } => take_record(
-                words,
-                state,
-                kind,
-                &paper[start..end],
-                end,
-                number,
-                room,
-                to,
-            ),
+            Next::Record { kind, start, end } => {
+                let read = read_record(selecting, paper, kind, &paper[start..end]);
+                take_record(words, state, read, end, number, room, to)
+            }
         }
     } else {
         Turn {
@@ -172,9 +199,9 @@ fn setup_number(answer: SetupAnswer) -> u8
     }
 }
 
-// The set-up's turn.
-fn take_setup(body: &[u8], end: usize, words: &mut Words, room: &mut [u8], to: usize) -> Turn
-    ensures { λ r. ⌜ Written (setupTold (now (body .entry)) end) (now (room .entry)) to r (now (room .exit)) × (now (words .exit) ≡ wordsAfter (now (words .entry)) (now (body .entry))) ⌝ }
+// The turn of a set-up's base.
+fn take_base(body: &[u8], end: usize, words: &mut Words, room: &mut [u8], to: usize) -> Turn
+    ensures { λ r. ⌜ Written (baseTold (now (body .entry)) end) (now (room .entry)) to r (now (room .exit)) × (now (words .exit) ≡ wordsAfter (now (words .entry)) (now (body .entry))) ⌝ }
 {
     let read = setup::read_setup(body, words);
     let fresh = read.fresh;
@@ -184,6 +211,70 @@ fn take_setup(body: &[u8], end: usize, words: &mut Words, room: &mut [u8], to: u
         at: end,
         to: lines::put_refusal(room, to, 0, setup_number(answer)),
         pace: pace_of(answer),
+    }
+}
+
+// The tail of a body that stands at a place of the paper; a refused one selects nothing.
+fn read_selecting(version: u8, body: &[u8], place: usize) -> Selecting
+    requires { ⌜ place + length (now body) < 2 ^ 63 ⌝ }
+    ensures { λ r. ⌜ r ≡ inPaper place (readTail version (now (body .entry))) ⌝ }
+{
+    match tail::read_tail(version, body) {
+        ReadTail::Refused(_) => Selecting::Off,
+        ReadTail::Taken(selecting) => match selecting {
+            Selecting::Off => Selecting::Off,
+            Selecting::On {
+                start,
+                end,
+                entries,
+            } => Selecting::On {
+                start: place + start,
+                end: place + end,
+                entries,
+            },
+        },
+    }
+}
+
+// Whether a paper's profiles are selected, and where its file stands.
+pub fn selecting_in(paper: &[u8]) -> Selecting
+    ensures { λ r. ⌜ r ≡ selectingIn (now (paper .entry)) ⌝ }
+{
+    match paper::open_paper(paper) {
+        Opened::Refused(_) => Selecting::Off,
+        Opened::Setup {
+            version,
+            start,
+            end,
+        } => read_selecting(version, &paper[start..end], start),
+    }
+}
+
+// The set-up's turn: its tail is read and then its base, or refused.
+fn take_setup(
+    version: u8,
+    body: &[u8],
+    end: usize,
+    words: &mut Words,
+    room: &mut [u8],
+    to: usize,
+) -> Turn
+    ensures { λ r. ⌜ Written (setupTold version (now (body .entry)) end) (now (room .entry)) to r (now (room .exit)) × (now (words .exit) ≡ wordsSetUp (now (words .entry)) version (now (body .entry))) ⌝ }
+{
+    match tail::read_tail(version, body) {
+        ReadTail::Refused(refusal) => {
+            let none = setup::no_card();
+            Turn {
+                state: card::fresh_card(none),
+                at: end,
+                to: lines::put_refusal(room, to, 0, refusal::number_of(refusal)),
+                pace: Pace::Over,
+            }
+        }
+        ReadTail::Taken(_) => {
+            let base = tail::base_end(version, body);
+            take_base(&body[..base], end, words, room, to)
+        }
     }
 }
 
@@ -200,7 +291,11 @@ pub fn begin(paper: &[u8], words: &mut Words, room: &mut [u8], to: usize) -> Tur
                 to: lines::put_refusal(room, to, 0, refusal::number_of(refusal)),
                 pace: Pace::Over,
             },
-            Opened::Setup { start, end } => take_setup(&paper[start..end], end, words, room, to),
+            Opened::Setup {
+                version,
+                start,
+                end,
+            } => take_setup(version, &paper[start..end], end, words, room, to),
         }
     } else {
         Turn {

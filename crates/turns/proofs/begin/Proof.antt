@@ -7,13 +7,13 @@ use Rattle.turns.proofs.begin.Statement.{statement}
 use Rattle.turns.proofs.begin.Tie as tie
 
 sub-take-setup : tie.Need-sub-take-setup
-sub-take-setup c = setup-inside (now (c .before .before .before .before .before .before .before .before .before .args .paper)) _ _ (sym (c .before .before .before .open-paper .ensures) ∙ c .before .start .given .1) .0
+sub-take-setup c = setup-inside (now (c .before .before .before .before .before .before .before .before .before .args .paper)) _ _ _ (sym (c .before .before .before .open-paper .ensures) ∙ c .before .version .given .1) .0
 
 part-take-setup-start : tie.Need-part-take-setup-start
-part-take-setup-start c = setup-inside (now (c .before .before .before .before .before .before .before .before .before .args .paper)) _ _ (sym (c .before .before .before .open-paper .ensures) ∙ c .before .start .given .1) .0
+part-take-setup-start c = setup-inside (now (c .before .before .before .before .before .before .before .before .before .args .paper)) _ _ _ (sym (c .before .before .before .open-paper .ensures) ∙ c .before .version .given .1) .0
 
 part-take-setup-end : tie.Need-part-take-setup-end
-part-take-setup-end c = setup-inside (now (c .before .before .before .before .before .before .before .before .before .args .paper)) _ _ (sym (c .before .before .before .open-paper .ensures) ∙ c .before .start .given .1) .1
+part-take-setup-end c = setup-inside (now (c .before .before .before .before .before .before .before .before .before .args .paper)) _ _ _ (sym (c .before .before .before .open-paper .ensures) ∙ c .before .version .given .1) .1
 
 returns : tie.Need-returns
 unfolding beginning begunTold wordsBegun
@@ -30,7 +30,7 @@ returns-2 : tie.Need-returns-2
 unfolding beginning begunTold wordsBegun
 returns-2 c =
     let fits = sym (c .before .before .before .before .before .before .before .before .before .before .before .has-room .ensures) ∙ c .before .before .before .before .before .before .before .before .before .before .if1 .taken in
-    let opened = sym (c .before .before .before .before .before .before .before .before .before .open-paper .ensures) ∙ c .before .before .before .before .before .before .before .start .given .1 in
+    let opened = sym (c .before .before .before .before .before .before .before .before .before .open-paper .ensures) ∙ c .before .before .before .before .before .before .before .version .given .1 in
     let take = c .before .before .take-setup .ensures in
     (simp (fits, opened, take .0 .is), simp (opened, take .0 .lies), simp (fits, opened, take .1))
 

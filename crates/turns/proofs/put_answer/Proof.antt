@@ -14,7 +14,7 @@ returns-2 : tie.Need-returns-2
 unfolding answerLine
 returns-2 c =
     let told = c .before .before .before .before .before .answer2 .given .1 in
-    let put = c .before .before .put-start .ensures in
+    let put = c .before .before .put-started .ensures in
     (simp (told, put .0), simp (told, put .1))
 
 returns-3 : tie.Need-returns-3

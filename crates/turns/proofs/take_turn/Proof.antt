@@ -6,14 +6,14 @@ use Rattle.turns.proofs.Parts.{record-inside, nothing-placed, nothing-b
 use Rattle.turns.proofs.take_turn.Statement.{statement}
 use Rattle.turns.proofs.take_turn.Tie as tie
 
-sub-take-record : tie.Need-sub-take-record
-sub-take-record c = record-inside (now (c .before .before .before .before .before .before .before .before .args .paper)) (c .before .before .before .before .before .before .before .before .args .at) _ _ _ (sym (c .before .before .before .record-at .ensures) ∙ c .before .kind .given .1) .0
+sub-read-record : tie.Need-sub-read-record
+sub-read-record c = record-inside (now (c .before .before .before .before .before .before .before .before .args .paper)) (c .before .before .before .before .before .before .before .before .args .at) _ _ _ (sym (c .before .before .before .record-at .ensures) ∙ c .before .kind .given .1) .0
 
-part-take-record-start : tie.Need-part-take-record-start
-part-take-record-start c = record-inside (now (c .before .before .before .before .before .before .before .before .args .paper)) (c .before .before .before .before .before .before .before .before .args .at) _ _ _ (sym (c .before .before .before .record-at .ensures) ∙ c .before .kind .given .1) .0
+part-read-record-start : tie.Need-part-read-record-start
+part-read-record-start c = record-inside (now (c .before .before .before .before .before .before .before .before .args .paper)) (c .before .before .before .before .before .before .before .before .args .at) _ _ _ (sym (c .before .before .before .record-at .ensures) ∙ c .before .kind .given .1) .0
 
-part-take-record-end : tie.Need-part-take-record-end
-part-take-record-end c = record-inside (now (c .before .before .before .before .before .before .before .before .args .paper)) (c .before .before .before .before .before .before .before .before .args .at) _ _ _ (sym (c .before .before .before .record-at .ensures) ∙ c .before .kind .given .1) .1
+part-read-record-end : tie.Need-part-read-record-end
+part-read-record-end c = record-inside (now (c .before .before .before .before .before .before .before .before .args .paper)) (c .before .before .before .before .before .before .before .before .args .at) _ _ _ (sym (c .before .before .before .record-at .ensures) ∙ c .before .kind .given .1) .1
 
 returns : tie.Need-returns
 unfolding turnOf turnTold
@@ -33,10 +33,11 @@ returns-2 c =
 returns-3 : tie.Need-returns-3
 unfolding turnOf turnTold
 returns-3 c =
-    let fits = sym (c .before .before .before .before .before .before .before .before .before .before .has-room .ensures) ∙ c .before .before .before .before .before .before .before .before .before .if1 .taken in
-    let next = sym (c .before .before .before .before .before .before .before .before .record-at .ensures) ∙ c .before .before .before .before .before .before .kind .given .1 in
+    let fits = sym (c .before .before .before .before .before .before .before .before .before .before .before .has-room .ensures) ∙ c .before .before .before .before .before .before .before .before .before .before .if1 .taken in
+    let next = sym (c .before .before .before .before .before .before .before .before .before .record-at .ensures) ∙ c .before .before .before .before .before .before .before .kind .given .1 in
     let take = c .before .before .take-record .ensures in
-    (simp (fits, next, take .is), simp (next, take .lies))
+    let read = c .before .before .before .before .read-record .ensures in
+    (simp (fits, next, take .is, read), simp (next, take .lies, read))
 
 returns-4 : tie.Need-returns-4
 unfolding turnOf
@@ -46,4 +47,4 @@ returns-4 c =
     (simp full, sym (no-room (now (a .room)) (a .to) _ full))
 
 pub take-turn-spec : {M : Type 1} → statement M
-take-turn-spec = tie.close (tie.spec (search needs) (search needs) (search needs) (search needs) (search needs) (search needs) (search needs) sub-take-record part-take-record-start part-take-record-end (search needs) returns (search needs) returns-2 (search needs) returns-3 returns-4)
+take-turn-spec = tie.close (tie.spec (search needs) (search needs) (search needs) (search needs) (search needs) (search needs) (search needs) sub-read-record part-read-record-start part-read-record-end (search needs) (search needs) returns (search needs) returns-2 (search needs) returns-3 returns-4)

@@ -1,0 +1,80 @@
+-- A step through the file, of the selection and of its reading. Assumes nothing.
+use mathlib.Core.Path.{_≡_, sym, ap, ap₂, _∙_}
+use mathlib.Core.Bool.{false, _&&_}
+use mathlib.Core.List.{List}
+use Prim.Native.Nat.{ℕ, zero, suc, _-_, _≤_, _<_}
+use native.Mathlib.Nat.{sub-zero}
+use native.Mathlib.Omega.{arith}
+use lib.ListN.{length}
+use lib.Dec.{ltb, eqb}
+use borrow.Author.Tests.{lt-ltb, le-ltb}
+use Rattle.wire.specs.Wire.{byte}
+use Rattle.selection.specs.Entry.{actionTaken}
+use Rattle.selection.specs.Selection.{firstEntry, below, entriesOf, isFile, oneMore, follow, selectFrom, selectionOf, skipped}
+use Rattle.selection.specs.declared.Action.{Action}
+use Rattle.selection.specs.declared.Action.the-variants.{Move}
+use Rattle.selection.specs.declared.Selection.{Selection}
+use Rattle.selection.specs.declared.Selection.the-variants.{NotSelected}
+use Rattle.selection.proofs.Facts.{moves-down}
+
+pub skip-none : (s : List ℕ) (k : ℕ) → k ≡ 0 → s ≡ skipped s k
+unfolding skipped
+skip-none s k h = rw h
+
+pub skip-more : (s : List ℕ) (k : ℕ) → (k ≡ 0 → ⊥) → skipped s k ≡ skipped (below s) (k - 1)
+unfolding skipped
+skip-more s k h = let e : k ≡ suc (k - 1) = omega arith in ap (skipped s) e
+
+pub file-none : (s : List ℕ) (n : ℕ) → n ≡ 0 → isFile s n ≡ eqb (length s) 0
+unfolding isFile
+file-none s n h = rw h
+
+module _ (s : List ℕ) (n : ℕ) (some : n ≡ 0 → ⊥) where
+  file-step : isFile s n ≡ ltb (byte s 0) (length s) && isFile (below s) (n - 1)
+  unfolding isFile
+  file-step = let e : n ≡ suc (n - 1) = omega arith in ap (isFile s) e
+
+  pub file-cut : length s ≤ byte s 0 → isFile s n ≡ false
+  file-cut h = file-step ∙ simp (le-ltb _ _ h)
+
+  pub file-more : byte s 0 < length s → isFile s n ≡ isFile (below s) (n - 1)
+  file-more h = file-step ∙ simp (lt-ltb _ _ h)
+
+-- a selection that begins at entry k begins at the first entry of what is left
+pub from-skipped : (k n : ℕ) (s d : List ℕ) → selectFrom k (entriesOf s n) d ≡ selectionOf (skipped s k) (n - k) d
+unfolding selectFrom entriesOf skipped selectionOf
+from-skipped zero n s d = simp (sub-zero)
+from-skipped (suc k) zero s d = let z : 0 - suc k ≡ 0 = omega arith in rw z
+from-skipped (suc k) (suc n) s d =
+    let z : suc n - suc k ≡ n - k = omega arith in
+    from-skipped k n (below s) d ∙ ap (λ (m : ℕ). selectionOf (skipped (below s) k) m d) (sym z)
+
+-- what the first entry, as it was cut out, was found to do
+pub taken-is : (s d f : List ℕ) (r a : Action) → f ≡ firstEntry s → r ≡ actionTaken f d → r ≡ a → actionTaken (firstEntry s) d ≡ a
+taken-is s d f r a p q e = ap (λ (x : List ℕ). actionTaken x d) (sym p) ∙ sym q ∙ e
+
+pub none : (s d : List ℕ) (n : ℕ) → n ≡ 0 → selectionOf s n d ≡ NotSelected
+unfolding selectionOf selectFrom entriesOf
+none s d n h = rw h
+
+module _ (s d : List ℕ) (n : ℕ) (some : n ≡ 0 → ⊥) where
+  pub step : (a : Action) → actionTaken (firstEntry s) d ≡ a → selectionOf s n d ≡ follow a (λ m. selectFrom (m - 1) (entriesOf (below s) (n - 1)) d)
+  unfolding selectionOf selectFrom entriesOf
+  step a e =
+      let l : n ≡ suc (n - 1) = omega arith in
+      ap (λ (m : ℕ). selectFrom 0 (entriesOf s m) d) l ∙ ap (λ (x : Action). follow x (λ m. selectFrom (m - 1) (entriesOf (below s) (n - 1)) d)) e
+
+  -- a move of m, or past the last entry
+  module _ (m : ℕ) (v : actionTaken (firstEntry s) d ≡ Move m) where
+    moved : selectionOf s n d ≡ oneMore (selectionOf (skipped s m) (n - m) d)
+    unfolding follow
+    moved =
+        let h : m ≡ 0 → ⊥ = (λ z. omega (arith, moves-down (firstEntry s) d m v)) in
+        let l : n - 1 - (m - 1) ≡ n - m = omega (arith, moves-down (firstEntry s) d m v) in
+        step (Move m) v ∙ ap oneMore (from-skipped (m - 1) (n - 1) (below s) d ∙ ap₂ (λ (t : List ℕ) (k : ℕ). selectionOf t k d) (sym (skip-more s m h)) l)
+
+    pub moves-on : (t : List ℕ) → t ≡ skipped s m → (r : Selection) → r ≡ selectionOf t (n - m) d → oneMore r ≡ selectionOf s n d
+    moves-on t e r f = ap oneMore (f ∙ ap (λ (x : List ℕ). selectionOf x (n - m) d) e) ∙ sym moved
+
+    pub moves-past : n ≤ m → selectionOf s n d ≡ NotSelected
+    moves-past h = moved ∙ ap oneMore (none (skipped s m) d (n - m) (omega arith))
