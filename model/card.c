@@ -123,7 +123,8 @@ static void approve_offline(struct card *card)
             count_one(&card->counter[i]);
 }
 
-/* "Second: the answer", an AAC after Y3 or Z3. */
+/* An offline decline: an AAC at First (request One), or after Y3 or Z3. The
+ * tests are over, so the CVR does not show it. */
 static void count_decline(struct card *card)
 {
     const struct profile *profile = card->open.profile;
@@ -312,12 +313,19 @@ unsigned card_first(struct card *card, const struct first *first,
     observe_first(card, first, type);
 
     set_cvr(card, type);
-    card->due = NOTHING_DUE;
-    if (type == TC)
+    switch (type) {
+    case AAC:
+        count_decline(card);
+        card->due = NOTHING_DUE;
+        break;
+    case TC:
         approve_offline(card);
-    if (type == ARQC) {
+        card->due = NOTHING_DUE;
+        break;
+    default:
         card->history |= LAST_ONLINE_NOT_COMPLETED;
         card->due = SECOND_DUE;
+        break;
     }
     give(card, type, answer);
     return 0;

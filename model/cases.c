@@ -301,7 +301,7 @@ static void orders(void)
 }
 
 /* After Y3: Default decides, bit 3 included; declines count where both
- * switches say so; nothing accumulates on an AAC. */
+ * switches say so, here and at First; nothing accumulates on an AAC. */
 static void unable(void)
 {
     lenient();
@@ -319,7 +319,7 @@ static void unable(void)
            "2 0 80 1 " IAD("A030000000", "000000000000", "0000")
            "3 0 00 1 " IAD("2230000100", "000000000000", "0100")
            "4 0 2\n"
-           "5 0 00 2 " IAD("8231000000", "000000000000", "0100"));
+           "5 0 00 2 " IAD("8231000000", "000000000000", "0200"));
 
     profile->by_default = 0;
     profile->counter[0].switches = 9; /* not allowed */
@@ -338,6 +338,83 @@ static void unable(void)
            "4 0 2\n"
            "5 0 80 2 " IAD("A231000000", "000000000000", "0000")
            "6 0 40 2 " IAD("6231000100", "000000000007", "0000"));
+}
+
+/* One counter from a value on, an AAC at First for each of its reasons. */
+static void declined(uint8_t switches, uint8_t value, uint8_t expected)
+{
+    static const char *const reasons[] = {"requested", "Decline", "Default"};
+    char lines[200];
+
+    for (unsigned i = 0; i < 3; i++) {
+        lenient();
+        setup.counter[0] = value;
+        setup.go_online = 1;
+        profile->counter[0].switches = switches;
+        profile->decline = i == 1 ? 2 : 0;
+        profile->by_default = i == 2 ? 2 : 0;
+        begin();
+        start();
+        draft_first(&draft, i > 0, 7, EUR, i == 2 ? 0x23 : 0x22);
+        snprintf(lines, sizeof lines,
+                 "0 0\n1 0 1\n2 0 00 1 "
+                 "0FA5018030000200000000000000%02X000F01" ZEROS "\n",
+                 expected);
+        expect(reasons[i], lines);
+    }
+}
+
+/* Request One. */
+static void declines(void)
+{
+    declined(11, 4, 5);
+    declined(11, 253, 254);
+    declined(11, 254, 255);
+    declined(11, 255, 255);
+    declined(3, 4, 4);
+    declined(9, 4, 4);
+    declined(10, 4, 4);
+    declined(0, 4, 4);
+
+    lenient(); /* the test has the old value, the IAD the new one */
+    setup.counter[0] = 4;
+    profile->counter[0].switches = 11;
+    profile->counter[0].lower = 4;
+    begin();
+    start();
+    first(0, 7);
+    start();
+    first(0, 7);
+    expect("declines and a limit",
+           "0 0\n"
+           "1 0 1\n"
+           "2 0 00 1 " IAD("8030000000", "000000000000", "0500")
+           "3 0 2\n"
+           "4 0 00 2 " IAD("8030800000", "000000000000", "0600"));
+
+    lenient(); /* an AAC after going online is no offline decline */
+    profile->counter[0].switches = 15;
+    begin();
+    start();
+    first(2, 7);
+    second(1, OTHER, FAILED, 0);
+    start();
+    first(2, 7);
+    second(0, OTHER, ABSENT, 0);
+    start();
+    first(2, 7);
+    second(0, OTHER, VERIFIED, 0x80);
+    expect("declined online",
+           "0 0\n"
+           "1 0 1\n"
+           "2 0 80 1 " IAD("A030000000", "000000000000", "0000")
+           "3 0 00 1 " IAD("2130000000", "000000000000", "0000")
+           "4 0 2\n"
+           "5 0 80 2 " IAD("A131000000", "000000000000", "0000")
+           "6 0 00 2 " IAD("2331000000", "000000000000", "0000")
+           "7 0 3\n"
+           "8 0 80 3 " IAD("A330000000", "000000000000", "0000")
+           "9 0 00 3 " IAD("2030000000", "000000000000", "0000"));
 }
 
 /* No conversion: the amount does not count, the value still does. */
@@ -764,6 +841,7 @@ int main(void)
     history();
     orders();
     unable();
+    declines();
     unconverted();
     counters();
     selection();

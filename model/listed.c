@@ -662,7 +662,7 @@ static void switches(unsigned round, unsigned variant)
         }
     }
     begin();
-    for (uint8_t p = 1; p <= 4; p++) { /* the tests, nothing moves */
+    for (uint8_t p = 1; p <= 4; p++) { /* the tests, and declines */
         start(p);
         draft_first(draft, AAC, 100, currency, ONLINE_TERMINAL);
     }
@@ -697,6 +697,66 @@ static void all_switches(void)
     for (unsigned round = 0; round < 4; round++)
         for (unsigned variant = 0; variant < 5; variant++)
             switches(round, variant);
+}
+
+/* Counters from these values on, declines counted: an AAC at First for each
+ * reason, and after Y3; not after going online. */
+static void declines_from(const uint8_t *values, uint8_t switches,
+                          uint8_t limit)
+{
+    draft_printed_setup(&setup);
+    setup.required = 1;
+    setup.profiles = 4;
+    for (unsigned i = 0; i < 4; i++)
+        setup.counter[i] = values[i];
+    for (unsigned p = 0; p < 4; p++) {
+        struct draft_profile *profile = &setup.profile[p];
+        memset(profile, 0, sizeof *profile);
+        profile->number = (uint8_t)(p + 1);
+        profile->mta_on = 1;
+        profile->mta_currency = EUR;
+        profile->counter_sent[0] = p & 1 ? 3 : 1;
+        profile->counter_sent[1] = p & 1 ? 4 : 2;
+        for (unsigned i = 0; i < 4; i++) {
+            profile->counter[i].switches = switches;
+            profile->counter[i].lower = limit;
+            profile->counter[i].upper = limit;
+        }
+    }
+    setup.profile[0].decline = 32;
+    setup.profile[1].by_default = 32;
+    begin();
+    for (unsigned round = 0; round < 2; round++) {
+        start(1);
+        first(TC, 1);
+        start(2);
+        draft_first(draft, TC, 1, EUR, OFFLINE_TERMINAL);
+        start(3);
+        first(AAC, 0);
+        for (uint8_t data = ABSENT; data <= FAILED; data++) {
+            start(4);
+            first(ARQC, 0);
+            second(AAC, OTHER, data, 0);
+        }
+        start(4);
+        first(ARQC, 0);
+        second(AAC, Y3, ABSENT, 0);
+        start(3);
+        first(TC, 0);
+    }
+    emit();
+}
+
+static void declines(void)
+{
+    static const uint8_t low[] = {0, 4, 9, 10};
+    static const uint8_t high[] = {251, 252, 253, 255, 251, 252, 253};
+    static const uint8_t some[] = {3, 9, 10, 11, 15};
+
+    for (size_t i = 0; i < sizeof some; i++)
+        declines_from(low, some[i], 4);
+    for (unsigned i = 0; i < 4; i++)
+        declines_from(high + i, i & 1 ? 11 : 15, i & 2 ? 254 : 255);
 }
 
 /* Every shift, five rates a paper, into accumulator 1 made zero each time. */
@@ -903,6 +963,7 @@ void listed_papers(uint64_t seed, struct draft *to,
     seconds();
     histories();
     all_switches();
+    declines();
     conversions();
     mta();
     leftovers();

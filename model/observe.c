@@ -155,20 +155,46 @@ void observe_approval(const struct card *card)
     }
 }
 
+static bool counts_declines(unsigned switches)
+{
+    return (switches & (ACTIVE | ALLOW | INCLUDE_DECLINES))
+        == (ACTIVE | ALLOW | INCLUDE_DECLINES);
+}
+
+static bool counts_any_decline(const struct profile *profile)
+{
+    bool any = false;
+
+    for (unsigned i = 0; i < COUNTERS; i++)
+        any = any || counts_declines(profile->counter[i].switches);
+    return any;
+}
+
 void observe_decline(const struct card *card)
 {
+    const struct profile *profile = card->open.profile;
+    const bool second = card->due == SECOND_DUE;
+
     for (unsigned i = 0; i < COUNTERS; i++) {
-        const unsigned on = card->open.profile->counter[i].switches;
-        if (!(on & ACTIVE)) {
-            reached(DECLINE_INACTIVE + i);
-        } else if (!(on & ALLOW)) {
-            reached_if(on & INCLUDE_DECLINES, DECLINE_NOT_ALLOWED + i);
-        } else if (!(on & INCLUDE_DECLINES)) {
-            reached(DECLINE_LEFT_OUT + i);
-        } else if (card->counter[i] == COUNTER_MAX) {
-            reached(DECLINE_STOPPED + i);
+        const struct counter_rule *rule = &profile->counter[i];
+        const unsigned row = i + 4 * second;
+        const unsigned value = card->counter[i];
+        if (!(rule->switches & ACTIVE)) {
+            reached(DECLINE_INACTIVE + row);
+        } else if (!(rule->switches & ALLOW)) {
+            reached_if(rule->switches & INCLUDE_DECLINES,
+                       DECLINE_NOT_ALLOWED + row);
+        } else if (!(rule->switches & INCLUDE_DECLINES)) {
+            reached(DECLINE_LEFT_OUT + row);
+        } else if (value == COUNTER_MAX) {
+            reached(DECLINE_STOPPED + row);
         } else {
-            reached(DECLINE_ADDED + i);
+            reached(DECLINE_ADDED + row);
+            reached_if(value == COUNTER_MAX - 1, DECLINE_TO_255 + row);
+            reached_if(!second && value == rule->lower
+                       && !(card->open.cvr[2] & 0x80), DECLINE_PASSES + 0);
+            reached_if(!second && value == rule->upper
+                       && !(card->open.cvr[2] & 0x40), DECLINE_PASSES + 1);
         }
     }
 }
@@ -367,6 +393,12 @@ void observe_first(const struct card *card, const struct first *first,
 
     for (unsigned i = 0; i < 22; i++)
         reached_if(adr >> i & 1, ADR_SET + i);
+    if (given == AAC && counts_any_decline(profile)) {
+        if (first->type == AAC)
+            reached(DECLINE_BY + 0);
+        else
+            reached(DECLINE_BY + (adr & profile->decline_mask ? 1 : 2));
+    }
     if (first->type == AAC) {
         reached(FIRST_AAC_ASKED);
     } else if (adr & profile->decline_mask) {
@@ -454,8 +486,11 @@ void observe_second_answer(const struct card *card,
     const struct profile *profile = card->open.profile;
     const uint32_t adr = card->open.adr;
 
-    if (!unable_code(second->code))
+    if (!unable_code(second->code)) {
+        reached_if(given == AAC && counts_any_decline(profile),
+                   DECLINE_ONLINE + second->issuer_data);
         return;
+    }
     if (given == TC) {
         reached(UNABLE_TC);
         reached_if(adr & profile->decline_mask, UNABLE_TC_DECLINE);

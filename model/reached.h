@@ -248,6 +248,26 @@
     X(COUNT_UNTOUCHED, 4, "approval", "inactive, counter", "#1")               \
     X(COUNT_KEPT, 4, "approval", "active, not allowed, counter", "#1")         \
                                                                                \
+    X(DECLINE_ADDED, 8, "decline", "counted, counter",                         \
+      "First 1|First 2|First 3|First 4|Second 1|Second 2|Second 3|Second 4")   \
+    X(DECLINE_TO_255, 8, "decline", "counted at 254, counter",                 \
+      "First 1|First 2|First 3|First 4|Second 1|Second 2|Second 3|Second 4")   \
+    X(DECLINE_STOPPED, 8, "decline", "stopped at 255, counter",                \
+      "First 1|First 2|First 3|First 4|Second 1|Second 2|Second 3|Second 4")   \
+    X(DECLINE_INACTIVE, 8, "decline", "inactive, counter",                     \
+      "First 1|First 2|First 3|First 4|Second 1|Second 2|Second 3|Second 4")   \
+    X(DECLINE_NOT_ALLOWED, 8, "decline", "included, not allowed, counter",     \
+      "First 1|First 2|First 3|First 4|Second 1|Second 2|Second 3|Second 4")   \
+    X(DECLINE_LEFT_OUT, 8, "decline", "allowed, not included, counter",        \
+      "First 1|First 2|First 3|First 4|Second 1|Second 2|Second 3|Second 4")   \
+    X(DECLINE_PASSES, 2, "decline",                                            \
+      "counted at First, so above a limit, not in the CVR",                    \
+      "lower|upper")                                                           \
+    X(DECLINE_BY, 3, "decline", "counted at First, AAC",                       \
+      "requested|by Decline|by Default")                                       \
+    X(DECLINE_ONLINE, 3, "decline", "AAC after going online, not counted",     \
+      "absent|verified|failed")                                                \
+                                                                               \
     X(SECOND_REFUSED_2, 2, "Second", "refused 2", "none open|First due")       \
     X(SECOND_REFUSED_5, 2, "Second", "refused 5", "type 2|above")              \
     X(SECOND_REFUSED_6, 2, "Second", "refused 6: issuer data above 2",         \
@@ -269,15 +289,6 @@
     X(UNABLE_TC_DECLINE, 1, "Second",                                          \
       "unable, TC though ADR meets Decline now",                               \
       "")                                                                      \
-    X(DECLINE_ADDED, 4, "Second", "decline counted, counter", "#1")            \
-    X(DECLINE_STOPPED, 4, "Second", "decline stopped at 255, counter", "#1")   \
-    X(DECLINE_INACTIVE, 4, "Second", "decline, inactive, counter", "#1")       \
-    X(DECLINE_NOT_ALLOWED, 4, "Second",                                        \
-      "decline, included, not allowed, counter",                               \
-      "#1")                                                                    \
-    X(DECLINE_LEFT_OUT, 4, "Second",                                           \
-      "decline, allowed, not included, counter",                               \
-      "#1")                                                                    \
     X(VERIFIED_CLEARS, 5, "Second", "verified, clears history bit", "#0")      \
     X(VERIFIED_GO_ONLINE, 2, "Second", "verified, go online next becomes",     \
       "0|1")                                                                   \

@@ -16,3 +16,4 @@ pub mod Answers
 pub mod Edges
 pub mod Selected
 pub mod Samples
+pub mod Declines

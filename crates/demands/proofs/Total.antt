@@ -123,7 +123,15 @@ module _ (s : List ℕ) (bytes : Bytes s) (fits : Accepted s) (sitting : Sitting
             (approved-moves s fits place (placeOf s (named log)) stands (state .values) (purchaseOf first) small meter l)
             (counted-fair s (placeOf s (named log)) (first .amount .0) (first .currency) (capOf meter) meter);
       }
-  concluded-holds first place stands small limits cvr Aac = record { agrees = tt; values = holding .values }
+  concluded-holds first place stands small limits cvr Aac =
+      record {
+        agrees = tt;
+        values =
+            λ meter l.
+            carry (declinedValues rules place (state .values)) meter (declined s (placeOf s (named log)) meter) l
+            (declined-moves s fits place (placeOf s (named log)) stands (state .values) meter l)
+            (declined-fair s (placeOf s (named log)) (first .amount .0) (first .currency) (capOf meter) meter);
+      }
   concluded-holds first place stands small limits cvr Arqc =
       record {
         agrees = record { stands = stands; amount-is = refl; currency-is = refl; small = small };

@@ -131,6 +131,13 @@ isTc (Given Aac atc iad) = false
 isTc (Given Tc atc iad) = true
 isTc (Given Arqc atc iad) = false
 
+abbrev pub isAac : Answer → Bool
+isAac (Refused refusal) = false
+isAac (Started atc visits) = false
+isAac (Given Aac atc iad) = true
+isAac (Given Tc atc iad) = false
+isAac (Given Arqc atc iad) = false
+
 -- an offline approval is a TC at First, or at Second after Y3 or Z3, and nothing else
 abbrev pub approves : Command → Answer → Bool
 approves (StartCommand start) answer = false
@@ -142,7 +149,7 @@ abbrev pub counted : List ℕ → (profile amount currency : ℕ) → Meter → 
 counted s profile amount currency meter =
     cond (isActive s profile meter && isAllowed s profile meter) (additionOf s amount currency meter) []
 
--- AAC after Y3 or Z3: each active counter with both "allow counting" and "include offline declines" grows by 1
+-- AAC at First, or at Second after Y3 or Z3: each active counter with both "allow counting" and "include offline declines" grows by 1
 abbrev pub declined : List ℕ → ℕ → Meter → List Entry
 declined s profile meter =
     cond (isActive s profile meter && isAllowed s profile meter && countsDeclines s profile meter) (add 1 ∷ []) []
@@ -157,7 +164,8 @@ ordered s profile amount currency csu meter =
 -- what a command and its answer enter, for the profile, the amount and the currency of the transaction
 abbrev pub entered : List ℕ → (profile amount currency : ℕ) → Meter → Command → Answer → List Entry
 entered s profile amount currency meter (StartCommand start) answer = []
-entered s profile amount currency meter (FirstCommand first) answer = cond (isTc answer) (counted s profile amount currency meter) []
+entered s profile amount currency meter (FirstCommand first) answer =
+    cond (isTc answer) (counted s profile amount currency meter) (cond (isAac answer) (declined s profile meter) [])
 entered s profile amount currency meter (SecondCommand second) answer =
     cond (isAccepted answer)
     (cond (couldNotGoOnline (second .code))

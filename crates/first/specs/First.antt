@@ -1,4 +1,4 @@
--- First GENERATE AC (document 01, "First: the answer").
+-- First GENERATE AC (document 01, "First: the answer", with request One: declines at First count).
 use Prim.Native.Nat.{ℕ, _+_, _*_, _/_, _%_}
 use mathlib.Core.Bool.{Bool, true, false, cond, not, _||_}
 use lib.Dec.{eqb}
@@ -8,7 +8,7 @@ use Rattle.rules.specs.declared.Place.{Place}
 use Rattle.rules.specs.Rules.{Rules, profileAt}
 use Rattle.meters.specs.declared.Purchase.{Purchase}
 use Rattle.meters.specs.declared.Worths.{Worths}
-use Rattle.meters.specs.Meters.{worthsOf, approved}
+use Rattle.meters.specs.Meters.{worthsOf, approved, declined}
 use Rattle.checks.specs.declared.History.{History}
 use Rattle.checks.specs.declared.Tests.{Tests}
 use Rattle.checks.specs.Checks.{bit, testsOf, decisionBits, meetsMask}
@@ -55,7 +55,8 @@ uncompleted history =
       missing = history .missing;
     }
 
--- an offline approval moves the values, AAC and ARQC move none; TC or AAC closes the transaction
+-- an offline approval moves the values; AAC raises the counters that include offline declines, and no accumulator; ARQC moves none; TC or
+-- AAC closes the transaction
 unfoldable pub concluded : Rules → State → Place → Purchase → Worths → ℕ → Cvr → Kind → Outcome
 concluded rules state place purchase worths limits cvr Tc =
     let values = approved rules place (state .values) worths in
@@ -64,9 +65,10 @@ concluded rules state place purchase worths limits cvr Tc =
       answer = Given Tc (state .atc) (sentIad rules place values cvr);
     }
 concluded rules state place purchase worths limits cvr Aac =
+    let raised = declined rules place (state .values) in
     record {
-      state = record { values = state .values; phase = Idle; atc = state .atc; history = state .history };
-      answer = Given Aac (state .atc) (sentIad rules place (state .values) cvr);
+      state = record { values = raised; phase = Idle; atc = state .atc; history = state .history };
+      answer = Given Aac (state .atc) (sentIad rules place raised cvr);
     }
 concluded rules state place purchase worths limits cvr Arqc =
     record {

@@ -65,7 +65,8 @@ fn limits_of(tests: Tests) -> u8
         + cryptogram::bit_of(tests.accumulators / 16 != 0) * 16
 }
 
-// An approval moves the values; AAC and ARQC move none. TC and AAC close the transaction.
+// An approval moves the values, a decline the counters that include declines, an ARQC none. TC and
+// AAC close the transaction.
 fn conclude(
     words: &Words,
     state: State,
@@ -100,10 +101,11 @@ fn conclude(
             }
         }
         Kind::Aac => {
-            let iad = cryptogram::send(words, place, values, cvr);
+            let declined = meters::decline(words, place, values);
+            let iad = cryptogram::send(words, place, declined, cvr);
             Outcome {
                 state: State {
-                    values,
+                    values: declined,
                     phase: Phase::Idle,
                     atc,
                     history,

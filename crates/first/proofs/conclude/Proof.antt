@@ -9,11 +9,11 @@ returns c = simp (c .before .before .enum-told .given .1, c .send .ensures, c .b
 
 returns-2 : tie.Need-returns-2
 unfolding concluded
-returns-2 c = simp (c .before .enum-told2 .given .1, c .send2 .ensures)
+returns-2 c = simp (c .before .before .enum-told2 .given .1, c .send2 .ensures, c .before .decline .ensures)
 
 returns-3 : tie.Need-returns-3
 unfolding concluded
 returns-3 c = simp (c .before .enum-told3 .given .1, c .send3 .ensures)
 
 pub conclude-spec : {M : Type 1} → statement M
-conclude-spec = tie.close (tie.spec (search needs) (search needs) (search needs) (search needs) (search needs) (search needs) (search needs) returns returns-2 returns-3)
+conclude-spec = tie.close (tie.spec (search needs) (search needs) (search needs) (search needs) (search needs) (search needs) (search needs) (search needs) returns returns-2 returns-3)
