@@ -1,4 +1,3 @@
 pub mod Search
 pub mod Power
-pub mod Table
 pub mod Laws

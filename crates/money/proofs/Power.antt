@@ -1,7 +1,7 @@
 -- Laws of powers of ten, for conversion. Assumes nothing.
 use mathlib.Core.Path.{_≡_, refl, sym, ap, _∙_}
 use Prim.Native.Nat.{ℕ, _+_, _-_, _*_, _/_, _^_, _≤_, _<_}
-use native.Mathlib.Nat.{mul-div-mul-right, mul-div-cancel, mul-le-mul, mul-assoc, pow-le-pow-right, lt-of-le-of-lt}
+use native.Mathlib.Nat.{mul-div-mul-right, mul-div-cancel, mul-le-mul, mul-assoc, pow-le-pow-right, lt-of-le-of-lt, le-refl}
 use native.Mathlib.Omega.{arith}
 use lib.Pow.{pow-add}
 use lib.Dec.{ltb, leb, lit<}
@@ -29,6 +29,9 @@ up n t h =
 -- the products of conversion fit 64 bits
 pub digits-fit : {a d : ℕ} → a ≤ max → d ≤ 9999 → a * d < 2 ^ 64
 digits-fit ha hd = lt-of-le-of-lt (mul-le-mul ha hd) (lit< tt)
+
+pub power-fits : {k : ℕ} → k ≤ 9 → 10 ^ k * 10 < 2 ^ 64
+power-fits {k = k} hk = lt-of-le-of-lt (mul-le-mul (pow-le-pow-right {n = 10} (lit< tt) {i = k} {j = 9} hk) (le-refl 10)) (lit< tt)
 
 pub shift-fits : {a d k : ℕ} → a ≤ max → d ≤ 9999 → k ≤ 3 → a * d * 10 ^ k < 2 ^ 64
 shift-fits {k = k} ha hd hk =

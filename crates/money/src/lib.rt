@@ -1,6 +1,6 @@
 // Amounts of two kinds, and the conversion that alone leads from one to the other.
 ghost use mathlib.Core.Path.{_≡_};
-ghost use Prim.Native.Nat.{_+_, _≤_, _<_, _^_};
+ghost use Prim.Native.Nat.{_+_, _≤_};
 ghost use Rattle.money.specs.Money.{max, stopped, isFor, rateFor, isRate, scaled, convertOf};
 
 pub const MAX: u64 = 999_999_999_999;
@@ -27,19 +27,6 @@ pub enum Converted {
     Amount(AccumulatorAmount),
     NoEntry,
 }
-
-const POWERS: [u64; 10] = [
-    1,
-    10,
-    100,
-    1_000,
-    10_000,
-    100_000,
-    1_000_000,
-    10_000_000,
-    100_000_000,
-    1_000_000_000,
-];
 
 // MAX if larger.
 pub fn stop(n: u64) -> u64
@@ -93,24 +80,25 @@ fn is_rate(rate: Rate) -> bool
     (1 <= rate.digits) & (rate.digits <= 9_999) & (rate.shift <= 12)
 }
 
-fn power_of_ten(exponent: u8) -> u64
-    requires { ⌜ exponent < 10 ⌝ }
-    ensures { λ r. ⌜ r ≡ 10 ^ exponent ⌝ }
-{
-    let i = exponent as usize;
-    POWERS[i]
-}
-
 // amount x d x 10^s, its fraction dropped, and MAX if larger.
 fn scale(amount: u64, rate: Rate) -> u64
     requires { ⌜ (amount ≤ max) × (rate .digits ≤ 9999) × (rate .shift ≤ 12) ⌝ }
     ensures { λ r. ⌜ r ≡ scaled amount rate ⌝ }
 {
     let product = amount * rate.digits as u64;
-    if rate.shift < 9 {
-        stop(product / power_of_ten(9 - rate.shift))
+    let exponent = if rate.shift < 9 {
+        9 - rate.shift
     } else {
-        stop(product * power_of_ten(rate.shift - 9))
+        rate.shift - 9
+    };
+    let mut power: u64 = 1;
+    for _ in 0..exponent {
+        power *= 10;
+    }
+    if rate.shift < 9 {
+        stop(product / power)
+    } else {
+        stop(product * power)
     }
 }
 

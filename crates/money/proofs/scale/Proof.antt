@@ -1,36 +1,81 @@
--- Below the ninth power the shift divides, from there on it multiplies; the products fit.
+-- After i turns the power is 10^i, and the loop makes |s| turns. Below the ninth power the shift divides, from there on it
+-- multiplies; the products fit.
 use borrow.Author.Needs.{needs}
-use Prim.Native.Nat.{_*_}
+use mathlib.Core.Path.{_≡_, refl, ap, sym, _∙_}
+use mathlib.Core.Logic.{⊎-elim}
+use Prim.Native.Nat.{ℕ, _+_, _-_, _*_, _^_, _≤_}
 use native.Mathlib.Omega.{arith}
+use lib.Pow.{pow-add}
 use Rattle.money.specs.Money.{scaled}
-use Rattle.money.proofs.Power.{ten-pos, down, up, digits-fit, shift-fits}
+use Rattle.money.proofs.Power.{ten-pos, down, up, digits-fit, power-fits, shift-fits}
 use Rattle.money.proofs.scale.Statement.{statement}
 use Rattle.money.proofs.scale.Tie as tie
 
-mul-product : tie.Need-mul-product
+abbrev Inv-loop : tie.InvT-loop
+Inv-loop amount rate product exponent power₀ i₀ power i =
+    (i ≤ exponent) × (exponent ≡ (9 - rate .shift) + (rate .shift - 9)) × (power ≡ 10 ^ i)
+
+abbrev μ-loop : tie.MeasureT-loop
+μ-loop amount rate product exponent power₀ i₀ power i = exponent - i
+
+mul-product : tie.Need-mul-product Inv-loop μ-loop
 mul-product c = record { fits = digits-fit (c .before .pre .0) (c .before .pre .1) }
 
-div-stop : tie.Need-div-stop
-div-stop c = rw (c .power-of-ten .ensures) (ten-pos _)
+loop-holds : tie.Need-loop-holds Inv-loop μ-loop
+loop-holds c = (omega arith, ⊎-elim (λ w. omega arith) (λ w. omega arith) (c .if1 .came), refl)
 
-mul-stop : tie.Need-mul-stop
+mul-power : tie.Need-mul-power Inv-loop μ-loop
+mul-power c =
+    let l = c .before .loop in
+    rw (l .inv .2) (record { fits = power-fits {k = l .counter} (omega arith) })
+
+loop-again : tie.Need-loop-again Inv-loop μ-loop
+loop-again c =
+    let l = c .before .loop in
+    (omega arith, l .inv .1, ap (λ (power : ℕ). power * 10) (l .inv .2) ∙ sym (pow-add 10 (l .counter) 1))
+
+div-stop : tie.Need-div-stop Inv-loop μ-loop
+div-stop c = rw (c .before .before .before .loop .inv .2) (ten-pos _)
+
+mul-stop : tie.Need-mul-stop Inv-loop μ-loop
 mul-stop c =
-    let pre = c .before .before .before .before .before .pre in
-    rw (c .power-of-ten2 .ensures) (record { fits = shift-fits (pre .0) (pre .1) (omega arith) })
+    let l = c .before .before .before .loop in
+    let pre = c .before .before .before .before .before .before .before .pre in
+    rw (l .inv .2) (record { fits = shift-fits {k = l .counter} (pre .0) (pre .1) (omega arith) })
 
-returns : tie.Need-returns
+returns : tie.Need-returns Inv-loop μ-loop
 unfolding scaled
 returns c =
-    let a = c .before .before .before .before .before .before .args in
-    simp (c .stop .ensures, c .before .power-of-ten .ensures, down (a .amount * a .rate .digits) (a .rate .shift) (omega arith))
+    let l = c .before .before .before .before .loop in
+    let a = c .before .before .before .before .before .before .before .before .args in
+    let turns : l .counter ≡ 9 - a .rate .shift = omega arith in
+    simp (c .stop .ensures, l .inv .2, turns, down (a .amount * a .rate .digits) (a .rate .shift) (omega arith))
 
-returns-2 : tie.Need-returns-2
+returns-2 : tie.Need-returns-2 Inv-loop μ-loop
 unfolding scaled
 returns-2 c =
-    let a = c .before .before .before .before .before .before .args in
-    simp (c .stop2 .ensures, c .before .power-of-ten2 .ensures, up (a .amount * a .rate .digits) (a .rate .shift) (omega arith))
+    let l = c .before .before .before .before .loop in
+    let a = c .before .before .before .before .before .before .before .before .args in
+    let turns : l .counter ≡ a .rate .shift - 9 = omega arith in
+    simp (c .stop2 .ensures, l .inv .2, turns, up (a .amount * a .rate .digits) (a .rate .shift) (omega arith))
 
 pub scale-spec : {M : Type 1} → statement M
 scale-spec =
     tie.close
-    (tie.spec (search needs) mul-product (search needs) (search needs) div-stop (search needs) (search needs) mul-stop (search needs) returns returns-2)
+    (tie.spec
+    Inv-loop
+    μ-loop
+    (search needs)
+    mul-product
+    (search needs)
+    loop-holds
+    mul-power
+    (search needs)
+    (search needs)
+    loop-again
+    div-stop
+    (search needs)
+    mul-stop
+    (search needs)
+    returns
+    returns-2)
