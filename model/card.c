@@ -14,7 +14,7 @@ static struct converted convert(const struct setup *setup, uint64_t amount,
 
     if (from == to) {
         reached(CONVERT_SAME);
-        return (struct converted){amount, true};
+        return (struct converted){CONVERTED, amount};
     }
     for (unsigned i = 0; i < setup->conversions; i++) {
         const struct conversion *entry = &setup->conversion[i];
@@ -27,11 +27,11 @@ static struct converted convert(const struct setup *setup, uint64_t amount,
             product *= ten_to[entry->shift];
         observe_conversion(i, entry, amount, product);
         if (product > AMOUNT_MAX)
-            product = AMOUNT_MAX;
-        return (struct converted){product, true};
+            return (struct converted){OVER, 0};
+        return (struct converted){CONVERTED, product};
     }
     reached(CONVERT_NONE);
-    return (struct converted){0, false};
+    return (struct converted){NO_ENTRY, 0};
 }
 
 /* First's amount in every currency that this profile asks about. */
@@ -51,27 +51,33 @@ static void convert_amount(struct card *card, uint64_t amount,
 }
 
 /* "Start and the checks": bits 5 to 21. The sums are not stopped, so that a
- * full accumulator or counter still exceeds a limit at its maximum. */
+ * full accumulator or counter still exceeds a limit at its maximum. Over
+ * exceeds every limit, MAX too. */
 static uint32_t check_limits(const struct card *card)
 {
     const struct transaction *open = &card->open;
     const struct profile *profile = open->profile;
     uint32_t adr = 0;
 
-    if (profile->mta_on && open->for_mta.counts
-        && open->for_mta.amount > profile->mta)
+    if (profile->mta_on
+        && (open->for_mta.how == OVER
+            || (open->for_mta.how == CONVERTED
+                && open->for_mta.amount > profile->mta)))
         adr |= MTA_EXCEEDED;
 
     for (unsigned i = 0; i < ACCUMULATORS; i++) {
         const struct accumulator_rule *rule = &profile->accumulator[i];
         if (!(rule->switches & ACTIVE))
             continue;
+        const struct converted added = open->for_accumulator[i];
+        const bool included = rule->switches & INCLUDE;
+        const bool over = included && added.how == OVER;
         uint64_t value = card->accumulator[i];
-        if (rule->switches & INCLUDE && open->for_accumulator[i].counts)
-            value += open->for_accumulator[i].amount;
-        if (value > rule->lower)
+        if (included && added.how == CONVERTED)
+            value += added.amount;
+        if (over || value > rule->lower)
             adr |= (uint32_t)ACCUMULATOR_LOWER << i;
-        if (value > rule->upper)
+        if (over || value > rule->upper)
             adr |= (uint32_t)ACCUMULATOR_UPPER << i;
     }
 
@@ -103,7 +109,7 @@ static void count_one(uint8_t *counter)
         ++*counter;
 }
 
-/* "First: the answer", an offline approval. */
+/* "First: the answer", an offline approval. An over amount stores MAX. */
 static void approve_offline(struct card *card)
 {
     const struct transaction *open = &card->open;
@@ -111,12 +117,15 @@ static void approve_offline(struct card *card)
 
     observe_approval(card);
     for (unsigned i = 0; i < ACCUMULATORS; i++) {
+        const struct converted added = open->for_accumulator[i];
         if (!has(profile->accumulator[i].switches, ACTIVE | ALLOW)
-            || !open->for_accumulator[i].counts)
+            || added.how == NO_ENTRY)
             continue;
-        card->accumulator[i] += open->for_accumulator[i].amount;
-        if (card->accumulator[i] > AMOUNT_MAX)
+        if (added.how == OVER
+            || card->accumulator[i] + added.amount > AMOUNT_MAX)
             card->accumulator[i] = AMOUNT_MAX;
+        else
+            card->accumulator[i] += added.amount;
     }
     for (unsigned i = 0; i < COUNTERS; i++)
         if (has(profile->counter[i].switches, ACTIVE | ALLOW))

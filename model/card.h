@@ -104,10 +104,11 @@ struct setup {
     bool authentication_required;
 };
 
-/* An amount in another currency, if there is a way to convert it. */
+/* What an amount is in another currency: nothing without an entry, an amount,
+ * or over, which is more than MAX. */
 struct converted {
-    uint64_t amount;
-    bool counts;
+    enum { NO_ENTRY, CONVERTED, OVER } how;
+    uint64_t amount; /* of CONVERTED */
 };
 
 /* The open transaction. Only `profile` is set before First. */

@@ -105,12 +105,9 @@ static void sitting_in_full(void)
            "8 2\n");
 }
 
-/* Accumulator 1 after one TC of an amount in USD. */
-static void conversion(const char *name, uint64_t amount, uint16_t digits,
-                       int shift, const char *expected)
+/* Nothing declines, and limits at MAX, an amount in USD at this rate. */
+static void at_rate(uint16_t digits, int shift)
 {
-    char lines[200];
-
     lenient();
     profile->accumulator[0].lower = MOST;
     profile->accumulator[0].upper = MOST;
@@ -119,6 +116,15 @@ static void conversion(const char *name, uint64_t amount, uint16_t digits,
     setup.conversion[0].to = EUR;
     setup.conversion[0].digits = digits;
     setup.conversion[0].shift = (uint8_t)(shift + 9);
+}
+
+/* Accumulator 1 after one TC of an amount in USD. */
+static void conversion(const char *name, uint64_t amount, uint16_t digits,
+                       int shift, const char *expected)
+{
+    char lines[200];
+
+    at_rate(digits, shift);
     begin();
     start();
     draft_first(&draft, 1, amount, USD, 0x22);
@@ -126,6 +132,18 @@ static void conversion(const char *name, uint64_t amount, uint16_t digits,
              "0 0\n1 0 1\n2 0 40 1 0FA5019030000000%s01000F01" ZEROS "\n",
              expected);
     expect(name, lines);
+}
+
+/* Over: the limits are exceeded though they are MAX, and MAX is stored. */
+static void conversion_over(const char *name, uint64_t amount, uint16_t digits,
+                            int shift)
+{
+    at_rate(digits, shift);
+    begin();
+    start();
+    draft_first(&draft, 1, amount, USD, 0x22);
+    expect(name, "0 0\n1 0 1\n2 0 40 1 "
+                 IAD("9030300000", "999999999999", "0100"));
 }
 
 static void edges(void)
@@ -143,7 +161,7 @@ static void edges(void)
                 IAD("A030200000", "000000000000", "0000"));
 
     conversion("c", 12345, 1234, -3, "000000015233");
-    conversion("d", MOST, 9999, 3, "999999999999");
+    conversion_over("d", MOST, 9999, 3);
     conversion("e", 1, 4, -1, "000000000000");
 
     printed();
@@ -203,8 +221,13 @@ static void rates(void)
     conversion("MAX at 1", MOST, 1, 0, "999999999999");
     conversion("MAX at a billionth", MOST, 1, -9, "000000000999");
     conversion("MAX at 9,999 billionths", MOST, 9999, -9, "000009998999");
-    conversion("one more than MAX", 333333333334, 3, 0, "999999999999");
+    conversion("MAX by 3", 333333333333, 3, 0, "999999999999");
+    conversion_over("two more than MAX", 333333333334, 3, 0);
     conversion("thousands", 999999999, 1, 3, "999999999000");
+    conversion_over("a thousand times too much", 1000000000, 1, 3);
+    conversion_over("MAX + 1, divided", 625000000000, 16, -1);
+    conversion("a fraction more than MAX", 833333333333, 12, -1,
+               "999999999999");
 }
 
 /* Which history each kind of Second leaves, seen in the CVRs after it. */
@@ -458,6 +481,71 @@ static void unconverted(void)
     expect("MTA met",
            "0 0\n1 0 1\n2 0 40 1 "
            IAD("9030000000", "000000010001", "0100"));
+}
+
+/* Request Four, beyond the edge d. */
+static void over(void)
+{
+    at_rate(1, 3);
+    profile->mta_on = 1;
+    profile->mta_currency = EUR;
+    profile->mta = MOST;
+    profile->decline = 32;
+    profile->accumulator[0].switches = 0;
+    begin();
+    start();
+    draft_first(&draft, 1, 1000000000, USD, 0x22);
+    start();
+    draft_first(&draft, 1, 999999999, USD, 0x22);
+    expect("over, MTA at MAX",
+           "0 0\n"
+           "1 0 1\n"
+           "2 0 00 1 " IAD("8030000000", "000000000000", "0000")
+           "3 0 2\n"
+           "4 0 40 2 " IAD("9030000000", "000000000000", "0100"));
+
+    at_rate(1, 3); /* not included: the value alone is tested, MAX stored */
+    profile->accumulator[0].switches = 3;
+    profile->accumulator[0].lower = 0;
+    begin();
+    start();
+    draft_first(&draft, 1, 1000000000, USD, 0x22);
+    start();
+    draft_first(&draft, 1, 1000000000, USD, 0x22);
+    expect("over, not included",
+           "0 0\n"
+           "1 0 1\n"
+           "2 0 40 1 " IAD("9030000000", "999999999999", "0100")
+           "3 0 2\n"
+           "4 0 40 2 " IAD("9030200000", "999999999999", "0200"));
+
+    at_rate(1, 3); /* not allowed: tested, and kept */
+    profile->accumulator[0].switches = 5;
+    profile->decline = 1024;
+    setup.accumulator[0].value = 5;
+    begin();
+    start();
+    draft_first(&draft, 1, 1000000000, USD, 0x22);
+    start();
+    draft_first(&draft, 1, 999999999, USD, 0x22);
+    expect("over, not allowed",
+           "0 0\n"
+           "1 0 1\n"
+           "2 0 00 1 " IAD("8030300000", "000000000005", "0000")
+           "3 0 2\n"
+           "4 0 40 2 " IAD("9030000000", "000000000005", "0100"));
+
+    at_rate(1, 3); /* by the issuer's order */
+    profile->accumulator[0].upper = 7;
+    begin();
+    start();
+    draft_first(&draft, 2, 1000000000, USD, 0x22);
+    second(0, OTHER, VERIFIED, 0x03);
+    expect("over, added by order",
+           "0 0\n"
+           "1 0 1\n"
+           "2 0 80 1 " IAD("A030300000", "000000000000", "0000")
+           "3 0 00 1 " IAD("2030300000", "999999999999", "0100"));
 }
 
 /* A counter at 255 with a limit of 255, this transaction included. */
@@ -843,6 +931,7 @@ int main(void)
     unable();
     declines();
     unconverted();
+    over();
     counters();
     selection();
     selection_tails();

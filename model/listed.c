@@ -799,6 +799,88 @@ static void conversions(void)
     }
 }
 
+/* Amounts that a rate takes to MAX, to MAX + 1 and far over; every limit is
+ * MAX, and profile i looks at the bit `from + i` in the mask that `which`
+ * says. */
+static void over_at(const uint8_t *switches, unsigned from, unsigned which)
+{
+    static const uint64_t amounts[] = {333333333333, 625000000000, MOST};
+    static const uint16_t codes[] = {0x0001, 0x0010, 0x0100};
+    static const uint16_t digits[] = {3, 16, 9999};
+    static const uint8_t shifts[] = {9, 8, 12};
+
+    draft_printed_setup(&setup);
+    setup.profiles = 4;
+    setup.conversions = 3;
+    for (unsigned i = 0; i < 3; i++) {
+        setup.conversion[i].from = codes[i];
+        setup.conversion[i].to = EUR;
+        setup.conversion[i].digits = digits[i];
+        setup.conversion[i].shift = shifts[i];
+    }
+    for (unsigned i = 0; i < 4; i++) {
+        struct draft_profile *profile = &setup.profile[i];
+        const uint32_t mask = UINT32_C(1) << (from + i);
+        memset(profile, 0, sizeof *profile);
+        profile->number = (uint8_t)(i + 1);
+        setup.accumulator[i].currency = EUR;
+        profile->decline = which == 0 ? mask : 0;
+        profile->online = which == 1 ? mask : 0;
+        profile->by_default = which == 2 ? mask : 0;
+        profile->mta_on = 1;
+        profile->mta_currency = EUR;
+        profile->mta = i & 1 ? MOST : MOST - 1;
+        for (unsigned j = 0; j < 4; j++) {
+            profile->accumulator[j].switches = switches[j];
+            profile->accumulator[j].lower = MOST;
+            profile->accumulator[j].upper = MOST;
+        }
+        profile->counter[0].switches = 15;
+        profile->counter[0].lower = 255;
+        profile->counter[0].upper = 255;
+        profile->accumulator_sent = (uint8_t)(i + 1);
+        profile->counter_sent[0] = 1;
+    }
+    begin();
+    for (unsigned i = 0; i < 3; i++)
+        for (uint8_t p = 1; p <= 4; p++) {
+            start(p);
+            draft_first(draft, TC, amounts[i], codes[i],
+                        which == 2 ? OFFLINE_TERMINAL : ONLINE_TERMINAL);
+            start(p);
+            draft_first(draft, ARQC, amounts[i], codes[i], ONLINE_TERMINAL);
+            second(TC, Y3, ABSENT, 0);
+            start(p); /* from zero again */
+            first(ARQC, 0);
+            second(TC, OTHER, VERIFIED, 0x82);
+            start(p);
+            draft_first(draft, ARQC, amounts[i], codes[i], ONLINE_TERMINAL);
+            second(TC, OTHER, VERIFIED, 0x83);
+            start(p);
+            first(ARQC, 0);
+            second(TC, OTHER, VERIFIED, 0x82);
+        }
+    emit();
+}
+
+static void over(void)
+{
+    static const uint8_t all[] = {7, 7, 7, 7};
+    static const uint8_t tested[] = {5, 5, 5, 5};
+    static const uint8_t counted[] = {3, 3, 3, 3};
+    static const uint8_t mixed[] = {7, 3, 5, 1};
+
+    for (unsigned which = 0; which < 3; which++) {
+        over_at(all, 6, which);
+        over_at(all, 10, which);
+        over_at(mixed, 5, which);
+    }
+    over_at(tested, 6, 0);
+    over_at(tested, 10, 0);
+    over_at(counted, 6, 0);
+    over_at(counted, 5, 1);
+}
+
 /* MTA on and off, exceeded in any currency, each mask asking. */
 static void mta(void)
 {
@@ -965,6 +1047,7 @@ void listed_papers(uint64_t seed, struct draft *to,
     all_switches();
     declines();
     conversions();
+    over();
     mta();
     leftovers();
     listed_selection(to, then);

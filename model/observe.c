@@ -43,11 +43,19 @@ static void observe_limit(unsigned row, unsigned switches, uint64_t value,
     }
     if (value > limit) {
         reached(TEST_VALUE + row);
-        reached_if(included && !added.counts, TEST_UNCONVERTED + row);
+        reached_if(included && added.how == NO_ENTRY, TEST_UNCONVERTED + row);
         return;
     }
-    if (!added.counts)
+    if (added.how == NO_ENTRY)
         return;
+    if (added.how == OVER) {
+        reached((included ? TEST_OVER : TEST_OVER_LEFT_OUT) + row);
+        reached_if(included && value == 0 && limit == AMOUNT_MAX,
+                   TEST_OVER_AT_MAX + row);
+        reached_if(included && !(switches & ALLOW),
+                   TEST_OVER_NOT_ALLOWED + row);
+        return;
+    }
     const bool exceeds = value + added.amount > limit;
     reached_if(included && exceeds, TEST_SUM + row);
     reached_if(included && exceeds && limit == AMOUNT_MAX,
@@ -94,7 +102,8 @@ void observe_conversion(unsigned place, const struct conversion *entry,
         reached_if(product == 0 && amount > 0, CONVERT_TO_ZERO);
     }
     reached_if(product == AMOUNT_MAX, CONVERT_MAX);
-    reached_if(product > AMOUNT_MAX, CONVERT_OVER);
+    if (product > AMOUNT_MAX)
+        reached(CONVERT_OVER + (product > AMOUNT_MAX + 1));
     reached_if(product >> 63, CONVERT_WIDE);
 }
 
@@ -105,8 +114,10 @@ void observe_checks(const struct card *card)
 
     if (!profile->mta_on)
         reached(MTA_IS_OFF);
-    else if (!open->for_mta.counts)
+    else if (open->for_mta.how == NO_ENTRY)
         reached(MTA_UNCONVERTED);
+    else if (open->for_mta.how == OVER)
+        reached(MTA_OVER + (profile->mta == AMOUNT_MAX));
     else if (open->for_mta.amount > profile->mta)
         reached(MTA_BROKEN);
     else
@@ -133,8 +144,10 @@ void observe_approval(const struct card *card)
             reached(GROW_INACTIVE + i);
         else if (!(on & ALLOW))
             reached(GROW_NOT_ALLOWED + i);
-        else if (!card->open.for_accumulator[i].counts)
+        else if (card->open.for_accumulator[i].how == NO_ENTRY)
             reached(GROW_UNCONVERTED + i);
+        else if (card->open.for_accumulator[i].how == OVER)
+            reached(GROW_OVER + i);
         else if (card->accumulator[i] + card->open.for_accumulator[i].amount
                  > AMOUNT_MAX)
             reached(GROW_STOPPED + i);

@@ -152,7 +152,7 @@
     X(CONVERT_FRACTION, 1, "convert", "divided, fraction dropped", "")         \
     X(CONVERT_TO_ZERO, 1, "convert", "divided, more than 0 becomes 0", "")     \
     X(CONVERT_MAX, 1, "convert", "exactly MAX", "")                            \
-    X(CONVERT_OVER, 1, "convert", "over MAX, MAX taken", "")                   \
+    X(CONVERT_OVER, 2, "convert", "over", "MAX + 1|more")                      \
     X(CONVERT_WIDE, 1, "convert", "product of 2^63 or more", "")               \
     X(CONVERT_AT, 5, "convert", "entry in place", "#1")                        \
                                                                                \
@@ -168,6 +168,8 @@
     X(MTA_UNCONVERTED, 1, "First", "MTA on, no conversion: bit 5 clear", "")   \
     X(MTA_KEPT, 2, "First", "MTA on, not exceeded", "under|equal")             \
     X(MTA_BROKEN, 1, "First", "MTA on, exceeded", "")                          \
+    X(MTA_OVER, 2, "First", "MTA on, exceeded as the amount is over",          \
+      "MTA under MAX|MTA is MAX")                                              \
     X(ADR_SET, 22, "First", "ADR bit set", "#0")                               \
     X(FIRST_AAC_ASKED, 1, "First", "AAC: requested", "")                       \
     X(FIRST_AAC_DECLINE, 2, "First", "AAC, ADR meets Decline",                 \
@@ -217,6 +219,18 @@
     X(TEST_NOT_ALLOWED, 8, "tests",                                            \
       "only the sum exceeds, not allowed, accumulator",                        \
       "1 lower|2 lower|3 lower|4 lower|1 upper|2 upper|3 upper|4 upper")       \
+    X(TEST_OVER, 8, "tests",                                                   \
+      "included, over, value does not exceed, accumulator",                    \
+      "1 lower|2 lower|3 lower|4 lower|1 upper|2 upper|3 upper|4 upper")       \
+    X(TEST_OVER_AT_MAX, 8, "tests",                                            \
+      "included, over, value 0, limit MAX, accumulator",                       \
+      "1 lower|2 lower|3 lower|4 lower|1 upper|2 upper|3 upper|4 upper")       \
+    X(TEST_OVER_NOT_ALLOWED, 8, "tests",                                       \
+      "included, over, not allowed, accumulator",                              \
+      "1 lower|2 lower|3 lower|4 lower|1 upper|2 upper|3 upper|4 upper")       \
+    X(TEST_OVER_LEFT_OUT, 8, "tests",                                          \
+      "over, not included, value alone, accumulator",                          \
+      "1 lower|2 lower|3 lower|4 lower|1 upper|2 upper|3 upper|4 upper")       \
     X(COUNT_INACTIVE, 8, "tests", "inactive though value exceeds, counter",    \
       "1 lower|2 lower|3 lower|4 lower|1 upper|2 upper|3 upper|4 upper")       \
     X(COUNT_EQUAL, 8, "tests",                                                 \
@@ -237,6 +251,7 @@
                                                                                \
     X(GROW_ADDED, 4, "approval", "grows, accumulator", "#1")                   \
     X(GROW_STOPPED, 4, "approval", "stopped at MAX, accumulator", "#1")        \
+    X(GROW_OVER, 4, "approval", "over, MAX stored, accumulator", "#1")         \
     X(GROW_INACTIVE, 4, "approval", "inactive, accumulator", "#1")             \
     X(GROW_NOT_ALLOWED, 4, "approval", "active, not allowed, accumulator",     \
       "#1")                                                                    \

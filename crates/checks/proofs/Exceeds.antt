@@ -9,7 +9,7 @@ use lib.Dec.{ltb, leb, leb·suc-suc}
 use lib.ListN.{getD}
 use Rattle.money.specs.declared.AccumulatorAmount.{AccumulatorAmount}
 use Rattle.money.specs.declared.Converted.{Converted}
-use Rattle.money.specs.declared.Converted.the-variants.{Amount, NoEntry}
+use Rattle.money.specs.declared.Converted.the-variants.{Amount, Over, NoEntry}
 use Rattle.rules.specs.declared.Place.{Place}
 use Rattle.rules.specs.declared.Values.{Values}
 use Rattle.rules.specs.Rules.{Rules, accumulatorRule, counterRule}
@@ -33,21 +33,32 @@ pub unconverted : (limit value : ℕ) (include : Bool) → ltb limit value ≡ a
 unconverted limit value true = sym (or-false (ltb limit value))
 unconverted limit value false = sym (or-false (ltb limit value))
 
--- above a limit: by itself, or with an amount that is included and converts
+-- an amount that is over exceeds the limit where it is included
+pub over-included : (limit value : ℕ) (include : Bool) → (ltb limit value || include) ≡ amountExceeds limit value include Over
+over-included limit value true = refl
+over-included limit value false = refl
+
+-- above a limit: by itself, with an amount that is included and converts, or with one that is over
 pub data Above (limit value : ℕ) (include : Bool) (worth : Converted) : Type 0 where
   alone : limit < value → Above limit value include worth
   together : (more : AccumulatorAmount) → include ≡ true → worth ≡ Amount more → limit < value + more .0 → Above limit value include worth
+  over : include ≡ true → worth ≡ Over → Above limit value include worth
 
--- within it: by itself, and with such an amount
+-- within it: by itself, and with such an amount, which is not over
 pub record Within (limit value : ℕ) (include : Bool) (worth : Converted) : Type 0 where
   pub alone : value ≤ limit
   pub together : (more : AccumulatorAmount) → include ≡ true → worth ≡ Amount more → value + more .0 ≤ limit
+  pub not-over : include ≡ true → worth ≡ Over → ⊥
+
+never : true ≡ false → ⊥
+never e = let z : _≡_ {A = ℕ} 0 1 = cc in omega arith
 
 module _ (limit value : ℕ) where
   above : (b include : Bool) (worth : Converted) → ltb limit value ≡ b → (b || (include && sumExceeds limit value worth)) ≡ true
       → Above limit value include worth
   above true include worth p e = alone (ltb-true limit value p)
   above false true (Amount more) p e = together more refl refl (ltb-true limit (value + more .0) e)
+  above false true Over p e = over refl refl
   above false true NoEntry p e = let z : _≡_ {A = ℕ} 0 1 = cc in absurd (omega arith)
   above false false worth p e = let z : _≡_ {A = ℕ} 0 1 = cc in absurd (omega arith)
 
@@ -58,13 +69,15 @@ module _ (limit value : ℕ) where
       record {
         alone = ltb-false limit value p;
         together = λ more i w. ltb-false limit (value + more .0) (simp (i, w) at e);
+        not-over = λ i w. never (simp (i, w) at e);
       }
 
   kept : (include : Bool) (worth : Converted) → ((more : AccumulatorAmount) → include ≡ true → worth ≡ Amount more → value + more .0 ≤ limit)
-      → (include && sumExceeds limit value worth) ≡ false
-  kept true (Amount more) h = le-ltb limit (value + more .0) (h more refl refl)
-  kept true NoEntry h = refl
-  kept false worth h = refl
+      → (include ≡ true → worth ≡ Over → ⊥) → (include && sumExceeds limit value worth) ≡ false
+  kept true (Amount more) h o = le-ltb limit (value + more .0) (h more refl refl)
+  kept true Over h o = absurd (o refl refl)
+  kept true NoEntry h o = refl
+  kept false worth h o = refl
 
 -- a value and an amount exceed a limit exactly if they are above it, and don't exactly if they are within
 module _ (limit value : ℕ) (include : Bool) (worth : Converted) where
@@ -74,12 +87,13 @@ module _ (limit value : ℕ) (include : Bool) (worth : Converted) where
   pub above-exceeds : Above limit value include worth → amountExceeds limit value include worth ≡ true
   above-exceeds (alone h) = simp (lt-ltb limit value h)
   above-exceeds (together more i w h) = simp (i, w, lt-ltb limit (value + more .0) h, or-true)
+  above-exceeds (over i w) = simp (i, w, or-true)
 
   pub kept-within : amountExceeds limit value include worth ≡ false → Within limit value include worth
   kept-within e = within limit value (ltb limit value) include worth refl e
 
   pub within-kept : Within limit value include worth → amountExceeds limit value include worth ≡ false
-  within-kept w = rw (le-ltb limit value (w .alone)) (kept limit value include worth (w .together))
+  within-kept w = rw (le-ltb limit value (w .alone)) (kept limit value include worth (w .together) (w .not-over))
 
 -- the flags of accumulator i + 1
 module _ (rules : Rules) (place : Place) (values : Values) (worths : Worths) (i : ℕ) where
@@ -102,15 +116,16 @@ module _ (rules : Rules) (place : Place) (values : Values) (worths : Worths) (i 
   unfolding accumulatorsUpper
   accumulator-upper h = four-at (λ i. accumulatorExceeds rules place values worths (accumulatorRule rules place i .upper .0) i) false i h
 
-  -- without the upper flag the value, and the value with an amount that converts, are within the upper limit
+  -- without the upper flag the value, and the value with an amount that converts, are within the upper limit, and the amount is not over
   pub accumulator-kept : i < 4 → accumulatorRule rules place i .active ≡ true → accumulatorRule rules place i .include ≡ true
       → getD (accumulatorsUpper rules place values worths) i false ≡ false
       → (amountAt values i .0 ≤ accumulatorRule rules place i .upper .0)
       × ((more : AccumulatorAmount) → worthAt worths i ≡ Amount more → amountAt values i .0 + more .0 ≤ accumulatorRule rules place i .upper .0)
+      × (worthAt worths i ≡ Over → ⊥)
   accumulator-kept h active include e =
       let flag = sym (accumulator-active active (accumulatorRule rules place i .upper .0)) ∙ sym (accumulator-upper h) ∙ e in
       let w = kept-within _ _ _ _ flag in
-      (w .alone, λ more c. w .together more include c)
+      (w .alone, λ more c. w .together more include c, w .not-over include)
 
 -- and of counter i + 1, to which a purchase is worth 1
 module _ (rules : Rules) (place : Place) (values : Values) (i : ℕ) where

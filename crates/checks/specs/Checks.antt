@@ -5,7 +5,7 @@ use mathlib.Core.List.{List, [], _∷_, _++_}
 use lib.Dec.{ltb, eqb}
 use lib.Bits.{bitAnd}
 use Rattle.money.specs.declared.Converted.{Converted}
-use Rattle.money.specs.declared.Converted.the-variants.{Amount, NoEntry}
+use Rattle.money.specs.declared.Converted.the-variants.{Amount, Over, NoEntry}
 use Rattle.money.specs.Money.{convertOf}
 use Rattle.rules.specs.declared.Place.{Place}
 use Rattle.rules.specs.declared.Values.{Values}
@@ -16,9 +16,10 @@ use Rattle.meters.specs.Meters.{amountAt, countAt, worthAt}
 use Rattle.checks.specs.declared.History.{History}
 use Rattle.checks.specs.declared.Tests.{Tests}
 
--- an amount that converts, added to a value, exceeds a limit; the sum isn't stopped
+-- an amount that converts, added to a value, exceeds a limit; the sum isn't stopped, and over exceeds every limit (request Four)
 abbrev pub sumExceeds : (limit value : ℕ) → Converted → Bool
 sumExceeds limit value (Amount more) = ltb limit (value + more .0)
+sumExceeds limit value Over = true
 sumExceeds limit value NoEntry = false
 
 -- a value exceeds a limit, or, with "include this transaction", the sum does
@@ -55,9 +56,10 @@ countersLower rules place values = four (λ i. counterExceeds rules place values
 unfoldable pub countersUpper : Rules → Place → Values → List Bool
 countersUpper rules place values = four (λ i. counterExceeds rules place values (counterRule rules place i .upper) i)
 
--- bit 5: MTA is on and the amount, converted to its currency, exceeds it; without a conversion it isn't set
+-- bit 5: MTA is on and the amount, converted to its currency, exceeds it, as over does; without a conversion it isn't set
 abbrev pub spentExceeds : (limit : ℕ) → Converted → Bool
 spentExceeds limit (Amount spent) = ltb limit (spent .0)
+spentExceeds limit Over = true
 spentExceeds limit NoEntry = false
 
 unfoldable pub maximumExceeded : Rules → Place → Purchase → Bool

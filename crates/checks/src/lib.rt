@@ -47,7 +47,8 @@ fn sum_exceeds(limit: AccumulatorAmount, value: AccumulatorAmount, more: Accumul
     limit.0 - value.0 < more.0
 }
 
-// A value exceeds a limit, or, with "include this transaction", does with what the purchase is worth.
+// A value exceeds a limit, or, with "include this transaction", does with what the purchase is worth:
+// an amount that is over exceeds every limit.
 fn amount_exceeds(
     limit: AccumulatorAmount,
     value: AccumulatorAmount,
@@ -59,6 +60,7 @@ fn amount_exceeds(
     let already = limit.0 < value.0;
     match worth {
         Converted::Amount(more) => already | (include & sum_exceeds(limit, value, more)),
+        Converted::Over => already | include,
         Converted::NoEntry => already,
     }
 }
@@ -132,6 +134,7 @@ fn exceeds_maximum(words: &Words, place: Place, purchase: Purchase) -> bool
     let rates = rules::rates(words);
     match money::convert(purchase.amount, purchase.currency, maximum.currency, rates) {
         Converted::Amount(spent) => maximum.amount.0 < spent.0,
+        Converted::Over => true,
         Converted::NoEntry => false,
     }
 }

@@ -3,15 +3,16 @@
 use mathlib.Core.Path.{_≡_, refl, sym, ap, _∙_}
 use mathlib.Core.Bool.{Bool, true, false, cond}
 use mathlib.Core.List.{List, [], _∷_}
-use Prim.Native.Nat.{ℕ, zero, suc, _+_, _*_, _/_, _^_, _≤_, _<_, min}
+use Prim.Native.Nat.{ℕ, zero, suc, _+_, _*_, _/_, _^_, _≤_, _<_}
 use native.Mathlib.Omega.{arith}
 use borrow.Author.Tests.{ltb-true, ltb-false, lt-ltb, le-ltb, le-leb, eqb-true, eq-eqb, ne-eqb}
 use lib.Dec.{ltb, eqb}
 use lib.ListN.{length, getD}
 use Rattle.wire.specs.Wire.{byte, number}
 use Rattle.money.specs.declared.Rate.{Rate}
-use Rattle.money.specs.declared.Converted.the-variants.{NoEntry}
-use Rattle.money.specs.Money.{max, stopped, blank, isFor, isRate, rateFor, scaled, amountOf, convertOf}
+use Rattle.money.specs.declared.Converted.{Converted}
+use Rattle.money.specs.declared.Converted.the-variants.{Amount, Over, NoEntry}
+use Rattle.money.specs.Money.{max, stopped, blank, isFor, isRate, rateFor, scaled, amountOf, amountOrOver, convertOf}
 use Rattle.rules.specs.declared.Place.{Place}
 use Rattle.rules.specs.declared.Place.the-variants.{One, Two, Three, Four}
 use Rattle.rules.specs.Rules.{blankProfile, blankAccumulator, blankCounter, indexOf, profileAt, currencyAt, accumulatorRule, counterRule}
@@ -19,8 +20,8 @@ use Rattle.rules.proofs.Places.{four-at}
 use Rattle.ranges.proofs.Accepted.{Accepted}
 use Rattle.setup.specs.Setup.{rateIn, accumulatorIn, counterIn, profileIn, rulesIn}
 use Rattle.meters.specs.declared.Purchase.{Purchase}
-use Rattle.meters.specs.Meters.{Entry, add, addition, worth}
-use Rattle.demands.specs.Audit.{placeFrom, placeOf, byEntry, converted}
+use Rattle.meters.specs.Meters.{addition, worth}
+use Rattle.demands.specs.Audit.{placeFrom, placeOf, Conversion, comesTo, over, none, upToMax, byEntry, converted, adds}
 use Rattle.demands.proofs.Found.{Holds}
 
 -- the profile at a place of the rules stands at an offset in the bytes
@@ -54,6 +55,23 @@ module _ (s : List ℕ) (place : Place) (at : ℕ) (stands : Stands s place at) 
   counter-is i l =
       ap (λ profile. getD (profile .counters) i blankCounter) profile-is
       ∙ four-at (λ j. counterIn s (at + (92 + 3 * j))) blankCounter i l
+
+-- the card's answer as the auditor reads it
+abbrev pub asRead : Converted → Conversion
+asRead (Amount amount) = comesTo (amount .0)
+asRead Over = over
+asRead NoEntry = none
+
+adds-read : (worth : Converted) → addition worth ≡ adds (asRead worth)
+adds-read (Amount amount) = refl
+adds-read Over = refl
+adds-read NoEntry = refl
+
+read-or-over : (n : ℕ) → asRead (amountOrOver n) ≡ upToMax n
+read-or-over n = by (ltb max n) where
+  by : (b : Bool) → asRead (cond b Over (amountOf n)) ≡ cond b over (comesTo n)
+  by true = refl
+  by false = refl
 
 module _ (s : List ℕ) (fits : Accepted s) where
   -- the first profile of a number is the only one
@@ -100,12 +118,6 @@ module _ (s : List ℕ) (fits : Accepted s) where
   entry-at (suc (suc (suc (suc zero)))) l = refl
   entry-at (suc (suc (suc (suc (suc i))))) l = absurd (omega arith)
 
-  stopped-min : (n : ℕ) → stopped n ≡ min max n
-  stopped-min n = by (ltb max n) refl where
-    by : (b : Bool) → ltb max n ≡ b → cond b max n ≡ min max n
-    by true e = let h = ltb-true max n e in omega arith
-    by false e = let h = ltb-false max n e in omega arith
-
   good-rate : (i : ℕ) → i < byte s 4 → isRate (rateIn s (52 + 107 * byte s 3 + 7 * i)) ≡ true
   unfolding rateIn
   good-rate i l = let r = fits .conversions i l in simp (le-leb _ _ (r .digits-least), le-leb _ _ (r .digits-most), le-leb _ _ (r .shift))
@@ -114,9 +126,9 @@ module _ (s : List ℕ) (fits : Accepted s) where
     abbrev entries : List Rate
     entries = rulesIn s .rates .entries
 
-    -- what a rate, or its absence, enters
-    abbrev byRate : Rate → List Entry
-    byRate rate = addition (cond (isRate rate) (amountOf (scaled amount rate)) NoEntry)
+    -- what a rate, or its absence, makes of the amount
+    abbrev byRate : Rate → Conversion
+    byRate rate = asRead (cond (isRate rate) (amountOrOver (scaled amount rate)) NoEntry)
 
     blanks : (i n : ℕ) → byte s 4 ≤ i → i + n ≤ 5 → rateFor entries from to i n ≡ blank
     unfolding rateFor
@@ -143,8 +155,8 @@ module _ (s : List ℕ) (fits : Accepted s) where
         ∙ found (isFor (rateIn s at) from to) (by-entry (suc i) n m (omega arith) (omega arith))
       where
         found : (b : Bool) → byRate (rateFor entries from to (suc i) m) ≡ byEntry s amount from to (suc i) n → byRate (cond b (rateIn s (52 + 107 * byte s 3 + 7 * i)) (rateFor entries from to (suc i) m))
-            ≡ cond b (add (min max (amount * number s (52 + 107 * byte s 3 + 7 * i + 4) 2 * 10 ^ byte s (52 + 107 * byte s 3 + 7 * i + 6) / 10 ^ 9)) ∷ []) (byEntry s amount from to (suc i) n)
-        found true r = rw (good-rate i (omega arith)) (ap (λ q. add q ∷ []) (stopped-min (amount * number s (52 + 107 * byte s 3 + 7 * i + 4) 2 * 10 ^ byte s (52 + 107 * byte s 3 + 7 * i + 6) / 10 ^ 9)))
+            ≡ cond b (upToMax (amount * number s (52 + 107 * byte s 3 + 7 * i + 4) 2 * 10 ^ byte s (52 + 107 * byte s 3 + 7 * i + 6) / 10 ^ 9)) (byEntry s amount from to (suc i) n)
+        found true r = rw (good-rate i (omega arith)) (read-or-over (amount * number s (52 + 107 * byte s 3 + 7 * i + 4) 2 * 10 ^ byte s (52 + 107 * byte s 3 + 7 * i + 6) / 10 ^ 9))
         found false r = r
 
   currency-at : (i : ℕ) → i < 4 → currencyAt (rulesIn s) i ≡ number s (8 + 10 * i) 2
@@ -153,27 +165,32 @@ module _ (s : List ℕ) (fits : Accepted s) where
 
   -- the amount of a purchase, converted to a currency by the rules and by the bytes
   pub converts-to : (purchase : Purchase) (to : ℕ) → purchase .amount .0 ≤ max
-      → addition (convertOf (purchase .amount) (purchase .currency) to (rulesIn s .rates)) ≡ converted s (purchase .amount .0) (purchase .currency) to
+      → asRead (convertOf (purchase .amount) (purchase .currency) to (rulesIn s .rates)) ≡ converted s (purchase .amount .0) (purchase .currency) to
   unfolding convertOf converted
   converts-to purchase to small =
       let rate = rateFor (rulesIn s .rates .entries) (purchase .currency) to 0 5 in
-      let stays : stopped (purchase .amount .0) ≡ purchase .amount .0 = stopped-min (purchase .amount .0) ∙ omega arith in
-      ap (λ a. addition (cond (eqb (purchase .currency) to) (amountOf a) (cond (isRate rate) (amountOf (scaled a rate)) NoEntry))) stays
+      let stays : stopped (purchase .amount .0) ≡ purchase .amount .0 = simp (le-ltb max (purchase .amount .0) small) in
+      ap (λ a. asRead (cond (eqb (purchase .currency) to) (amountOf a) (cond (isRate rate) (amountOrOver (scaled a rate)) NoEntry))) stays
       ∙ same (purchase .amount .0) (purchase .currency) (eqb (purchase .currency) to)
     where
       same : (a from : ℕ) (b : Bool)
-          → addition (cond b (amountOf a) (cond (isRate (rateFor (rulesIn s .rates .entries) from to 0 5)) (amountOf (scaled a (rateFor (rulesIn s .rates .entries) from to 0 5))) NoEntry))
-          ≡ cond b (add a ∷ []) (byEntry s a from to 0 (byte s 4))
+          → asRead (cond b (amountOf a) (cond (isRate (rateFor (rulesIn s .rates .entries) from to 0 5)) (amountOrOver (scaled a (rateFor (rulesIn s .rates .entries) from to 0 5))) NoEntry))
+          ≡ cond b (comesTo a) (byEntry s a from to 0 (byte s 4))
       same a from true = refl
       same a from false = by-entry a from to 0 (byte s 4) 5 (omega arith) refl
 
   -- and to the currency of accumulator i + 1
   pub converts : (purchase : Purchase) (i : ℕ) → i < 4 → purchase .amount .0 ≤ max
-      → addition (worth (rulesIn s) purchase i) ≡ converted s (purchase .amount .0) (purchase .currency) (number s (8 + 10 * i) 2)
+      → asRead (worth (rulesIn s) purchase i) ≡ converted s (purchase .amount .0) (purchase .currency) (number s (8 + 10 * i) 2)
   unfolding worth
   converts purchase i l small =
-      ap (λ to. addition (convertOf (purchase .amount) (purchase .currency) to (rulesIn s .rates))) (currency-at i l)
+      ap (λ to. asRead (convertOf (purchase .amount) (purchase .currency) to (rulesIn s .rates))) (currency-at i l)
       ∙ converts-to purchase (number s (8 + 10 * i) 2) small
+
+  -- what it adds to it
+  pub converts-adds : (purchase : Purchase) (i : ℕ) → i < 4 → purchase .amount .0 ≤ max
+      → addition (worth (rulesIn s) purchase i) ≡ adds (converted s (purchase .amount .0) (purchase .currency) (number s (8 + 10 * i) 2))
+  converts-adds purchase i l small = adds-read (worth (rulesIn s) purchase i) ∙ ap adds (converts purchase i l small)
 
   -- and the number that stands there is the one looked for
   there-is : (wanted at i n : ℕ) → placeFrom s wanted i n ≡ at → at < length s → byte s at ≡ wanted

@@ -3,14 +3,14 @@ use mathlib.Core.Path.{_≡_, refl, sym, ap, ap₂, _∙_}
 use mathlib.Core.Bool.{Bool, true, false, cond, not, _&&_, _||_}
 use mathlib.Core.List.{List, [], _∷_}
 use Prim.Native.Nat.{ℕ, zero, suc, _+_, _*_, _/_, _%_, _≤_, _<_, min}
-use native.Mathlib.Nat.{div-one, add-zero}
+use native.Mathlib.Nat.{div-one, zero-add}
 use native.Mathlib.Omega.{arith}
-use borrow.Author.Tests.{eqb-true, eqb-false, eq-eqb, ne-eqb, le-ltb}
+use borrow.Author.Tests.{eqb-true, eqb-false, eq-eqb, ne-eqb}
 use lib.Bits.{bitAnd, and-step}
 use lib.Dec.{ltb, eqb}
 use Rattle.wire.specs.Wire.{byte, number}
 use Rattle.money.specs.declared.Converted.{Converted}
-use Rattle.money.specs.declared.Converted.the-variants.{Amount, NoEntry}
+use Rattle.money.specs.declared.Converted.the-variants.{Amount, Over, NoEntry}
 use Rattle.money.specs.Money.{max, convertOf}
 use Rattle.rules.specs.declared.Place.{Place}
 use Rattle.rules.specs.declared.Values.{Values}
@@ -21,7 +21,7 @@ use Rattle.rules.specs.Rules.{Rules, Profile, four}
 use Rattle.ranges.proofs.Accepted.{Accepted}
 use Rattle.setup.specs.Setup.{accumulatorIn, counterIn, profileIn, rulesIn}
 use Rattle.meters.specs.declared.Purchase.{Purchase}
-use Rattle.meters.specs.Meters.{addition, amountAt, countAt, worth, worthAt, worthsOf}
+use Rattle.meters.specs.Meters.{amountAt, countAt, worth, worthAt, worthsOf}
 use Rattle.meters.proofs.Ledger.{worth-at}
 use Rattle.checks.specs.declared.History.{History}
 use Rattle.checks.specs.Checks.{bit, packed, sumExceeds, spentExceeds, accumulatorExceeds, counterExceeds, accumulatorsLower, accumulatorsUpper, countersLower, countersUpper, maximumExceeded, testsOf, decisionBits, decisionFlags, meetsMask}
@@ -29,11 +29,11 @@ use Rattle.checks.proofs.Bits.{decision-packed}
 use Rattle.state.specs.declared.Kind.{Kind}
 use Rattle.state.specs.declared.Kind.the-variants.{Aac, Tc, Arqc}
 use Rattle.first.specs.First.{decision, isOfflineOnly}
-use Rattle.demands.specs.Ledger.{Meter, accumulator, counter, since}
+use Rattle.demands.specs.Ledger.{Meter, accumulator, counter}
 use Rattle.demands.specs.Conversation.{valueOf}
 use Rattle.demands.specs.Audit.{isIncluded, upperOf}
-use Rattle.demands.specs.Decision.{lowerOf, exceeds, exceedsMta, eachOf, aboveLower, aboveUpper, flags, meets, Decides, aac-requested, meets-decline, arqc-requested, meets-default, offline-approves, meets-online, online-approves}
-use Rattle.demands.proofs.Bytes.{Stands, profile-is, accumulator-is, counter-is, converts-to, converts}
+use Rattle.demands.specs.Decision.{lowerOf, exceedsWith, exceeds, exceedsMta, eachOf, aboveLower, aboveUpper, flags, meets, Decides, aac-requested, meets-decline, arqc-requested, meets-default, offline-approves, meets-online, online-approves}
+use Rattle.demands.proofs.Bytes.{Stands, profile-is, accumulator-is, counter-is, asRead, converts-to, converts}
 
 -- ---- a mask that is met
 
@@ -66,20 +66,17 @@ meets-is (flag ∷ fs) mask =
     odd true = omega arith
     odd false = omega arith
 
--- ---- an amount that converts, or none
+-- ---- an amount that converts, one that is over, or none
 
-sum-is : (limit value : ℕ) (include : Bool) (worth : Converted)
-    → (ltb limit value || (include && sumExceeds limit value worth)) ≡ (ltb limit value || (include && ltb limit (value + since (addition worth))))
-sum-is limit value include (Amount more) = rw add-zero
-sum-is limit value include NoEntry = rw add-zero (by (ltb limit value) include) where
-  by : (b include : Bool) → (b || (include && false)) ≡ (b || (include && b))
-  by true include = refl
-  by false true = refl
-  by false false = refl
+sum-is : (limit value : ℕ) (worth : Converted) → sumExceeds limit value worth ≡ exceedsWith limit value (asRead worth)
+sum-is limit value (Amount more) = refl
+sum-is limit value Over = refl
+sum-is limit value NoEntry = refl
 
-spent-is : (limit : ℕ) (worth : Converted) → spentExceeds limit worth ≡ ltb limit (since (addition worth))
-spent-is limit (Amount spent) = rw add-zero
-spent-is limit NoEntry = sym (le-ltb limit 0 (omega arith))
+spent-is : (limit : ℕ) (worth : Converted) → spentExceeds limit worth ≡ exceedsWith limit 0 (asRead worth)
+spent-is limit (Amount spent) = rw zero-add
+spent-is limit Over = refl
+spent-is limit NoEntry = refl
 
 -- ---- the flags
 
@@ -103,8 +100,8 @@ module _ (s : List ℕ) (fits : Accepted s) (place : Place) (at : ℕ) (stands :
       (accumulator-is s place at stands i l)
       ∙ ap (λ b. eqb (byte s (at + (24 + 17 * i)) % 2) 1 && b)
       (ap (λ w. ltb limit value || (isIncluded s at (accumulator i) && sumExceeds limit value w)) (worth-at rules purchase i l)
-      ∙ sum-is limit value (isIncluded s at (accumulator i)) (worth rules purchase i)
-      ∙ ap (λ new. ltb limit value || (isIncluded s at (accumulator i) && ltb limit (value + since new))) (converts s fits purchase i l small))
+      ∙ ap (λ b. ltb limit value || (isIncluded s at (accumulator i) && b))
+      (sum-is limit value (worth rules purchase i) ∙ ap (exceedsWith limit value) (converts s fits purchase i l small)))
       ∙ rw div-one
 
   counter-flag : (i : ℕ) → i < 4 → (limit : ℕ)
@@ -122,7 +119,7 @@ module _ (s : List ℕ) (fits : Accepted s) (place : Place) (at : ℕ) (stands :
       (profile-is s place at stands)
       ∙ ap (λ b. eqb (byte s (at + 13)) 1 && b)
       (spent-is (number s (at + 16) 8) (convertOf (purchase .amount) currency (number s (at + 14) 2) (rules .rates))
-      ∙ ap (λ new. ltb (number s (at + 16) 8) (since new)) (converts-to s fits purchase (number s (at + 14) 2) small))
+      ∙ ap (exceedsWith (number s (at + 16) 8) 0) (converts-to s fits purchase (number s (at + 14) 2) small))
 
   abbrev value : Meter → ℕ
   value = valueOf values

@@ -4,7 +4,7 @@ use mathlib.Core.List.{List, [], _∷_}
 use Prim.Native.Nat.{ℕ}
 use lib.Dec.{T, eqb}
 use Rattle.money.specs.declared.Converted.{Converted}
-use Rattle.money.specs.declared.Converted.the-variants.{Amount, NoEntry}
+use Rattle.money.specs.declared.Converted.the-variants.{Amount, Over, NoEntry}
 use Rattle.money.specs.declared.Rates.{Rates}
 use Rattle.money.specs.Money.{max, blank, rateFor, scaled, convertOf}
 use Rattle.rules.specs.declared.Place.the-variants.{One}
@@ -66,13 +66,20 @@ clear = record { uncompleted = false; online = false; failed = false; unable = f
 
 abbrev isAmount : Converted → ℕ → Bool
 isAmount (Amount amount) n = eqb (amount .0) n
+isAmount Over n = false
 isAmount NoEntry n = false
 
--- a value and an amount against a limit: the tests' bits of the first accumulator (1 lower, 16 upper); a conversion; an approval stored
--- in an accumulator and in a counter; a decision, with the masks Online, Decline, Default; CVR byte 1 of a First
+abbrev isOver : Converted → Bool
+isOver (Amount amount) = false
+isOver Over = true
+isOver NoEntry = false
+
+-- a value and an amount against a limit: the tests' bits of the first accumulator (1 lower, 16 upper); a conversion, and one that is
+-- over; an approval stored in an accumulator and in a counter; a decision, with the masks Online, Decline, Default; CVR byte 1 of a First
 pub data Row : Type 0 where
   limitRow : (value amount limit bits : ℕ) → Row
   rateRow : (amount d t result : ℕ) → Row
+  overRow : (amount d t : ℕ) → Row
   amountRow : (value more result : ℕ) → Row
   countRow : (value result : ℕ) → Row
   kindRow : (requested adr online decline default terminal : ℕ) → Kind → Row
@@ -82,6 +89,7 @@ unfoldable pub holds : Row → Bool
 holds (limitRow value amount upper bits) =
     eqb (testsOf (card upper) One (values value 0) (purchase amount) (worthsOf (card upper) (purchase amount)) .accumulators) bits
 holds (rateRow amount d t result) = isAmount (convertOf (record { 0 = amount }) 1 2 (rates d t)) result
+holds (overRow amount d t) = isOver (convertOf (record { 0 = amount }) 1 2 (rates d t))
 holds (amountRow value more result) =
     eqb (amountAt (approved (card max) One (values value 0) (worthsOf (card max) (purchase more))) 0 .0) result
 holds (countRow value result) = eqb (countAt (approved (card max) One (values 0 value) (worthsOf (card max) (purchase 1))) 0) result
@@ -94,7 +102,7 @@ table =
     limitRow 0 5000 5000 0
     ∷ limitRow 0 5001 5000 17
     ∷ rateRow 12345 1234 6 15233
-    ∷ rateRow 999999999999 9999 12 999999999999
+    ∷ overRow 999999999999 9999 12
     ∷ rateRow 1 4 8 0
     ∷ countRow 255 255
     ∷ amountRow 999999999999 1 999999999999

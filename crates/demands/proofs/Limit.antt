@@ -12,7 +12,7 @@ use lib.ListN.{length}
 use Rattle.wire.specs.Wire.{number}
 use Rattle.money.specs.declared.AccumulatorAmount.{AccumulatorAmount}
 use Rattle.money.specs.declared.Converted.{Converted}
-use Rattle.money.specs.declared.Converted.the-variants.{Amount, NoEntry}
+use Rattle.money.specs.declared.Converted.the-variants.{Amount, Over, NoEntry}
 use Rattle.money.specs.Money.{max}
 use Rattle.iad.specs.declared.Cvr.{Cvr}
 use Rattle.rules.specs.declared.Place.{Place}
@@ -65,10 +65,12 @@ module _ (cap limit : ℕ) where
     by false e = h
 
   approval-within : (value : ℕ) (on : Bool) (worth : Converted) → value ≤ limit
-      → ((more : AccumulatorAmount) → worth ≡ Amount more → value + more .0 ≤ limit) → moved cap value (cond on (addition worth) []) ≤ limit
-  approval-within value true (Amount more) h k = added value (more .0) (k more refl)
-  approval-within value true NoEntry h k = h
-  approval-within value false worth h k = h
+      → ((more : AccumulatorAmount) → worth ≡ Amount more → value + more .0 ≤ limit) → (worth ≡ Over → ⊥)
+      → moved cap value (cond on (addition worth) []) ≤ limit
+  approval-within value true (Amount more) h k o = added value (more .0) (k more refl)
+  approval-within value true Over h k o = absurd (o refl)
+  approval-within value true NoEntry h k o = h
+  approval-within value false worth h k o = h
 
   counting-within : (value : ℕ) (on : Bool) → value ≤ limit → value + 1 ≤ limit → moved cap value (cond on (add 1 ∷ []) []) ≤ limit
   counting-within value true h k = added value 1 k
@@ -103,7 +105,7 @@ module _ (s : List ℕ) (place : Place) (at : ℕ) (stands : Stands s place at) 
       let kept = accumulator-kept rules place values worths i l active' included' (unmet (10 + i) adr mask _ flag on q) in
       rw (approved-amount rules place values worths i l, ← upper)
       (approval-within max (accumulatorRule rules place i .upper .0) (amountAt values i .0)
-      (accumulatorRule rules place i .active && accumulatorRule rules place i .allow) (worthAt worths i) (kept .0) (kept .1))
+      (accumulatorRule rules place i .active && accumulatorRule rules place i .allow) (worthAt worths i) (kept .0) (kept .1) (kept .2))
   approved-within (counter i) l active included mask on q =
       let is = counter-is s place at stands i l in
       let active' : counterRule rules place i .active ≡ true = ap (λ (r : CounterRule). r .active) is ∙ (rw div-one at active) in

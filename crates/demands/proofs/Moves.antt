@@ -21,9 +21,9 @@ use Rattle.meters.proofs.Ledger.{worth-at, approved-amount, approved-count, dec
 use Rattle.second.specs.Second.{updateByte, ordered as orderedValues}
 use Rattle.demands.specs.Ledger.{Meter, accumulator, counter, IsMeter}
 use Rattle.demands.specs.Conversation.{valueOf}
-use Rattle.demands.specs.Audit.{isActive, isAllowed, countsDeclines, upperOf, capOf, byEntry, converted, additionOf, counted, declined, ordered}
+use Rattle.demands.specs.Audit.{isActive, isAllowed, countsDeclines, upperOf, capOf, Conversion, comesTo, over, none, worthTo, adds, counted, declined, ordered}
 use Rattle.demands.proofs.Owed.{Fair, nothing, putting as fair-put, adding, fair-or}
-use Rattle.demands.proofs.Bytes.{Stands, accumulator-is, counter-is, converts}
+use Rattle.demands.proofs.Bytes.{Stands, accumulator-is, counter-is, converts-adds}
 
 -- what is put where a meter is active
 abbrev pub whereActive : List ℕ → ℕ → Meter → ℕ → List Entry
@@ -40,7 +40,7 @@ module _ (s : List ℕ) (fits : Accepted s) (place : Place) (at : ℕ) (stands :
     approval-is i l =
         ap (λ rule. approval rule (worthAt (worthsOf rules purchase) i)) (accumulator-is s place at stands i l)
         ∙ ap (λ w. approval (accumulatorIn s (at + (24 + 17 * i))) w) (worth-at rules purchase i l)
-        ∙ rw (div-one, converts s fits purchase i l small)
+        ∙ rw (div-one, converts-adds s fits purchase i l small)
 
     counting-is : (i : ℕ) → i < 4 → counting (counterRule rules place i) ≡ counted s at (purchase .amount .0) (purchase .currency) (counter i)
     unfolding counterIn
@@ -113,19 +113,13 @@ module _ (s : List ℕ) (fits : Accepted s) (place : Place) (at : ℕ) (stands :
 -- ---- at most one entry each time, and nothing put above the cap
 
 module _ (s : List ℕ) (profile amount currency : ℕ) (cap : ℕ) where
-  entry-fair : (from to i n : ℕ) → Fair cap (byEntry s amount from to i n)
-  entry-fair from to i zero = nothing
-  entry-fair from to i (suc n) =
-      let at = 52 + 107 * byte s 3 + 7 * i in
-      fair-or (eqb (number s at 2) from && eqb (number s (at + 2) 2) to) adding (entry-fair from to (suc i) n)
-
-  addition-fair : (meter : Meter) → Fair cap (additionOf s amount currency meter)
-  unfolding converted
-  addition-fair (accumulator i) = fair-or (eqb currency (number s (8 + 10 * i) 2)) adding (entry-fair currency (number s (8 + 10 * i) 2) 0 (byte s 4))
-  addition-fair (counter i) = adding
+  adds-fair : (worth : Conversion) → Fair cap (adds worth)
+  adds-fair (comesTo n) = adding
+  adds-fair over = adding
+  adds-fair none = nothing
 
   pub counted-fair : (meter : Meter) → Fair cap (counted s profile amount currency meter)
-  counted-fair meter = fair-or (isActive s profile meter && isAllowed s profile meter) (addition-fair meter) nothing
+  counted-fair meter = fair-or (isActive s profile meter && isAllowed s profile meter) (adds-fair (worthTo s amount currency meter)) nothing
 
   pub declined-fair : (meter : Meter) → Fair cap (declined s profile meter)
   declined-fair meter = fair-or (isActive s profile meter && isAllowed s profile meter && countsDeclines s profile meter) adding nothing

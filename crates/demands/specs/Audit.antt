@@ -1,10 +1,10 @@
 -- What an auditor reads off the conversation with the set-up's bytes in hand, and no card: the ledger of one accumulator or counter.
 -- Each offset and each rule is spelled from document 01 ("The paper", "First: the answer", "Second: the answer", "Numbers"); nothing
 -- here knows of a card's state, of its step or of the rules that it decoded.
-use Prim.Native.Nat.{ℕ, zero, suc, _+_, _*_, _/_, _%_, _^_, min}
+use Prim.Native.Nat.{ℕ, zero, suc, _+_, _*_, _/_, _%_, _^_}
 use mathlib.Core.Bool.{Bool, true, false, cond, _&&_, _||_}
 use mathlib.Core.List.{List, [], _∷_, _++_}
-use lib.Dec.{eqb}
+use lib.Dec.{ltb, eqb}
 use lib.ListN.{length}
 use Rattle.wire.specs.Wire.{byte, number}
 use Rattle.money.specs.Money.{max}
@@ -65,24 +65,38 @@ abbrev pub capOf : Meter → ℕ
 capOf (accumulator i) = max
 capOf (counter i) = 255
 
--- conversion i + 1 stands behind the profiles: from, to, d, s + 9; amount x d x 10^s, its fraction dropped, and MAX if larger; with no
--- entry the amount doesn't count
-abbrev pub byEntry : List ℕ → (amount from to i n : ℕ) → List Entry
-byEntry s amount from to i zero = []
+-- what an amount comes to in another currency: so much, over (larger than MAX), or nothing where there is no entry
+pub data Conversion : Type 0 where
+  comesTo : ℕ → Conversion
+  over : Conversion
+  none : Conversion
+
+abbrev pub upToMax : ℕ → Conversion
+upToMax n = cond (ltb max n) over (comesTo n)
+
+-- conversion i + 1 stands behind the profiles: from, to, d, s + 9; amount x d x 10^s, its fraction dropped
+abbrev pub byEntry : List ℕ → (amount from to i n : ℕ) → Conversion
+byEntry s amount from to i zero = none
 byEntry s amount from to i (suc n) =
     let at = 52 + 107 * byte s 3 + 7 * i in
     cond (eqb (number s at 2) from && eqb (number s (at + 2) 2) to)
-    (add (min max (amount * number s (at + 4) 2 * 10 ^ byte s (at + 6) / 10 ^ 9)) ∷ [])
+    (upToMax (amount * number s (at + 4) 2 * 10 ^ byte s (at + 6) / 10 ^ 9))
     (byEntry s amount from to (suc i) n)
 
 -- same currency: the amount itself; otherwise by one of the c entries
-unfoldable pub converted : List ℕ → (amount from to : ℕ) → List Entry
-converted s amount from to = cond (eqb from to) (add amount ∷ []) (byEntry s amount from to 0 (byte s 4))
+unfoldable pub converted : List ℕ → (amount from to : ℕ) → Conversion
+converted s amount from to = cond (eqb from to) (comesTo amount) (byEntry s amount from to 0 (byte s 4))
 
--- what a purchase adds: to an accumulator the amount in its currency, to a counter 1
-abbrev pub additionOf : List ℕ → (amount currency : ℕ) → Meter → List Entry
-additionOf s amount currency (accumulator i) = converted s amount currency (number s (8 + 10 * i) 2)
-additionOf s amount currency (counter i) = add 1 ∷ []
+-- what a purchase is worth: to an accumulator the amount in its currency, to a counter 1
+abbrev pub worthTo : List ℕ → (amount currency : ℕ) → Meter → Conversion
+worthTo s amount currency (accumulator i) = converted s amount currency (number s (8 + 10 * i) 2)
+worthTo s amount currency (counter i) = comesTo 1
+
+-- what that adds: over reads as MAX, and with no entry the amount doesn't count
+abbrev pub adds : Conversion → List Entry
+adds (comesTo n) = add n ∷ []
+adds over = add max ∷ []
+adds none = []
 
 -- ---- the conversation
 
@@ -147,7 +161,7 @@ approves (SecondCommand second) answer = couldNotGoOnline (second .code) && isTc
 -- each active accumulator with "allow accumulation" grows by the converted amount, each active counter with "allow counting" by 1
 abbrev pub counted : List ℕ → (profile amount currency : ℕ) → Meter → List Entry
 counted s profile amount currency meter =
-    cond (isActive s profile meter && isAllowed s profile meter) (additionOf s amount currency meter) []
+    cond (isActive s profile meter && isAllowed s profile meter) (adds (worthTo s amount currency meter)) []
 
 -- AAC at First, or at Second after Y3 or Z3: each active counter with both "allow counting" and "include offline declines" grows by 1
 abbrev pub declined : List ℕ → ℕ → Meter → List Entry

@@ -10,24 +10,30 @@ use Rattle.checks.specs.declared.History.{History}
 use Rattle.command.specs.declared.First.{First}
 use Rattle.state.specs.declared.Kind.{Kind}
 use Rattle.state.specs.declared.Kind.the-variants.{Aac, Tc, Arqc}
-use Rattle.demands.specs.Ledger.{Meter, accumulator, counter, since}
-use Rattle.demands.specs.Audit.{isOn, ruleAt, isActive, isIncluded, upperOf, converted, additionOf}
+use Rattle.demands.specs.Ledger.{Meter, accumulator, counter}
+use Rattle.demands.specs.Audit.{isOn, ruleAt, isActive, isIncluded, upperOf, Conversion, comesTo, over, none, converted, worthTo}
 
 abbrev pub lowerOf : List ℕ → ℕ → Meter → ℕ
 lowerOf s profile (accumulator i) = number s (ruleAt profile (accumulator i) + 1) 8
 lowerOf s profile (counter i) = byte s (ruleAt profile (counter i) + 1)
 
+-- a value plus a converted amount exceeds a limit; this sum isn't stopped, and over exceeds every limit
+abbrev pub exceedsWith : (limit value : ℕ) → Conversion → Bool
+exceedsWith limit value (comesTo n) = ltb limit (value + n)
+exceedsWith limit value over = true
+exceedsWith limit value none = false
+
 -- one that is active exceeds a limit if its value does, or, with "include this transaction" and an amount that converts, if value plus
--- converted amount does; this sum isn't stopped. A counter likewise, with 1 added.
+-- converted amount does. A counter likewise, with 1 added.
 abbrev pub exceeds : List ℕ → (profile amount currency value limit : ℕ) → Meter → Bool
 exceeds s profile amount currency value limit meter =
     isActive s profile meter
-    && (ltb limit value || (isIncluded s profile meter && ltb limit (value + since (additionOf s amount currency meter))))
+    && (ltb limit value || (isIncluded s profile meter && exceedsWith limit value (worthTo s amount currency meter)))
 
 -- MTA is on (13) and the amount, converted to its currency (14), exceeds it (16); without a conversion it doesn't
 abbrev pub exceedsMta : List ℕ → (profile amount currency : ℕ) → Bool
 exceedsMta s profile amount currency =
-    eqb (byte s (profile + 13)) 1 && ltb (number s (profile + 16) 8) (since (converted s amount currency (number s (profile + 14) 2)))
+    eqb (byte s (profile + 13)) 1 && exceedsWith (number s (profile + 16) 8) 0 (converted s amount currency (number s (profile + 14) 2))
 
 abbrev pub eachOf : (ℕ → Meter) → (Meter → Bool) → List Bool
 eachOf meter test = test (meter 0) ∷ test (meter 1) ∷ test (meter 2) ∷ test (meter 3) ∷ []

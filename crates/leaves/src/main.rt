@@ -37,6 +37,10 @@ fn one_rate(digits: u16, shift: u8) -> Rates {
 fn show_conversion(name: &[u8], converted: Converted) {
     match converted {
         Converted::Amount(amount) => line(name, amount.0),
+        Converted::Over => {
+            io::write_all(1, name);
+            io::write_all(1, b"over\n");
+        }
         Converted::NoEntry => {
             io::write_all(1, name);
             io::write_all(1, b"no entry\n");

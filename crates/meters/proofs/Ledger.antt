@@ -7,7 +7,7 @@ use native.Mathlib.Omega.{arith}
 use borrow.Author.Tests.{ltb-false}
 use lib.Dec.{ltb}
 use Rattle.money.specs.declared.Converted.{Converted}
-use Rattle.money.specs.declared.Converted.the-variants.{Amount, NoEntry}
+use Rattle.money.specs.declared.Converted.the-variants.{Amount, Over, NoEntry}
 use Rattle.money.specs.Money.{max}
 use Rattle.rules.specs.declared.Place.{Place}
 use Rattle.rules.specs.declared.AccumulatorRule.{AccumulatorRule}
@@ -89,6 +89,13 @@ module _ (cap value n : ℕ) where
     by true e = omega arith
     by false e = ltb-false cap (value + n) e
 
+-- an approval that counts an over amount stores MAX, whatever the value was
+pub over-stores-max : (value : ℕ) → moved max value (addition Over) ≡ max
+over-stores-max value = by (ltb max (value + max)) refl where
+  by : (b : Bool) → ltb max (value + max) ≡ b → cond b max (value + max) ≡ max
+  by true e = refl
+  by false e = let h = ltb-false max (value + max) e in omega arith
+
 -- every value that is put is at most the cap
 abbrev pub Puts : ℕ → List Entry → Type 0
 Puts cap [] = Unit
@@ -107,6 +114,7 @@ module _ (cap : ℕ) where
 
   addition-puts : (worth : Converted) → Puts cap (addition worth)
   addition-puts (Amount amount) = tt
+  addition-puts Over = tt
   addition-puts NoEntry = tt
 
   -- approvals and declines put nothing

@@ -8,7 +8,7 @@ use lib.ListN.{getD}
 use lib.Dec.{ltb}
 use Rattle.money.specs.declared.AccumulatorAmount.{AccumulatorAmount}
 use Rattle.money.specs.declared.Converted.{Converted}
-use Rattle.money.specs.declared.Converted.the-variants.{Amount, NoEntry}
+use Rattle.money.specs.declared.Converted.the-variants.{Amount, Over, NoEntry}
 use Rattle.money.specs.Money.{max, convertOf}
 use Rattle.rules.specs.declared.Place.{Place}
 use Rattle.rules.specs.declared.AccumulatorRule.{AccumulatorRule}
@@ -54,9 +54,11 @@ amountAt values i = getD (values .accumulators) i (record { 0 = 0 })
 abbrev pub countAt : Values → ℕ → ℕ
 countAt values i = getD (values .counters) i 0
 
--- with no entry in the table the amount doesn't count there
+-- what each answer of conversion counts in a sum: an amount itself, over as MAX (request Four); with no entry in the table the amount
+-- doesn't count there
 abbrev pub addition : Converted → List Entry
 addition (Amount amount) = add (amount .0) ∷ []
+addition Over = add max ∷ []
 addition NoEntry = []
 
 -- at an offline approval, or at the addition that CSU order 11 asks for

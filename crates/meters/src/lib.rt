@@ -39,7 +39,8 @@ pub fn worths_of(words: &Words, purchase: Purchase) -> Worths
     }
 }
 
-// An accumulator at an approval. Without a conversion the purchase doesn't count there.
+// An accumulator at an approval. An amount that is over fills it; without a conversion the purchase
+// doesn't count there.
 fn grow(rule: AccumulatorRule, amount: AccumulatorAmount, worth: Converted) -> AccumulatorAmount
     ensures { λ r. ⌜ r ≡ amountMoved amount (approval rule worth) ⌝ }
 {
@@ -48,6 +49,7 @@ fn grow(rule: AccumulatorRule, amount: AccumulatorAmount, worth: Converted) -> A
     }
     match worth {
         Converted::Amount(more) => money::plus(amount, more),
+        Converted::Over => AccumulatorAmount(money::MAX),
         Converted::NoEntry => amount,
     }
 }

@@ -1,19 +1,19 @@
 -- What conversion is, said apart from its definition. Assumes nothing.
-use mathlib.Core.Path.{_≡_, refl, ap, subst}
+use mathlib.Core.Path.{_≡_, refl, sym, ap, subst, _∙_}
 use mathlib.Core.Bool.{Bool, true, false, cond}
 use mathlib.Core.List.{List, [], _∷_}
 use Prim.Native.Nat.{ℕ, zero, suc, _+_, _-_, _*_, _/_, _^_, _≤_, _<_}
 use native.Mathlib.Nat.{div-mul-le-self, lt-mul-div-succ, mul-comm, mul-le-mul-right, le-trans, le-div-iff-mul-le}
 use native.Mathlib.Omega.{arith}
-use borrow.Author.Tests.{le-ltb, ltb-true, ltb-false, eq-eqb, ne-eqb}
+use borrow.Author.Tests.{lt-ltb, le-ltb, ltb-true, ltb-false, eq-eqb, ne-eqb}
 use lib.Dec.{ltb, eqb}
 use lib.ListN.{getD}
 use Rattle.money.specs.declared.Rate.{Rate}
 use Rattle.money.specs.declared.Rates.{Rates}
 use Rattle.money.specs.declared.TransactionAmount.{TransactionAmount}
 use Rattle.money.specs.declared.Converted.{Converted}
-use Rattle.money.specs.declared.Converted.the-variants.{Amount, NoEntry}
-use Rattle.money.specs.Money.{max, stopped, blank, isFor, rateFor, isRate, scaled, convertOf, amountOf}
+use Rattle.money.specs.declared.Converted.the-variants.{Amount, Over, NoEntry}
+use Rattle.money.specs.Money.{max, stopped, blank, isFor, rateFor, isRate, scaled, amountOf, amountOrOver, convertOf}
 use Rattle.money.proofs.Power.{ten-pos, down, up, stopped-most}
 
 -- place k of a table is the first entry for the pair
@@ -56,80 +56,112 @@ pub no-entry : (rates : Rates) (from to a : ℕ) → (from ≡ to → ⊥) → M
 unfolding convertOf
 no-entry rates from to a d m = simp (ne-eqb from to d, missed (rates .entries) from to 0 5 (omega arith) m)
 
--- n / 10^m with its fraction dropped, MAX if larger
-pub data Quotient (n m q : ℕ) : Type 0 where
-  within : q ≤ max → q * 10 ^ m ≤ n → n < (q + 1) * 10 ^ m → Quotient n m q
-  over : q ≡ max → (max + 1) * 10 ^ m ≤ n → Quotient n m q
+-- over exactly above MAX
+above-over : (n : ℕ) → max < n → amountOrOver n ≡ Over
+above-over n h = simp (lt-ltb max n h)
 
--- n x 10^m, MAX if larger
-pub data Product (n m q : ℕ) : Type 0 where
-  within : q ≤ max → q ≡ n * 10 ^ m → Product n m q
-  over : q ≡ max → max < n * 10 ^ m → Product n m q
+over-above : (n : ℕ) → amountOrOver n ≡ Over → max < n
+over-above n e = by (ltb max n) refl e where
+  by : (b : Bool) → ltb max n ≡ b → cond b Over (amountOf n) ≡ Over → max < n
+  by true p e = ltb-true max n p
+  by false p e = let z : _≡_ {A = ℕ} 0 1 = cc in absurd (omega arith)
 
-quotient : (n m : ℕ) → Quotient n m (stopped (n / 10 ^ m))
+-- n / 10^m with its fraction dropped, over above MAX
+pub data Quotient (n m : ℕ) : Converted → Type 0 where
+  within : (q : ℕ) → q ≤ max → q * 10 ^ m ≤ n → n < (q + 1) * 10 ^ m → Quotient n m (amountOf q)
+  over : (max + 1) * 10 ^ m ≤ n → Quotient n m Over
+
+-- n x 10^m, over above MAX
+pub data Product (n m : ℕ) : Converted → Type 0 where
+  within : n * 10 ^ m ≤ max → Product n m (amountOf (n * 10 ^ m))
+  over : max < n * 10 ^ m → Product n m Over
+
+-- the exact quotient is above MAX
+max-below : (n m : ℕ) → (max < n / 10 ^ m → (max + 1) * 10 ^ m ≤ n) × ((max + 1) * 10 ^ m ≤ n → max < n / 10 ^ m)
+max-below n m = (λ h. le-div-iff-mul-le (ten-pos m) .0 h, λ h. le-div-iff-mul-le (ten-pos m) .1 h)
+
+quotient : (n m : ℕ) → Quotient n m (amountOrOver (n / 10 ^ m))
 quotient n m = by (ltb max (n / 10 ^ m)) refl where
-  by : (b : Bool) → ltb max (n / 10 ^ m) ≡ b → Quotient n m (cond b max (n / 10 ^ m))
-  by true e = over refl (le-div-iff-mul-le (ten-pos m) .0 (ltb-true max (n / 10 ^ m) e))
+  by : (b : Bool) → ltb max (n / 10 ^ m) ≡ b → Quotient n m (cond b Over (amountOf (n / 10 ^ m)))
+  by true e = over (max-below n m .0 (ltb-true max (n / 10 ^ m) e))
   by false e =
-      within (ltb-false max (n / 10 ^ m) e) (div-mul-le-self n (10 ^ m)) (rw (mul-comm (n / 10 ^ m + 1) (10 ^ m)) (lt-mul-div-succ n (ten-pos m)))
+      within (n / 10 ^ m) (ltb-false max (n / 10 ^ m) e) (div-mul-le-self n (10 ^ m)) (rw (mul-comm (n / 10 ^ m + 1) (10 ^ m)) (lt-mul-div-succ n (ten-pos m)))
 
-product : (n m : ℕ) → Product n m (stopped (n * 10 ^ m))
+product : (n m : ℕ) → Product n m (amountOrOver (n * 10 ^ m))
 product n m = by (ltb max (n * 10 ^ m)) refl where
-  by : (b : Bool) → ltb max (n * 10 ^ m) ≡ b → Product n m (cond b max (n * 10 ^ m))
-  by true e = over refl (ltb-true max (n * 10 ^ m) e)
-  by false e = within (ltb-false max (n * 10 ^ m) e) refl
+  by : (b : Bool) → ltb max (n * 10 ^ m) ≡ b → Product n m (cond b Over (amountOf (n * 10 ^ m)))
+  by true e = over (ltb-true max (n * 10 ^ m) e)
+  by false e = within (ltb-false max (n * 10 ^ m) e)
 
 abbrev pub entry : Rates → ℕ → Rate
 entry rates k = getD (rates .entries) k blank
 
--- by the entry for the pair: for s < 0 the exact quotient, from s = 0 on the exact product
+-- by the entry for the pair: for s < 0 the exact quotient, from s = 0 on the exact product; over exactly where that is above MAX
 module _ (rates : Rates) (from to k a : ℕ) (other : from ≡ to → ⊥) (small : a ≤ max) (first : First (rates .entries) from to k)
     (good : isRate (entry rates k) ≡ true) where
-  by-entry : convertOf (record { 0 = a }) from to rates ≡ amountOf (scaled a (entry rates k))
+  abbrev n : ℕ
+  n = a * entry rates k .digits
+
+  abbrev t : ℕ
+  t = entry rates k .shift
+
+  abbrev answer : Converted
+  answer = convertOf (record { 0 = a }) from to rates
+
+  by-entry : answer ≡ amountOrOver (scaled a (entry rates k))
   unfolding convertOf
   by-entry = simp (ne-eqb from to other, reach (rates .entries) from to k 0 5 first (omega arith) (first .within), good, stays a small)
 
-  pub divided : entry rates k .shift ≤ 9
-      → (q : ℕ) × (convertOf (record { 0 = a }) from to rates ≡ amountOf q)
-      × Quotient (a * entry rates k .digits) (9 - entry rates k .shift) q
+  by-quotient : t ≤ 9 → answer ≡ amountOrOver (n / 10 ^ (9 - t))
   unfolding scaled
-  divided h =
-      let n = a * entry rates k .digits in
-      let t = entry rates k .shift in
-      (_, by-entry, subst (λ x. Quotient n (9 - t) (stopped x)) (down n t h) (quotient n (9 - t)))
+  by-quotient h = by-entry ∙ ap amountOrOver (sym (down n t h))
 
-  pub multiplied : 9 ≤ entry rates k .shift
-      → (q : ℕ) × (convertOf (record { 0 = a }) from to rates ≡ amountOf q)
-      × Product (a * entry rates k .digits) (entry rates k .shift - 9) q
+  by-product : 9 ≤ t → answer ≡ amountOrOver (n * 10 ^ (t - 9))
   unfolding scaled
-  multiplied h =
-      let n = a * entry rates k .digits in
-      let t = entry rates k .shift in
-      (_, by-entry, subst (λ x. Product n (t - 9) (stopped x)) (up n t h) (product n (t - 9)))
+  by-product h = by-entry ∙ ap amountOrOver (sym (up n t h))
+
+  pub divided : t ≤ 9 → Quotient n (9 - t) answer
+  divided h = subst (Quotient n (9 - t)) (sym (by-quotient h)) (quotient n (9 - t))
+
+  pub multiplied : 9 ≤ t → Product n (t - 9) answer
+  multiplied h = subst (Product n (t - 9)) (sym (by-product h)) (product n (t - 9))
+
+  pub over-if-divided : t ≤ 9 → (answer ≡ Over → (max + 1) * 10 ^ (9 - t) ≤ n) × ((max + 1) * 10 ^ (9 - t) ≤ n → answer ≡ Over)
+  over-if-divided h = (
+    λ e. max-below n (9 - t) .0 (over-above (n / 10 ^ (9 - t)) (sym (by-quotient h) ∙ e)),
+    λ l. by-quotient h ∙ above-over (n / 10 ^ (9 - t)) (max-below n (9 - t) .1 l),
+  )
+
+  pub over-if-multiplied : 9 ≤ t → (answer ≡ Over → max < n * 10 ^ (t - 9)) × (max < n * 10 ^ (t - 9) → answer ≡ Over)
+  over-if-multiplied h = (λ e. over-above (n * 10 ^ (t - 9)) (sym (by-product h) ∙ e), λ l. by-product h ∙ above-over (n * 10 ^ (t - 9)) l)
 
 -- the number in an amount
 value : Converted → ℕ
 value (Amount a) = a .0
+value Over = 0
 value NoEntry = 0
 
--- what holds of both amounts that conversion can give holds of the one it gives
-given : (P : ℕ → Type 0) (same good : Bool) (x y q : ℕ) → P x → P y
-    → cond same (amountOf x) (cond good (amountOf y) NoEntry) ≡ amountOf q → P q
+-- an answer that is an amount is that amount, and within MAX
+amount-within : (n q : ℕ) → amountOrOver n ≡ amountOf q → (n ≡ q) × (n ≤ max)
 unfolding value
-given P true good x y q px py e = let s : x ≡ q = ap value e in rw s at px
-given P false true x y q px py e = let s : y ≡ q = ap value e in rw s at py
-given P false false x y q px py e = let s : x ≡ q = cc in rw s at px
+amount-within n q e = by (ltb max n) refl e where
+  by : (b : Bool) → ltb max n ≡ b → cond b Over (amountOf n) ≡ amountOf q → (n ≡ q) × (n ≤ max)
+  by true p e = let z : _≡_ {A = ℕ} 0 1 = cc in absurd (omega arith)
+  by false p e = (ap value e, ltb-false max n p)
 
-scaled-most : (a : ℕ) (rate : Rate) → scaled a rate ≤ max
-unfolding scaled
-scaled-most a rate = stopped-most (a * rate .digits * 10 ^ rate .shift / 10 ^ 9)
-
+-- same currency is never over, and no answer is an amount above MAX
 pub never-above-max : (amount : TransactionAmount) (from to : ℕ) (rates : Rates) (q : ℕ)
     → convertOf amount from to rates ≡ amountOf q → q ≤ max
-unfolding convertOf
-never-above-max amount from to rates q e =
-    let rate = rateFor (rates .entries) from to 0 5 in
-    given (λ n. n ≤ max) (eqb from to) (isRate rate) _ _ q (stopped-most (amount .0)) (scaled-most (stopped (amount .0)) rate) e
+unfolding convertOf value
+never-above-max amount from to rates q e = by (eqb from to) (isRate rate) e where
+  rate : Rate
+  rate = rateFor (rates .entries) from to 0 5
+
+  by : (same good : Bool) → cond same (amountOf (stopped (amount .0))) (cond good (amountOrOver (scaled (stopped (amount .0)) rate)) NoEntry) ≡ amountOf q
+      → q ≤ max
+  by true good e = let s : stopped (amount .0) ≡ q = ap value e in rw (← s) (stopped-most (amount .0))
+  by false true e = let w = amount-within (scaled (stopped (amount .0)) rate) q e in rw (← w .0) (w .1)
+  by false false e = let z : _≡_ {A = ℕ} 0 1 = cc in absurd (omega arith)
 
 stopped-grows : (m n : ℕ) → m ≤ n → stopped m ≤ stopped n
 stopped-grows m n h = by (ltb max n) refl where
@@ -141,27 +173,40 @@ scaled-grows : (a b : ℕ) (rate : Rate) → a ≤ b → scaled a rate ≤ scale
 unfolding scaled
 scaled-grows a b rate h =
     let more = mul-le-mul-right (10 ^ rate .shift) (mul-le-mul-right (rate .digits) h) in
-    stopped-grows _ _ (le-div-iff-mul-le (ten-pos 9) .1 (le-trans (div-mul-le-self _ (10 ^ 9)) more))
+    le-div-iff-mul-le (ten-pos 9) .1 (le-trans (div-mul-le-self _ (10 ^ 9)) more)
 
--- a larger amount never converts to less
-pub never-less : (a b : TransactionAmount) (from to : ℕ) (rates : Rates) (p q : ℕ) → a .0 ≤ b .0
-    → convertOf a from to rates ≡ amountOf p → convertOf b from to rates ≡ amountOf q → p ≤ q
-unfolding convertOf value
-never-less a b from to rates p q h ea eb = both-ways (eqb from to) (isRate rate) ea eb where
+-- a larger amount never converts to less, and is over where a smaller one is
+module _ (a b : TransactionAmount) (from to : ℕ) (rates : Rates) (more : a .0 ≤ b .0) where
   rate : Rate
   rate = rateFor (rates .entries) from to 0 5
 
-  both-ways : (same good : Bool) → cond same (amountOf (stopped (a .0))) (cond good (amountOf (scaled (stopped (a .0)) rate)) NoEntry) ≡ amountOf p
-      → cond same (amountOf (stopped (b .0))) (cond good (amountOf (scaled (stopped (b .0)) rate)) NoEntry) ≡ amountOf q → p ≤ q
-  both-ways true good e f =
-      let x : stopped (a .0) ≡ p = ap value e in
-      let y : stopped (b .0) ≡ q = ap value f in
-      rw (← x, ← y) (stopped-grows (a .0) (b .0) h)
-  both-ways false true e f =
-      let x : scaled (stopped (a .0)) rate ≡ p = ap value e in
-      let y : scaled (stopped (b .0)) rate ≡ q = ap value f in
-      rw (← x, ← y) (scaled-grows _ _ rate (stopped-grows (a .0) (b .0) h))
-  both-ways false false e f = let z : p ≡ q = cc in omega arith
+  abbrev by-rate : Bool → Bool → ℕ → Converted
+  by-rate same good n = cond same (amountOf n) (cond good (amountOrOver (scaled n rate)) NoEntry)
+
+  grows : stopped (a .0) ≤ stopped (b .0)
+  grows = stopped-grows (a .0) (b .0) more
+
+  pub never-less : (p q : ℕ) → convertOf a from to rates ≡ amountOf p → convertOf b from to rates ≡ amountOf q → p ≤ q
+  unfolding convertOf value rate
+  never-less p q ea eb = both-ways (eqb from to) (isRate rate) ea eb where
+    both-ways : (same good : Bool) → by-rate same good (stopped (a .0)) ≡ amountOf p → by-rate same good (stopped (b .0)) ≡ amountOf q → p ≤ q
+    both-ways true good e f =
+        let x : stopped (a .0) ≡ p = ap value e in
+        let y : stopped (b .0) ≡ q = ap value f in
+        rw (← x, ← y) grows
+    both-ways false true e f =
+        let x = amount-within (scaled (stopped (a .0)) rate) p e .0 in
+        let y = amount-within (scaled (stopped (b .0)) rate) q f .0 in
+        rw (← x, ← y) (scaled-grows _ _ rate grows)
+    both-ways false false e f = let z : p ≡ q = cc in omega arith
+
+  pub over-stays : convertOf a from to rates ≡ Over → convertOf b from to rates ≡ Over
+  unfolding convertOf rate
+  over-stays e = by (eqb from to) (isRate rate) e where
+    by : (same good : Bool) → by-rate same good (stopped (a .0)) ≡ Over → by-rate same good (stopped (b .0)) ≡ Over
+    by true good e = let z : _≡_ {A = ℕ} 0 1 = cc in absurd (omega arith)
+    by false true e = above-over _ (le-trans (over-above _ e) (scaled-grows _ _ rate grows))
+    by false false e = let z : _≡_ {A = ℕ} 0 1 = cc in absurd (omega arith)
 
 -- edges c, d and e of document 01
 abbrev pub one-rate : ℕ → ℕ → Rates
@@ -169,7 +214,7 @@ one-rate d t = record { entries = record { from = 1; to = 2; digits = d; shift =
 
 pub record Edges : Type 0 where
   pub c : convertOf (record { 0 = 12345 }) 1 2 (one-rate 1234 6) ≡ amountOf 15233
-  pub d : convertOf (record { 0 = max }) 1 2 (one-rate 9999 12) ≡ amountOf max
+  pub d : convertOf (record { 0 = max }) 1 2 (one-rate 9999 12) ≡ Over
   pub e : convertOf (record { 0 = 1 }) 1 2 (one-rate 4 8) ≡ amountOf 0
 
 pub edges : Edges

@@ -8,7 +8,7 @@ use Rattle.money.specs.declared.TransactionAmount.{TransactionAmount}
 use Rattle.money.specs.declared.Rate.{Rate}
 use Rattle.money.specs.declared.Rates.{Rates}
 use Rattle.money.specs.declared.Converted.{Converted}
-use Rattle.money.specs.declared.Converted.the-variants.{Amount, NoEntry}
+use Rattle.money.specs.declared.Converted.the-variants.{Amount, Over, NoEntry}
 
 abbrev pub max : ℕ
 max = 999999999999
@@ -34,16 +34,20 @@ rateFor entries from to i (suc n) =
 abbrev pub isRate : Rate → Bool
 isRate rate = leb 1 (rate .digits) && leb (rate .digits) 9999 && leb (rate .shift) 12
 
--- amount x d x 10^s, its fraction dropped, and MAX if larger
+-- amount x d x 10^s, its fraction dropped
 unfoldable pub scaled : ℕ → Rate → ℕ
-scaled amount rate = stopped (amount * rate .digits * 10 ^ rate .shift / 10 ^ 9)
+scaled amount rate = amount * rate .digits * 10 ^ rate .shift / 10 ^ 9
 
 abbrev pub amountOf : ℕ → Converted
 amountOf n = Amount (record { 0 = n })
+
+-- over if larger than MAX (request Four)
+abbrev pub amountOrOver : ℕ → Converted
+amountOrOver n = cond (ltb max n) Over (amountOf n)
 
 -- same currency: the amount itself; else by the entry for that pair; with no entry the amount doesn't count
 unfoldable pub convertOf : TransactionAmount → ℕ → ℕ → Rates → Converted
 convertOf amount from to rates =
     let spent = stopped (amount .0) in
     let rate = rateFor (rates .entries) from to 0 5 in
-    cond (eqb from to) (amountOf spent) (cond (isRate rate) (amountOf (scaled spent rate)) NoEntry)
+    cond (eqb from to) (amountOf spent) (cond (isRate rate) (amountOrOver (scaled spent rate)) NoEntry)

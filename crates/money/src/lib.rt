@@ -1,7 +1,7 @@
 // Amounts of two kinds, and the conversion that alone leads from one to the other.
 ghost use mathlib.Core.Path.{_≡_};
 ghost use Prim.Native.Nat.{_+_, _≤_};
-ghost use Rattle.money.specs.Money.{max, stopped, isFor, rateFor, isRate, scaled, convertOf};
+ghost use Rattle.money.specs.Money.{max, stopped, isFor, rateFor, isRate, scaled, amountOrOver, convertOf};
 
 pub const MAX: u64 = 999_999_999_999;
 
@@ -23,8 +23,11 @@ pub struct Rates {
     pub entries: [Rate; 5],
 }
 
+// What an amount comes to in another currency: an amount, over (above MAX), or nothing where the
+// table has no entry.
 pub enum Converted {
     Amount(AccumulatorAmount),
+    Over,
     NoEntry,
 }
 
@@ -80,7 +83,7 @@ fn is_rate(rate: Rate) -> bool
     (1 <= rate.digits) & (rate.digits <= 9_999) & (rate.shift <= 12)
 }
 
-// amount x d x 10^s, its fraction dropped, and MAX if larger.
+// amount x d x 10^s, its fraction dropped.
 fn scale(amount: u64, rate: Rate) -> u64
     requires { ⌜ (amount ≤ max) × (rate .digits ≤ 9999) × (rate .shift ≤ 12) ⌝ }
     ensures { λ r. ⌜ r ≡ scaled amount rate ⌝ }
@@ -96,10 +99,20 @@ fn scale(amount: u64, rate: Rate) -> u64
         power *= 10;
     }
     if rate.shift < 9 {
-        stop(product / power)
+        product / power
     } else {
-        stop(product * power)
+        product * power
     }
+}
+
+// An amount, or over if it is larger than MAX.
+fn amount_or_over(n: u64) -> Converted
+    ensures { λ r. ⌜ r ≡ amountOrOver n ⌝ }
+{
+    if MAX < n {
+        return Converted::Over;
+    }
+    Converted::Amount(AccumulatorAmount(n))
 }
 
 // An amount in a currency, as an amount in another. An amount above MAX reads as MAX.
@@ -112,7 +125,7 @@ pub fn convert(amount: TransactionAmount, from: u16, to: u16, rates: Rates) -> C
     }
     let rate = rate_for(rates, from, to);
     if is_rate(rate) {
-        Converted::Amount(AccumulatorAmount(scale(spent, rate)))
+        amount_or_over(scale(spent, rate))
     } else {
         Converted::NoEntry
     }

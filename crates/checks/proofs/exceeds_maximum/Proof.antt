@@ -37,5 +37,18 @@ returns-3 c =
       c .enum-told .given .1,
     )
 
+returns-4 : tie.Need-returns-4
+unfolding maximumExceeded
+returns-4 c =
+    let maximum = c .before .before .before .before .before .before .maximum-amount in
+    let on = not-false (maximum .result .on) (c .before .before .before .before .if1 .left) in
+    simp (
+      ← maximum .ensures,
+      on,
+      ← c .before .before .before .rates .ensures,
+      ← c .before .before .convert .ensures,
+      c .enum-told2 .given .1,
+    )
+
 pub exceeds-maximum-spec : {M : Type 1} → statement M
-exceeds-maximum-spec = tie.close (tie.spec (search needs) returns (search needs) (search needs) (search needs) (search needs) returns-2 returns-3)
+exceeds-maximum-spec = tie.close (tie.spec (search needs) returns (search needs) (search needs) (search needs) (search needs) (search needs) returns-2 returns-3 returns-4)

@@ -1,10 +1,11 @@
--- The sum that stops at MAX is the amount moved by one addition.
+-- The sum that stops at MAX is the amount moved by one addition, and an addition of MAX leaves MAX.
 use borrow.Author.Needs.{needs}
 use borrow.Author.Tests.{not-true, not-false}
 use Prim.Native.Nat.{ℕ}
-use mathlib.Core.Path.{ap}
+use mathlib.Core.Path.{ap, sym}
 use mathlib.Core.Bool.{_&&_}
 use Rattle.money.specs.declared.AccumulatorAmount.{AccumulatorAmount}
+use Rattle.meters.proofs.Ledger.{over-stores-max}
 use Rattle.meters.proofs.grow.Statement.{statement}
 use Rattle.meters.proofs.grow.Tie as tie
 
@@ -23,8 +24,16 @@ returns-2 c =
 returns-3 : tie.Need-returns-3
 returns-3 c =
     let left = c .before .before in
+    let start = left .before .before .args in
+    let rule = start .rule in
+    let amount : ℕ → AccumulatorAmount = λ n. record { 0 = n } in
+    simp (not-false (rule .active && rule .allow) (left .if1 .left), c .enum-told .given .1) (ap amount (sym (over-stores-max (start .amount .0))))
+
+returns-4 : tie.Need-returns-4
+returns-4 c =
+    let left = c .before .before in
     let rule = left .before .before .args .rule in
-    simp (not-false (rule .active && rule .allow) (left .if1 .left), c .enum-told .given .1)
+    simp (not-false (rule .active && rule .allow) (left .if1 .left), c .enum-told2 .given .1)
 
 pub grow-spec : {M : Type 1} → statement M
-grow-spec = tie.close (tie.spec returns (search needs) (search needs) (search needs) returns-2 returns-3)
+grow-spec = tie.close (tie.spec returns (search needs) (search needs) (search needs) (search needs) returns-2 returns-3 returns-4)

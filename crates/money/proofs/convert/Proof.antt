@@ -20,10 +20,10 @@ scale-requires c κs =
 returns-2 : tie.Need-returns-2
 unfolding convertOf
 returns-2 c =
-    let rate = c .before .before .before .rate-for in
-    let good : isRate (rate .result) ≡ true = sym (c .before .before .is-rate .ensures) ∙ c .before .if2 .taken in
+    let rate = c .before .before .before .before .rate-for in
+    let good : isRate (rate .result) ≡ true = sym (c .before .before .before .is-rate .ensures) ∙ c .before .before .if2 .taken in
     rw (← rate .ensures)
-    (simp (ne-eqb _ _ (c .before .before .before .before .if1 .left), good, c .scale .ensures, c .before .before .before .before .before .stop .ensures))
+    (simp (ne-eqb _ _ (c .before .before .before .before .before .if1 .left), good, c .amount-or-over .ensures, c .before .scale .ensures, c .before .before .before .before .before .before .stop .ensures))
 
 returns-3 : tie.Need-returns-3
 unfolding convertOf
@@ -34,4 +34,4 @@ returns-3 c =
 
 pub convert-spec : {M : Type 1} → statement M
 convert-spec =
-    tie.close (tie.spec (search needs) returns (search needs) (search needs) scale-requires returns-2 returns-3)
+    tie.close (tie.spec (search needs) returns (search needs) (search needs) scale-requires (search needs) returns-2 returns-3)

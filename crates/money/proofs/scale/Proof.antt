@@ -34,11 +34,11 @@ loop-again c =
     let l = c .before .loop in
     (omega arith, l .inv .1, ap (λ (power : ℕ). power * 10) (l .inv .2) ∙ sym (pow-add 10 (l .counter) 1))
 
-div-stop : tie.Need-div-stop Inv-loop μ-loop
-div-stop c = rw (c .before .before .before .loop .inv .2) (ten-pos _)
+div-result : tie.Need-div-result Inv-loop μ-loop
+div-result c = rw (c .before .before .before .loop .inv .2) (ten-pos _)
 
-mul-stop : tie.Need-mul-stop Inv-loop μ-loop
-mul-stop c =
+mul-result : tie.Need-mul-result Inv-loop μ-loop
+mul-result c =
     let l = c .before .before .before .loop in
     let pre = c .before .before .before .before .before .before .before .pre in
     rw (l .inv .2) (record { fits = shift-fits {k = l .counter} (pre .0) (pre .1) (omega arith) })
@@ -46,18 +46,18 @@ mul-stop c =
 returns : tie.Need-returns Inv-loop μ-loop
 unfolding scaled
 returns c =
-    let l = c .before .before .before .before .loop in
-    let a = c .before .before .before .before .before .before .before .before .args in
+    let l = c .before .before .before .loop in
+    let a = c .before .before .before .before .before .before .before .args in
     let turns : l .counter ≡ 9 - a .rate .shift = omega arith in
-    simp (c .stop .ensures, l .inv .2, turns, down (a .amount * a .rate .digits) (a .rate .shift) (omega arith))
+    simp (l .inv .2, turns, down (a .amount * a .rate .digits) (a .rate .shift) (omega arith))
 
 returns-2 : tie.Need-returns-2 Inv-loop μ-loop
 unfolding scaled
 returns-2 c =
-    let l = c .before .before .before .before .loop in
-    let a = c .before .before .before .before .before .before .before .before .args in
+    let l = c .before .before .before .loop in
+    let a = c .before .before .before .before .before .before .before .args in
     let turns : l .counter ≡ a .rate .shift - 9 = omega arith in
-    simp (c .stop2 .ensures, l .inv .2, turns, up (a .amount * a .rate .digits) (a .rate .shift) (omega arith))
+    simp (l .inv .2, turns, up (a .amount * a .rate .digits) (a .rate .shift) (omega arith))
 
 pub scale-spec : {M : Type 1} → statement M
 scale-spec =
@@ -73,9 +73,7 @@ scale-spec =
     (search needs)
     (search needs)
     loop-again
-    div-stop
-    (search needs)
-    mul-stop
-    (search needs)
+    div-result
+    mul-result
     returns
     returns-2)
