@@ -5,7 +5,8 @@
 #include "observe.h"
 #include "reached.h"
 
-/* "Conversion". The largest product, MAX x 9,999 x 1,000, is below 2^64. */
+/* "Conversion", its fraction by the syllabus. The largest product, MAX x 9,999
+ * x 1,000, is below 2^64. */
 static struct converted convert(const struct setup *setup, uint64_t amount,
                                 uint16_t from, uint16_t to)
 {
@@ -20,15 +21,21 @@ static struct converted convert(const struct setup *setup, uint64_t amount,
         const struct conversion *entry = &setup->conversion[i];
         if (entry->from != from || entry->to != to)
             continue;
-        uint64_t product = amount * entry->digits;
-        if (entry->shift < 0)
-            product /= ten_to[-entry->shift];
-        else
-            product *= ten_to[entry->shift];
-        observe_conversion(i, entry, amount, product);
-        if (product > AMOUNT_MAX)
+        const uint64_t product = amount * entry->digits;
+        uint64_t result;
+        if (entry->shift >= 0) {
+            result = product * ten_to[entry->shift];
+        } else {
+            const uint64_t divisor = ten_to[-entry->shift];
+            result = product / divisor;
+            if (setup->syllabus == SYLLABUS_ROUNDS_UP
+                && product % divisor != 0)
+                result++;
+        }
+        observe_conversion(setup, i, amount, result);
+        if (result > AMOUNT_MAX)
             return (struct converted){OVER, 0};
-        return (struct converted){CONVERTED, product};
+        return (struct converted){CONVERTED, result};
     }
     reached(CONVERT_NONE);
     return (struct converted){NO_ENTRY, 0};

@@ -1,6 +1,6 @@
 /* The card of documents 01 and 02: what a set-up says, what the card
- * remembers, and its three commands. A command returns its refusal number, 0 when done; a
- * refused command has changed nothing. */
+ * remembers, and its three commands. A command returns its refusal number, 0
+ * when done; a refused command has changed nothing. */
 #ifndef MODEL_CARD_H
 #define MODEL_CARD_H
 
@@ -20,7 +20,8 @@ enum {
     IAD_BYTES = 32,
 
     VERSION_SELECTION = 2, /* papers from this version on have it */
-    VERSION_MAX = 2
+    VERSION_SYLLABUS = 3,
+    VERSION_MAX = 3
 };
 
 /* The decision bits (ADR) in house order; bits 0 to 4 are the history. */
@@ -92,6 +93,9 @@ struct selection {
     bool on;
 };
 
+/* What becomes of a converted fraction. */
+enum { SYLLABUS_DROPS = 0, SYLLABUS_ROUNDS_UP = 1 };
+
 /* What a set-up fixes for the whole paper. */
 struct setup {
     struct profile profile[PROFILES_MAX];
@@ -99,6 +103,7 @@ struct setup {
     struct selection selection;
     uint16_t currency[ACCUMULATORS];
     uint8_t profiles, conversions;
+    uint8_t syllabus;
     uint8_t key_index;
     uint8_t pin_tries;
     bool authentication_required;

@@ -105,10 +105,17 @@ static void sitting_in_full(void)
            "8 2\n");
 }
 
+/* Of the papers that at_rate makes; without one, -1, they are version 01. */
+static int syllabus = -1;
+
 /* Nothing declines, and limits at MAX, an amount in USD at this rate. */
 static void at_rate(uint16_t digits, int shift)
 {
     lenient();
+    if (syllabus >= 0) {
+        setup.version = 3;
+        setup.syllabus = (uint8_t)syllabus;
+    }
     profile->accumulator[0].lower = MOST;
     profile->accumulator[0].upper = MOST;
     setup.conversions = 1;
@@ -228,6 +235,63 @@ static void rates(void)
     conversion_over("MAX + 1, divided", 625000000000, 16, -1);
     conversion("a fraction more than MAX", 833333333333, 12, -1,
                "999999999999");
+}
+
+/* Request Nine: the same by both rules, and where they part. */
+static void roundings(void)
+{
+    static const struct {
+        uint64_t amount;
+        uint16_t digits;
+        int shift;
+        const char *dropped, *rounded; /* NULL: over */
+    } cases[] = {
+        {12345, 1234, -3, "000000015233", "000000015234"},
+        {1, 4, -1, "000000000000", "000000000001"},
+        {55555, 85, -2, "000000047221", "000000047222"},
+        {125, 18, -1, "000000000225", "000000000225"},
+        {MOST, 1, -1, "099999999999", "100000000000"},
+        {MOST, 1, -9, "000000000999", "000000001000"},
+        {1, 1, -9, "000000000000", "000000000001"},
+        {0, 9999, -9, "000000000000", "000000000000"},
+        {77, 1, 0, "000000000077", "000000000077"},
+        {77, 1, 3, "000000077000", "000000077000"},
+        {833333333332, 12, -1, "999999999998", "999999999999"},
+        {909090909090, 11, -1, "999999999999", "999999999999"},
+        {833333333333, 12, -1, "999999999999", NULL},
+        {625000000000, 16, -1, NULL, NULL}};
+
+    for (size_t i = 0; i < sizeof cases / sizeof *cases; i++)
+        for (syllabus = 0; syllabus < 2; syllabus++) {
+            const char *expected =
+                syllabus ? cases[i].rounded : cases[i].dropped;
+            if (expected)
+                conversion("rounding", cases[i].amount, cases[i].digits,
+                           cases[i].shift, expected);
+            else
+                conversion_over("rounding, over", cases[i].amount,
+                                cases[i].digits, cases[i].shift);
+        }
+
+    for (syllabus = 0; syllabus < 2; syllabus++) { /* the MTA's conversion */
+        at_rate(1234, -3);
+        profile->mta_on = 1;
+        profile->mta_currency = EUR;
+        profile->mta = 15233;
+        profile->decline = 32;
+        begin();
+        start();
+        draft_first(&draft, 1, 12345, USD, 0x22);
+        if (syllabus)
+            expect("rounded above the MTA",
+                   "0 0\n1 0 1\n2 0 00 1 "
+                   IAD("8030000000", "000000000000", "0000"));
+        else
+            expect("dropped to the MTA",
+                   "0 0\n1 0 1\n2 0 40 1 "
+                   IAD("9030000000", "000000015233", "0100"));
+    }
+    syllabus = -1;
 }
 
 /* Which history each kind of Second leaves, seen in the CVRs after it. */
@@ -741,7 +805,28 @@ static void selection(void)
            "10 12\n");
 }
 
-static void selection_tails(void)
+/* The body of the printed set-up, the tail, and so many bytes more. */
+static void tail_case(uint8_t version, const char *tail, const char *more,
+                      const char *lines)
+{
+    const struct hex bytes = hex(tail);
+    const struct hex last = hex(more);
+    uint8_t body[SETUP_ROOM];
+
+    printed();
+    size_t length = draft_setup_body(&setup, body);
+    memcpy(body + length, bytes.at, bytes.length);
+    length += bytes.length;
+    memcpy(body + length, last.at, last.length);
+    length += last.length;
+    draft_begin(&draft);
+    draft_record(&draft, 1, body, length);
+    draft.bytes[0] = version;
+    start();
+    expect(tail, lines);
+}
+
+static void tails(void)
 {
     static const struct {
         const char *tail, *lines;
@@ -764,24 +849,18 @@ static void selection_tails(void)
         {"01 02 08 01 01 02 FF 01 00 01 02", "0 1\n"},
         {"01 02 08 01 01 02 FF 01 00 01 02 00", "0 0\n1 0 1 1\n"}};
 
-    printed();
     for (size_t i = 0; i < sizeof cases / sizeof *cases; i++) {
-        const struct hex tail = hex(cases[i].tail);
-        uint8_t body[SETUP_ROOM];
-        const size_t base = draft_setup_body(&setup, body);
-        for (uint8_t version = 1; version <= 2; version++) {
-            memcpy(body + base, tail.at, tail.length);
-            draft_begin(&draft);
-            draft_record(&draft, 1, body, base + tail.length);
-            draft.bytes[0] = version;
-            start();
-            if (version == 2)
-                expect(cases[i].tail, cases[i].lines);
-            else
-                expect(cases[i].tail,
-                       tail.length > 0 ? "0 1\n" : "0 0\n1 0 1\n");
-        }
+        const char *tail = cases[i].tail;
+        tail_case(1, tail, "", *tail ? "0 1\n" : "0 0\n1 0 1\n");
+        tail_case(2, tail, "", cases[i].lines);
+        tail_case(3, tail, "00", cases[i].lines);
+        tail_case(3, tail, "01", cases[i].lines);
+        tail_case(3, tail, "02", "0 1\n");
     }
+    tail_case(3, "", "", "0 1\n");
+    tail_case(3, "00", "", "0 1\n");
+    tail_case(3, "01 00", "", "0 1\n");
+    tail_case(3, "00 FF", "", "0 1\n");
 }
 
 static void refusals(void)
@@ -864,7 +943,9 @@ static void papers(void)
     draft.bytes[0] = 2;
     expect("version 02 without a tail", "0 1\n");
     draft.bytes[0] = 3;
-    expect("version 03", "0 9\n");
+    expect("version 03 without a tail", "0 1\n");
+    draft.bytes[0] = 4;
+    expect("version 04", "0 9\n");
     begin();
     draft.length--;
     expect("set-up cut short", "0 9\n");
@@ -926,6 +1007,7 @@ int main(void)
     sitting_in_full();
     edges();
     rates();
+    roundings();
     history();
     orders();
     unable();
@@ -934,7 +1016,7 @@ int main(void)
     over();
     counters();
     selection();
-    selection_tails();
+    tails();
     refusals();
     papers();
     printf("%u cases, %u wrong\n", cases, wrong);

@@ -77,8 +77,8 @@ static void damage_setup_length(struct chance *chance, struct draft *draft)
     }
 }
 
-/* One byte of the tail that delimits: the switch, the number of entries, or
- * the length of one of them. */
+/* One byte of the tail that has a range or delimits: the syllabus, the switch,
+ * the number of entries, or the length of one of them. */
 static void damage_tail(struct chance *chance, const struct draft_setup *setup,
                         struct draft *draft)
 {
@@ -87,6 +87,11 @@ static void damage_tail(struct chance *chance, const struct draft_setup *setup,
 
     if (setup->version < 2)
         return;
+    if (setup->version > 2 && percent(chance, 50)) {
+        at = draft->bytes + SETUP_BODY + get16(draft->bytes + 1) - 2;
+        *at = percent(chance, 50) ? 2 : value;
+        return;
+    }
     if (percent(chance, 20) || !setup->file.on) {
         *at = percent(chance, 50) ? 2 : value;
         return;
@@ -198,7 +203,7 @@ static void damage_size(struct chance *chance, struct draft *draft)
 void damage(struct chance *chance, const struct draft_setup *setup,
             struct draft *draft)
 {
-    static const uint8_t versions[] = {0, 1, 2, 3, 0x10, 0x80, 0x81, 0xFF};
+    static const uint8_t versions[] = {0, 1, 2, 3, 4, 0x10, 0x80, 0x81, 0xFF};
     uint8_t tail[4];
     size_t place;
 

@@ -84,6 +84,8 @@ size_t draft_setup_body(const struct draft_setup *setup, uint8_t *body)
         memcpy(at, setup->file.bytes, setup->file.length);
         at += setup->file.length;
     }
+    if (setup->version > 2)
+        *at++ = setup->syllabus;
     return (size_t)(at - body);
 }
 

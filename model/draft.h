@@ -19,7 +19,7 @@ enum {
     SETUP_CONVERSION = 7,
     SETUP_BASE = SETUP_HEAD + 5 * SETUP_PROFILE + 6 * SETUP_CONVERSION,
     FILE_ROOM = 8192,
-    SETUP_ROOM = SETUP_BASE + 2 + FILE_ROOM
+    SETUP_ROOM = SETUP_BASE + 2 + FILE_ROOM + 1
 };
 
 struct draft_profile {
@@ -64,6 +64,7 @@ struct draft_setup {
         uint8_t shift; /* s + 9 */
     } conversion[6];
     struct draft_file file; /* written from version 02 on */
+    uint8_t syllabus;       /* from version 03 on */
 };
 
 struct draft {

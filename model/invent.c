@@ -374,11 +374,13 @@ static void invent_file(struct chance *chance, struct world *world,
 void invent_version(struct chance *chance, struct world *world,
                     struct draft_setup *setup)
 {
-    if (percent(chance, 50))
+    if (percent(chance, 45))
         return;
-    setup->version = 2;
-    if (percent(chance, 80))
+    setup->version = percent(chance, 50) ? 2 : 3;
+    if (percent(chance, 70))
         invent_file(chance, world, setup);
+    if (setup->version == 3)
+        setup->syllabus = percent(chance, 75);
 }
 
 /* The terminal's data, now and then shorter or longer than the rule. */

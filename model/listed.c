@@ -207,7 +207,7 @@ static void raw(const uint8_t *bytes, size_t count)
 
 static void papers_unreadable(void)
 {
-    static const uint8_t versions[] = {0, 3, 0xFF};
+    static const uint8_t versions[] = {0, 4, 0xFF};
     static const uint8_t cut[] = {1, 0, 0xA0, 1};
     static const uint8_t kinds[] = {0, 2, 3, 4, 5, 0xFF};
 
@@ -759,16 +759,19 @@ static void declines(void)
         declines_from(high + i, i & 1 ? 11 : 15, i & 2 ? 254 : 255);
 }
 
-/* Every shift, five rates a paper, into accumulator 1 made zero each time. */
-static void conversions(void)
+/* So many papers of this syllabus: every shift, five rates a paper, into
+ * accumulator 1 made zero each time. */
+static void conversions(unsigned papers, uint8_t syllabus)
 {
     static const uint64_t amounts[] = {MOST, 12345, 1, 999999999, 1000000000,
                                        111111111111, 55555};
     static const uint16_t digits[] = {9999, 1234, 4, 1, 9, 85};
     static const uint16_t codes[] = {0x0001, 0x0010, 0x0100, 0x0840, 0x0999};
 
-    for (unsigned paper = 0; paper < 8; paper++) {
+    for (unsigned paper = 0; paper < papers; paper++) {
         draft_printed_setup(&setup);
+        setup.version = syllabus == 0 ? 1 : 3;
+        setup.syllabus = syllabus;
         setup.accumulator[1].currency = 0x0840;
         setup.profile[0].accumulator[1].switches = 3;
         setup.profile[0].decline = 0;
@@ -879,6 +882,92 @@ static void over(void)
     over_at(tested, 10, 0);
     over_at(counted, 6, 0);
     over_at(counted, 5, 1);
+}
+
+struct rounding {
+    uint64_t amount;
+    uint16_t digits;
+    uint8_t shift;
+};
+
+/* Five amounts, each at its rate. Profiles 1 to 4: the MTA declines, the limit
+ * of accumulator 1 goes online, the one above it too, all is counted. */
+static void rounding(uint8_t version, uint8_t syllabus,
+                     const struct rounding *rates, uint64_t limit)
+{
+    static const uint16_t codes[] = {0x0001, 0x0010, 0x0100, 0x0840, 0x0999};
+
+    draft_printed_setup(&setup);
+    setup.version = version;
+    setup.syllabus = syllabus;
+    setup.profiles = 4;
+    setup.conversions = 5;
+    for (unsigned i = 0; i < 5; i++) {
+        setup.conversion[i].from = codes[i];
+        setup.conversion[i].to = EUR;
+        setup.conversion[i].digits = rates[i].digits;
+        setup.conversion[i].shift = rates[i].shift;
+    }
+    for (unsigned i = 0; i < 4; i++) {
+        struct draft_profile *profile = &setup.profile[i];
+        *profile = setup.profile[0];
+        profile->number = (uint8_t)(i + 1);
+        profile->online = i == 1 || i == 2 ? 1024 : 0;
+        profile->decline = i == 0 ? 32 : 0;
+        profile->mta_on = i == 0;
+        profile->mta_currency = EUR;
+        profile->mta = limit;
+        profile->accumulator[0].switches = i == 3 ? 3 : 7;
+        profile->accumulator[0].lower = limit;
+        profile->accumulator[0].upper = i == 2 ? limit + 1 : limit;
+    }
+    begin();
+    for (unsigned i = 0; i < 6; i++)
+        for (uint8_t p = 1; p <= 4; p++) {
+            const uint64_t amount = i < 5 ? rates[i].amount : limit;
+            const uint16_t code = i < 5 ? codes[i] : EUR;
+            start(p);
+            draft_first(draft, TC, amount, code, ONLINE_TERMINAL);
+            start(p);
+            draft_first(draft, ARQC, amount, code, ONLINE_TERMINAL);
+            second(TC, OTHER, VERIFIED, 0x83);
+            start(p);
+            first(ARQC, 0);
+            second(TC, OTHER, VERIFIED, 0x82);
+        }
+    emit();
+}
+
+/* Fractions, at the rim of MAX too, by both rules; older papers drop them. */
+static void roundings(void)
+{
+    static const struct rounding plain[] = {
+        {12345, 1234, 6}, {1, 4, 8}, {55555, 85, 7}, {125, 18, 8}, {0, 1, 0}};
+    static const struct rounding whole[] = {{909090909090, 11, 8},
+                                            {625000000000, 16, 8},
+                                            {MOST, 1, 8},
+                                            {MOST, 1, 9},
+                                            {MOST, 9999, 0}};
+    static const struct rounding below[] = {{833333333332, 12, 8},
+                                            {10162601626, 9840, 7},
+                                            {100170289492, 9983, 6},
+                                            {1078050884, 9276, 8},
+                                            {1, 1, 0}};
+    static const struct rounding above[] = {{833333333333, 12, 8},
+                                            {10042177144, 9958, 7},
+                                            {100120144173, 9988, 6},
+                                            {1093254619, 9147, 8},
+                                            {999999999, 1, 12}};
+
+    for (uint8_t version = 1; version <= 3; version++)
+        rounding(version, 0, plain, 15233);
+    rounding(3, 1, plain, 15233);
+    for (uint8_t syllabus = 0; syllabus < 2; syllabus++) {
+        rounding(3, syllabus, whole, MOST - 1);
+        rounding(3, syllabus, below, MOST - 2);
+        rounding(3, syllabus, below, MOST - 1);
+        rounding(3, syllabus, above, MOST - 1);
+    }
 }
 
 /* MTA on and off, exceeded in any currency, each mask asking. */
@@ -1046,8 +1135,10 @@ void listed_papers(uint64_t seed, struct draft *to,
     histories();
     all_switches();
     declines();
-    conversions();
+    conversions(8, 0);
+    conversions(5, 1);
     over();
+    roundings();
     mta();
     leftovers();
     listed_selection(to, then);

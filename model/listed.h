@@ -12,7 +12,8 @@
 void listed_papers(uint64_t seed, struct draft *draft,
                    void (*emit)(struct draft *draft));
 
-/* Those about profile selection, the same for any seed. */
+/* Those about profile selection and the tails of a set-up, the same for any
+ * seed. */
 void listed_selection(struct draft *draft, void (*emit)(struct draft *draft));
 
 #endif

@@ -476,12 +476,36 @@ static void tails(void)
         {3, {1, 1, 0}},
         {11, {1, 1, 8, 1, 1, 2, 0xFF, 0x01, 0, 1, 1}},
         {12, {1, 2, 8, 1, 1, 2, 0xFF, 0x01, 0, 1, 1, 0}}};
+    static const struct bytes syllabus_refused[] = {
+        {0, {0}},
+        {1, {0}}, /* no syllabus */
+        {2, {1, 0}},
+        {11, {1, 1, 8, 1, 1, 2, 0xFF, 0x01, 0, 1, 1}},
+        {2, {0, 2}}, /* one that is none */
+        {2, {0, 0xFF}},
+        {3, {1, 0, 2}},
+        {12, {1, 1, 8, 1, 1, 2, 0xFF, 0x01, 0, 1, 1, 2}},
+        {3, {0, 1, 0}}, /* one, and more */
+        {4, {1, 0, 0, 0}},
+        {13, {1, 1, 8, 1, 1, 2, 0xFF, 0x01, 0, 1, 1, 1, 1}},
+        {2, {2, 0}}, /* the selection's own faults */
+        {3, {1, 1, 1}}};
+    static const struct bytes syllabus_taken[] = {
+        {2, {0, 0}},
+        {2, {0, 1}},
+        {3, {1, 0, 1}},
+        {12, {1, 1, 8, 1, 1, 2, 0xFF, 0x01, 0, 1, 1, 0}},
+        {12, {1, 1, 8, 1, 1, 2, 0xFF, 0x01, 0, 1, 1, 1}}};
 
     fresh();
     for (size_t i = 0; i < sizeof refused / sizeof *refused; i++)
         tail(2, &refused[i]);
     for (size_t i = 0; i < sizeof taken / sizeof *taken; i++)
         tail(2, &taken[i]);
+    for (size_t i = 0; i < sizeof syllabus_refused / sizeof *refused; i++)
+        tail(3, &syllabus_refused[i]);
+    for (size_t i = 0; i < sizeof syllabus_taken / sizeof *taken; i++)
+        tail(3, &syllabus_taken[i]);
     tail(1, &taken[0]); /* version 01 has none of it */
     tail(1, &taken[3]);
     setup.conversions = 1; /* said to be there, but it is the tail */

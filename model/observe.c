@@ -88,23 +88,38 @@ static void observe_count(unsigned row, unsigned switches, unsigned value,
     reached_if(!included && exceeds, COUNT_LEFT_OUT + row);
 }
 
-void observe_conversion(unsigned place, const struct conversion *entry,
-                        uint64_t amount, uint64_t product)
+/* A division, before its fraction is dealt with. */
+static void observe_fraction(unsigned syllabus, uint64_t amount,
+                             const struct conversion *entry)
 {
+    const uint64_t product = amount * entry->digits;
+    uint64_t divisor = 1;
+
+    for (int i = entry->shift; i < 0; i++)
+        divisor *= 10;
+    if (product % divisor == 0) {
+        reached(CONVERT_EXACT + syllabus);
+        return;
+    }
+    reached(CONVERT_FRACTION + syllabus);
+    reached_if(product < divisor, CONVERT_UNDER_1 + syllabus);
+    reached_if(product / divisor == AMOUNT_MAX - 1, CONVERT_RIM + syllabus);
+    reached_if(product / divisor == AMOUNT_MAX, CONVERT_RIM + 2 + syllabus);
+}
+
+void observe_conversion(const struct setup *setup, unsigned place,
+                        uint64_t amount, uint64_t result)
+{
+    const struct conversion *entry = &setup->conversion[place];
+
     reached(CONVERT_AT + place);
     reached(CONVERT_SHIFT + (unsigned)(entry->shift + 9));
-    if (entry->shift < 0) {
-        uint64_t back = product;
-        for (int i = entry->shift; i < 0; i++)
-            back *= 10;
-        reached(back == amount * entry->digits ? CONVERT_EXACT
-                                               : CONVERT_FRACTION);
-        reached_if(product == 0 && amount > 0, CONVERT_TO_ZERO);
-    }
-    reached_if(product == AMOUNT_MAX, CONVERT_MAX);
-    if (product > AMOUNT_MAX)
-        reached(CONVERT_OVER + (product > AMOUNT_MAX + 1));
-    reached_if(product >> 63, CONVERT_WIDE);
+    if (entry->shift < 0)
+        observe_fraction(setup->syllabus, amount, entry);
+    reached_if(result == AMOUNT_MAX, CONVERT_MAX);
+    if (result > AMOUNT_MAX)
+        reached(CONVERT_OVER + (result > AMOUNT_MAX + 1));
+    reached_if(result >> 63, CONVERT_WIDE);
 }
 
 void observe_checks(const struct card *card)
@@ -262,8 +277,16 @@ void observe_sent(const struct card *card)
 
 void observe_setup(const struct setup *setup, unsigned version)
 {
-    reached(SETUP_TAKEN
-            + (version < VERSION_SELECTION ? 0 : 1 + setup->selection.on));
+    const unsigned on = setup->selection.on;
+
+    if (version < VERSION_SELECTION) {
+        reached(SETUP_TAKEN + 0);
+    } else if (version < VERSION_SYLLABUS) {
+        reached(SETUP_TAKEN + 1 + on);
+    } else {
+        reached(SETUP_TAKEN + 3 + on);
+        reached(SYLLABUS_TAKEN + setup->syllabus);
+    }
 }
 
 void observe_file(const struct selection *selection,

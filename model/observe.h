@@ -9,8 +9,8 @@
 
 #ifdef REACHED
 
-void observe_conversion(unsigned place, const struct conversion *entry,
-                        uint64_t amount, uint64_t product);
+void observe_conversion(const struct setup *setup, unsigned place,
+                        uint64_t amount, uint64_t result);
 void observe_setup(const struct setup *setup, unsigned version);
 void observe_file(const struct selection *selection,
                   const struct start *start);
@@ -43,7 +43,7 @@ void observe_sent(const struct card *card);
 
 #else
 
-#define observe_conversion(place, entry, amount, product) ((void)0)
+#define observe_conversion(setup, place, amount, result) ((void)0)
 #define observe_setup(setup, version) ((void)0)
 #define observe_file(selection, start) ((void)0)
 #define observe_test(type, values, width, data, mask, value) ((void)0)

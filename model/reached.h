@@ -15,7 +15,7 @@
 #define REACHED_LIST(X)                                                        \
     X(PAPER_EMPTY, 1, "refusal 9", "paper empty", "")                          \
     X(PAPER_LONG, 1, "refusal 9", "paper over 65,536 bytes", "")               \
-    X(PAPER_VERSION, 2, "refusal 9", "version unknown", "00|above 02")         \
+    X(PAPER_VERSION, 2, "refusal 9", "version unknown", "00|above 03")         \
     X(PAPER_BARE, 1, "refusal 9", "set-up missing: no record at all", "")      \
     X(SETUP_MISSING, 3, "refusal 9",                                           \
       "set-up missing, first record of another kind",                          \
@@ -83,10 +83,14 @@
       "all missing|a later one")                                               \
     X(ENTRY_CUT, 2, "refusal 1", "selection on, entry cut short",              \
       "the first|a later one")                                                 \
-    X(TAIL_LONG, 2, "refusal 1", "bytes left over behind the selection",       \
-      "off|on")                                                                \
+    X(SYLLABUS_MISSING, 1, "refusal 1", "no syllabus", "")                     \
+    X(BAD_SYLLABUS, 2, "refusal 1", "syllabus", "2|above")                     \
+    X(TAIL_LONG, 4, "refusal 1", "bytes left over behind the tail, selection", \
+      "02 off|02 on|03 off|03 on")                                             \
                                                                                \
-    X(SETUP_TAKEN, 3, "set-up", "taken, of version", "01|02 off|02 on")        \
+    X(SETUP_TAKEN, 5, "set-up", "taken, of version, selection",                \
+      "01|02 off|02 on|03 off|03 on")                                          \
+    X(SYLLABUS_TAKEN, 2, "set-up", "taken, of version 03, syllabus", "#0")     \
                                                                                \
     X(FILE_EMPTY, 1, "refusal 12", "empty file", "")                           \
     X(ENTRY_SHORT, 2, "refusal 12", "E under 6", "0|1 to 5")                   \
@@ -148,9 +152,13 @@
     X(CONVERT_NONE, 1, "convert", "no entry", "")                              \
     X(CONVERT_SHIFT, 13, "convert", "entry with s",                            \
       "-9|-8|-7|-6|-5|-4|-3|-2|-1|0|1|2|3")                                    \
-    X(CONVERT_EXACT, 1, "convert", "divided, no fraction", "")                 \
-    X(CONVERT_FRACTION, 1, "convert", "divided, fraction dropped", "")         \
-    X(CONVERT_TO_ZERO, 1, "convert", "divided, more than 0 becomes 0", "")     \
+    X(CONVERT_EXACT, 2, "convert", "divided, no fraction, syllabus", "#0")     \
+    X(CONVERT_FRACTION, 2, "convert", "divided, a fraction",                   \
+      "dropped|rounded up")                                                    \
+    X(CONVERT_UNDER_1, 2, "convert", "divided, more than 0 and under 1",       \
+      "becomes 0|becomes 1")                                                   \
+    X(CONVERT_RIM, 4, "convert", "divided, at the rim of MAX",                 \
+      "below, dropped|below, up to MAX|above, dropped to MAX|above, up: over") \
     X(CONVERT_MAX, 1, "convert", "exactly MAX", "")                            \
     X(CONVERT_OVER, 2, "convert", "over", "MAX + 1|more")                      \
     X(CONVERT_WIDE, 1, "convert", "product of 2^63 or more", "")               \

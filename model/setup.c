@@ -120,6 +120,17 @@ static bool read_selection(struct selection *selection, const uint8_t **place,
     return true;
 }
 
+static bool read_syllabus(uint8_t *syllabus, const uint8_t **place,
+                          const uint8_t *end)
+{
+    if (*place == end)
+        return fault(SYLLABUS_MISSING);
+    if (**place > SYLLABUS_ROUNDS_UP)
+        return fault(BAD_SYLLABUS + (**place > 2));
+    *syllabus = *(*place)++;
+    return true;
+}
+
 bool card_set_up(struct card *card, unsigned version, const uint8_t *body,
                  size_t length)
 {
@@ -192,8 +203,13 @@ bool card_set_up(struct card *card, unsigned version, const uint8_t *body,
     if (version >= VERSION_SELECTION
         && !read_selection(&setup->selection, &at, body + length))
         return false;
+    setup->syllabus = SYLLABUS_DROPS;
+    if (version >= VERSION_SYLLABUS
+        && !read_syllabus(&setup->syllabus, &at, body + length))
+        return false;
     if (at != body + length)
-        return fault(TAIL_LONG + setup->selection.on);
+        return fault(TAIL_LONG + (version > VERSION_SELECTION ? 2 : 0)
+                     + setup->selection.on);
     observe_setup(setup, version);
     return true;
 }

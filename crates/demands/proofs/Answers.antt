@@ -55,36 +55,36 @@ use Rattle.demands.proofs.First.{flags-same, kind-answers}
 use Rattle.demands.proofs.Verification.{limits-are, limitsBy, limits-audited, verifies, sends-audited}
 
 -- what the card keeps of First for Second's CVR
-pub record Keeps (s : List ℕ) (before : List Exchange) (profile amount currency : ℕ) (pending : Pending) : Type 0 where
+pub record Keeps (s : List ℕ) (syllabus : ℕ) (before : List Exchange) (profile amount currency : ℕ) (pending : Pending) : Type 0 where
   pub history-is : pending .history ≡ past s before
-  pub limits-is : pending .limits ≡ limitsBy s (placeOf s profile) amount currency (audited s before)
+  pub limits-is : pending .limits ≡ limitsBy s syllabus (placeOf s profile) amount currency (audited s syllabus before)
 
-abbrev pub KeepsIn : List ℕ → List Exchange → (profile amount currency : ℕ) → Phase → Type 0
-KeepsIn s before profile amount currency Idle = Unit
-KeepsIn s before profile amount currency (Opened place) = Unit
-KeepsIn s before profile amount currency (Asked pending) = Keeps s before profile amount currency pending
+abbrev pub KeepsIn : List ℕ → (syllabus : ℕ) → List Exchange → (profile amount currency : ℕ) → Phase → Type 0
+KeepsIn s syllabus before profile amount currency Idle = Unit
+KeepsIn s syllabus before profile amount currency (Opened place) = Unit
+KeepsIn s syllabus before profile amount currency (Asked pending) = Keeps s syllabus before profile amount currency pending
 
-pub record Knows (s : List ℕ) (sitting : Sitting) : Type 0 where
-  pub holding : Holding s sitting
+pub record Knows (s : List ℕ) (syllabus : ℕ) (sitting : Sitting) : Type 0 where
+  pub holding : Holding s syllabus sitting
   pub recalls : Recalls s sitting
-  pub keeps : KeepsIn s (beforeFirst (sitting .log)) (named (sitting .log)) (spent (sitting .log)) (spentIn (sitting .log)) (sitting .state .phase)
+  pub keeps : KeepsIn s syllabus (beforeFirst (sitting .log)) (named (sitting .log)) (spent (sitting .log)) (spentIn (sitting .log)) (sitting .state .phase)
 
 -- what an outcome gives
-abbrev pub Gives : List ℕ → List Exchange → Command → Outcome → Type 0
-Gives s before (StartCommand start) outcome = Unit
-Gives s before (FirstCommand first) outcome =
+abbrev pub Gives : List ℕ → (syllabus : ℕ) → List Exchange → Command → Outcome → Type 0
+Gives s syllabus before (StartCommand start) outcome = Unit
+Gives s syllabus before (FirstCommand first) outcome =
     (kind : Kind) (atc : ℕ) (iad : Iad) → outcome .answer ≡ Given kind atc iad
-    → FirstGives s before (record { command = FirstCommand first; answer = outcome .answer } ∷ before) first kind iad
-Gives s before (SecondCommand second) outcome =
+    → FirstGives s syllabus before (record { command = FirstCommand first; answer = outcome .answer } ∷ before) first kind iad
+Gives s syllabus before (SecondCommand second) outcome =
     (kind : Kind) (atc : ℕ) (iad : Iad) → outcome .answer ≡ Given kind atc iad
-    → SecondGives s before (record { command = SecondCommand second; answer = outcome .answer } ∷ before) second kind iad
+    → SecondGives s syllabus before (record { command = SecondCommand second; answer = outcome .answer } ∷ before) second kind iad
 
 record Idle-after (outcome : Outcome) : Type 0 where
   is : outcome .state .phase ≡ Idle
 
-module _ (s : List ℕ) (fits : Accepted s) (sitting : Sitting) (knows : Knows s sitting) where
+module _ (s : List ℕ) (syllabus : ℕ) (fits : Accepted s) (sitting : Sitting) (knows : Knows s syllabus sitting) where
   abbrev rules : Rules
-  rules = rulesIn s
+  rules = rulesIn s syllabus
 
   abbrev state : State
   state = sitting .state
@@ -101,20 +101,20 @@ module _ (s : List ℕ) (fits : Accepted s) (sitting : Sitting) (knows : Knows s
     abbrev limits : ℕ
     limits = limitsByte (firstTests rules state place first)
 
-    limits-now : limits ≡ limitsBy s at (first .amount .0) (first .currency) (audited s log)
+    limits-now : limits ≡ limitsBy s syllabus at (first .amount .0) (first .currency) (audited s syllabus log)
     limits-now =
-        limits-are s fits place at stands (state .values) (purchaseOf first) small
-        ∙ limits-audited s at (first .amount .0) (first .currency) (valueOf (state .values)) (audited s log) (knows .holding .values)
+        limits-are s syllabus fits place at stands (state .values) (purchaseOf first) small
+        ∙ limits-audited s syllabus at (first .amount .0) (first .currency) (valueOf (state .values)) (audited s syllabus log) (knows .holding .values)
 
     abbrev cvr-of : Kind → Cvr
     cvr-of kind = verification rules (state .history) limits kind NotRequested (issuerBefore (state .history))
 
-    cvr-verifies : (kind : Kind) → Verifies s at (first .amount .0) (first .currency) (audited s log) (past s log) notRequested (typeOf kind)
+    cvr-verifies : (kind : Kind) → Verifies s syllabus at (first .amount .0) (first .currency) (audited s syllabus log) (past s log) notRequested (typeOf kind)
         (issuingAtFirst (past s log)) (cvr-of kind)
     cvr-verifies kind =
-        subst (λ history. Verifies s at (first .amount .0) (first .currency) (audited s log) history notRequested (typeOf kind) (issuingAtFirst history) (cvr-of kind))
+        subst (λ history. Verifies s syllabus at (first .amount .0) (first .currency) (audited s syllabus log) history notRequested (typeOf kind) (issuingAtFirst history) (cvr-of kind))
         (knows .recalls .history-is)
-        (verifies s at (first .amount .0) (first .currency) (audited s log) (state .history) limits limits-now kind NotRequested (issuerBefore (state .history)))
+        (verifies s syllabus at (first .amount .0) (first .currency) (audited s syllabus log) (state .history) limits limits-now kind NotRequested (issuerBefore (state .history)))
 
     abbrev outcome-of : Kind → Outcome
     outcome-of kind = concluded rules state place (purchaseOf first) (worthsOf rules (purchaseOf first)) limits (cvr-of kind) kind
@@ -125,7 +125,7 @@ module _ (s : List ℕ) (fits : Accepted s) (sitting : Sitting) (knows : Knows s
     concluded-iad Tc = refl
     concluded-iad Arqc = refl
 
-    concluded-knows : (kind : Kind) → KeepsIn s (beforeFirst (then sitting (FirstCommand first) (outcome-of kind) .log)) (named (then sitting (FirstCommand first) (outcome-of kind) .log))
+    concluded-knows : (kind : Kind) → KeepsIn s syllabus (beforeFirst (then sitting (FirstCommand first) (outcome-of kind) .log)) (named (then sitting (FirstCommand first) (outcome-of kind) .log))
         (spent (then sitting (FirstCommand first) (outcome-of kind) .log)) (spentIn (then sitting (FirstCommand first) (outcome-of kind) .log)) (outcome-of kind .state .phase)
     unfolding concluded beforeFirst named spent spentIn
     concluded-knows Aac = tt
@@ -133,23 +133,23 @@ module _ (s : List ℕ) (fits : Accepted s) (sitting : Sitting) (knows : Knows s
     concluded-knows Arqc = record { history-is = knows .recalls .history-is; limits-is = limits-now }
 
     -- the parts of an answer are those of the answer that it equals
-    first-gives : Holding s (then sitting (FirstCommand first) (outcome-of (firstKind rules state place first)))
-        → Gives s log (FirstCommand first) (outcome-of (firstKind rules state place first))
+    first-gives : Holding s syllabus (then sitting (FirstCommand first) (outcome-of (firstKind rules state place first)))
+        → Gives s syllabus log (FirstCommand first) (outcome-of (firstKind rules state place first))
     unfolding sentIad
     first-gives after kind atc iad e =
         let decided = firstKind rules state place first in
         let given = sym (concluded-iad decided) ∙ e in
         let same : decided ≡ kind = cc in
         let sent : sentIad rules place (outcome-of decided .state .values) (cvr-of decided) ≡ iad = cc in
-        let parts : FirstGives s log (record { command = FirstCommand first; answer = outcome-of decided .answer } ∷ log) first decided
+        let parts : FirstGives s syllabus log (record { command = FirstCommand first; answer = outcome-of decided .answer } ∷ log) first decided
         (sentIad rules place (outcome-of decided .state .values) (cvr-of decided)) =
         record {
-          decides = kind-answers s fits sitting (knows .holding) (knows .recalls .history-is) first place stands type small;
+          decides = kind-answers s syllabus fits sitting (knows .holding) (knows .recalls .history-is) first place stands type small;
           verifies = cvr-verifies decided;
-          sends = sends-audited s fits (named log) place stands (outcome-of decided .state .values) (cvr-of decided) _ (after .values);
+          sends = sends-audited s syllabus fits (named log) place stands (outcome-of decided .state .values) (cvr-of decided) _ (after .values);
         } in
-        subst (λ k. FirstGives s log (record { command = FirstCommand first; answer = outcome-of decided .answer } ∷ log) first k iad) same
-        (subst (FirstGives s log (record { command = FirstCommand first; answer = outcome-of decided .answer } ∷ log) first decided) sent parts)
+        subst (λ k. FirstGives s syllabus log (record { command = FirstCommand first; answer = outcome-of decided .answer } ∷ log) first k iad) same
+        (subst (FirstGives s syllabus log (record { command = FirstCommand first; answer = outcome-of decided .answer } ∷ log) first decided) sent parts)
 
   -- ---- Second
 
@@ -157,17 +157,17 @@ module _ (s : List ℕ) (fits : Accepted s) (sitting : Sitting) (knows : Knows s
     remembers : Remembers s (named log) (spent log) (spentIn log) pending
     remembers = subst (Agrees s (named log) (spent log) (spentIn log)) is (knows .holding .agrees)
 
-    kept : Keeps s (beforeFirst log) (named log) (spent log) (spentIn log) pending
-    kept = subst (KeepsIn s (beforeFirst log) (named log) (spent log) (spentIn log)) is (knows .keeps)
+    kept : Keeps s syllabus (beforeFirst log) (named log) (spent log) (spentIn log) pending
+    kept = subst (KeepsIn s syllabus (beforeFirst log) (named log) (spent log) (spentIn log)) is (knows .keeps)
 
     abbrev first-past : History
     first-past = past s (beforeFirst log)
 
     abbrev fs : List Bool
-    fs = flags s at (spent log) (spentIn log) (audited s log) (withUnable first-past)
+    fs = flags s syllabus at (spent log) (spentIn log) (audited s syllabus log) (withUnable first-past)
 
     abbrev Given-by : Outcome → Type 0
-    Given-by outcome = Holding s (then sitting (SecondCommand second) outcome) → Gives s log (SecondCommand second) outcome
+    Given-by outcome = Holding s syllabus (then sitting (SecondCommand second) outcome) → Gives s syllabus log (SecondCommand second) outcome
 
     abbrev issuing-of : Issuer → Issuing
     issuing-of issuer = record { unperformed = issuer .unperformed; failed = issuer .failed; unable = issuer .unable }
@@ -177,19 +177,19 @@ module _ (s : List ℕ) (fits : Accepted s) (sitting : Sitting) (knows : Knows s
     closing-is false = refl
 
     cvr-closed : (approves : Bool) (issuer : Issuer)
-        → Verifies s at (spent log) (spentIn log) (audited s (beforeFirst log)) first-past (typeOf (closingKind approves)) (typeOf Arqc) (issuing-of issuer)
+        → Verifies s syllabus at (spent log) (spentIn log) (audited s syllabus (beforeFirst log)) first-past (typeOf (closingKind approves)) (typeOf Arqc) (issuing-of issuer)
         (verification rules (pending .history) (pending .limits) Arqc (laterKind approves) issuer)
     cvr-closed approves issuer = by approves where
-      by : (approves : Bool) → Verifies s at (spent log) (spentIn log) (audited s (beforeFirst log)) first-past (typeOf (closingKind approves)) (typeOf Arqc)
+      by : (approves : Bool) → Verifies s syllabus at (spent log) (spentIn log) (audited s syllabus (beforeFirst log)) first-past (typeOf (closingKind approves)) (typeOf Arqc)
           (issuing-of issuer) (verification rules (pending .history) (pending .limits) Arqc (laterKind approves) issuer)
       by true =
-          subst (λ history. Verifies s at (spent log) (spentIn log) (audited s (beforeFirst log)) history (typeOf Tc) (typeOf Arqc) (issuing-of issuer)
+          subst (λ history. Verifies s syllabus at (spent log) (spentIn log) (audited s syllabus (beforeFirst log)) history (typeOf Tc) (typeOf Arqc) (issuing-of issuer)
           (verification rules (pending .history) (pending .limits) Arqc (laterKind true) issuer)) (kept .history-is)
-          (verifies s at (spent log) (spentIn log) (audited s (beforeFirst log)) (pending .history) (pending .limits) (kept .limits-is) Arqc (laterKind true) issuer)
+          (verifies s syllabus at (spent log) (spentIn log) (audited s syllabus (beforeFirst log)) (pending .history) (pending .limits) (kept .limits-is) Arqc (laterKind true) issuer)
       by false =
-          subst (λ history. Verifies s at (spent log) (spentIn log) (audited s (beforeFirst log)) history (typeOf Aac) (typeOf Arqc) (issuing-of issuer)
+          subst (λ history. Verifies s syllabus at (spent log) (spentIn log) (audited s syllabus (beforeFirst log)) history (typeOf Aac) (typeOf Arqc) (issuing-of issuer)
           (verification rules (pending .history) (pending .limits) Arqc (laterKind false) issuer)) (kept .history-is)
-          (verifies s at (spent log) (spentIn log) (audited s (beforeFirst log)) (pending .history) (pending .limits) (kept .limits-is) Arqc (laterKind false) issuer)
+          (verifies s syllabus at (spent log) (spentIn log) (audited s syllabus (beforeFirst log)) (pending .history) (pending .limits) (kept .limits-is) Arqc (laterKind false) issuer)
 
     closed-gives : (approves : Bool) (values : Values) (history : History) (issuer : Issuer) → approves ≡ secondApproves s at fs second
         → issuing-of issuer ≡ issuingAtSecond second first-past → Given-by (closed rules (state .atc) pending approves values history issuer)
@@ -199,27 +199,27 @@ module _ (s : List ℕ) (fits : Accepted s) (sitting : Sitting) (knows : Knows s
         let exchange : Exchange = record { command = SecondCommand second; answer = closed rules (state .atc) pending approves values history issuer .answer } in
         let same : closingKind approves ≡ kind = cc in
         let sent : sentIad rules (pending .place) values cvr ≡ iad = cc in
-        let parts : SecondGives s log (exchange ∷ log) second (closingKind approves) (sentIad rules (pending .place) values cvr) =
+        let parts : SecondGives s syllabus log (exchange ∷ log) second (closingKind approves) (sentIad rules (pending .place) values cvr) =
         record {
           decides = closing-is approves ∙ ap (λ b. cond b Tc Aac) right;
           verifies =
-              subst (λ i. Verifies s at (spent log) (spentIn log) (audited s (beforeFirst log)) first-past (typeOf (closingKind approves)) (typeOf Arqc) i cvr) issuing
+              subst (λ i. Verifies s syllabus at (spent log) (spentIn log) (audited s syllabus (beforeFirst log)) first-past (typeOf (closingKind approves)) (typeOf Arqc) i cvr) issuing
               (cvr-closed approves issuer);
-          sends = sends-audited s fits (named log) (pending .place) (remembers .stands) values cvr _ (after .values);
+          sends = sends-audited s syllabus fits (named log) (pending .place) (remembers .stands) values cvr _ (after .values);
         } in
-        subst (λ k. SecondGives s log (exchange ∷ log) second k iad) same (subst (SecondGives s log (exchange ∷ log) second (closingKind approves)) sent parts)
+        subst (λ k. SecondGives s syllabus log (exchange ∷ log) second k iad) same (subst (SecondGives s syllabus log (exchange ∷ log) second (closingKind approves)) sent parts)
 
     default-met : meetsMask (unableBits rules state pending) (profileAt rules (pending .place) .masks .default) ≡ meets fs (number s (at + 9) 4)
     unfolding profileIn
     default-met =
         let place = pending .place in
         let stands = remembers .stands in
-        met-is s fits place at stands (state .values) (pending .purchase) (remembers .small) (unableIn (pending .history)) (profileAt rules place .masks .default)
+        met-is s syllabus fits place at stands (state .values) (pending .purchase) (remembers .small) (unableIn (pending .history)) (profileAt rules place .masks .default)
         ∙ ap (λ f. meets f (profileAt rules place .masks .default))
-        (flags-same s at (pending .purchase .amount .0) (pending .purchase .currency) (valueOf (state .values)) (audited s log) (unableIn (pending .history)) (knows .holding .values)
-        ∙ ap₂ (λ a c. flags s at a c (audited s log) (unableIn (pending .history))) (remembers .amount-is) (remembers .currency-is)
-        ∙ ap (λ h. flags s at (spent log) (spentIn log) (audited s log) (withUnable h)) (kept .history-is))
-        ∙ ap (λ (p : Profile). meets fs (p .masks .default)) (profile-is s place at stands)
+        (flags-same s syllabus at (pending .purchase .amount .0) (pending .purchase .currency) (valueOf (state .values)) (audited s syllabus log) (unableIn (pending .history)) (knows .holding .values)
+        ∙ ap₂ (λ a c. flags s syllabus at a c (audited s syllabus log) (unableIn (pending .history))) (remembers .amount-is) (remembers .currency-is)
+        ∙ ap (λ h. flags s syllabus at (spent log) (spentIn log) (audited s syllabus log) (withUnable h)) (kept .history-is))
+        ∙ ap (λ (p : Profile). meets fs (p .masks .default)) (profile-is s syllabus place at stands)
 
     unable-right : (r : ℕ) → r ≤ 1 → (m : Bool) → not (eqb r 0 || m) ≡ (eqb r 1 && not m)
     unable-right zero l m = refl
@@ -312,7 +312,7 @@ module _ (s : List ℕ) (fits : Accepted s) (sitting : Sitting) (knows : Knows s
 
   abbrev Kept : Command → Outcome → Type 0
   Kept command outcome =
-      KeepsIn s (beforeFirst (then sitting command outcome .log)) (named (then sitting command outcome .log)) (spent (then sitting command outcome .log))
+      KeepsIn s syllabus (beforeFirst (then sitting command outcome .log)) (named (then sitting command outcome .log)) (spent (then sitting command outcome .log))
       (spentIn (then sitting command outcome .log)) (outcome .state .phase)
 
   refused-kept : (command : Command) (r : Refusal) → Kept command (refused state r)
@@ -321,7 +321,7 @@ module _ (s : List ℕ) (fits : Accepted s) (sitting : Sitting) (knows : Knows s
   refused-kept (FirstCommand first) r = knows .keeps
   refused-kept (SecondCommand second) r = knows .keeps
 
-  refused-gives : (command : Command) (r : Refusal) → Gives s log command (refused state r)
+  refused-gives : (command : Command) (r : Refusal) → Gives s syllabus log command (refused state r)
   refused-gives (StartCommand start) r = tt
   refused-gives (FirstCommand first) r = λ kind atc iad e. let z : _≡_ {A = ℕ} 0 1 = cc in absurd (omega arith)
   refused-gives (SecondCommand second) r = λ kind atc iad e. let z : _≡_ {A = ℕ} 0 1 = cc in absurd (omega arith)
@@ -335,44 +335,44 @@ module _ (s : List ℕ) (fits : Accepted s) (sitting : Sitting) (knows : Knows s
   did-kept (started-it start place holds) = tt
   did-kept (took-first first place is type small) = concluded-knows first place (stood place is) type small (firstKind rules state place first)
   did-kept (took-second second pending is type issuer) =
-      subst (KeepsIn s _ _ _ _) (sym (second-idle second pending .is)) tt
+      subst (KeepsIn s syllabus _ _ _ _) (sym (second-idle second pending .is)) tt
 
-  did-gives : {command : Command} {outcome : Outcome} → Did rules state command outcome → Holding s (then sitting command outcome) → Gives s log command outcome
+  did-gives : {command : Command} {outcome : Outcome} → Did rules state command outcome → Holding s syllabus (then sitting command outcome) → Gives s syllabus log command outcome
   unfolding firstPerformed
   did-gives {command} (refused-it r) after = refused-gives command r
   did-gives (started-it start place holds) after = tt
   did-gives (took-first first place is type small) after = first-gives first place (stood place is) type small after
   did-gives (took-second second pending is type issuer) after = second-gives second pending is type after
 
-module _ (s : List ℕ) (bytes : Bytes s) (good : isSetup s ≡ true) where
+module _ (s : List ℕ) (syllabus : ℕ) (bytes : Bytes s) (good : isSetup s ≡ true) where
   fits : Accepted s
   fits = accepted s good
 
-  step-knows : (sitting : Sitting) → Knows s sitting → (command : Command) → Knows s (told (rulesIn s) sitting command)
+  step-knows : (sitting : Sitting) → Knows s syllabus sitting → (command : Command) → Knows s syllabus (told (rulesIn s syllabus) sitting command)
   step-knows sitting k command =
-      let step = did (rulesIn s) (sitting .state) command in
+      let step = did (rulesIn s syllabus) (sitting .state) command in
       record {
-        holding = did-holds s bytes fits sitting (k .holding) step;
-        recalls = did-keeps s sitting (k .recalls) step .recalls;
-        keeps = did-kept s fits sitting k step;
+        holding = did-holds s syllabus bytes fits sitting (k .holding) step;
+        recalls = did-keeps s syllabus sitting (k .recalls) step .recalls;
+        keeps = did-kept s syllabus fits sitting k step;
       }
 
-  run-knows : (sitting : Sitting) → Knows s sitting → (commands : List Command) → Knows s (run (rulesIn s) sitting commands)
+  run-knows : (sitting : Sitting) → Knows s syllabus sitting → (commands : List Command) → Knows s syllabus (run (rulesIn s syllabus) sitting commands)
   unfolding run
   run-knows sitting k [] = k
-  run-knows sitting k (command ∷ commands) = run-knows (told (rulesIn s) sitting command) (step-knows sitting k command) commands
+  run-knows sitting k (command ∷ commands) = run-knows (told (rulesIn s syllabus) sitting command) (step-knows sitting k command) commands
 
-  begin-knows : Knows s (begin s)
+  begin-knows : Knows s syllabus (begin s)
   unfolding freshState
-  begin-knows = record { holding = begin-holds s bytes good; recalls = begin-recalls s bytes good; keeps = tt }
+  begin-knows = record { holding = begin-holds s syllabus bytes good; recalls = begin-recalls s syllabus bytes good; keeps = tt }
 
   -- WHAT FIRST AND SECOND ANSWER, whatever the lent words held
-  pub gives : (words : List ℕ) → length words ≡ 163 → (commands : List Command) (command : Command)
-      → Gives s (sat words s commands .log) command (next words s commands command)
+  pub gives : (words : List ℕ) → length words ≡ 164 → (commands : List Command) (command : Command)
+      → Gives s syllabus (sat words s syllabus commands .log) command (next words s syllabus commands command)
   gives words size commands command =
-      subst (λ rules. Gives s (run rules (begin s) commands .log) command (stepOf rules (run rules (begin s) commands .state) command))
-      (sym (faithful s bytes words size good))
-      (let sitting = run (rulesIn s) (begin s) commands in
+      subst (λ rules. Gives s syllabus (run rules (begin s) commands .log) command (stepOf rules (run rules (begin s) commands .state) command))
+      (sym (faithful s bytes syllabus words size good))
+      (let sitting = run (rulesIn s syllabus) (begin s) commands in
       let k = run-knows (begin s) begin-knows commands in
-      let step = did (rulesIn s) (sitting .state) command in
-      did-gives s fits sitting k step (did-holds s bytes fits sitting (k .holding) step))
+      let step = did (rulesIn s syllabus) (sitting .state) command in
+      did-gives s syllabus fits sitting k step (did-holds s syllabus bytes fits sitting (k .holding) step))

@@ -1,9 +1,10 @@
 -- What the auditor reads in the bytes is what the card's rules say: a profile's place, its rules, and what a purchase converts to.
 -- Assumes nothing.
-use mathlib.Core.Path.{_≡_, refl, sym, ap, _∙_}
-use mathlib.Core.Bool.{Bool, true, false, cond}
+use mathlib.Core.Path.{_≡_, refl, sym, ap, ap₂, _∙_}
+use mathlib.Core.Bool.{Bool, true, false, cond, _&&_}
 use mathlib.Core.List.{List, [], _∷_}
-use Prim.Native.Nat.{ℕ, zero, suc, _+_, _*_, _/_, _^_, _≤_, _<_}
+use Prim.Native.Nat.{ℕ, zero, suc, _+_, _-_, _*_, _/_, _%_, _^_, _≤_, _<_}
+use native.Mathlib.Nat.{add-zero}
 use native.Mathlib.Omega.{arith}
 use borrow.Author.Tests.{ltb-true, ltb-false, lt-ltb, le-ltb, le-leb, eqb-true, eq-eqb, ne-eqb}
 use lib.Dec.{ltb, eqb}
@@ -12,7 +13,7 @@ use Rattle.wire.specs.Wire.{byte, number}
 use Rattle.money.specs.declared.Rate.{Rate}
 use Rattle.money.specs.declared.Converted.{Converted}
 use Rattle.money.specs.declared.Converted.the-variants.{Amount, Over, NoEntry}
-use Rattle.money.specs.Money.{max, stopped, blank, isFor, isRate, rateFor, scaled, amountOf, amountOrOver, convertOf}
+use Rattle.money.specs.Money.{max, stopped, blank, isFor, isRate, rateFor, rounded, scaled, amountOf, amountOrOver, convertOf}
 use Rattle.rules.specs.declared.Place.{Place}
 use Rattle.rules.specs.declared.Place.the-variants.{One, Two, Three, Four}
 use Rattle.rules.specs.Rules.{blankProfile, blankAccumulator, blankCounter, indexOf, profileAt, currencyAt, accumulatorRule, counterRule}
@@ -21,7 +22,7 @@ use Rattle.ranges.proofs.Accepted.{Accepted}
 use Rattle.setup.specs.Setup.{rateIn, accumulatorIn, counterIn, profileIn, rulesIn}
 use Rattle.meters.specs.declared.Purchase.{Purchase}
 use Rattle.meters.specs.Meters.{addition, worth}
-use Rattle.demands.specs.Audit.{placeFrom, placeOf, Conversion, comesTo, over, none, upToMax, byEntry, converted, adds}
+use Rattle.demands.specs.Audit.{placeFrom, placeOf, Conversion, comesTo, over, none, whole, upToMax, byEntry, converted, adds}
 use Rattle.demands.proofs.Found.{Holds}
 
 -- the profile at a place of the rules stands at an offset in the bytes
@@ -29,28 +30,28 @@ pub record Stands (s : List ℕ) (place : Place) (at : ℕ) : Type 0 where
   pub there : indexOf place < byte s 3
   pub offset : at ≡ 52 + 107 * indexOf place
 
-at-index : (s : List ℕ) (place : Place)
-    → profileAt (rulesIn s) place ≡ cond (ltb (indexOf place) (byte s 3)) (profileIn s (52 + 107 * indexOf place)) blankProfile
+at-index : (s : List ℕ) (syllabus : ℕ) (place : Place)
+    → profileAt (rulesIn s syllabus) place ≡ cond (ltb (indexOf place) (byte s 3)) (profileIn s (52 + 107 * indexOf place)) blankProfile
 unfolding rulesIn
-at-index s One = refl
-at-index s Two = refl
-at-index s Three = refl
-at-index s Four = refl
+at-index s syllabus One = refl
+at-index s syllabus Two = refl
+at-index s syllabus Three = refl
+at-index s syllabus Four = refl
 
-module _ (s : List ℕ) (place : Place) (at : ℕ) (stands : Stands s place at) where
-  pub profile-is : profileAt (rulesIn s) place ≡ profileIn s at
+module _ (s : List ℕ) (syllabus : ℕ) (place : Place) (at : ℕ) (stands : Stands s place at) where
+  pub profile-is : profileAt (rulesIn s syllabus) place ≡ profileIn s at
   profile-is =
-      at-index s place
+      at-index s syllabus place
       ∙ ap (λ b. cond b (profileIn s (52 + 107 * indexOf place)) blankProfile) (lt-ltb (indexOf place) (byte s 3) (stands .there))
       ∙ ap (profileIn s) (sym (stands .offset))
 
-  pub accumulator-is : (i : ℕ) → i < 4 → accumulatorRule (rulesIn s) place i ≡ accumulatorIn s (at + (24 + 17 * i))
+  pub accumulator-is : (i : ℕ) → i < 4 → accumulatorRule (rulesIn s syllabus) place i ≡ accumulatorIn s (at + (24 + 17 * i))
   unfolding profileIn
   accumulator-is i l =
       ap (λ profile. getD (profile .accumulators) i blankAccumulator) profile-is
       ∙ four-at (λ j. accumulatorIn s (at + (24 + 17 * j))) blankAccumulator i l
 
-  pub counter-is : (i : ℕ) → i < 4 → counterRule (rulesIn s) place i ≡ counterIn s (at + (92 + 3 * i))
+  pub counter-is : (i : ℕ) → i < 4 → counterRule (rulesIn s syllabus) place i ≡ counterIn s (at + (92 + 3 * i))
   unfolding profileIn
   counter-is i l =
       ap (λ profile. getD (profile .counters) i blankCounter) profile-is
@@ -67,13 +68,22 @@ adds-read (Amount amount) = refl
 adds-read Over = refl
 adds-read NoEntry = refl
 
+-- the card rounds as the auditor does
+rounds : (syllabus n : ℕ) → rounded (eqb syllabus 1) n (10 ^ 9) ≡ whole syllabus n (10 ^ 9)
+unfolding rounded
+rounds syllabus n = by (eqb syllabus 1) (ltb 0 (n % 10 ^ 9)) refl where
+  by : (up left : Bool) → ltb 0 (n % 10 ^ 9) ≡ left → (n + cond up (10 ^ 9 - 1) 0) / 10 ^ 9 ≡ cond (up && left) (n / 10 ^ 9 + 1) (n / 10 ^ 9)
+  by true true e = let h = ltb-true 0 (n % 10 ^ 9) e in omega arith
+  by true false e = let h = ltb-false 0 (n % 10 ^ 9) e in omega arith
+  by false left e = rw add-zero
+
 read-or-over : (n : ℕ) → asRead (amountOrOver n) ≡ upToMax n
 read-or-over n = by (ltb max n) where
   by : (b : Bool) → asRead (cond b Over (amountOf n)) ≡ cond b over (comesTo n)
   by true = refl
   by false = refl
 
-module _ (s : List ℕ) (fits : Accepted s) where
+module _ (s : List ℕ) (syllabus : ℕ) (fits : Accepted s) where
   -- the first profile of a number is the only one
   reach : (j i n : ℕ) → j < byte s 3 → i ≤ j → j < i + n → placeFrom s (byte s (52 + 107 * j)) i n ≡ 52 + 107 * j
   reach j i zero p h l = absurd (omega arith)
@@ -87,17 +97,17 @@ module _ (s : List ℕ) (fits : Accepted s) where
         let q : i ≡ j = omega (arith, ltb-false i j e) in
         rw (q, eq-eqb (byte s (52 + 107 * j)) (byte s (52 + 107 * j)) refl)
 
-  number-in : (place : Place) (number : ℕ) → Holds (rulesIn s) number place → (b : Bool) → ltb (indexOf place) (byte s 3) ≡ b
+  number-in : (place : Place) (number : ℕ) → Holds (rulesIn s syllabus) number place → (b : Bool) → ltb (indexOf place) (byte s 3) ≡ b
       → (indexOf place < byte s 3) × (byte s (52 + 107 * indexOf place) ≡ number)
   unfolding profileIn
   number-in place number h true e =
-      (ltb-true _ _ e, sym (ap (λ p. p .number) (at-index s place ∙ ap (λ b. cond b (profileIn s (52 + 107 * indexOf place)) blankProfile) e)) ∙ h .its)
+      (ltb-true _ _ e, sym (ap (λ p. p .number) (at-index s syllabus place ∙ ap (λ b. cond b (profileIn s (52 + 107 * indexOf place)) blankProfile) e)) ∙ h .its)
   number-in place number h false e =
-      let z : 0 ≡ number = sym (ap (λ p. p .number) (at-index s place ∙ ap (λ b. cond b (profileIn s (52 + 107 * indexOf place)) blankProfile) e)) ∙ h .its in
+      let z : 0 ≡ number = sym (ap (λ p. p .number) (at-index s syllabus place ∙ ap (λ b. cond b (profileIn s (52 + 107 * indexOf place)) blankProfile) e)) ∙ h .its in
       absurd (omega (arith, h .some))
 
   -- the profile that a Start opens stands where the auditor looks for it
-  pub stands-at : (place : Place) (number : ℕ) → Holds (rulesIn s) number place → Stands s place (placeOf s number)
+  pub stands-at : (place : Place) (number : ℕ) → Holds (rulesIn s syllabus) number place → Stands s place (placeOf s number)
   unfolding placeOf
   stands-at place number h =
       let n = number-in place number h (ltb (indexOf place) (byte s 3)) refl in
@@ -109,7 +119,7 @@ module _ (s : List ℕ) (fits : Accepted s) where
   -- ---- conversion
 
   entry-at : (i : ℕ) → i < 5
-      → getD (rulesIn s .rates .entries) i blank ≡ cond (ltb i (byte s 4)) (rateIn s (52 + 107 * byte s 3 + 7 * i)) blank
+      → getD (rulesIn s syllabus .rates .entries) i blank ≡ cond (ltb i (byte s 4)) (rateIn s (52 + 107 * byte s 3 + 7 * i)) blank
   unfolding rulesIn
   entry-at zero l = refl
   entry-at (suc zero) l = refl
@@ -124,11 +134,15 @@ module _ (s : List ℕ) (fits : Accepted s) where
 
   module _ (amount from to : ℕ) where
     abbrev entries : List Rate
-    entries = rulesIn s .rates .entries
+    entries = rulesIn s syllabus .rates .entries
+
+    -- the amount by entry i + 1, in billionths of a unit
+    abbrev billionths : ℕ → ℕ
+    billionths i = amount * number s (52 + 107 * byte s 3 + 7 * i + 4) 2 * 10 ^ byte s (52 + 107 * byte s 3 + 7 * i + 6)
 
     -- what a rate, or its absence, makes of the amount
     abbrev byRate : Rate → Conversion
-    byRate rate = asRead (cond (isRate rate) (amountOrOver (scaled amount rate)) NoEntry)
+    byRate rate = asRead (cond (isRate rate) (amountOrOver (scaled (eqb syllabus 1) amount rate)) NoEntry)
 
     blanks : (i n : ℕ) → byte s 4 ≤ i → i + n ≤ 5 → rateFor entries from to i n ≡ blank
     unfolding rateFor
@@ -143,7 +157,7 @@ module _ (s : List ℕ) (fits : Accepted s) where
         same true = refl
         same false = refl
 
-    by-entry : (i n m : ℕ) → byte s 4 ≡ i + n → i + m ≡ 5 → byRate (rateFor entries from to i m) ≡ byEntry s amount from to i n
+    by-entry : (i n m : ℕ) → byte s 4 ≡ i + n → i + m ≡ 5 → byRate (rateFor entries from to i m) ≡ byEntry s syllabus amount from to i n
     unfolding rateFor rateIn scaled
     by-entry i zero m c l = ap byRate (blanks i m (omega arith) (omega arith))
     by-entry i (suc n) zero c l = let most = fits .conversions-most in absurd (omega arith)
@@ -154,44 +168,49 @@ module _ (s : List ℕ) (fits : Accepted s) where
         ap (λ rate. byRate (cond (isFor rate from to) rate (rateFor entries from to (suc i) m))) here
         ∙ found (isFor (rateIn s at) from to) (by-entry (suc i) n m (omega arith) (omega arith))
       where
-        found : (b : Bool) → byRate (rateFor entries from to (suc i) m) ≡ byEntry s amount from to (suc i) n → byRate (cond b (rateIn s (52 + 107 * byte s 3 + 7 * i)) (rateFor entries from to (suc i) m))
-            ≡ cond b (upToMax (amount * number s (52 + 107 * byte s 3 + 7 * i + 4) 2 * 10 ^ byte s (52 + 107 * byte s 3 + 7 * i + 6) / 10 ^ 9)) (byEntry s amount from to (suc i) n)
-        found true r = rw (good-rate i (omega arith)) (read-or-over (amount * number s (52 + 107 * byte s 3 + 7 * i + 4) 2 * 10 ^ byte s (52 + 107 * byte s 3 + 7 * i + 6) / 10 ^ 9))
+        found : (b : Bool) → byRate (rateFor entries from to (suc i) m) ≡ byEntry s syllabus amount from to (suc i) n → byRate (cond b (rateIn s (52 + 107 * byte s 3 + 7 * i)) (rateFor entries from to (suc i) m))
+            ≡ cond b (upToMax (whole syllabus (billionths i) (10 ^ 9))) (byEntry s syllabus amount from to (suc i) n)
+        found true r = rw (good-rate i (omega arith)) (read-or-over (rounded (eqb syllabus 1) (billionths i) (10 ^ 9)) ∙ ap upToMax (rounds syllabus (billionths i)))
         found false r = r
 
-  currency-at : (i : ℕ) → i < 4 → currencyAt (rulesIn s) i ≡ number s (8 + 10 * i) 2
+  currency-at : (i : ℕ) → i < 4 → currencyAt (rulesIn s syllabus) i ≡ number s (8 + 10 * i) 2
   unfolding rulesIn
   currency-at i l = four-at (λ j. number s (8 + 10 * j) 2) 0 i l
 
+  rule-is : rulesIn s syllabus .rates .up ≡ eqb syllabus 1
+  unfolding rulesIn
+  rule-is = refl
+
   -- the amount of a purchase, converted to a currency by the rules and by the bytes
   pub converts-to : (purchase : Purchase) (to : ℕ) → purchase .amount .0 ≤ max
-      → asRead (convertOf (purchase .amount) (purchase .currency) to (rulesIn s .rates)) ≡ converted s (purchase .amount .0) (purchase .currency) to
+      → asRead (convertOf (purchase .amount) (purchase .currency) to (rulesIn s syllabus .rates)) ≡ converted s syllabus (purchase .amount .0) (purchase .currency) to
   unfolding convertOf converted
   converts-to purchase to small =
-      let rate = rateFor (rulesIn s .rates .entries) (purchase .currency) to 0 5 in
+      let rate = rateFor (rulesIn s syllabus .rates .entries) (purchase .currency) to 0 5 in
       let stays : stopped (purchase .amount .0) ≡ purchase .amount .0 = simp (le-ltb max (purchase .amount .0) small) in
-      ap (λ a. asRead (cond (eqb (purchase .currency) to) (amountOf a) (cond (isRate rate) (amountOrOver (scaled a rate)) NoEntry))) stays
+      ap₂ (λ up a. asRead (cond (eqb (purchase .currency) to) (amountOf a) (cond (isRate rate) (amountOrOver (scaled up a rate)) NoEntry))) rule-is stays
       ∙ same (purchase .amount .0) (purchase .currency) (eqb (purchase .currency) to)
     where
       same : (a from : ℕ) (b : Bool)
-          → asRead (cond b (amountOf a) (cond (isRate (rateFor (rulesIn s .rates .entries) from to 0 5)) (amountOrOver (scaled a (rateFor (rulesIn s .rates .entries) from to 0 5))) NoEntry))
-          ≡ cond b (comesTo a) (byEntry s a from to 0 (byte s 4))
+          → asRead (cond b (amountOf a) (cond (isRate (rateFor (rulesIn s syllabus .rates .entries) from to 0 5)) (amountOrOver (scaled (eqb syllabus 1) a (rateFor (rulesIn s syllabus .rates .entries) from to 0 5))) NoEntry))
+          ≡ cond b (comesTo a) (byEntry s syllabus a from to 0 (byte s 4))
       same a from true = refl
       same a from false = by-entry a from to 0 (byte s 4) 5 (omega arith) refl
 
   -- and to the currency of accumulator i + 1
   pub converts : (purchase : Purchase) (i : ℕ) → i < 4 → purchase .amount .0 ≤ max
-      → asRead (worth (rulesIn s) purchase i) ≡ converted s (purchase .amount .0) (purchase .currency) (number s (8 + 10 * i) 2)
+      → asRead (worth (rulesIn s syllabus) purchase i) ≡ converted s syllabus (purchase .amount .0) (purchase .currency) (number s (8 + 10 * i) 2)
   unfolding worth
   converts purchase i l small =
-      ap (λ to. asRead (convertOf (purchase .amount) (purchase .currency) to (rulesIn s .rates))) (currency-at i l)
+      ap (λ to. asRead (convertOf (purchase .amount) (purchase .currency) to (rulesIn s syllabus .rates))) (currency-at i l)
       ∙ converts-to purchase (number s (8 + 10 * i) 2) small
 
   -- what it adds to it
   pub converts-adds : (purchase : Purchase) (i : ℕ) → i < 4 → purchase .amount .0 ≤ max
-      → addition (worth (rulesIn s) purchase i) ≡ adds (converted s (purchase .amount .0) (purchase .currency) (number s (8 + 10 * i) 2))
-  converts-adds purchase i l small = adds-read (worth (rulesIn s) purchase i) ∙ ap adds (converts purchase i l small)
+      → addition (worth (rulesIn s syllabus) purchase i) ≡ adds (converted s syllabus (purchase .amount .0) (purchase .currency) (number s (8 + 10 * i) 2))
+  converts-adds purchase i l small = adds-read (worth (rulesIn s syllabus) purchase i) ∙ ap adds (converts purchase i l small)
 
+module _ (s : List ℕ) (fits : Accepted s) where
   -- and the number that stands there is the one looked for
   there-is : (wanted at i n : ℕ) → placeFrom s wanted i n ≡ at → at < length s → byte s at ≡ wanted
   there-is wanted at i zero e l = absurd (omega arith)

@@ -80,10 +80,10 @@ spent-is limit NoEntry = refl
 
 -- ---- the flags
 
-module _ (s : List ℕ) (fits : Accepted s) (place : Place) (at : ℕ) (stands : Stands s place at) (values : Values) (purchase : Purchase)
+module _ (s : List ℕ) (syllabus : ℕ) (fits : Accepted s) (place : Place) (at : ℕ) (stands : Stands s place at) (values : Values) (purchase : Purchase)
     (small : purchase .amount .0 ≤ max) where
   abbrev rules : Rules
-  rules = rulesIn s
+  rules = rulesIn s syllabus
 
   abbrev amount : ℕ
   amount = purchase .amount .0
@@ -92,34 +92,34 @@ module _ (s : List ℕ) (fits : Accepted s) (place : Place) (at : ℕ) (stands :
   currency = purchase .currency
 
   accumulator-flag : (i : ℕ) → i < 4 → (limit : ℕ)
-      → accumulatorExceeds rules place values (worthsOf rules purchase) limit i ≡ exceeds s at amount currency (valueOf values (accumulator i)) limit (accumulator i)
+      → accumulatorExceeds rules place values (worthsOf rules purchase) limit i ≡ exceeds s syllabus at amount currency (valueOf values (accumulator i)) limit (accumulator i)
   unfolding accumulatorIn
   accumulator-flag i l limit =
       let value = amountAt values i .0 in
       ap (λ (rule : AccumulatorRule). rule .active && (ltb limit value || (rule .include && sumExceeds limit value (worthAt (worthsOf rules purchase) i))))
-      (accumulator-is s place at stands i l)
+      (accumulator-is s syllabus place at stands i l)
       ∙ ap (λ b. eqb (byte s (at + (24 + 17 * i)) % 2) 1 && b)
       (ap (λ w. ltb limit value || (isIncluded s at (accumulator i) && sumExceeds limit value w)) (worth-at rules purchase i l)
       ∙ ap (λ b. ltb limit value || (isIncluded s at (accumulator i) && b))
-      (sum-is limit value (worth rules purchase i) ∙ ap (exceedsWith limit value) (converts s fits purchase i l small)))
+      (sum-is limit value (worth rules purchase i) ∙ ap (exceedsWith limit value) (converts s syllabus fits purchase i l small)))
       ∙ rw div-one
 
   counter-flag : (i : ℕ) → i < 4 → (limit : ℕ)
-      → counterExceeds rules place values limit i ≡ exceeds s at amount currency (valueOf values (counter i)) limit (counter i)
+      → counterExceeds rules place values limit i ≡ exceeds s syllabus at amount currency (valueOf values (counter i)) limit (counter i)
   unfolding counterIn
   counter-flag i l limit =
       let value = countAt values i in
-      ap (λ (rule : CounterRule). rule .active && (ltb limit value || (rule .include && ltb limit (value + 1)))) (counter-is s place at stands i l)
+      ap (λ (rule : CounterRule). rule .active && (ltb limit value || (rule .include && ltb limit (value + 1)))) (counter-is s syllabus place at stands i l)
       ∙ rw div-one
 
-  mta-flag : maximumExceeded rules place purchase ≡ exceedsMta s at amount currency
+  mta-flag : maximumExceeded rules place purchase ≡ exceedsMta s syllabus at amount currency
   unfolding maximumExceeded profileIn
   mta-flag =
       ap (λ (p : Profile). p .maximum .on && spentExceeds (p .maximum .amount .0) (convertOf (purchase .amount) currency (p .maximum .currency) (rules .rates)))
-      (profile-is s place at stands)
+      (profile-is s syllabus place at stands)
       ∙ ap (λ b. eqb (byte s (at + 13)) 1 && b)
       (spent-is (number s (at + 16) 8) (convertOf (purchase .amount) currency (number s (at + 14) 2) (rules .rates))
-      ∙ ap (exceedsWith (number s (at + 16) 8) 0) (converts-to s fits purchase (number s (at + 14) 2) small))
+      ∙ ap (exceedsWith (number s (at + 16) 8) 0) (converts-to s syllabus fits purchase (number s (at + 14) 2) small))
 
   abbrev value : Meter → ℕ
   value = valueOf values
@@ -127,50 +127,50 @@ module _ (s : List ℕ) (fits : Accepted s) (place : Place) (at : ℕ) (stands :
   four-same : (f g : ℕ → Bool) → ((i : ℕ) → i < 4 → f i ≡ g i) → four f ≡ four g
   four-same f g h = simp (h 0 (omega arith), h 1 (omega arith), h 2 (omega arith), h 3 (omega arith))
 
-  pub accumulators-lower : accumulatorsLower rules place values (worthsOf rules purchase) ≡ eachOf accumulator (aboveLower s at amount currency value)
+  pub accumulators-lower : accumulatorsLower rules place values (worthsOf rules purchase) ≡ eachOf accumulator (aboveLower s syllabus at amount currency value)
   unfolding accumulatorsLower accumulatorIn
   accumulators-lower =
-      four-same _ (λ i. aboveLower s at amount currency value (accumulator i))
+      four-same _ (λ i. aboveLower s syllabus at amount currency value (accumulator i))
       (λ i l.
-      ap (λ (r : AccumulatorRule). accumulatorExceeds rules place values (worthsOf rules purchase) (r .lower .0) i) (accumulator-is s place at stands i l)
+      ap (λ (r : AccumulatorRule). accumulatorExceeds rules place values (worthsOf rules purchase) (r .lower .0) i) (accumulator-is s syllabus place at stands i l)
       ∙ accumulator-flag i l (lowerOf s at (accumulator i)))
 
-  pub accumulators-upper : accumulatorsUpper rules place values (worthsOf rules purchase) ≡ eachOf accumulator (aboveUpper s at amount currency value)
+  pub accumulators-upper : accumulatorsUpper rules place values (worthsOf rules purchase) ≡ eachOf accumulator (aboveUpper s syllabus at amount currency value)
   unfolding accumulatorsUpper accumulatorIn
   accumulators-upper =
-      four-same _ (λ i. aboveUpper s at amount currency value (accumulator i))
+      four-same _ (λ i. aboveUpper s syllabus at amount currency value (accumulator i))
       (λ i l.
-      ap (λ (r : AccumulatorRule). accumulatorExceeds rules place values (worthsOf rules purchase) (r .upper .0) i) (accumulator-is s place at stands i l)
+      ap (λ (r : AccumulatorRule). accumulatorExceeds rules place values (worthsOf rules purchase) (r .upper .0) i) (accumulator-is s syllabus place at stands i l)
       ∙ accumulator-flag i l (upperOf s at (accumulator i)))
 
-  pub counters-lower : countersLower rules place values ≡ eachOf counter (aboveLower s at amount currency value)
+  pub counters-lower : countersLower rules place values ≡ eachOf counter (aboveLower s syllabus at amount currency value)
   unfolding countersLower counterIn
   counters-lower =
-      four-same _ (λ i. aboveLower s at amount currency value (counter i))
+      four-same _ (λ i. aboveLower s syllabus at amount currency value (counter i))
       (λ i l.
-      ap (λ (r : CounterRule). counterExceeds rules place values (r .lower) i) (counter-is s place at stands i l)
+      ap (λ (r : CounterRule). counterExceeds rules place values (r .lower) i) (counter-is s syllabus place at stands i l)
       ∙ counter-flag i l (lowerOf s at (counter i)))
 
-  pub counters-upper : countersUpper rules place values ≡ eachOf counter (aboveUpper s at amount currency value)
+  pub counters-upper : countersUpper rules place values ≡ eachOf counter (aboveUpper s syllabus at amount currency value)
   unfolding countersUpper counterIn
   counters-upper =
-      four-same _ (λ i. aboveUpper s at amount currency value (counter i))
+      four-same _ (λ i. aboveUpper s syllabus at amount currency value (counter i))
       (λ i l.
-      ap (λ (r : CounterRule). counterExceeds rules place values (r .upper) i) (counter-is s place at stands i l)
+      ap (λ (r : CounterRule). counterExceeds rules place values (r .upper) i) (counter-is s syllabus place at stands i l)
       ∙ counter-flag i l (upperOf s at (counter i)))
 
-  flags-are : (history : History) → decisionFlags history rules place values purchase (worthsOf rules purchase) ≡ flags s at amount currency value history
+  flags-are : (history : History) → decisionFlags history rules place values purchase (worthsOf rules purchase) ≡ flags s syllabus at amount currency value history
   unfolding flags
   flags-are history = simp (mta-flag, accumulators-lower, accumulators-upper, counters-lower, counters-upper)
 
   pub adr-is : (history : History)
-      → decisionBits history (testsOf rules place values purchase (worthsOf rules purchase)) ≡ packed (flags s at amount currency value history)
+      → decisionBits history (testsOf rules place values purchase (worthsOf rules purchase)) ≡ packed (flags s syllabus at amount currency value history)
   adr-is history = decision-packed history rules place values purchase (worthsOf rules purchase) ∙ ap packed (flags-are history)
 
   -- a mask is met by the card's bits as by the flags
   pub met-is : (history : History) (mask : ℕ)
-      → meetsMask (decisionBits history (testsOf rules place values purchase (worthsOf rules purchase))) mask ≡ meets (flags s at amount currency value history) mask
-  met-is history mask = ap (λ adr. meetsMask adr mask) (adr-is history) ∙ meets-is (flags s at amount currency value history) mask
+      → meetsMask (decisionBits history (testsOf rules place values purchase (worthsOf rules purchase))) mask ≡ meets (flags s syllabus at amount currency value history) mask
+  met-is history mask = ap (λ adr. meetsMask adr mask) (adr-is history) ∙ meets-is (flags s syllabus at amount currency value history) mask
 
 -- ---- the table
 

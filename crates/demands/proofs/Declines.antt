@@ -5,7 +5,7 @@ use Prim.Native.Nat.{ℕ}
 use lib.Dec.{T, eqb}
 use lib.ListN.{replicate}
 use Rattle.wire.specs.Wire.{number}
-use Rattle.money.specs.Money.{rateFor, scaled, convertOf}
+use Rattle.money.specs.Money.{rateFor, rounded, scaled, convertOf}
 use Rattle.rules.specs.Rules.{findProfile}
 use Rattle.ranges.specs.Ranges.{isSetup, hasLength, isHead, areAccumulators, isAccumulator, areProfiles, isProfileOrAbsent, isProfile, areMasks, isMaximumAmount, areAccumulatorRules, isAccumulatorRule, areCounterRules, areSent, areNumbersApart, profileNumber, areConversions, isConversionOrAbsent, isConversion, conversionPair, arePairsApart}
 use Rattle.setup.specs.Setup.{rateIn, accumulatorIn, counterIn, profileIn, rulesIn, freshIn, readSetup}
@@ -40,7 +40,7 @@ abbrev first : Command
 first = FirstCommand (record { amount = record { 0 = 1 }; currency = 0x0978; requested = 0; terminal = 0x22 })
 
 abbrev outcome : List ℕ → Outcome
-outcome s = stepOf (rulesIn s) (run (rulesIn s) (begin s) (start ∷ []) .state) first
+outcome s = stepOf (rulesIn s 0) (run (rulesIn s 0) (begin s) (start ∷ []) .state) first
 
 -- an AAC, the IAD's counter and CVR byte 3
 abbrev shows : Answer → (count limits : ℕ) → Bool
@@ -83,5 +83,5 @@ all [] = true
 all (r ∷ rows) = holds r && all rows
 
 pub declines : T (all table)
-unfolding all table holds run freshState readSetup freshIn isSetup hasLength isHead areAccumulators isAccumulator number areProfiles isProfileOrAbsent isProfile areMasks isMaximumAmount areAccumulatorRules isAccumulatorRule areCounterRules areSent areNumbersApart profileNumber areConversions isConversionOrAbsent isConversion conversionPair arePairsApart rulesIn rateIn profileIn accumulatorIn counterIn stepOf startStep firstStep findProfile firstPerformed decision limitsByte concluded testsOf decisionBits accumulatorsLower accumulatorsUpper countersLower countersUpper maximumExceeded worth worthsOf convertOf rateFor scaled approved declined verification sentIad
+unfolding all table holds run freshState readSetup freshIn isSetup hasLength isHead areAccumulators isAccumulator number areProfiles isProfileOrAbsent isProfile areMasks isMaximumAmount areAccumulatorRules isAccumulatorRule areCounterRules areSent areNumbersApart profileNumber areConversions isConversionOrAbsent isConversion conversionPair arePairsApart rulesIn rateIn profileIn accumulatorIn counterIn stepOf startStep firstStep findProfile firstPerformed decision limitsByte concluded testsOf decisionBits accumulatorsLower accumulatorsUpper countersLower countersUpper maximumExceeded worth worthsOf convertOf rateFor rounded scaled approved declined verification sentIad
 declines = tt

@@ -6,7 +6,7 @@ use lib.Dec.{T, eqb}
 use Rattle.money.specs.declared.Converted.{Converted}
 use Rattle.money.specs.declared.Converted.the-variants.{Amount, Over, NoEntry}
 use Rattle.money.specs.declared.Rates.{Rates}
-use Rattle.money.specs.Money.{max, blank, rateFor, scaled, convertOf}
+use Rattle.money.specs.Money.{max, blank, rateFor, rounded, scaled, convertOf}
 use Rattle.rules.specs.declared.Place.the-variants.{One}
 use Rattle.rules.specs.declared.Values.{Values}
 use Rattle.rules.specs.Rules.{Rules, four, blankAccumulator, blankCounter, blankProfile}
@@ -21,8 +21,8 @@ use Rattle.cryptogram.specs.Cryptogram.{kindCode, verification, issuerBefore}
 use Rattle.first.specs.First.{decision}
 
 -- one conversion, from currency 1 to currency 2
-abbrev rates : ℕ → ℕ → Rates
-rates d t = record { entries = record { from = 1; to = 2; digits = d; shift = t } ∷ blank ∷ blank ∷ blank ∷ blank ∷ [] }
+abbrev rates : Bool → ℕ → ℕ → Rates
+rates up d t = record { entries = record { from = 1; to = 2; digits = d; shift = t } ∷ blank ∷ blank ∷ blank ∷ blank ∷ []; up = up }
 
 -- a card whose first accumulator, in currency 1, and first counter are active, count and include this transaction
 abbrev card : ℕ → Rules
@@ -32,7 +32,7 @@ card upper =
       pin = 0;
       required = false;
       currencies = 1 ∷ 2 ∷ 2 ∷ 2 ∷ [];
-      rates = rates 1 9;
+      rates = rates false 1 9;
       profiles =
           record {
             number = 1;
@@ -74,12 +74,12 @@ isOver (Amount amount) = false
 isOver Over = true
 isOver NoEntry = false
 
--- a value and an amount against a limit: the tests' bits of the first accumulator (1 lower, 16 upper); a conversion, and one that is
--- over; an approval stored in an accumulator and in a counter; a decision, with the masks Online, Decline, Default; CVR byte 1 of a First
+-- a value and an amount against a limit: the tests' bits of the first accumulator (1 lower, 16 upper); a conversion, its fraction rounded up or
+-- not, and one that is over; an approval stored in an accumulator and in a counter; a decision, with the masks Online, Decline, Default; CVR byte 1 of a First
 pub data Row : Type 0 where
   limitRow : (value amount limit bits : ℕ) → Row
-  rateRow : (amount d t result : ℕ) → Row
-  overRow : (amount d t : ℕ) → Row
+  rateRow : (up : Bool) (amount d t result : ℕ) → Row
+  overRow : (up : Bool) (amount d t : ℕ) → Row
   amountRow : (value more result : ℕ) → Row
   countRow : (value result : ℕ) → Row
   kindRow : (requested adr online decline default terminal : ℕ) → Kind → Row
@@ -88,8 +88,8 @@ pub data Row : Type 0 where
 unfoldable pub holds : Row → Bool
 holds (limitRow value amount upper bits) =
     eqb (testsOf (card upper) One (values value 0) (purchase amount) (worthsOf (card upper) (purchase amount)) .accumulators) bits
-holds (rateRow amount d t result) = isAmount (convertOf (record { 0 = amount }) 1 2 (rates d t)) result
-holds (overRow amount d t) = isOver (convertOf (record { 0 = amount }) 1 2 (rates d t))
+holds (rateRow up amount d t result) = isAmount (convertOf (record { 0 = amount }) 1 2 (rates up d t)) result
+holds (overRow up amount d t) = isOver (convertOf (record { 0 = amount }) 1 2 (rates up d t))
 holds (amountRow value more result) =
     eqb (amountAt (approved (card max) One (values value 0) (worthsOf (card max) (purchase more))) 0 .0) result
 holds (countRow value result) = eqb (countAt (approved (card max) One (values 0 value) (worthsOf (card max) (purchase 1))) 0) result
@@ -101,9 +101,12 @@ unfoldable pub table : List Row
 table =
     limitRow 0 5000 5000 0
     ∷ limitRow 0 5001 5000 17
-    ∷ rateRow 12345 1234 6 15233
-    ∷ overRow 999999999999 9999 12
-    ∷ rateRow 1 4 8 0
+    ∷ rateRow false 12345 1234 6 15233
+    ∷ rateRow true 12345 1234 6 15234
+    ∷ overRow false 999999999999 9999 12
+    ∷ overRow true 999999999999 9999 12
+    ∷ rateRow false 1 4 8 0
+    ∷ rateRow true 1 4 8 1
     ∷ countRow 255 255
     ∷ amountRow 999999999999 1 999999999999
     ∷ limitRow 999999999999 1 999999999999 17
@@ -117,7 +120,7 @@ unfoldable pub all : List Row → Bool
 all [] = true
 all (row ∷ rows) = holds row && all rows
 
--- a) to l), in document 01's order
+-- a) to l), in document 01's order; c), d) and e) by both rules
 pub edges : T (all table)
-unfolding all table holds testsOf accumulatorsLower accumulatorsUpper countersLower countersUpper maximumExceeded worthsOf worth convertOf rateFor scaled approved decision verification
+unfolding all table holds testsOf accumulatorsLower accumulatorsUpper countersLower countersUpper maximumExceeded worthsOf worth convertOf rateFor scaled rounded approved decision verification
 edges = tt

@@ -43,10 +43,10 @@ use Rattle.demands.proofs.Past.{history}
 use Rattle.demands.proofs.Decision.{met-is, decided}
 
 -- flags look at the eight values alone
-pub flags-same : (s : List ℕ) (profile amount currency : ℕ) (f g : Meter → ℕ) (history : History) → ((meter : Meter) → IsMeter meter → f meter ≡ g meter)
-    → flags s profile amount currency f history ≡ flags s profile amount currency g history
+pub flags-same : (s : List ℕ) (syllabus profile amount currency : ℕ) (f g : Meter → ℕ) (history : History) → ((meter : Meter) → IsMeter meter → f meter ≡ g meter)
+    → flags s syllabus profile amount currency f history ≡ flags s syllabus profile amount currency g history
 unfolding flags
-flags-same s profile amount currency f g history h =
+flags-same s syllabus profile amount currency f g history h =
     simp (
       h (accumulator 0) (omega arith),
       h (accumulator 1) (omega arith),
@@ -66,7 +66,7 @@ concluded-kind rules state place purchase worths limits cvr Aac kind atc iad e =
 concluded-kind rules state place purchase worths limits cvr Tc kind atc iad e = cc
 concluded-kind rules state place purchase worths limits cvr Arqc kind atc iad e = cc
 
-module _ (s : List ℕ) (fits : Accepted s) (sitting : Sitting) (holding : Holding s sitting) (remembered : sitting .state .history ≡ past s (sitting .log)) where
+module _ (s : List ℕ) (syllabus : ℕ) (fits : Accepted s) (sitting : Sitting) (holding : Holding s syllabus sitting) (remembered : sitting .state .history ≡ past s (sitting .log)) where
   abbrev log : List Exchange
   log = sitting .log
 
@@ -74,31 +74,31 @@ module _ (s : List ℕ) (fits : Accepted s) (sitting : Sitting) (holding : Holdi
   at = placeOf s (named log)
 
   pub kind-answers : (first : First) (place : Place) → Stands s place at → first .requested ≤ 2 → first .amount .0 ≤ max
-      → FirstAnswers s at first (flags s at (first .amount .0) (first .currency) (audited s log) (past s log)) (firstKind (rulesIn s) (sitting .state) place first)
+      → FirstAnswers s at first (flags s syllabus at (first .amount .0) (first .currency) (audited s syllabus log) (past s log)) (firstKind (rulesIn s syllabus) (sitting .state) place first)
   unfolding profileIn
   kind-answers first place stands type small =
-      let masks = profileAt (rulesIn s) place .masks in
-      let adr = decisionBits (sitting .state .history) (firstTests (rulesIn s) (sitting .state) place first) in
-      let profile = profile-is s place at stands in
-      let fs = flags s at (first .amount .0) (first .currency) (audited s log) (past s log) in
-      let same : flags s at (first .amount .0) (first .currency) (valueOf (sitting .state .values)) (sitting .state .history) ≡ fs =
-      flags-same s at (first .amount .0) (first .currency) (valueOf (sitting .state .values)) (audited s log) (sitting .state .history) (holding .values)
-      ∙ ap (flags s at (first .amount .0) (first .currency) (audited s log)) remembered in
+      let masks = profileAt (rulesIn s syllabus) place .masks in
+      let adr = decisionBits (sitting .state .history) (firstTests (rulesIn s syllabus) (sitting .state) place first) in
+      let profile = profile-is s syllabus place at stands in
+      let fs = flags s syllabus at (first .amount .0) (first .currency) (audited s syllabus log) (past s log) in
+      let same : flags s syllabus at (first .amount .0) (first .currency) (valueOf (sitting .state .values)) (sitting .state .history) ≡ fs =
+      flags-same s syllabus at (first .amount .0) (first .currency) (valueOf (sitting .state .values)) (audited s syllabus log) (sitting .state .history) (holding .values)
+      ∙ ap (flags s syllabus at (first .amount .0) (first .currency) (audited s syllabus log)) remembered in
       let met : (mask : ℕ) → meetsMask adr mask ≡ meets fs mask =
-      λ mask. met-is s fits place at stands (sitting .state .values) (purchaseOf first) small (sitting .state .history) mask ∙ ap (λ f. meets f mask) same in
+      λ mask. met-is s syllabus fits place at stands (sitting .state .values) (purchaseOf first) small (sitting .state .history) mask ∙ ap (λ f. meets f mask) same in
       let online : meetsMask adr (masks .online) ≡ meets fs (number s (at + 1) 4) = met (masks .online) ∙ ap (λ (p : Profile). meets fs (p .masks .online)) profile in
       let decline : meetsMask adr (masks .decline) ≡ meets fs (number s (at + 5) 4) = met (masks .decline) ∙ ap (λ (p : Profile). meets fs (p .masks .decline)) profile in
       let default : meetsMask adr (masks .default) ≡ meets fs (number s (at + 9) 4) = met (masks .default) ∙ ap (λ (p : Profile). meets fs (p .masks .default)) profile in
-      subst (λ o. Decides (first .requested) o (meets fs (number s (at + 5) 4)) (meets fs (number s (at + 9) 4)) (isOfflineOnly (first .terminal)) (firstKind (rulesIn s) (sitting .state) place first)) online
-      (subst (λ d. Decides (first .requested) (meetsMask adr (masks .online)) d (meets fs (number s (at + 9) 4)) (isOfflineOnly (first .terminal)) (firstKind (rulesIn s) (sitting .state) place first)) decline
-      (subst (λ f. Decides (first .requested) (meetsMask adr (masks .online)) (meetsMask adr (masks .decline)) f (isOfflineOnly (first .terminal)) (firstKind (rulesIn s) (sitting .state) place first)) default
+      subst (λ o. Decides (first .requested) o (meets fs (number s (at + 5) 4)) (meets fs (number s (at + 9) 4)) (isOfflineOnly (first .terminal)) (firstKind (rulesIn s syllabus) (sitting .state) place first)) online
+      (subst (λ d. Decides (first .requested) (meetsMask adr (masks .online)) d (meets fs (number s (at + 9) 4)) (isOfflineOnly (first .terminal)) (firstKind (rulesIn s syllabus) (sitting .state) place first)) decline
+      (subst (λ f. Decides (first .requested) (meetsMask adr (masks .online)) (meetsMask adr (masks .decline)) f (isOfflineOnly (first .terminal)) (firstKind (rulesIn s syllabus) (sitting .state) place first)) default
       (decided adr masks (first .terminal) (first .requested) type)))
 
   abbrev Answers : Command → Outcome → Type 0
   Answers (StartCommand start) outcome = Unit
   Answers (FirstCommand first) outcome =
       (kind : Kind) (atc : ℕ) (iad : Iad) → outcome .answer ≡ Given kind atc iad
-      → FirstAnswers s at first (flags s at (first .amount .0) (first .currency) (audited s log) (past s log)) kind
+      → FirstAnswers s at first (flags s syllabus at (first .amount .0) (first .currency) (audited s syllabus log) (past s log)) kind
   Answers (SecondCommand second) outcome = Unit
 
   refused-answers : (command : Command) (r : Refusal) → Answers command (refused (sitting .state) r)
@@ -106,29 +106,29 @@ module _ (s : List ℕ) (fits : Accepted s) (sitting : Sitting) (holding : Holdi
   refused-answers (FirstCommand first) r = λ kind atc iad e. let z : _≡_ {A = ℕ} 0 1 = cc in absurd (omega arith)
   refused-answers (SecondCommand second) r = tt
 
-  did-answers : {command : Command} {outcome : Outcome} → Did (rulesIn s) (sitting .state) command outcome → Answers command outcome
+  did-answers : {command : Command} {outcome : Outcome} → Did (rulesIn s syllabus) (sitting .state) command outcome → Answers command outcome
   unfolding firstPerformed
   did-answers {command} (refused-it r) = refused-answers command r
   did-answers (started-it start place holds) = tt
   did-answers (took-first first place is type small) =
       λ kind atc iad e.
-      subst (FirstAnswers s at first (flags s at (first .amount .0) (first .currency) (audited s log) (past s log)))
-      (concluded-kind (rulesIn s) (sitting .state) place _ _ _ _ _ kind atc iad e)
+      subst (FirstAnswers s at first (flags s syllabus at (first .amount .0) (first .currency) (audited s syllabus log) (past s log)))
+      (concluded-kind (rulesIn s syllabus) (sitting .state) place _ _ _ _ _ kind atc iad e)
       (kind-answers first place (subst (Agrees s (named log) (spent log) (spentIn log)) is (holding .agrees)) type small)
   did-answers (took-second second pending is type issuer) = tt
 
 -- WHAT FIRST ANSWERS
-pub first-answers : (s : List ℕ) → Bytes s → isSetup s ≡ true → (words : List ℕ) → length words ≡ 163
+pub first-answers : (s : List ℕ) (syllabus : ℕ) → Bytes s → isSetup s ≡ true → (words : List ℕ) → length words ≡ 164
     → (commands : List Command) (first : First) (kind : Kind) (atc : ℕ) (iad : Iad)
-    → next words s commands (FirstCommand first) .answer ≡ Given kind atc iad
-    → FirstAnswers s (placeOf s (named (sat words s commands .log))) first
-    (flags s (placeOf s (named (sat words s commands .log))) (first .amount .0) (first .currency) (audited s (sat words s commands .log))
-    (past s (sat words s commands .log))) kind
-first-answers s bytes good words size commands first =
-    let sitting = sat words s commands in
+    → next words s syllabus commands (FirstCommand first) .answer ≡ Given kind atc iad
+    → FirstAnswers s (placeOf s (named (sat words s syllabus commands .log))) first
+    (flags s syllabus (placeOf s (named (sat words s syllabus commands .log))) (first .amount .0) (first .currency) (audited s syllabus (sat words s syllabus commands .log))
+    (past s (sat words s syllabus commands .log))) kind
+first-answers s syllabus bytes good words size commands first =
+    let sitting = sat words s syllabus commands in
     subst (λ rules. (kind : Kind) (atc : ℕ) (iad : Iad) → stepOf rules (sitting .state) (FirstCommand first) .answer ≡ Given kind atc iad
     → FirstAnswers s (placeOf s (named (sitting .log))) first
-    (flags s (placeOf s (named (sitting .log))) (first .amount .0) (first .currency) (audited s (sitting .log)) (past s (sitting .log))) kind)
-    (sym (faithful s bytes words size good))
-    (did-answers s (accepted s good) sitting (always s bytes good words size commands) (history s bytes good words size commands)
-    (did (rulesIn s) (sitting .state) (FirstCommand first)))
+    (flags s syllabus (placeOf s (named (sitting .log))) (first .amount .0) (first .currency) (audited s syllabus (sitting .log)) (past s (sitting .log))) kind)
+    (sym (faithful s bytes syllabus words size good))
+    (did-answers s syllabus (accepted s good) sitting (always s syllabus bytes good words size commands) (history s syllabus bytes good words size commands)
+    (did (rulesIn s syllabus) (sitting .state) (FirstCommand first)))

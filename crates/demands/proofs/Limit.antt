@@ -81,9 +81,9 @@ unmet : (k adr mask : ℕ) (flag : Bool) → bitOf k adr ≡ bit flag → isOn m
 unmet k adr mask false e m q = refl
 unmet k adr mask true e m q = absurd (never (sym q ∙ meets-at k adr mask e (eqb-true _ _ m)))
 
-module _ (s : List ℕ) (place : Place) (at : ℕ) (stands : Stands s place at) (values : Values) (history : History) (purchase : Purchase) where
+module _ (s : List ℕ) (syllabus : ℕ) (place : Place) (at : ℕ) (stands : Stands s place at) (values : Values) (history : History) (purchase : Purchase) where
   abbrev rules : Rules
-  rules = rulesIn s
+  rules = rulesIn s syllabus
 
   abbrev worths : Worths
   worths = worthsOf rules purchase
@@ -97,7 +97,7 @@ module _ (s : List ℕ) (place : Place) (at : ℕ) (stands : Stands s place at) 
       → valueOf (approved rules place values worths) meter ≤ upperOf s at meter
   unfolding accumulatorIn counterIn
   approved-within (accumulator i) l active included mask on q =
-      let is = accumulator-is s place at stands i l in
+      let is = accumulator-is s syllabus place at stands i l in
       let active' : accumulatorRule rules place i .active ≡ true = ap (λ (r : AccumulatorRule). r .active) is ∙ (rw div-one at active) in
       let included' : accumulatorRule rules place i .include ≡ true = ap (λ (r : AccumulatorRule). r .include) is ∙ included in
       let upper : accumulatorRule rules place i .upper .0 ≡ upperOf s at (accumulator i) = ap (λ (r : AccumulatorRule). r .upper .0) is in
@@ -107,7 +107,7 @@ module _ (s : List ℕ) (place : Place) (at : ℕ) (stands : Stands s place at) 
       (approval-within max (accumulatorRule rules place i .upper .0) (amountAt values i .0)
       (accumulatorRule rules place i .active && accumulatorRule rules place i .allow) (worthAt worths i) (kept .0) (kept .1) (kept .2))
   approved-within (counter i) l active included mask on q =
-      let is = counter-is s place at stands i l in
+      let is = counter-is s syllabus place at stands i l in
       let active' : counterRule rules place i .active ≡ true = ap (λ (r : CounterRule). r .active) is ∙ (rw div-one at active) in
       let included' : counterRule rules place i .include ≡ true = ap (λ (r : CounterRule). r .include) is ∙ included in
       let upper : counterRule rules place i .upper ≡ upperOf s at (counter i) = ap (λ (r : CounterRule). r .upper) is in
@@ -130,10 +130,10 @@ tc-unmet requested bits masks terminal e = by (eqb requested 0) (meetsMask bits 
   by false true rest e = cc
   by false false rest e = refl
 
-module _ (s : List ℕ) (sitting : Sitting) (holding : Holding s sitting) (meter : Meter) (l : IsMeter meter)
+module _ (s : List ℕ) (syllabus : ℕ) (sitting : Sitting) (holding : Holding s syllabus sitting) (meter : Meter) (l : IsMeter meter)
     (guards : Guards s (placeOf s (named (sitting .log))) meter) where
   abbrev card-rules : Rules
-  card-rules = rulesIn s
+  card-rules = rulesIn s syllabus
 
   abbrev state : State
   state = sitting .state
@@ -150,8 +150,8 @@ module _ (s : List ℕ) (sitting : Sitting) (holding : Holding s sitting) (meter
       → Within (FirstCommand first) (concluded card-rules state place (purchaseOf first) (worthsOf card-rules (purchaseOf first)) limits cvr kind)
   unfolding concluded profileIn
   concluded-within first place stands limits cvr Tc is e =
-      let mask : profileAt card-rules place .masks .decline ≡ number s (at + 5) 4 = ap (λ (p : Profile). p .masks .decline) (profile-is s place at stands) in
-      approved-within s place at stands (state .values) (state .history) (purchaseOf first) meter l (guards .active) (guards .included)
+      let mask : profileAt card-rules place .masks .decline ≡ number s (at + 5) 4 = ap (λ (p : Profile). p .masks .decline) (profile-is s syllabus place at stands) in
+      approved-within s syllabus place at stands (state .values) (state .history) (purchaseOf first) meter l (guards .active) (guards .included)
       (profileAt card-rules place .masks .decline) (rw mask (guards .decline)) (tc-unmet (first .requested) _ (profileAt card-rules place .masks) (first .terminal) is)
   concluded-within first place stands limits cvr Aac is e = absurd (never e)
   concluded-within first place stands limits cvr Arqc is e = absurd (never e)
@@ -169,8 +169,8 @@ module _ (s : List ℕ) (sitting : Sitting) (holding : Holding s sitting) (meter
   unable-within second pending stands true q values history issuer e = absurd (never (both-false (isUnable (second .code)) e))
   unable-within second pending stands false q values history issuer e =
       let place = pending .place in
-      let mask : profileAt card-rules place .masks .default ≡ number s (at + 9) 4 = ap (λ (p : Profile). p .masks .default) (profile-is s place at stands) in
-      approved-within s place at stands (state .values) (unableIn (pending .history)) (pending .purchase) meter l (guards .active) (guards .included)
+      let mask : profileAt card-rules place .masks .default ≡ number s (at + 9) 4 = ap (λ (p : Profile). p .masks .default) (profile-is s syllabus place at stands) in
+      approved-within s syllabus place at stands (state .values) (unableIn (pending .history)) (pending .purchase) meter l (guards .active) (guards .included)
       (profileAt card-rules place .masks .default) (rw mask (guards .default)) (neither (eqb (second .requested) 0) _ q)
     where
       neither : (a b : Bool) → (a || b) ≡ false → b ≡ false
@@ -198,13 +198,13 @@ module _ (s : List ℕ) (sitting : Sitting) (holding : Holding s sitting) (meter
       second-within second pending (subst (Agrees s (named (sitting .log)) (spent (sitting .log)) (spentIn (sitting .log))) is (holding .agrees) .stands)
 
 -- DEMAND 3, THE UPPER LIMIT
-pub limit : (s : List ℕ) → Bytes s → isSetup s ≡ true → (words : List ℕ) → length words ≡ 163
+pub limit : (s : List ℕ) (syllabus : ℕ) → Bytes s → isSetup s ≡ true → (words : List ℕ) → length words ≡ 164
     → (commands : List Command) (command : Command) (meter : Meter) → IsMeter meter
-    → Guards s (placeOf s (named (sat words s commands .log))) meter
-    → approves command (next words s commands command .answer) ≡ true
-    → valueOf (next words s commands command .state .values) meter ≤ upperOf s (placeOf s (named (sat words s commands .log))) meter
-limit s bytes good words size commands command meter l guards =
-    subst (λ rules. approves command (stepOf rules (sat words s commands .state) command .answer) ≡ true
-    → valueOf (stepOf rules (sat words s commands .state) command .state .values) meter ≤ upperOf s (placeOf s (named (sat words s commands .log))) meter)
-    (sym (faithful s bytes words size good))
-    (did-within s (sat words s commands) (always s bytes good words size commands) meter l guards (did (rulesIn s) (sat words s commands .state) command))
+    → Guards s (placeOf s (named (sat words s syllabus commands .log))) meter
+    → approves command (next words s syllabus commands command .answer) ≡ true
+    → valueOf (next words s syllabus commands command .state .values) meter ≤ upperOf s (placeOf s (named (sat words s syllabus commands .log))) meter
+limit s syllabus bytes good words size commands command meter l guards =
+    subst (λ rules. approves command (stepOf rules (sat words s syllabus commands .state) command .answer) ≡ true
+    → valueOf (stepOf rules (sat words s syllabus commands .state) command .state .values) meter ≤ upperOf s (placeOf s (named (sat words s syllabus commands .log))) meter)
+    (sym (faithful s bytes syllabus words size good))
+    (did-within s syllabus (sat words s syllabus commands) (always s syllabus bytes good words size commands) meter l guards (did (rulesIn s syllabus) (sat words s syllabus commands .state) command))

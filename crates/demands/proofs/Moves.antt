@@ -29,25 +29,25 @@ use Rattle.demands.proofs.Bytes.{Stands, accumulator-is, counter-is, co
 abbrev pub whereActive : List ℕ → ℕ → Meter → ℕ → List Entry
 whereActive s at meter n = cond (isActive s at meter) (put n ∷ []) []
 
-module _ (s : List ℕ) (fits : Accepted s) (place : Place) (at : ℕ) (stands : Stands s place at) (values : Values) where
+module _ (s : List ℕ) (syllabus : ℕ) (fits : Accepted s) (place : Place) (at : ℕ) (stands : Stands s place at) (values : Values) where
   abbrev rules : Rules
-  rules = rulesIn s
+  rules = rulesIn s syllabus
 
   module _ (purchase : Purchase) (small : purchase .amount .0 ≤ max) where
     approval-is : (i : ℕ) → i < 4
-        → approval (accumulatorRule rules place i) (worthAt (worthsOf rules purchase) i) ≡ counted s at (purchase .amount .0) (purchase .currency) (accumulator i)
+        → approval (accumulatorRule rules place i) (worthAt (worthsOf rules purchase) i) ≡ counted s syllabus at (purchase .amount .0) (purchase .currency) (accumulator i)
     unfolding accumulatorIn
     approval-is i l =
-        ap (λ rule. approval rule (worthAt (worthsOf rules purchase) i)) (accumulator-is s place at stands i l)
+        ap (λ rule. approval rule (worthAt (worthsOf rules purchase) i)) (accumulator-is s syllabus place at stands i l)
         ∙ ap (λ w. approval (accumulatorIn s (at + (24 + 17 * i))) w) (worth-at rules purchase i l)
-        ∙ rw (div-one, converts-adds s fits purchase i l small)
+        ∙ rw (div-one, converts-adds s syllabus fits purchase i l small)
 
-    counting-is : (i : ℕ) → i < 4 → counting (counterRule rules place i) ≡ counted s at (purchase .amount .0) (purchase .currency) (counter i)
+    counting-is : (i : ℕ) → i < 4 → counting (counterRule rules place i) ≡ counted s syllabus at (purchase .amount .0) (purchase .currency) (counter i)
     unfolding counterIn
-    counting-is i l = ap counting (counter-is s place at stands i l) ∙ rw div-one
+    counting-is i l = ap counting (counter-is s syllabus place at stands i l) ∙ rw div-one
 
     pub approved-moves : (meter : Meter) → IsMeter meter → valueOf (approved rules place values (worthsOf rules purchase)) meter
-        ≡ moved (capOf meter) (valueOf values meter) (counted s at (purchase .amount .0) (purchase .currency) meter)
+        ≡ moved (capOf meter) (valueOf values meter) (counted s syllabus at (purchase .amount .0) (purchase .currency) meter)
     approved-moves (accumulator i) l =
         approved-amount rules place values (worthsOf rules purchase) i l ∙ ap (moved max (amountAt values i .0)) (approval-is i l)
     approved-moves (counter i) l =
@@ -63,7 +63,7 @@ module _ (s : List ℕ) (fits : Accepted s) (place : Place) (at : ℕ) (stands :
     none false b = refl
   declined-moves (counter i) l =
       declined-count rules place values i l
-      ∙ ap (λ rule. moved counterCap (countAt values i) (declining rule)) (counter-is s place at stands i l)
+      ∙ ap (λ rule. moved counterCap (countAt values i) (declining rule)) (counter-is s syllabus place at stands i l)
       ∙ rw div-one
 
   pub limited-moves : (meter : Meter) → IsMeter meter
@@ -71,11 +71,11 @@ module _ (s : List ℕ) (fits : Accepted s) (place : Place) (at : ℕ) (stands :
   unfolding accumulatorIn counterIn
   limited-moves (accumulator i) l =
       limited-amount rules place values i l
-      ∙ ap (λ rule. moved max (amountAt values i .0) (putting (rule .active) (rule .upper .0))) (accumulator-is s place at stands i l)
+      ∙ ap (λ rule. moved max (amountAt values i .0) (putting (rule .active) (rule .upper .0))) (accumulator-is s syllabus place at stands i l)
       ∙ rw div-one
   limited-moves (counter i) l =
       limited-count rules place values i l
-      ∙ ap (λ rule. moved counterCap (countAt values i) (putting (rule .active) (rule .upper))) (counter-is s place at stands i l)
+      ∙ ap (λ rule. moved counterCap (countAt values i) (putting (rule .active) (rule .upper))) (counter-is s syllabus place at stands i l)
       ∙ rw div-one
 
   pub cleared-moves : (meter : Meter) → IsMeter meter
@@ -83,16 +83,16 @@ module _ (s : List ℕ) (fits : Accepted s) (place : Place) (at : ℕ) (stands :
   unfolding accumulatorIn counterIn
   cleared-moves (accumulator i) l =
       cleared-amount rules place values i l
-      ∙ ap (λ rule. moved max (amountAt values i .0) (putting (rule .active) 0)) (accumulator-is s place at stands i l)
+      ∙ ap (λ rule. moved max (amountAt values i .0) (putting (rule .active) 0)) (accumulator-is s syllabus place at stands i l)
       ∙ rw div-one
   cleared-moves (counter i) l =
       cleared-count rules place values i l
-      ∙ ap (λ rule. moved counterCap (countAt values i) (putting (rule .active) 0)) (counter-is s place at stands i l)
+      ∙ ap (λ rule. moved counterCap (countAt values i) (putting (rule .active) 0)) (counter-is s syllabus place at stands i l)
       ∙ rw div-one
 
   pub ordered-moves : (purchase : Purchase) → purchase .amount .0 ≤ max → (csu : ℕ) (meter : Meter) → IsMeter meter
       → valueOf (orderedValues rules place values purchase (updateByte csu)) meter
-      ≡ moved (capOf meter) (valueOf values meter) (ordered s at (purchase .amount .0) (purchase .currency) csu meter)
+      ≡ moved (capOf meter) (valueOf values meter) (ordered s syllabus at (purchase .amount .0) (purchase .currency) csu meter)
   unfolding orderedValues
   ordered-moves purchase small csu meter l =
       let two-bits : csu / 65536 % 256 % 4 ≡ csu / 65536 % 4 = omega arith in
@@ -103,7 +103,7 @@ module _ (s : List ℕ) (fits : Accepted s) (place : Place) (at : ℕ) (stands :
           (cond (eqb order 2) (cleared rules place values) (approved rules place values (worthsOf rules purchase))))) meter
           ≡ moved (capOf meter) (valueOf values meter)
           (cond (eqb order 1) (whereActive s at meter (upperOf s at meter)) (cond (eqb order 2) (whereActive s at meter 0)
-          (cond (eqb order 3) (counted s at (purchase .amount .0) (purchase .currency) meter) [])))
+          (cond (eqb order 3) (counted s syllabus at (purchase .amount .0) (purchase .currency) meter) [])))
       by zero h = refl
       by (suc zero) h = limited-moves meter l
       by (suc (suc zero)) h = cleared-moves meter l
@@ -112,19 +112,19 @@ module _ (s : List ℕ) (fits : Accepted s) (place : Place) (at : ℕ) (stands :
 
 -- ---- at most one entry each time, and nothing put above the cap
 
-module _ (s : List ℕ) (profile amount currency : ℕ) (cap : ℕ) where
+module _ (s : List ℕ) (syllabus profile amount currency : ℕ) (cap : ℕ) where
   adds-fair : (worth : Conversion) → Fair cap (adds worth)
   adds-fair (comesTo n) = adding
   adds-fair over = adding
   adds-fair none = nothing
 
-  pub counted-fair : (meter : Meter) → Fair cap (counted s profile amount currency meter)
-  counted-fair meter = fair-or (isActive s profile meter && isAllowed s profile meter) (adds-fair (worthTo s amount currency meter)) nothing
+  pub counted-fair : (meter : Meter) → Fair cap (counted s syllabus profile amount currency meter)
+  counted-fair meter = fair-or (isActive s profile meter && isAllowed s profile meter) (adds-fair (worthTo s syllabus amount currency meter)) nothing
 
   pub declined-fair : (meter : Meter) → Fair cap (declined s profile meter)
   declined-fair meter = fair-or (isActive s profile meter && isAllowed s profile meter && countsDeclines s profile meter) adding nothing
 
-  pub ordered-fair : (meter : Meter) (csu : ℕ) → upperOf s profile meter ≤ cap → Fair cap (ordered s profile amount currency csu meter)
+  pub ordered-fair : (meter : Meter) (csu : ℕ) → upperOf s profile meter ≤ cap → Fair cap (ordered s syllabus profile amount currency csu meter)
   ordered-fair meter csu h =
       fair-or (eqb (csu / 65536 % 4) 1) (fair-or (isActive s profile meter) (fair-put h) nothing)
       (fair-or (eqb (csu / 65536 % 4) 2) (fair-or (isActive s profile meter) (fair-put (omega arith)) nothing)

@@ -46,9 +46,9 @@ pub record Keeps (s : List ℕ) (sitting : Sitting) (command : Command) (outcome
   pub recalls : Recalls s (then sitting command outcome)
   pub says : Says (outcome .answer) (atcBy s (then sitting command outcome .log))
 
-module _ (s : List ℕ) (sitting : Sitting) (recalls : Recalls s sitting) where
+module _ (s : List ℕ) (syllabus : ℕ) (sitting : Sitting) (recalls : Recalls s sitting) where
   abbrev rules : Rules
-  rules = rulesIn s
+  rules = rulesIn s syllabus
 
   abbrev state : State
   state = sitting .state
@@ -146,30 +146,30 @@ module _ (s : List ℕ) (sitting : Sitting) (recalls : Recalls s sitting) where
   did-keeps (took-first first place is type small) = concluded-keeps first place _ _ _ _ (firstKind rules state place first)
   did-keeps (took-second second pending is type issuer) = second-keeps second pending
 
-module _ (s : List ℕ) (bytes : Bytes s) (good : isSetup s ≡ true) where
+module _ (s : List ℕ) (syllabus : ℕ) (bytes : Bytes s) (good : isSetup s ≡ true) where
   pub begin-recalls : Recalls s (begin s)
   unfolding freshState freshIn readSetup past atcBy
   begin-recalls = rw good (record { history-is = refl; atc-is = refl })
 
-  run-recalls : (sitting : Sitting) → Recalls s sitting → (commands : List Command) → Recalls s (run (rulesIn s) sitting commands)
+  run-recalls : (sitting : Sitting) → Recalls s sitting → (commands : List Command) → Recalls s (run (rulesIn s syllabus) sitting commands)
   unfolding run
   run-recalls sitting h [] = h
   run-recalls sitting h (command ∷ commands) =
-      run-recalls (told (rulesIn s) sitting command) (did-keeps s sitting h (did (rulesIn s) (sitting .state) command) .recalls) commands
+      run-recalls (told (rulesIn s syllabus) sitting command) (did-keeps s syllabus sitting h (did (rulesIn s syllabus) (sitting .state) command) .recalls) commands
 
-  module _ (words : List ℕ) (size : length words ≡ 163) (commands : List Command) where
-    recalled : Recalls s (sat words s commands)
-    recalled = subst (λ rules. Recalls s (run rules (begin s) commands)) (sym (faithful s bytes words size good)) (run-recalls (begin s) begin-recalls commands)
+  module _ (words : List ℕ) (size : length words ≡ 164) (commands : List Command) where
+    recalled : Recalls s (sat words s syllabus commands)
+    recalled = subst (λ rules. Recalls s (run rules (begin s) commands)) (sym (faithful s bytes syllabus words size good)) (run-recalls (begin s) begin-recalls commands)
 
     -- THE HISTORY
-    pub history : sat words s commands .state .history ≡ past s (sat words s commands .log)
+    pub history : sat words s syllabus commands .state .history ≡ past s (sat words s syllabus commands .log)
     history = recalled .history-is
 
     -- THE ATC, of the card and of each answer
-    pub atc : sat words s commands .state .atc ≡ atcBy s (sat words s commands .log)
+    pub atc : sat words s syllabus commands .state .atc ≡ atcBy s (sat words s syllabus commands .log)
     atc = recalled .atc-is
 
-    pub said : (command : Command) → Says (next words s commands command .answer) (atcBy s (told (rulesOf (wordsAfter words s)) (sat words s commands) command .log))
+    pub said : (command : Command) → Says (next words s syllabus commands command .answer) (atcBy s (told (rulesOf (wordsAfter words s syllabus)) (sat words s syllabus commands) command .log))
     said command =
-        subst (λ rules. Says (stepOf rules (sat words s commands .state) command .answer) (atcBy s (told rules (sat words s commands) command .log))) (sym (faithful s bytes words size good))
-        (did-keeps s (sat words s commands) recalled (did (rulesIn s) (sat words s commands .state) command) .says)
+        subst (λ rules. Says (stepOf rules (sat words s syllabus commands .state) command .answer) (atcBy s (told rules (sat words s syllabus commands) command .log))) (sym (faithful s bytes syllabus words size good))
+        (did-keeps s syllabus (sat words s syllabus commands) recalled (did (rulesIn s syllabus) (sat words s syllabus commands .state) command) .says)

@@ -10,7 +10,7 @@ use Rattle.wire.specs.Wire.{number}
 use Rattle.ranges.specs.Ranges.{isSetup, hasLength, isHead, areAccumulators, isAccumulator, areProfiles, isProfileOrAbsent, isProfile, areMasks, isMaximumAmount, areAccumulatorRules, isAccumulatorRule, areCounterRules, areSent, areNumbersApart, profileNumber, areConversions, isConversionOrAbsent, isConversion, conversionPair, arePairsApart}
 use Rattle.rules.specs.Rules.{findProfile}
 use Rattle.setup.specs.Setup.{rateIn, accumulatorIn, counterIn, profileIn, rulesIn, freshIn, readSetup}
-use Rattle.money.specs.Money.{rateFor, scaled, convertOf}
+use Rattle.money.specs.Money.{rateFor, rounded, scaled, convertOf}
 use Rattle.meters.specs.Meters.{worth, worthsOf, approved, declined, limited, cleared}
 use Rattle.checks.specs.declared.History.{History}
 use Rattle.checks.specs.Checks.{accumulatorsLower, accumulatorsUpper, countersLower, countersUpper, maximumExceeded, testsOf, decisionBits}
@@ -101,12 +101,12 @@ sameHistory a b =
     && same (a .missing) (b .missing)
 
 abbrev holds : List ℕ → Sitting → Meter → Bool
-holds s sitting meter = eqb (valueOf (sitting .state .values) meter) (audited s (sitting .log) meter)
+holds s sitting meter = eqb (valueOf (sitting .state .values) meter) (audited s 0 (sitting .log) meter)
 
 -- `total`, `history` and `atc` of a card after a list of commands
 unfoldable pub agrees : List ℕ → List Command → Bool
 agrees s commands =
-    let sitting = run (rulesIn s) (begin s) commands in
+    let sitting = run (rulesIn s 0) (begin s) commands in
     holds s sitting (accumulator 0) && holds s sitting (accumulator 1) && holds s sitting (accumulator 2) && holds s sitting (counter 0)
     && sameHistory (sitting .state .history) (past s (sitting .log))
     && eqb (sitting .state .atc) (atcBy s (sitting .log))
@@ -120,7 +120,7 @@ isOf (Given given atc iad) kind = eqb (kindCode given) (kindCode kind)
 unfoldable pub answers : (high low currency : ℕ) → Kind → Bool
 answers high low currency kind =
     let s = limiting high low in
-    isOf (stepOf (rulesIn s) (run (rulesIn s) (begin s) (start 1 ∷ []) .state) (first 1 currency 1) .answer) kind
+    isOf (stepOf (rulesIn s 0) (run (rulesIn s 0) (begin s) (start 1 ∷ []) .state) (first 1 currency 1) .answer) kind
 
 pub record Samples : Type 0 where
   pub accepted : T (isSetup counting && isSetup (limiting 0x07 0xD0) && isSetup (limiting 0x17 0x70))
@@ -133,7 +133,7 @@ pub record Samples : Type 0 where
   pub upper-declined : T (answers 0x17 0x70 0x0840 Aac)
 
 pub samples : Samples
-unfolding counting limiting approvals limits resets agrees answers run freshState readSetup freshIn isSetup hasLength isHead areAccumulators isAccumulator number areProfiles isProfileOrAbsent isProfile areMasks isMaximumAmount areAccumulatorRules isAccumulatorRule areCounterRules areSent areNumbersApart profileNumber areConversions isConversionOrAbsent isConversion conversionPair arePairsApart rulesIn rateIn profileIn accumulatorIn counterIn stepOf startStep firstStep secondStep findProfile firstPerformed decision limitsByte concluded testsOf decisionBits accumulatorsLower accumulatorsUpper countersLower countersUpper maximumExceeded worth worthsOf convertOf rateFor scaled approved declined limited cleared verification sentIad secondPerformed unablePerformed verifiedPerformed failedPerformed absentPerformed closed ordered placeOf converted named spent spentIn ledger owed past atcBy
+unfolding counting limiting approvals limits resets agrees answers run freshState readSetup freshIn isSetup hasLength isHead areAccumulators isAccumulator number areProfiles isProfileOrAbsent isProfile areMasks isMaximumAmount areAccumulatorRules isAccumulatorRule areCounterRules areSent areNumbersApart profileNumber areConversions isConversionOrAbsent isConversion conversionPair arePairsApart rulesIn rateIn profileIn accumulatorIn counterIn stepOf startStep firstStep secondStep findProfile firstPerformed decision limitsByte concluded testsOf decisionBits accumulatorsLower accumulatorsUpper countersLower countersUpper maximumExceeded worth worthsOf convertOf rateFor rounded scaled approved declined limited cleared verification sentIad secondPerformed unablePerformed verifiedPerformed failedPerformed absentPerformed closed ordered placeOf converted named spent spentIn ledger owed past atcBy
 samples =
     record {
       accepted = tt;

@@ -69,30 +69,30 @@ module _ (file : List ℕ) (entries : ℕ) where
     by NotSelected e = let z = ap isStart e in absurd (omega arith)
     by (Selected profile seen) e = opened profile seen (findProfile rules profile) (eqb (state .atc) 65535) refl e
 
-  module _ (s : List ℕ) (bytes : Bytes s) (good : isSetup s ≡ true) (words : List ℕ) (size : length words ≡ 163) (said : List Said) where
+  module _ (s : List ℕ) (bytes : Bytes s) (good : isSetup s ≡ true) (syllabus : ℕ) (words : List ℕ) (size : length words ≡ 164) (said : List Said) where
     -- DEMAND 3, THE TOTAL, WITH PROFILES SELECTED
     pub selected-total : (meter : Meter) → IsMeter meter
-        → valueOf (sat words s (allHeard file entries said) .state .values) meter
-        ≡ owed (capOf meter) (startOf s meter) (ledger s meter (sat words s (allHeard file entries said) .log))
-    selected-total = total s bytes good words size (allHeard file entries said)
+        → valueOf (sat words s syllabus (allHeard file entries said) .state .values) meter
+        ≡ owed (capOf meter) (startOf s meter) (ledger s syllabus meter (sat words s syllabus (allHeard file entries said) .log))
+    selected-total = total s syllabus bytes good words size (allHeard file entries said)
 
     -- DEMAND 3, THE UPPER LIMIT, for the profile that selection opened
     pub selected-limit : (now : Said) (meter : Meter) → IsMeter meter
-        → Guards s (placeOf s (named (sat words s (allHeard file entries said) .log))) meter
-        → approves (heard file entries now) (next words s (allHeard file entries said) (heard file entries now) .answer) ≡ true
-        → valueOf (next words s (allHeard file entries said) (heard file entries now) .state .values) meter
-        ≤ upperOf s (placeOf s (named (sat words s (allHeard file entries said) .log))) meter
-    selected-limit now = limit s bytes good words size (allHeard file entries said) (heard file entries now)
+        → Guards s (placeOf s (named (sat words s syllabus (allHeard file entries said) .log))) meter
+        → approves (heard file entries now) (next words s syllabus (allHeard file entries said) (heard file entries now) .answer) ≡ true
+        → valueOf (next words s syllabus (allHeard file entries said) (heard file entries now) .state .values) meter
+        ≤ upperOf s (placeOf s (named (sat words s syllabus (allHeard file entries said) .log))) meter
+    selected-limit now = limit s syllabus bytes good words size (allHeard file entries said) (heard file entries now)
 
     -- DEMAND 2: WHAT FIRST AND SECOND ANSWER
     pub selected-first : (f : First) (kind : Kind) (atc : ℕ) (iad : Iad)
-        → next words s (allHeard file entries said) (heard file entries (first f)) .answer ≡ Given kind atc iad
-        → FirstAnswers s (placeOf s (named (sat words s (allHeard file entries said) .log))) f
-        (flags s (placeOf s (named (sat words s (allHeard file entries said) .log))) (f .amount .0) (f .currency)
-        (audited s (sat words s (allHeard file entries said) .log)) (past s (sat words s (allHeard file entries said) .log))) kind
-    selected-first = first-answers s bytes good words size (allHeard file entries said)
+        → next words s syllabus (allHeard file entries said) (heard file entries (first f)) .answer ≡ Given kind atc iad
+        → FirstAnswers s (placeOf s (named (sat words s syllabus (allHeard file entries said) .log))) f
+        (flags s syllabus (placeOf s (named (sat words s syllabus (allHeard file entries said) .log))) (f .amount .0) (f .currency)
+        (audited s syllabus (sat words s syllabus (allHeard file entries said) .log)) (past s (sat words s syllabus (allHeard file entries said) .log))) kind
+    selected-first = first-answers s syllabus bytes good words size (allHeard file entries said)
 
     pub selected-gives : (now : Said)
-        → Gives s (sat words s (allHeard file entries said) .log) (heard file entries now)
-        (next words s (allHeard file entries said) (heard file entries now))
-    selected-gives now = gives s bytes good words size (allHeard file entries said) (heard file entries now)
+        → Gives s syllabus (sat words s syllabus (allHeard file entries said) .log) (heard file entries now)
+        (next words s syllabus (allHeard file entries said) (heard file entries now))
+    selected-gives now = gives s syllabus bytes good words size (allHeard file entries said) (heard file entries now)

@@ -62,10 +62,10 @@ Agrees s profile amount currency Idle = Unit
 Agrees s profile amount currency (Opened place) = Stands s place (placeOf s profile)
 Agrees s profile amount currency (Asked pending) = Remembers s profile amount currency pending
 
-pub record Holding (s : List ℕ) (sitting : Sitting) : Type 0 where
+pub record Holding (s : List ℕ) (syllabus : ℕ) (sitting : Sitting) : Type 0 where
   pub agrees : Agrees s (named (sitting .log)) (spent (sitting .log)) (spentIn (sitting .log)) (sitting .state .phase)
   pub values : (meter : Meter) → IsMeter meter
-      → valueOf (sitting .state .values) meter ≡ owed (capOf meter) (startOf s meter) (ledger s meter (sitting .log))
+      → valueOf (sitting .state .values) meter ≡ owed (capOf meter) (startOf s meter) (ledger s syllabus meter (sitting .log))
 
 abbrev pub then : Sitting → Command → Outcome → Sitting
 then sitting command outcome =
@@ -82,9 +82,9 @@ module _ (s : List ℕ) (bytes : Bytes s) (fits : Accepted s) where
       subst (λ at. number s (at + (24 + 17 * i) + 9) 8 ≤ max) (sym (stands .offset)) (fits .profiles (indexOf place) (stands .there) .accumulators i l .upper)
   upper-within place at stands (counter i) l = omega (arith, bytes .below (at + (92 + 3 * i) + 2))
 
-module _ (s : List ℕ) (bytes : Bytes s) (fits : Accepted s) (sitting : Sitting) (holding : Holding s sitting) where
+module _ (s : List ℕ) (syllabus : ℕ) (bytes : Bytes s) (fits : Accepted s) (sitting : Sitting) (holding : Holding s syllabus sitting) where
   abbrev rules : Rules
-  rules = rulesIn s
+  rules = rulesIn s syllabus
 
   abbrev state : State
   state = sitting .state
@@ -95,23 +95,23 @@ module _ (s : List ℕ) (bytes : Bytes s) (fits : Accepted s) (sitting : Sitting
   -- a value after a step, if what the step did is what is entered
   carry : (after : Values) (meter : Meter) (more : List Entry) → IsMeter meter
       → valueOf after meter ≡ moved (capOf meter) (valueOf (state .values) meter) more → Fair (capOf meter) more
-      → valueOf after meter ≡ owed (capOf meter) (startOf s meter) (more ++ ledger s meter log)
+      → valueOf after meter ≡ owed (capOf meter) (startOf s meter) (more ++ ledger s syllabus meter log)
   carry after meter more l e fair =
-      e ∙ ap (λ v. moved (capOf meter) v more) (holding .values meter l) ∙ grows (capOf meter) (startOf s meter) (ledger s meter log) fair
+      e ∙ ap (λ v. moved (capOf meter) v more) (holding .values meter l) ∙ grows (capOf meter) (startOf s meter) (ledger s syllabus meter log) fair
 
-  refused-holds : (command : Command) (r : Refusal) → Holding s (then sitting command (refusal state r))
+  refused-holds : (command : Command) (r : Refusal) → Holding s syllabus (then sitting command (refusal state r))
   unfolding named spent spentIn ledger
   refused-holds (StartCommand start) r = record { agrees = holding .agrees; values = holding .values }
   refused-holds (FirstCommand first) r = record { agrees = holding .agrees; values = holding .values }
   refused-holds (SecondCommand second) r = record { agrees = holding .agrees; values = holding .values }
 
   start-taken : (start : Start) (place : Place) → Stands s place (placeOf s (profileOf (start .chosen)))
-      → Holding s (then sitting (StartCommand start) (startPerformed state (visitsOf (start .chosen)) place))
+      → Holding s syllabus (then sitting (StartCommand start) (startPerformed state (visitsOf (start .chosen)) place))
   unfolding named spent spentIn ledger
   start-taken start place stands = record { agrees = stands; values = holding .values }
 
   concluded-holds : (first : First) (place : Place) → Stands s place (placeOf s (named log)) → first .amount .0 ≤ max → (limits : ℕ) (cvr : Cvr) (kind : Kind)
-      → Holding s (then sitting (FirstCommand first) (concluded rules state place (purchaseOf first) (worthsOf rules (purchaseOf first)) limits cvr kind))
+      → Holding s syllabus (then sitting (FirstCommand first) (concluded rules state place (purchaseOf first) (worthsOf rules (purchaseOf first)) limits cvr kind))
   unfolding concluded named spent spentIn ledger
   concluded-holds first place stands small limits cvr Tc =
       record {
@@ -119,9 +119,9 @@ module _ (s : List ℕ) (bytes : Bytes s) (fits : Accepted s) (sitting : Sitting
         values =
             λ meter l.
             carry (approved rules place (state .values) (worthsOf rules (purchaseOf first))) meter
-            (counted s (placeOf s (named log)) (first .amount .0) (first .currency) meter) l
-            (approved-moves s fits place (placeOf s (named log)) stands (state .values) (purchaseOf first) small meter l)
-            (counted-fair s (placeOf s (named log)) (first .amount .0) (first .currency) (capOf meter) meter);
+            (counted s syllabus (placeOf s (named log)) (first .amount .0) (first .currency) meter) l
+            (approved-moves s syllabus fits place (placeOf s (named log)) stands (state .values) (purchaseOf first) small meter l)
+            (counted-fair s syllabus (placeOf s (named log)) (first .amount .0) (first .currency) (capOf meter) meter);
       }
   concluded-holds first place stands small limits cvr Aac =
       record {
@@ -129,8 +129,8 @@ module _ (s : List ℕ) (bytes : Bytes s) (fits : Accepted s) (sitting : Sitting
         values =
             λ meter l.
             carry (declinedValues rules place (state .values)) meter (declined s (placeOf s (named log)) meter) l
-            (declined-moves s fits place (placeOf s (named log)) stands (state .values) meter l)
-            (declined-fair s (placeOf s (named log)) (first .amount .0) (first .currency) (capOf meter) meter);
+            (declined-moves s syllabus fits place (placeOf s (named log)) stands (state .values) meter l)
+            (declined-fair s syllabus (placeOf s (named log)) (first .amount .0) (first .currency) (capOf meter) meter);
       }
   concluded-holds first place stands small limits cvr Arqc =
       record {
@@ -139,7 +139,7 @@ module _ (s : List ℕ) (bytes : Bytes s) (fits : Accepted s) (sitting : Sitting
       }
 
   first-taken : (first : First) (place : Place) → Stands s place (placeOf s (named log)) → first .amount .0 ≤ max
-      → Holding s (then sitting (FirstCommand first) (firstPerformed rules state first place))
+      → Holding s syllabus (then sitting (FirstCommand first) (firstPerformed rules state first place))
   unfolding firstPerformed
   first-taken first place stands small = concluded-holds first place stands small _ _ (firstKind rules state place first)
 
@@ -147,14 +147,14 @@ module _ (s : List ℕ) (bytes : Bytes s) (fits : Accepted s) (sitting : Sitting
   closed-holds : (second : Second) (pending : Pending) (approves : Bool) (after : Values) (history : History) (issuer : Issuer) (more : Meter → List Entry)
       → ((meter : Meter) → IsMeter meter → valueOf after meter ≡ moved (capOf meter) (valueOf (state .values) meter) (more meter))
       → ((meter : Meter) → IsMeter meter → Fair (capOf meter) (more meter))
-      → ((meter : Meter) → more meter ≡ entered s (placeOf s (named log)) (spent log) (spentIn log) meter (SecondCommand second)
+      → ((meter : Meter) → more meter ≡ entered s syllabus (placeOf s (named log)) (spent log) (spentIn log) meter (SecondCommand second)
       (closed rules (state .atc) pending approves after history issuer .answer))
-      → Holding s (then sitting (SecondCommand second) (closed rules (state .atc) pending approves after history issuer))
+      → Holding s syllabus (then sitting (SecondCommand second) (closed rules (state .atc) pending approves after history issuer))
   unfolding closed named spent spentIn ledger
   closed-holds second pending approves after history issuer more moves fair is =
       record {
         agrees = tt;
-        values = λ meter l. carry after meter (more meter) l (moves meter l) (fair meter l) ∙ ap (λ new. owed (capOf meter) (startOf s meter) (new ++ ledger s meter log)) (is meter);
+        values = λ meter l. carry after meter (more meter) l (moves meter l) (fair meter l) ∙ ap (λ new. owed (capOf meter) (startOf s meter) (new ++ ledger s syllabus meter log)) (is meter);
       }
 
   -- Second, by what it comes with
@@ -167,53 +167,53 @@ module _ (s : List ℕ) (bytes : Bytes s) (fits : Accepted s) (sitting : Sitting
 
     -- of the purchase that the card remembers and of the one that the conversation brought
     counted-same : (meter : Meter)
-        → counted s at (pending .purchase .amount .0) (pending .purchase .currency) meter ≡ counted s at (spent log) (spentIn log) meter
-    counted-same meter = ap₂ (λ a c. counted s at a c meter) (remembers .amount-is) (remembers .currency-is)
+        → counted s syllabus at (pending .purchase .amount .0) (pending .purchase .currency) meter ≡ counted s syllabus at (spent log) (spentIn log) meter
+    counted-same meter = ap₂ (λ a c. counted s syllabus at a c meter) (remembers .amount-is) (remembers .currency-is)
 
-    ordered-same : (meter : Meter) → ordered s at (pending .purchase .amount .0) (pending .purchase .currency) (second .csu) meter
-        ≡ ordered s at (spent log) (spentIn log) (second .csu) meter
-    ordered-same meter = ap₂ (λ a c. ordered s at a c (second .csu) meter) (remembers .amount-is) (remembers .currency-is)
+    ordered-same : (meter : Meter) → ordered s syllabus at (pending .purchase .amount .0) (pending .purchase .currency) (second .csu) meter
+        ≡ ordered s syllabus at (spent log) (spentIn log) (second .csu) meter
+    ordered-same meter = ap₂ (λ a c. ordered s syllabus at a c (second .csu) meter) (remembers .amount-is) (remembers .currency-is)
 
     unable-holds : (b : Bool) → isUnable (second .code) ≡ true → (history : History) (issuer : Issuer)
-        → Holding s (then sitting (SecondCommand second) (cond b
+        → Holding s syllabus (then sitting (SecondCommand second) (cond b
         (closed rules (state .atc) pending false (declinedValues rules place (state .values)) history issuer)
         (closed rules (state .atc) pending true (approved rules place (state .values) (worthsOf rules (pending .purchase))) history issuer)))
     unfolding closed
     unable-holds true e history issuer =
         closed-holds second pending false (declinedValues rules place (state .values)) history issuer (declined s at)
-        (declined-moves s fits place at (remembers .stands) (state .values))
-        (λ meter l. declined-fair s at (spent log) (spentIn log) (capOf meter) meter)
+        (declined-moves s syllabus fits place at (remembers .stands) (state .values))
+        (λ meter l. declined-fair s syllabus at (spent log) (spentIn log) (capOf meter) meter)
         (λ meter. rw e)
     unable-holds false e history issuer =
         closed-holds second pending true (approved rules place (state .values) (worthsOf rules (pending .purchase))) history issuer
-        (counted s at (pending .purchase .amount .0) (pending .purchase .currency))
-        (approved-moves s fits place at (remembers .stands) (state .values) (pending .purchase) (remembers .small))
-        (λ meter l. counted-fair s at (pending .purchase .amount .0) (pending .purchase .currency) (capOf meter) meter)
+        (counted s syllabus at (pending .purchase .amount .0) (pending .purchase .currency))
+        (approved-moves s syllabus fits place at (remembers .stands) (state .values) (pending .purchase) (remembers .small))
+        (λ meter l. counted-fair s syllabus at (pending .purchase .amount .0) (pending .purchase .currency) (capOf meter) meter)
         (λ meter. rw e (counted-same meter))
 
     verified-holds : (approves : Bool) → isUnable (second .code) ≡ false → eqb (second .issuer) 1 ≡ true → (history : History) (issuer : Issuer)
-        → Holding s (then sitting (SecondCommand second) (closed rules (state .atc) pending approves
+        → Holding s syllabus (then sitting (SecondCommand second) (closed rules (state .atc) pending approves
         (orderedValues rules place (state .values) (pending .purchase) (updateByte (second .csu))) history issuer))
     unfolding closed
     verified-holds approves u e history issuer =
         closed-holds second pending approves (orderedValues rules place (state .values) (pending .purchase) (updateByte (second .csu))) history issuer
-        (ordered s at (pending .purchase .amount .0) (pending .purchase .currency) (second .csu))
-        (ordered-moves s fits place at (remembers .stands) (state .values) (pending .purchase) (remembers .small) (second .csu))
-        (λ meter l. ordered-fair s at (pending .purchase .amount .0) (pending .purchase .currency) (capOf meter) meter (second .csu)
+        (ordered s syllabus at (pending .purchase .amount .0) (pending .purchase .currency) (second .csu))
+        (ordered-moves s syllabus fits place at (remembers .stands) (state .values) (pending .purchase) (remembers .small) (second .csu))
+        (λ meter l. ordered-fair s syllabus at (pending .purchase .amount .0) (pending .purchase .currency) (capOf meter) meter (second .csu)
         (upper-within s bytes fits place at (remembers .stands) meter l))
         (λ meter. rw (u, e) (ordered-same meter))
 
     kept-holds : (approves : Bool) → isUnable (second .code) ≡ false → eqb (second .issuer) 1 ≡ false → (history : History) (issuer : Issuer)
-        → Holding s (then sitting (SecondCommand second) (closed rules (state .atc) pending approves (state .values) history issuer))
+        → Holding s syllabus (then sitting (SecondCommand second) (closed rules (state .atc) pending approves (state .values) history issuer))
     unfolding closed
     kept-holds approves u e history issuer =
         closed-holds second pending approves (state .values) history issuer (λ meter. []) (λ meter l. refl) (λ meter l. nothing) (λ meter. rw (u, e))
 
-    performed-holds : Holding s (then sitting (SecondCommand second) (secondPerformed rules state second pending))
+    performed-holds : Holding s syllabus (then sitting (SecondCommand second) (secondPerformed rules state second pending))
     unfolding secondPerformed unablePerformed verifiedPerformed failedPerformed absentPerformed
     performed-holds = by (isUnable (second .code)) refl (eqb (second .issuer) 1) refl (eqb (second .issuer) 2) where
       by : (u : Bool) → isUnable (second .code) ≡ u → (v : Bool) → eqb (second .issuer) 1 ≡ v → (f : Bool)
-          → Holding s (then sitting (SecondCommand second) (cond u (unablePerformed rules state (second .requested) pending)
+          → Holding s syllabus (then sitting (SecondCommand second) (cond u (unablePerformed rules state (second .requested) pending)
           (cond v (verifiedPerformed rules state second pending)
           (cond f (failedPerformed rules state pending) (absentPerformed rules state (second .requested) pending)))))
       by true u v e f = unable-holds (eqb (second .requested) 0 || meetsMask (unableBits rules state pending) (profileAt rules place .masks .default)) u _ _
@@ -221,25 +221,25 @@ module _ (s : List ℕ) (bytes : Bytes s) (fits : Accepted s) (sitting : Sitting
       by false u false e true = kept-holds _ u e _ _
       by false u false e false = kept-holds _ u e _ _
 
-  pub did-holds : {command : Command} {outcome : Outcome} → Did rules state command outcome → Holding s (then sitting command outcome)
+  pub did-holds : {command : Command} {outcome : Outcome} → Did rules state command outcome → Holding s syllabus (then sitting command outcome)
   did-holds {command} (refused-it r) = refused-holds command r
-  did-holds (started-it start place holds) = start-taken start place (stands-at s fits place (profileOf (start .chosen)) holds)
+  did-holds (started-it start place holds) = start-taken start place (stands-at s syllabus fits place (profileOf (start .chosen)) holds)
   did-holds (took-first first place is type small) =
       first-taken first place (subst (Agrees s (named log) (spent log) (spentIn log)) is (holding .agrees)) small
   did-holds (took-second second pending is type issuer) =
       performed-holds second pending (subst (Agrees s (named log) (spent log) (spentIn log)) is (holding .agrees))
 
-  step-holds : (command : Command) → Holding s (told rules sitting command)
+  step-holds : (command : Command) → Holding s syllabus (told rules sitting command)
   step-holds command = did-holds (did rules state command)
 
-module _ (s : List ℕ) (bytes : Bytes s) (good : isSetup s ≡ true) where
+module _ (s : List ℕ) (syllabus : ℕ) (bytes : Bytes s) (good : isSetup s ≡ true) where
   fresh : (meter : Meter) → IsMeter meter → valueOf (freshIn s .values) meter ≡ startOf s meter
   unfolding freshIn
   fresh (accumulator i) l =
       ap (λ (a : AccumulatorAmount). a .0) (four-at (λ j. record { 0 = number s (10 + 10 * j) 8 }) (record { 0 = 0 }) i l)
   fresh (counter i) l = four-at (λ j. byte s (48 + j)) 0 i l
 
-  pub begin-holds : Holding s (begin s)
+  pub begin-holds : Holding s syllabus (begin s)
   unfolding freshState readSetup ledger
   begin-holds =
       rw good
@@ -248,17 +248,17 @@ module _ (s : List ℕ) (bytes : Bytes s) (good : isSetup s ≡ true) where
         values = λ meter l. fresh meter l ∙ starts (capOf meter) (startOf s meter) (start-within s bytes (accepted s good) meter l);
       })
 
-  run-holds : (sitting : Sitting) → Holding s sitting → (commands : List Command) → Holding s (run (rulesIn s) sitting commands)
+  run-holds : (sitting : Sitting) → Holding s syllabus sitting → (commands : List Command) → Holding s syllabus (run (rulesIn s syllabus) sitting commands)
   unfolding run
   run-holds sitting h [] = h
   run-holds sitting h (command ∷ commands) =
-      run-holds (told (rulesIn s) sitting command) (step-holds s bytes (accepted s good) sitting h command) commands
+      run-holds (told (rulesIn s syllabus) sitting command) (step-holds s syllabus bytes (accepted s good) sitting h command) commands
 
-  pub always : (words : List ℕ) → length words ≡ 163 → (commands : List Command) → Holding s (sat words s commands)
+  pub always : (words : List ℕ) → length words ≡ 164 → (commands : List Command) → Holding s syllabus (sat words s syllabus commands)
   always words size commands =
-      subst (λ rules. Holding s (run rules (begin s) commands)) (sym (faithful s bytes words size good)) (run-holds (begin s) begin-holds commands)
+      subst (λ rules. Holding s syllabus (run rules (begin s) commands)) (sym (faithful s bytes syllabus words size good)) (run-holds (begin s) begin-holds commands)
 
   -- DEMAND 3, THE TOTAL
-  pub total : (words : List ℕ) → length words ≡ 163 → (commands : List Command) (meter : Meter) → IsMeter meter
-      → valueOf (sat words s commands .state .values) meter ≡ owed (capOf meter) (startOf s meter) (ledger s meter (sat words s commands .log))
+  pub total : (words : List ℕ) → length words ≡ 164 → (commands : List Command) (meter : Meter) → IsMeter meter
+      → valueOf (sat words s syllabus commands .state .values) meter ≡ owed (capOf meter) (startOf s meter) (ledger s syllabus meter (sat words s syllabus commands .log))
   total words size commands meter l = always words size commands .values meter l

@@ -49,16 +49,16 @@ limitsOf a b c d = bit a * 128 + bit b * 64 + bit c * 32 + bit d * 16
 limits-same : {a b c d a' b' c' d' : Bool} → a ≡ a' → b ≡ b' → c ≡ c' → d ≡ d' → limitsOf a b c d ≡ limitsOf a' b' c' d'
 limits-same p q r t = λ i. limitsOf (p i) (q i) (r i) (t i)
 
-module _ (s : List ℕ) (fits : Accepted s) (place : Place) (at : ℕ) (stands : Stands s place at) (values : Values) (purchase : Purchase)
+module _ (s : List ℕ) (syllabus : ℕ) (fits : Accepted s) (place : Place) (at : ℕ) (stands : Stands s place at) (values : Values) (purchase : Purchase)
     (small : purchase .amount .0 ≤ max) where
   abbrev rules : Rules
-  rules = rulesIn s
+  rules = rulesIn s syllabus
 
   abbrev lower : Meter → Bool
-  lower = aboveLower s at (purchase .amount .0) (purchase .currency) (valueOf values)
+  lower = aboveLower s syllabus at (purchase .amount .0) (purchase .currency) (valueOf values)
 
   abbrev upper : Meter → Bool
-  upper = aboveUpper s at (purchase .amount .0) (purchase .currency) (valueOf values)
+  upper = aboveUpper s syllabus at (purchase .amount .0) (purchase .currency) (valueOf values)
 
   causes : limitsByte (testsOf rules place values purchase (worthsOf rules purchase))
       ≡ limitsOf (any (countersLower rules place values)) (any (countersUpper rules place values))
@@ -77,24 +77,24 @@ module _ (s : List ℕ) (fits : Accepted s) (place : Place) (at : ℕ) (stands :
   limits-are =
       causes
       ∙ simp (
-        counters-lower s fits place at stands values purchase small,
-        counters-upper s fits place at stands values purchase small,
-        accumulators-lower s fits place at stands values purchase small,
-        accumulators-upper s fits place at stands values purchase small,
+        counters-lower s syllabus fits place at stands values purchase small,
+        counters-upper s syllabus fits place at stands values purchase small,
+        accumulators-lower s syllabus fits place at stands values purchase small,
+        accumulators-upper s syllabus fits place at stands values purchase small,
       )
 
 -- a CVR whose byte 3 has its four causes
-module _ (s : List ℕ) (profile amount currency : ℕ) (value : Meter → ℕ) (history : History) where
+module _ (s : List ℕ) (syllabus profile amount currency : ℕ) (value : Meter → ℕ) (history : History) where
   abbrev below : Meter → Bool
-  below = aboveLower s profile amount currency value
+  below = aboveLower s syllabus profile amount currency value
 
   abbrev over : Meter → Bool
-  over = aboveUpper s profile amount currency value
+  over = aboveUpper s syllabus profile amount currency value
 
   pub verifies : (limits : ℕ) → limits ≡ limitsOf (anyOf counter below) (anyOf counter over) (anyOf accumulator below) (anyOf accumulator over)
       → (first : Kind) (later : Later) (issuer : Issuer)
-      → Verifies s profile amount currency value history (laterCode later) (kindCode first)
-      (record { unperformed = issuer .unperformed; failed = issuer .failed; unable = issuer .unable }) (verification (rulesIn s) history limits first later issuer)
+      → Verifies s syllabus profile amount currency value history (laterCode later) (kindCode first)
+      (record { unperformed = issuer .unperformed; failed = issuer .failed; unable = issuer .unable }) (verification (rulesIn s syllabus) history limits first later issuer)
   unfolding verification rulesIn
   verifies limits is first later issuer =
       let a = bit-small (issuer .unperformed) in
@@ -147,12 +147,12 @@ sent-count values (suc (suc (suc zero))) l = refl
 sent-count values (suc (suc (suc (suc zero)))) l = refl
 sent-count values (suc (suc (suc (suc (suc n))))) l = absurd (omega arith)
 
-module _ (s : List ℕ) (fits : Accepted s) (place : Place) (at : ℕ) (stands : Stands s place at) (values : Values) (cvr : Cvr) where
-  pub sends : Sends s at (byte s at) (valueOf values) (sentIad (rulesIn s) place values cvr)
+module _ (s : List ℕ) (syllabus : ℕ) (fits : Accepted s) (place : Place) (at : ℕ) (stands : Stands s place at) (values : Values) (cvr : Cvr) where
+  pub sends : Sends s at (byte s at) (valueOf values) (sentIad (rulesIn s syllabus) place values cvr)
   unfolding sentIad rulesIn profileIn
   sends =
       let ranges = fits .profiles (indexOf place) (stands .there) in
-      let profile = profile-is s place at stands in
+      let profile = profile-is s syllabus place at stands in
       let few : (k : ℕ) → byte s (52 + 107 * indexOf place + k) ≤ 4 → byte s (at + k) ≤ 4 = λ k l. subst (λ a. byte s (a + k) ≤ 4) (sym (stands .offset)) l in
       record {
         key = refl;
@@ -170,13 +170,13 @@ sent-same : (f g : Meter → ℕ) → ((meter : Meter) → IsMeter meter → f m
 sent-same f g h zero l = (refl, refl)
 sent-same f g h (suc i) l = (h (accumulator i) (omega arith), h (counter i) (omega arith))
 
-module _ (s : List ℕ) (fits : Accepted s) (wanted : ℕ) (place : Place) (stands : Stands s place (placeOf s wanted)) (values : Values) (cvr : Cvr) where
+module _ (s : List ℕ) (syllabus : ℕ) (fits : Accepted s) (wanted : ℕ) (place : Place) (stands : Stands s place (placeOf s wanted)) (values : Values) (cvr : Cvr) where
   -- of the values that the auditor finds
   pub sends-audited : (value : Meter → ℕ) → ((meter : Meter) → IsMeter meter → valueOf values meter ≡ value meter)
-      → Sends s (placeOf s wanted) wanted value (sentIad (rulesIn s) place values cvr)
+      → Sends s (placeOf s wanted) wanted value (sentIad (rulesIn s syllabus) place values cvr)
   sends-audited value same =
       let at = placeOf s wanted in
-      let sent = sends s fits place at stands values cvr in
+      let sent = sends s syllabus fits place at stands values cvr in
       let ranges = fits .profiles (indexOf place) (stands .there) in
       let few : (k : ℕ) → byte s (52 + 107 * indexOf place + k) ≤ 4 → byte s (at + k) ≤ 4 = λ k l. subst (λ a. byte s (a + k) ≤ 4) (sym (stands .offset)) l in
       record {
@@ -188,15 +188,15 @@ module _ (s : List ℕ) (fits : Accepted s) (wanted : ℕ) (place : Place) (stan
       }
 
 -- CVR byte 3 of the values that the auditor finds
-abbrev pub limitsBy : List ℕ → (profile amount currency : ℕ) → (Meter → ℕ) → ℕ
-limitsBy s profile amount currency value =
-    limitsOf (anyOf counter (aboveLower s profile amount currency value)) (anyOf counter (aboveUpper s profile amount currency value))
-    (anyOf accumulator (aboveLower s profile amount currency value))
-    (anyOf accumulator (aboveUpper s profile amount currency value))
+abbrev pub limitsBy : List ℕ → (syllabus profile amount currency : ℕ) → (Meter → ℕ) → ℕ
+limitsBy s syllabus profile amount currency value =
+    limitsOf (anyOf counter (aboveLower s syllabus profile amount currency value)) (anyOf counter (aboveUpper s syllabus profile amount currency value))
+    (anyOf accumulator (aboveLower s syllabus profile amount currency value))
+    (anyOf accumulator (aboveUpper s syllabus profile amount currency value))
 
-pub limits-audited : (s : List ℕ) (profile amount currency : ℕ) (f g : Meter → ℕ) → ((meter : Meter) → IsMeter meter → f meter ≡ g meter)
-    → limitsBy s profile amount currency f ≡ limitsBy s profile amount currency g
-limits-audited s profile amount currency f g h =
+pub limits-audited : (s : List ℕ) (syllabus profile amount currency : ℕ) (f g : Meter → ℕ) → ((meter : Meter) → IsMeter meter → f meter ≡ g meter)
+    → limitsBy s syllabus profile amount currency f ≡ limitsBy s syllabus profile amount currency g
+limits-audited s syllabus profile amount currency f g h =
     simp (
       h (accumulator 0) (omega arith),
       h (accumulator 1) (omega arith),

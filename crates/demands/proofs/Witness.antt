@@ -53,7 +53,7 @@ good = refl
 
 -- ---- runs, by the rules that stand in the bytes
 
-printed-by : linesOf (run (rulesIn body) (begin body) commands .log) ≡ lines
+printed-by : linesOf (run (rulesIn body 0) (begin body) commands .log) ≡ lines
 unfolding body commands lines run freshState readSetup freshIn isSetup hasLength isHead areAccumulators isAccumulator number areProfiles isProfileOrAbsent isProfile areMasks isMaximumAmount areAccumulatorRules isAccumulatorRule areCounterRules areSent areNumbersApart profileNumber areConversions isConversionOrAbsent isConversion conversionPair arePairsApart rulesIn rateIn profileIn accumulatorIn counterIn stepOf startStep firstStep secondStep findProfile firstPerformed decision limitsByte concluded testsOf decisionBits accumulatorsLower accumulatorsUpper countersLower countersUpper maximumExceeded worth worthsOf convertOf rateFor scaled approved declined verification sentIad pairsOf iadBytes secondPerformed unablePerformed closed
 printed-by = refl
 
@@ -64,23 +64,23 @@ pub record Approval (rules : Rules) (before : List Command) (command : Command) 
   pub value-is : valueOf (stepOf rules (run rules (begin body) before .state) command .state .values) (accumulator 0) ≡ value
   pub upper-is : upperOf body (placeOf body (named (run rules (begin body) before .log))) (accumulator 0) ≡ 10000
 
-at-first-by : Approval (rulesIn body) (start ∷ []) (first 5000) 5000
+at-first-by : Approval (rulesIn body 0) (start ∷ []) (first 5000) 5000
 unfolding body run freshState readSetup freshIn isSetup hasLength isHead areAccumulators isAccumulator number areProfiles isProfileOrAbsent isProfile areMasks isMaximumAmount areAccumulatorRules isAccumulatorRule areCounterRules areSent areNumbersApart profileNumber areConversions isConversionOrAbsent isConversion conversionPair arePairsApart rulesIn rateIn profileIn accumulatorIn counterIn stepOf startStep firstStep secondStep findProfile firstPerformed decision limitsByte concluded testsOf decisionBits accumulatorsLower accumulatorsUpper countersLower countersUpper maximumExceeded worth worthsOf convertOf rateFor scaled approved declined verification sentIad pairsOf iadBytes secondPerformed unablePerformed closed placeOf named
 at-first-by = record { guards = record { active = refl; included = refl; decline = refl; default = refl }; approves-it = refl; value-is = refl; upper-is = refl }
 
-at-second-by : Approval (rulesIn body) (start ∷ first 5000 ∷ start ∷ first 1 ∷ []) second 5001
+at-second-by : Approval (rulesIn body 0) (start ∷ first 5000 ∷ start ∷ first 1 ∷ []) second 5001
 unfolding body run freshState readSetup freshIn isSetup hasLength isHead areAccumulators isAccumulator number areProfiles isProfileOrAbsent isProfile areMasks isMaximumAmount areAccumulatorRules isAccumulatorRule areCounterRules areSent areNumbersApart profileNumber areConversions isConversionOrAbsent isConversion conversionPair arePairsApart rulesIn rateIn profileIn accumulatorIn counterIn stepOf startStep firstStep secondStep findProfile firstPerformed decision limitsByte concluded testsOf decisionBits accumulatorsLower accumulatorsUpper countersLower countersUpper maximumExceeded worth worthsOf convertOf rateFor scaled approved declined verification sentIad pairsOf iadBytes secondPerformed unablePerformed closed placeOf named
 at-second-by = record { guards = record { active = refl; included = refl; decline = refl; default = refl }; approves-it = refl; value-is = refl; upper-is = refl }
 
-module _ (words : List ℕ) (size : length words ≡ 163) where
+module _ (words : List ℕ) (size : length words ≡ 164) where
   -- THE PRINTED SITTING, whatever the lent words held
-  pub printed : linesOf (sat words body commands .log) ≡ lines
-  printed = subst (λ rules. linesOf (run rules (begin body) commands .log) ≡ lines) (sym (faithful body bytes words size good)) printed-by
+  pub printed : linesOf (sat words body 0 commands .log) ≡ lines
+  printed = subst (λ rules. linesOf (run rules (begin body) commands .log) ≡ lines) (sym (faithful body bytes 0 words size good)) printed-by
 
   -- APPROVALS UNDER A GUARDING PROFILE, at First and at Second after Y3
-  pub at-first : Approval (rulesOf (wordsAfter words body)) (start ∷ []) (first 5000) 5000
-  at-first = subst (λ rules. Approval rules (start ∷ []) (first 5000) 5000) (sym (faithful body bytes words size good)) at-first-by
+  pub at-first : Approval (rulesOf (wordsAfter words body 0)) (start ∷ []) (first 5000) 5000
+  at-first = subst (λ rules. Approval rules (start ∷ []) (first 5000) 5000) (sym (faithful body bytes 0 words size good)) at-first-by
 
-  pub at-second : Approval (rulesOf (wordsAfter words body)) (start ∷ first 5000 ∷ start ∷ first 1 ∷ []) second 5001
+  pub at-second : Approval (rulesOf (wordsAfter words body 0)) (start ∷ first 5000 ∷ start ∷ first 1 ∷ []) second 5001
   at-second =
-      subst (λ rules. Approval rules (start ∷ first 5000 ∷ start ∷ first 1 ∷ []) second 5001) (sym (faithful body bytes words size good)) at-second-by
+      subst (λ rules. Approval rules (start ∷ first 5000 ∷ start ∷ first 1 ∷ []) second 5001) (sym (faithful body bytes 0 words size good)) at-second-by

@@ -1,4 +1,4 @@
--- What an auditor reads off the conversation with the set-up's bytes in hand, and no card: the ledger of one accumulator or counter.
+-- What an auditor reads off the conversation with the set-up's bytes and its syllabus in hand, and no card: the ledger of one accumulator or counter.
 -- Each offset and each rule is spelled from document 01 ("The paper", "First: the answer", "Second: the answer", "Numbers"); nothing
 -- here knows of a card's state, of its step or of the rules that it decoded.
 use Prim.Native.Nat.{ℕ, zero, suc, _+_, _*_, _/_, _%_, _^_}
@@ -71,26 +71,30 @@ pub data Conversion : Type 0 where
   over : Conversion
   none : Conversion
 
+-- n / k: syllabus 0 drops its fraction, 1 rounds it up to a whole unit
+abbrev pub whole : (syllabus n k : ℕ) → ℕ
+whole syllabus n k = cond (eqb syllabus 1 && ltb 0 (n % k)) (n / k + 1) (n / k)
+
 abbrev pub upToMax : ℕ → Conversion
 upToMax n = cond (ltb max n) over (comesTo n)
 
--- conversion i + 1 stands behind the profiles: from, to, d, s + 9; amount x d x 10^s, its fraction dropped
-abbrev pub byEntry : List ℕ → (amount from to i n : ℕ) → Conversion
-byEntry s amount from to i zero = none
-byEntry s amount from to i (suc n) =
+-- conversion i + 1 stands behind the profiles: from, to, d, s + 9; amount x d x 10^s, a whole number of units
+abbrev pub byEntry : List ℕ → (syllabus amount from to i n : ℕ) → Conversion
+byEntry s syllabus amount from to i zero = none
+byEntry s syllabus amount from to i (suc n) =
     let at = 52 + 107 * byte s 3 + 7 * i in
     cond (eqb (number s at 2) from && eqb (number s (at + 2) 2) to)
-    (upToMax (amount * number s (at + 4) 2 * 10 ^ byte s (at + 6) / 10 ^ 9))
-    (byEntry s amount from to (suc i) n)
+    (upToMax (whole syllabus (amount * number s (at + 4) 2 * 10 ^ byte s (at + 6)) (10 ^ 9)))
+    (byEntry s syllabus amount from to (suc i) n)
 
 -- same currency: the amount itself; otherwise by one of the c entries
-unfoldable pub converted : List ℕ → (amount from to : ℕ) → Conversion
-converted s amount from to = cond (eqb from to) (comesTo amount) (byEntry s amount from to 0 (byte s 4))
+unfoldable pub converted : List ℕ → (syllabus amount from to : ℕ) → Conversion
+converted s syllabus amount from to = cond (eqb from to) (comesTo amount) (byEntry s syllabus amount from to 0 (byte s 4))
 
 -- what a purchase is worth: to an accumulator the amount in its currency, to a counter 1
-abbrev pub worthTo : List ℕ → (amount currency : ℕ) → Meter → Conversion
-worthTo s amount currency (accumulator i) = converted s amount currency (number s (8 + 10 * i) 2)
-worthTo s amount currency (counter i) = comesTo 1
+abbrev pub worthTo : List ℕ → (syllabus amount currency : ℕ) → Meter → Conversion
+worthTo s syllabus amount currency (accumulator i) = converted s syllabus amount currency (number s (8 + 10 * i) 2)
+worthTo s syllabus amount currency (counter i) = comesTo 1
 
 -- what that adds: over reads as MAX, and with no entry the amount doesn't count
 abbrev pub adds : Conversion → List Entry
@@ -159,9 +163,9 @@ approves (FirstCommand first) answer = isTc answer
 approves (SecondCommand second) answer = couldNotGoOnline (second .code) && isTc answer
 
 -- each active accumulator with "allow accumulation" grows by the converted amount, each active counter with "allow counting" by 1
-abbrev pub counted : List ℕ → (profile amount currency : ℕ) → Meter → List Entry
-counted s profile amount currency meter =
-    cond (isActive s profile meter && isAllowed s profile meter) (adds (worthTo s amount currency meter)) []
+abbrev pub counted : List ℕ → (syllabus profile amount currency : ℕ) → Meter → List Entry
+counted s syllabus profile amount currency meter =
+    cond (isActive s profile meter && isAllowed s profile meter) (adds (worthTo s syllabus amount currency meter)) []
 
 -- AAC at First, or at Second after Y3 or Z3: each active counter with both "allow counting" and "include offline declines" grows by 1
 abbrev pub declined : List ℕ → ℕ → Meter → List Entry
@@ -169,31 +173,31 @@ declined s profile meter =
     cond (isActive s profile meter && isAllowed s profile meter && countsDeclines s profile meter) (add 1 ∷ []) []
 
 -- CSU byte 2 b2-b1: 00 nothing, 01 the active take this profile's upper limits, 10 they become zero, 11 add as in an offline approval
-abbrev pub ordered : List ℕ → (profile amount currency csu : ℕ) → Meter → List Entry
-ordered s profile amount currency csu meter =
+abbrev pub ordered : List ℕ → (syllabus profile amount currency csu : ℕ) → Meter → List Entry
+ordered s syllabus profile amount currency csu meter =
     cond (eqb (csu / 65536 % 4) 1) (cond (isActive s profile meter) (put (upperOf s profile meter) ∷ []) [])
     (cond (eqb (csu / 65536 % 4) 2) (cond (isActive s profile meter) (put 0 ∷ []) [])
-    (cond (eqb (csu / 65536 % 4) 3) (counted s profile amount currency meter) []))
+    (cond (eqb (csu / 65536 % 4) 3) (counted s syllabus profile amount currency meter) []))
 
 -- what a command and its answer enter, for the profile, the amount and the currency of the transaction
-abbrev pub entered : List ℕ → (profile amount currency : ℕ) → Meter → Command → Answer → List Entry
-entered s profile amount currency meter (StartCommand start) answer = []
-entered s profile amount currency meter (FirstCommand first) answer =
-    cond (isTc answer) (counted s profile amount currency meter) (cond (isAac answer) (declined s profile meter) [])
-entered s profile amount currency meter (SecondCommand second) answer =
+abbrev pub entered : List ℕ → (syllabus profile amount currency : ℕ) → Meter → Command → Answer → List Entry
+entered s syllabus profile amount currency meter (StartCommand start) answer = []
+entered s syllabus profile amount currency meter (FirstCommand first) answer =
+    cond (isTc answer) (counted s syllabus profile amount currency meter) (cond (isAac answer) (declined s profile meter) [])
+entered s syllabus profile amount currency meter (SecondCommand second) answer =
     cond (isAccepted answer)
     (cond (couldNotGoOnline (second .code))
-    (cond (isTc answer) (counted s profile amount currency meter) (declined s profile meter))
-    (cond (eqb (second .issuer) 1) (ordered s profile amount currency (second .csu) meter) []))
+    (cond (isTc answer) (counted s syllabus profile amount currency meter) (declined s profile meter))
+    (cond (eqb (second .issuer) 1) (ordered s syllabus profile amount currency (second .csu) meter) []))
     []
 
-unfoldable pub ledger : List ℕ → Meter → List Exchange → List Entry
-ledger s meter [] = []
-ledger s meter (exchange ∷ older) =
-    entered s (placeOf s (named older)) (amountBy (exchange .command) (exchange .answer) (spent older))
+unfoldable pub ledger : List ℕ → (syllabus : ℕ) → Meter → List Exchange → List Entry
+ledger s syllabus meter [] = []
+ledger s syllabus meter (exchange ∷ older) =
+    entered s syllabus (placeOf s (named older)) (amountBy (exchange .command) (exchange .answer) (spent older))
     (currencyBy (exchange .command) (exchange .answer) (spentIn older)) meter (exchange .command) (exchange .answer)
-    ++ ledger s meter older
+    ++ ledger s syllabus meter older
 
 -- what it then must hold
-abbrev pub audited : List ℕ → List Exchange → Meter → ℕ
-audited s log meter = owed (capOf meter) (startOf s meter) (ledger s meter log)
+abbrev pub audited : List ℕ → (syllabus : ℕ) → List Exchange → Meter → ℕ
+audited s syllabus log meter = owed (capOf meter) (startOf s meter) (ledger s syllabus meter log)

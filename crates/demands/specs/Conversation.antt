@@ -32,16 +32,16 @@ unfoldable pub run : Rules → Sitting → List Command → Sitting
 run rules sitting [] = sitting
 run rules sitting (command ∷ commands) = run rules (told rules sitting command) commands
 
--- a card as reading a set-up's body s makes it, with the words that it was lent, over a list of commands
+-- a card as reading a set-up's body s with its syllabus makes it, with the words that it was lent, over a list of commands
 abbrev pub begin : List ℕ → Sitting
 begin s = record { state = freshState (readSetup s .fresh); log = [] }
 
-abbrev pub sat : (words s : List ℕ) → List Command → Sitting
-sat words s commands = run (rulesOf (wordsAfter words s)) (begin s) commands
+abbrev pub sat : (words s : List ℕ) (syllabus : ℕ) → List Command → Sitting
+sat words s syllabus commands = run (rulesOf (wordsAfter words s syllabus)) (begin s) commands
 
 -- and what one command more comes to
-abbrev pub next : (words s : List ℕ) → List Command → Command → Outcome
-next words s commands command = stepOf (rulesOf (wordsAfter words s)) (sat words s commands .state) command
+abbrev pub next : (words s : List ℕ) (syllabus : ℕ) → List Command → Command → Outcome
+next words s syllabus commands command = stepOf (rulesOf (wordsAfter words s syllabus)) (sat words s syllabus commands .state) command
 
 -- what an accumulator or a counter of a card holds
 abbrev pub valueOf : Values → Meter → ℕ

@@ -1,5 +1,5 @@
--- The checks and First's decision as document 01 states them ("Start and the checks", "First: the answer"), from the set-up's bytes, the
--- values and the history; nothing here knows of a card's step or of the rules that it decoded.
+-- The checks and First's decision as document 01 states them ("Start and the checks", "First: the answer"), from the set-up's bytes, its
+-- syllabus, the values and the history; nothing here knows of a card's step or of the rules that it decoded.
 use mathlib.Core.Path.{_≡_}
 use Prim.Native.Nat.{ℕ, _+_, _/_, _≤_}
 use mathlib.Core.Bool.{Bool, true, false, _&&_, _||_}
@@ -25,33 +25,33 @@ exceedsWith limit value none = false
 
 -- one that is active exceeds a limit if its value does, or, with "include this transaction" and an amount that converts, if value plus
 -- converted amount does. A counter likewise, with 1 added.
-abbrev pub exceeds : List ℕ → (profile amount currency value limit : ℕ) → Meter → Bool
-exceeds s profile amount currency value limit meter =
+abbrev pub exceeds : List ℕ → (syllabus profile amount currency value limit : ℕ) → Meter → Bool
+exceeds s syllabus profile amount currency value limit meter =
     isActive s profile meter
-    && (ltb limit value || (isIncluded s profile meter && exceedsWith limit value (worthTo s amount currency meter)))
+    && (ltb limit value || (isIncluded s profile meter && exceedsWith limit value (worthTo s syllabus amount currency meter)))
 
 -- MTA is on (13) and the amount, converted to its currency (14), exceeds it (16); without a conversion it doesn't
-abbrev pub exceedsMta : List ℕ → (profile amount currency : ℕ) → Bool
-exceedsMta s profile amount currency =
-    eqb (byte s (profile + 13)) 1 && exceedsWith (number s (profile + 16) 8) 0 (converted s amount currency (number s (profile + 14) 2))
+abbrev pub exceedsMta : List ℕ → (syllabus profile amount currency : ℕ) → Bool
+exceedsMta s syllabus profile amount currency =
+    eqb (byte s (profile + 13)) 1 && exceedsWith (number s (profile + 16) 8) 0 (converted s syllabus amount currency (number s (profile + 14) 2))
 
 abbrev pub eachOf : (ℕ → Meter) → (Meter → Bool) → List Bool
 eachOf meter test = test (meter 0) ∷ test (meter 1) ∷ test (meter 2) ∷ test (meter 3) ∷ []
 
-abbrev pub aboveLower : List ℕ → (profile amount currency : ℕ) → (Meter → ℕ) → Meter → Bool
-aboveLower s profile amount currency value meter = exceeds s profile amount currency (value meter) (lowerOf s profile meter) meter
+abbrev pub aboveLower : List ℕ → (syllabus profile amount currency : ℕ) → (Meter → ℕ) → Meter → Bool
+aboveLower s syllabus profile amount currency value meter = exceeds s syllabus profile amount currency (value meter) (lowerOf s profile meter) meter
 
-abbrev pub aboveUpper : List ℕ → (profile amount currency : ℕ) → (Meter → ℕ) → Meter → Bool
-aboveUpper s profile amount currency value meter = exceeds s profile amount currency (value meter) (upperOf s profile meter) meter
+abbrev pub aboveUpper : List ℕ → (syllabus profile amount currency : ℕ) → (Meter → ℕ) → Meter → Bool
+aboveUpper s syllabus profile amount currency value meter = exceeds s syllabus profile amount currency (value meter) (upperOf s profile meter) meter
 
 -- house order, bit 0 upward
-unfoldable pub flags : List ℕ → (profile amount currency : ℕ) → (Meter → ℕ) → History → List Bool
-flags s profile amount currency value history =
-    history .uncompleted ∷ history .online ∷ history .failed ∷ history .unable ∷ history .missing ∷ exceedsMta s profile amount currency
-    ∷ eachOf accumulator (aboveLower s profile amount currency value)
-    ++ eachOf accumulator (aboveUpper s profile amount currency value)
-    ++ eachOf counter (aboveLower s profile amount currency value)
-    ++ eachOf counter (aboveUpper s profile amount currency value)
+unfoldable pub flags : List ℕ → (syllabus profile amount currency : ℕ) → (Meter → ℕ) → History → List Bool
+flags s syllabus profile amount currency value history =
+    history .uncompleted ∷ history .online ∷ history .failed ∷ history .unable ∷ history .missing ∷ exceedsMta s syllabus profile amount currency
+    ∷ eachOf accumulator (aboveLower s syllabus profile amount currency value)
+    ++ eachOf accumulator (aboveUpper s syllabus profile amount currency value)
+    ++ eachOf counter (aboveLower s syllabus profile amount currency value)
+    ++ eachOf counter (aboveUpper s syllabus profile amount currency value)
 
 -- some flag that is set has its bit in the mask
 abbrev pub meets : List Bool → ℕ → Bool

@@ -39,7 +39,7 @@ pub record Issuing : Type 0 where
   pub unable : Bool
 
 -- the history and the limits are those at First: amount, currency and values
-pub record Verifies (s : List ℕ) (profile amount currency : ℕ) (value : Meter → ℕ) (history : History) (second first : ℕ) (issuing : Issuing) (cvr : Cvr)
+pub record Verifies (s : List ℕ) (syllabus profile amount currency : ℕ) (value : Meter → ℕ) (history : History) (second first : ℕ) (issuing : Issuing) (cvr : Cvr)
     : Type 0 where
   pub byte1-b87 : cvr .byte1 / 64 ≡ second
   pub byte1-b65 : cvr .byte1 / 16 % 4 ≡ first
@@ -50,10 +50,10 @@ pub record Verifies (s : List ℕ) (profile amount currency : ℕ) (value : Mete
   pub byte2-b43 : cvr .byte2 / 4 % 4 ≡ 0
   pub byte2-b2 : cvr .byte2 / 2 % 2 ≡ bit (eqb (byte s 1) 0)
   pub byte2-b1 : cvr .byte2 % 2 ≡ bit (history .uncompleted)
-  pub byte3-b8 : cvr .byte3 / 128 ≡ bit (anyOf counter (aboveLower s profile amount currency value))
-  pub byte3-b7 : cvr .byte3 / 64 % 2 ≡ bit (anyOf counter (aboveUpper s profile amount currency value))
-  pub byte3-b6 : cvr .byte3 / 32 % 2 ≡ bit (anyOf accumulator (aboveLower s profile amount currency value))
-  pub byte3-b5 : cvr .byte3 / 16 % 2 ≡ bit (anyOf accumulator (aboveUpper s profile amount currency value))
+  pub byte3-b8 : cvr .byte3 / 128 ≡ bit (anyOf counter (aboveLower s syllabus profile amount currency value))
+  pub byte3-b7 : cvr .byte3 / 64 % 2 ≡ bit (anyOf counter (aboveUpper s syllabus profile amount currency value))
+  pub byte3-b6 : cvr .byte3 / 32 % 2 ≡ bit (anyOf accumulator (aboveLower s syllabus profile amount currency value))
+  pub byte3-b5 : cvr .byte3 / 16 % 2 ≡ bit (anyOf accumulator (aboveUpper s syllabus profile amount currency value))
   pub byte3-low : cvr .byte3 % 16 ≡ 0
   pub byte4-high : cvr .byte4 / 4 ≡ 0
   pub byte4-b2 : cvr .byte4 / 2 % 2 ≡ bit (history .online)
@@ -78,12 +78,12 @@ pub record Sends (s : List ℕ) (profile number : ℕ) (value : Meter → ℕ) (
   pub second-sent : iad .second ≡ sentOf value counter (byte s (profile + 106))
 
 -- WHAT FIRST GIVES, by the conversation before it and the one with it
-pub record FirstGives (s : List ℕ) (before after : List Exchange) (first : First) (kind : Kind) (iad : Iad) : Type 0 where
+pub record FirstGives (s : List ℕ) (syllabus : ℕ) (before after : List Exchange) (first : First) (kind : Kind) (iad : Iad) : Type 0 where
   pub decides : FirstAnswers s (placeOf s (named before)) first
-      (flags s (placeOf s (named before)) (first .amount .0) (first .currency) (audited s before) (past s before)) kind
-  pub verifies : Verifies s (placeOf s (named before)) (first .amount .0) (first .currency) (audited s before) (past s before) notRequested (typeOf kind)
+      (flags s syllabus (placeOf s (named before)) (first .amount .0) (first .currency) (audited s syllabus before) (past s before)) kind
+  pub verifies : Verifies s syllabus (placeOf s (named before)) (first .amount .0) (first .currency) (audited s syllabus before) (past s before) notRequested (typeOf kind)
       (issuingAtFirst (past s before)) (iad .cvr)
-  pub sends : Sends s (placeOf s (named before)) (named before) (audited s after) iad
+  pub sends : Sends s (placeOf s (named before)) (named before) (audited s syllabus after) iad
 
 -- Second keeps First's b2 and b1; Y3/Z3 and absent set b2; failed sets b1; verified clears both
 abbrev pub issuingAtSecond : Second → History → Issuing
@@ -108,10 +108,10 @@ withUnable history =
     record { uncompleted = history .uncompleted; online = history .online; failed = history .failed; unable = true; missing = history .missing }
 
 -- WHAT SECOND GIVES: the amount is First's, the tests are repeated, the CVR is First's but for what is replaced
-pub record SecondGives (s : List ℕ) (before after : List Exchange) (second : Second) (kind : Kind) (iad : Iad) : Type 0 where
+pub record SecondGives (s : List ℕ) (syllabus : ℕ) (before after : List Exchange) (second : Second) (kind : Kind) (iad : Iad) : Type 0 where
   pub decides : kind
       ≡ cond (secondApproves s (placeOf s (named before))
-      (flags s (placeOf s (named before)) (spent before) (spentIn before) (audited s before) (withUnable (past s (beforeFirst before)))) second) Tc Aac
-  pub verifies : Verifies s (placeOf s (named before)) (spent before) (spentIn before) (audited s (beforeFirst before)) (past s (beforeFirst before)) (typeOf kind)
+      (flags s syllabus (placeOf s (named before)) (spent before) (spentIn before) (audited s syllabus before) (withUnable (past s (beforeFirst before)))) second) Tc Aac
+  pub verifies : Verifies s syllabus (placeOf s (named before)) (spent before) (spentIn before) (audited s syllabus (beforeFirst before)) (past s (beforeFirst before)) (typeOf kind)
       (typeOf Arqc) (issuingAtSecond second (past s (beforeFirst before))) (iad .cvr)
-  pub sends : Sends s (placeOf s (named before)) (named before) (audited s after) iad
+  pub sends : Sends s (placeOf s (named before)) (named before) (audited s syllabus after) iad

@@ -16,7 +16,7 @@ fn line(name: &[u8], number: u64) {
     io::write_all(1, b"\n");
 }
 
-fn one_rate(digits: u16, shift: u8) -> Rates {
+fn one_rate(digits: u16, shift: u8, up: bool) -> Rates {
     let rate = Rate {
         from: 0x0840,
         to: 0x0978,
@@ -31,6 +31,7 @@ fn one_rate(digits: u16, shift: u8) -> Rates {
     };
     Rates {
         entries: [blank, blank, rate, blank, blank],
+        up,
     }
 }
 
@@ -49,7 +50,7 @@ fn show_conversion(name: &[u8], converted: Converted) {
 }
 
 fn show_conversions() {
-    let rates = one_rate(1_234, 6);
+    let rates = one_rate(1_234, 6, false);
     show_conversion(
         b"edge c: ",
         money::convert(TransactionAmount(12_345), 0x0840, 0x0978, rates),
@@ -60,12 +61,25 @@ fn show_conversions() {
             TransactionAmount(money::MAX),
             0x0840,
             0x0978,
-            one_rate(9_999, 12),
+            one_rate(9_999, 12, false),
         ),
     );
     show_conversion(
         b"edge e: ",
-        money::convert(TransactionAmount(1), 0x0840, 0x0978, one_rate(4, 8)),
+        money::convert(TransactionAmount(1), 0x0840, 0x0978, one_rate(4, 8, false)),
+    );
+    show_conversion(
+        b"edge c, rounded up: ",
+        money::convert(
+            TransactionAmount(12_345),
+            0x0840,
+            0x0978,
+            one_rate(1_234, 6, true),
+        ),
+    );
+    show_conversion(
+        b"edge e, rounded up: ",
+        money::convert(TransactionAmount(1), 0x0840, 0x0978, one_rate(4, 8, true)),
     );
     show_conversion(
         b"same currency: ",

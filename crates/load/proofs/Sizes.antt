@@ -14,9 +14,9 @@ module _ (s : List ℕ) where
   unfolding ratesWords rateWords
   rates-size = refl
 
-  pub loaded-size : length (loaded s) ≡ 163
+  pub loaded-size : (syllabus : ℕ) → length (loaded s syllabus) ≡ 164
   unfolding loaded headWords ratesWords rateWords profilesWords profileWords profileHeadWords accumulatorsWords amountWords countersWords threeBytes
-  loaded-size = refl
+  loaded-size syllabus = refl
 
   pub profiles-size : length (profilesWords s) ≡ 136
   unfolding profilesWords profileWords profileHeadWords accumulatorsWords amountWords countersWords threeBytes

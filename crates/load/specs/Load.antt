@@ -49,9 +49,10 @@ profilesWords s =
     ((profileWords s (profilePlace s 0) ++ profileWords s (profilePlace s 1)) ++ profileWords s (profilePlace s 2))
     ++ profileWords s (profilePlace s 3)
 
-unfoldable pub loaded : List ℕ → List ℕ
-loaded s = (headWords s ++ ratesWords s) ++ profilesWords s
+-- and last the syllabus
+unfoldable pub loaded : List ℕ → ℕ → List ℕ
+loaded s syllabus = ((headWords s ++ ratesWords s) ++ profilesWords s) ++ syllabus ∷ []
 
--- the words after a load: all 163 of them are stored
-abbrev pub stored : List ℕ → List ℕ → List ℕ
-stored words s = sets words 0 (loaded s)
+-- the words after a load: all 164 of them are stored
+abbrev pub stored : List ℕ → List ℕ → ℕ → List ℕ
+stored words s syllabus = sets words 0 (loaded s syllabus)

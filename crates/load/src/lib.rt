@@ -44,7 +44,7 @@ fn load_rates(words: &mut Words, s: &[u8])
 
 // An accumulator's rule: switches, lower, upper.
 fn load_accumulator(words: &mut Words, to: usize, s: &[u8], at: usize)
-    requires { ⌜ (to + 3 ≤ 163) × (at + 17 < 2 ^ 64) ⌝ }
+    requires { ⌜ (to + 3 ≤ 164) × (at + 17 < 2 ^ 64) ⌝ }
     ensures { λ _. ⌜ now (words .exit) ≡ sets (now (words .entry)) to (amountWords (now (s .entry)) at) ⌝ }
 {
     words[to] = wire::byte_at(s, at) as u64;
@@ -53,7 +53,7 @@ fn load_accumulator(words: &mut Words, to: usize, s: &[u8], at: usize)
 }
 
 fn load_accumulators(words: &mut Words, to: usize, s: &[u8], at: usize)
-    requires { ⌜ (to + 12 ≤ 163) × (at + 68 < 2 ^ 64) ⌝ }
+    requires { ⌜ (to + 12 ≤ 164) × (at + 68 < 2 ^ 64) ⌝ }
     ensures { λ _. ⌜ now (words .exit) ≡ sets (now (words .entry)) to (accumulatorsWords (now (s .entry)) at) ⌝ }
 {
     load_accumulator(words, to, s, at);
@@ -64,7 +64,7 @@ fn load_accumulators(words: &mut Words, to: usize, s: &[u8], at: usize)
 
 // Three bytes: a counter's switches, lower, upper; or what is sent.
 fn load_bytes(words: &mut Words, to: usize, s: &[u8], at: usize)
-    requires { ⌜ (to + 3 ≤ 163) × (at + 3 < 2 ^ 64) ⌝ }
+    requires { ⌜ (to + 3 ≤ 164) × (at + 3 < 2 ^ 64) ⌝ }
     ensures { λ _. ⌜ now (words .exit) ≡ sets (now (words .entry)) to (threeBytes (now (s .entry)) at) ⌝ }
 {
     words[to] = wire::byte_at(s, at) as u64;
@@ -73,7 +73,7 @@ fn load_bytes(words: &mut Words, to: usize, s: &[u8], at: usize)
 }
 
 fn load_counters(words: &mut Words, to: usize, s: &[u8], at: usize)
-    requires { ⌜ (to + 12 ≤ 163) × (at + 12 < 2 ^ 64) ⌝ }
+    requires { ⌜ (to + 12 ≤ 164) × (at + 12 < 2 ^ 64) ⌝ }
     ensures { λ _. ⌜ now (words .exit) ≡ sets (now (words .entry)) to (countersWords (now (s .entry)) at) ⌝ }
 {
     load_bytes(words, to, s, at);
@@ -84,7 +84,7 @@ fn load_counters(words: &mut Words, to: usize, s: &[u8], at: usize)
 
 // A profile's number, masks and maximum transaction amount.
 fn load_profile_head(words: &mut Words, to: usize, s: &[u8], at: usize)
-    requires { ⌜ (to + 7 ≤ 163) × (at + 24 < 2 ^ 64) ⌝ }
+    requires { ⌜ (to + 7 ≤ 164) × (at + 24 < 2 ^ 64) ⌝ }
     ensures { λ _. ⌜ now (words .exit) ≡ sets (now (words .entry)) to (profileHeadWords (now (s .entry)) at) ⌝ }
 {
     words[to] = wire::byte_at(s, at) as u64;
@@ -118,11 +118,12 @@ fn load_profiles(words: &mut Words, s: &[u8])
     load_profile(words, 3, s);
 }
 
-// Every word, whatever stood there.
-pub fn load(words: &mut Words, s: &[u8])
-    ensures { λ _. ⌜ now (words .exit) ≡ stored (now (words .entry)) (now (s .entry)) ⌝ }
+// Every word, whatever stood there; the last is the syllabus.
+pub fn load(words: &mut Words, s: &[u8], syllabus: u8)
+    ensures { λ _. ⌜ now (words .exit) ≡ stored (now (words .entry)) (now (s .entry)) syllabus ⌝ }
 {
     load_head(words, s);
     load_rates(words, s);
     load_profiles(words, s);
+    words[163] = syllabus as u64;
 }

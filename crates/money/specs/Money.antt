@@ -1,5 +1,5 @@
 -- Amounts and their conversion (document 01, "Numbers").
-use Prim.Native.Nat.{ℕ, zero, suc, _*_, _/_, _^_}
+use Prim.Native.Nat.{ℕ, zero, suc, _+_, _-_, _*_, _/_, _^_}
 use mathlib.Core.Bool.{Bool, cond, _&&_}
 use mathlib.Core.List.{List}
 use lib.ListN.{getD}
@@ -34,14 +34,18 @@ rateFor entries from to i (suc n) =
 abbrev pub isRate : Rate → Bool
 isRate rate = leb 1 (rate .digits) && leb (rate .digits) 9999 && leb (rate .shift) 12
 
--- amount x d x 10^s, its fraction dropped
-unfoldable pub scaled : ℕ → Rate → ℕ
-scaled amount rate = amount * rate .digits * 10 ^ rate .shift / 10 ^ 9
+-- n / k, its fraction dropped (syllabus 0) or rounded up to a whole unit (syllabus 1, request Nine)
+unfoldable pub rounded : (up : Bool) (n k : ℕ) → ℕ
+rounded up n k = (n + cond up (k - 1) 0) / k
+
+-- amount x d x 10^s, its fraction dropped or rounded up
+unfoldable pub scaled : (up : Bool) → ℕ → Rate → ℕ
+scaled up amount rate = rounded up (amount * rate .digits * 10 ^ rate .shift) (10 ^ 9)
 
 abbrev pub amountOf : ℕ → Converted
 amountOf n = Amount (record { 0 = n })
 
--- over if larger than MAX (request Four)
+-- over if larger than MAX (request Four), whatever was rounded
 abbrev pub amountOrOver : ℕ → Converted
 amountOrOver n = cond (ltb max n) Over (amountOf n)
 
@@ -50,4 +54,4 @@ unfoldable pub convertOf : TransactionAmount → ℕ → ℕ → Rates → Conve
 convertOf amount from to rates =
     let spent = stopped (amount .0) in
     let rate = rateFor (rates .entries) from to 0 5 in
-    cond (eqb from to) (amountOf spent) (cond (isRate rate) (amountOrOver (scaled spent rate)) NoEntry)
+    cond (eqb from to) (amountOf spent) (cond (isRate rate) (amountOrOver (scaled (rates .up) spent rate)) NoEntry)

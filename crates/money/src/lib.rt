@@ -1,7 +1,7 @@
 // Amounts of two kinds, and the conversion that alone leads from one to the other.
 ghost use mathlib.Core.Path.{_≡_};
-ghost use Prim.Native.Nat.{_+_, _≤_};
-ghost use Rattle.money.specs.Money.{max, stopped, isFor, rateFor, isRate, scaled, amountOrOver, convertOf};
+ghost use Prim.Native.Nat.{_+_, _≤_, _<_, _^_};
+ghost use Rattle.money.specs.Money.{max, stopped, isFor, rateFor, isRate, rounded, scaled, amountOrOver, convertOf};
 
 pub const MAX: u64 = 999_999_999_999;
 
@@ -19,8 +19,11 @@ pub struct Rate {
     pub shift: u8,
 }
 
+// The conversion table, and what becomes of a fraction: by syllabus 0 it is dropped, by syllabus 1
+// rounded up to a whole unit.
 pub struct Rates {
     pub entries: [Rate; 5],
+    pub up: bool,
 }
 
 // What an amount comes to in another currency: an amount, over (above MAX), or nothing where the
@@ -83,10 +86,21 @@ fn is_rate(rate: Rate) -> bool
     (1 <= rate.digits) & (rate.digits <= 9_999) & (rate.shift <= 12)
 }
 
-// amount x d x 10^s, its fraction dropped.
-fn scale(amount: u64, rate: Rate) -> u64
+// n / k, its fraction dropped or rounded up.
+fn divide(n: u64, k: u64, up: bool) -> u64
+    requires { ⌜ (0 < k) × (n + k < 2 ^ 64) ⌝ }
+    ensures { λ r. ⌜ r ≡ rounded up n k ⌝ }
+{
+    if up {
+        return (n + (k - 1)) / k;
+    }
+    n / k
+}
+
+// amount x d x 10^s, its fraction dropped or rounded up.
+fn scale(amount: u64, rate: Rate, up: bool) -> u64
     requires { ⌜ (amount ≤ max) × (rate .digits ≤ 9999) × (rate .shift ≤ 12) ⌝ }
-    ensures { λ r. ⌜ r ≡ scaled amount rate ⌝ }
+    ensures { λ r. ⌜ r ≡ scaled up amount rate ⌝ }
 {
     let product = amount * rate.digits as u64;
     let exponent = if rate.shift < 9 {
@@ -99,7 +113,7 @@ fn scale(amount: u64, rate: Rate) -> u64
         power *= 10;
     }
     if rate.shift < 9 {
-        product / power
+        divide(product, power, up)
     } else {
         product * power
     }
@@ -125,7 +139,7 @@ pub fn convert(amount: TransactionAmount, from: u16, to: u16, rates: Rates) -> C
     }
     let rate = rate_for(rates, from, to);
     if is_rate(rate) {
-        amount_or_over(scale(spent, rate))
+        amount_or_over(scale(spent, rate, rates.up))
     } else {
         Converted::NoEntry
     }

@@ -104,7 +104,7 @@ profileOf w at =
       sent = sentAt w at;
     }
 
--- the 163 words: 7 of the head, 5 rates of 4 words, 4 profiles of 34
+-- the 164 words: 7 of the head, 5 rates of 4 words, 4 profiles of 34, and the syllabus
 unfoldable pub rulesOf : List ℕ → Rules
 rulesOf w =
     record {
@@ -112,7 +112,7 @@ rulesOf w =
       pin = getD w 1 0 % 16;
       required = eqb (getD w 2 0) 1;
       currencies = four (λ i. getD w (3 + i) 0 % 65536);
-      rates = record { entries = five (λ i. rateAt w (7 + 4 * i)) };
+      rates = record { entries = five (λ i. rateAt w (7 + 4 * i)); up = eqb (getD w 163 0) 1 };
       profiles = four (λ i. profileOf w (27 + 34 * i));
     }
 

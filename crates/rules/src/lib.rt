@@ -7,7 +7,7 @@ use money::AccumulatorAmount;
 use money::Rate;
 use money::Rates;
 
-pub type Words = [u64; 163];
+pub type Words = [u64; 164];
 
 // One of the four places of a profile.
 pub enum Place {
@@ -96,7 +96,7 @@ pub fn currency(words: &Words, i: usize) -> u16
 }
 
 fn rate(words: &Words, at: usize) -> Rate
-    requires { ⌜ at + 4 ≤ 163 ⌝ }
+    requires { ⌜ at + 4 ≤ 164 ⌝ }
     ensures { λ r. ⌜ r ≡ rateAt (now (words .entry)) at ⌝ }
 {
     Rate {
@@ -107,6 +107,7 @@ fn rate(words: &Words, at: usize) -> Rate
     }
 }
 
+// The conversion table, and the syllabus by which it rounds.
 pub fn rates(words: &Words) -> Rates
     ensures { λ r. ⌜ r ≡ rulesOf (now (words .entry)) .rates ⌝ }
 {
@@ -118,6 +119,7 @@ pub fn rates(words: &Words) -> Rates
             rate(words, 19),
             rate(words, 23),
         ],
+        up: words[163] == 1,
     }
 }
 
@@ -187,7 +189,7 @@ pub fn maximum_amount(words: &Words, place: Place) -> MaximumAmount
 }
 
 fn accumulator(words: &Words, at: usize) -> AccumulatorRule
-    requires { ⌜ at + 3 ≤ 163 ⌝ }
+    requires { ⌜ at + 3 ≤ 164 ⌝ }
     ensures { λ r. ⌜ r ≡ accumulatorAt (now (words .entry)) at ⌝ }
 {
     let switches = words[at];
@@ -217,7 +219,7 @@ pub fn accumulator_rule(words: &Words, place: Place, i: usize) -> AccumulatorRul
 }
 
 fn counter(words: &Words, at: usize) -> CounterRule
-    requires { ⌜ at + 3 ≤ 163 ⌝ }
+    requires { ⌜ at + 3 ≤ 164 ⌝ }
     ensures { λ r. ⌜ r ≡ counterAt (now (words .entry)) at ⌝ }
 {
     let switches = words[at];

@@ -95,24 +95,24 @@ module _ (s : List ℕ) (bytes : Bytes s) where
     by false = no-rate (length s) (omega arith)
 
   -- each part of the rules is read from its own words
-  parts : Rules
-  parts =
+  parts : ℕ → Rules
+  parts syllabus =
       record {
         key = byte s 0 % 256;
         pin = byte s 1 % 16;
         required = eqb (byte s 2) 1;
         currencies = four (λ i. number s (8 + 10 * i) 2 % 65536);
-        rates = record { entries = five (λ i. rateAt (rateWords s (conversionPlace s i)) 0) };
+        rates = record { entries = five (λ i. rateAt (rateWords s (conversionPlace s i)) 0); up = eqb syllabus 1 };
         profiles = four (λ i. profileOf (profileWords s (profilePlace s i)) 0);
       }
 
-  apart : rulesOf (loaded s) ≡ parts
+  apart : (syllabus : ℕ) → rulesOf (loaded s syllabus) ≡ parts syllabus
   unfolding parts rulesOf loaded headWords ratesWords rateWords profilesWords profileOf profileWords profileHeadWords accumulatorsWords amountWords countersWords threeBytes
-  apart = refl
+  apart syllabus = refl
 
-  rules-there : byte s 1 ≤ 15 → parts ≡ rulesIn s
+  rules-there : (syllabus : ℕ) → byte s 1 ≤ 15 → parts syllabus ≡ rulesIn s syllabus
   unfolding parts rulesIn
-  rules-there pin =
+  rules-there syllabus pin =
       let keep : byte s 1 % 16 ≡ byte s 1 = mod-eq-of-lt (omega arith) in
       simp (
         keep1,
@@ -131,16 +131,17 @@ module _ (s : List ℕ) (bytes : Bytes s) where
         rate-or-blank 4,
       )
 
-  -- the words of an accepted set-up, whatever the 163 words held before
-  pub faithful : (words : List ℕ) → length words ≡ 163 → isSetup s ≡ true → rulesOf (wordsAfter words s) ≡ rulesIn s
+  -- the words of an accepted set-up, whatever the 164 words held before
+  pub faithful : (syllabus : ℕ) (words : List ℕ) → length words ≡ 164 → isSetup s ≡ true → rulesOf (wordsAfter words s syllabus) ≡ rulesIn s syllabus
   unfolding wordsAfter
-  faithful words size good =
-      rw good (ap rulesOf (all words (loaded s) (loaded-size s ∙ sym size)) ∙ apart ∙ rules-there (accepted s good .pin))
+  faithful syllabus words size good =
+      rw good (ap rulesOf (all words (loaded s syllabus) (loaded-size s syllabus ∙ sym size)) ∙ apart syllabus ∙ rules-there syllabus (accepted s good .pin))
 
 -- a refused set-up changes nothing lent, and leaves no card
-pub untouched : (words s : List ℕ) → isSetup s ≡ false → (wordsAfter words s ≡ words) × (readSetup s ≡ record { fresh = noCard; answer = Refused BadSetup })
+pub untouched : (words s : List ℕ) (syllabus : ℕ) → isSetup s ≡ false
+    → (wordsAfter words s syllabus ≡ words) × (readSetup s ≡ record { fresh = noCard; answer = Refused BadSetup })
 unfolding wordsAfter readSetup
-untouched words s bad = (simp bad, simp bad)
+untouched words s syllabus bad = (simp bad, simp bad)
 
 -- what an accepted set-up gives the card to start from
 pub started : (s : List ℕ) → isSetup s ≡ true → readSetup s ≡ record { fresh = freshIn s; answer = Done }

@@ -59,15 +59,16 @@ profileIn s at =
     }
 
 -- key index; PIN tries; issuer authentication required; p; c; (the fresh card's ATC and go online next;) four accumulators of currency
--- (2) and value (8); (four counter values;) p profiles; c conversions
-unfoldable pub rulesIn : List ℕ → Rules
-rulesIn s =
+-- (2) and value (8); (four counter values;) p profiles; c conversions; and the syllabus, which stands beside the body
+unfoldable pub rulesIn : List ℕ → ℕ → Rules
+rulesIn s syllabus =
     record {
       key = byte s 0;
       pin = byte s 1;
       required = eqb (byte s 2) 1;
       currencies = four (λ i. number s (8 + 10 * i) 2);
-      rates = record { entries = five (λ i. cond (ltb i (byte s 4)) (rateIn s (52 + 107 * byte s 3 + 7 * i)) blank) };
+      rates =
+          record { entries = five (λ i. cond (ltb i (byte s 4)) (rateIn s (52 + 107 * byte s 3 + 7 * i)) blank); up = eqb syllabus 1 };
       profiles = four (λ i. cond (ltb i (byte s 3)) (profileIn s (52 + 107 * i)) blankProfile);
     }
 
@@ -93,8 +94,8 @@ unfoldable pub readSetup : List ℕ → ReadSetup
 readSetup s =
     cond (isSetup s) (record { fresh = freshIn s; answer = Done }) (record { fresh = noCard; answer = Refused BadSetup })
 
-unfoldable pub wordsAfter : List ℕ → List ℕ → List ℕ
-wordsAfter words s = cond (isSetup s) (stored words s) words
+unfoldable pub wordsAfter : List ℕ → List ℕ → ℕ → List ℕ
+wordsAfter words s syllabus = cond (isSetup s) (stored words s syllabus) words
 
 abbrev pub setupNumber : SetupAnswer → ℕ
 setupNumber Done = 0

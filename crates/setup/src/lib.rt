@@ -65,12 +65,12 @@ pub fn no_card() -> Fresh
     }
 }
 
-// Refusal 1 leaves the words as they were.
-pub fn read_setup(s: &[u8], words: &mut Words) -> ReadSetup
-    ensures { λ r. ⌜ (r ≡ readSetup (now (s .entry))) × (now (words .exit) ≡ wordsAfter (now (words .entry)) (now (s .entry))) ⌝ }
+// The body of a set-up and the syllabus that goes with it. Refusal 1 leaves the words as they were.
+pub fn read_setup(s: &[u8], syllabus: u8, words: &mut Words) -> ReadSetup
+    ensures { λ r. ⌜ (r ≡ readSetup (now (s .entry))) × (now (words .exit) ≡ wordsAfter (now (words .entry)) (now (s .entry)) syllabus) ⌝ }
 {
     if ranges::is_setup(s) {
-        load::load(words, s);
+        load::load(words, s, syllabus);
         let fresh = read_fresh(s);
         ReadSetup {
             fresh,

@@ -4,8 +4,8 @@ use mathlib.Core.Bool.{Bool, true, false, cond, not, _&&_, _||_}
 use mathlib.Core.List.{List}
 use Prim.Native.Nat.{ℕ, _+_, _-_, _*_, _≤_, min}
 use native.Mathlib.Omega.{arith}
-use lib.Dec.{eqb, ltb}
-use lib.ListN.{length, drop, length-drop}
+use lib.Dec.{eqb, ltb, leb}
+use lib.ListN.{length, take, drop, length-take, length-drop}
 use Rattle.wire.specs.Wire.{byte}
 use Rattle.refusal.specs.declared.Refusal.the-variants.{BadSetup}
 use Rattle.selection.specs.Selection.{isFile}
@@ -13,7 +13,7 @@ use Rattle.tail.specs.declared.Selecting.{Selecting}
 use Rattle.tail.specs.declared.Selecting.the-variants.{Off, On}
 use Rattle.tail.specs.declared.ReadTail.{ReadTail}
 use Rattle.tail.specs.declared.ReadTail.the-variants.{Taken, Refused}
-use Rattle.tail.specs.Tail.{baseEnd, selectionTail, readTail}
+use Rattle.tail.specs.Tail.{baseEnd, syllabusIn, selectionTail, readTail}
 use Rattle.tail.proofs.Parts.{second-left}
 
 -- where a file that was read begins and ends; 0 and 1 where there is none
@@ -58,14 +58,21 @@ module _ (start end entries : ℕ) where
 
   pub inside : (version : ℕ) (body : List ℕ) → readTail version body ≡ Taken (On start end entries) → (start ≤ end) × (end ≤ length body)
   unfolding readTail isOn
-  inside version body = by (eqb version 1) where
-    by : (b : Bool) → cond b (Taken Off) (selectionTail (drop (baseEnd version body) body) (baseEnd version body)) ≡ Taken (On start end entries)
+  inside version body = by (eqb version 1) (eqb version 2) (leb (length body) (baseEnd version body)) refl (ltb 1 (syllabusIn version body)) where
+    by : (one two short : Bool) → leb (length body) (baseEnd version body) ≡ short → (high : Bool)
+        → cond one (Taken Off)
+        (cond two (selectionTail (drop (baseEnd version body) body) (baseEnd version body))
+        (cond (short || high) (Refused BadSetup)
+        (selectionTail (take (length body - 1 - baseEnd version body) (drop (baseEnd version body) body)) (baseEnd version body))))
+        ≡ Taken (On start end entries)
         → (start ≤ end) × (end ≤ length body)
-    by true e = let z = ap isOn e in (omega arith, omega arith)
-    by false e =
+    by true two short h high e = let z = ap isOn e in (omega arith, omega arith)
+    by false true short h high e =
         let i = selection-inside (drop (baseEnd version body) body) (baseEnd version body) e in
-        let b = base-inside version body in
-        let size = length-drop (baseEnd version body) body in
-        let first = i .0 in
-        let last = i .1 in
-        (omega arith, omega arith)
+        (i .0, omega (arith, i .1, base-inside version body, length-drop (baseEnd version body) body))
+    by false false true h high e = let z = ap isOn e in (omega arith, omega arith)
+    by false false false h true e = let z = ap isOn e in (omega arith, omega arith)
+    by false false false h false e =
+        let i = selection-inside (take (length body - 1 - baseEnd version body) (drop (baseEnd version body) body)) (baseEnd version body) e in
+        let size = length-take (length body - 1 - baseEnd version body) (drop (baseEnd version body) body) in
+        (i .0, omega (arith, i .1, size, base-inside version body))

@@ -1,9 +1,9 @@
 -- What later versions add to a set-up's body: the base of document 01, 52 + 107p + 7c bytes, then a tail for each addition, in the order of the
--- versions, to the body's end (document 02, Three).
-use Prim.Native.Nat.{ℕ, _+_, _*_, min}
+-- versions, to the body's end (document 02, Three and Nine).
+use Prim.Native.Nat.{ℕ, _+_, _-_, _*_, min}
 use mathlib.Core.Bool.{cond, not, _&&_, _||_}
 use mathlib.Core.List.{List}
-use lib.Dec.{eqb, ltb}
+use lib.Dec.{eqb, ltb, leb}
 use lib.ListN.{length, take, drop}
 use Rattle.wire.specs.Wire.{byte}
 use Rattle.refusal.specs.declared.Refusal.the-variants.{BadSetup}
@@ -27,10 +27,18 @@ selectionTail tail at =
     (cond (not (eqb (byte tail 0) 1) || ltb (length tail) 2) (Refused BadSetup)
     (cond (isFile (drop 2 tail) (byte tail 1)) (Taken (On (at + 2) (at + length tail) (byte tail 1))) (Refused BadSetup)))
 
--- version 01 reads as off
+-- version 03: the syllabus is the last byte; older papers follow syllabus 0
+unfoldable pub syllabusIn : (version : ℕ) (body : List ℕ) → ℕ
+syllabusIn version body = cond (ltb version 3) 0 (byte body (length body - 1))
+
+-- version 01 has no tail and reads as off; version 02 has the selection's; version 03 that and the syllabus, 0 or 1
 unfoldable pub readTail : (version : ℕ) (body : List ℕ) → ReadTail
 readTail version body =
-    cond (eqb version 1) (Taken Off) (selectionTail (drop (baseEnd version body) body) (baseEnd version body))
+    let at = baseEnd version body in
+    cond (eqb version 1) (Taken Off)
+    (cond (eqb version 2) (selectionTail (drop at body) at)
+    (cond (leb (length body) at || ltb 1 (syllabusIn version body)) (Refused BadSetup)
+    (selectionTail (take (length body - 1 - at) (drop at body)) at)))
 
 abbrev pub tailNumber : ReadTail → ℕ
 tailNumber (Taken selecting) = 0

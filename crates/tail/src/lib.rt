@@ -3,7 +3,7 @@
 ghost use mathlib.Core.Path.{_≡_};
 ghost use Prim.Native.Nat.{_+_, _≤_, _<_, _^_};
 ghost use lib.ListN.{length};
-ghost use Rattle.tail.specs.Tail.{baseEnd, selectionTail, readTail};
+ghost use Rattle.tail.specs.Tail.{baseEnd, syllabusIn, selectionTail, readTail};
 use refusal::Refusal;
 
 // Whether profiles are selected. The Profile Selection File is body[start..end].
@@ -35,7 +35,7 @@ pub fn base_end(version: u8, body: &[u8]) -> usize
     end
 }
 
-// Version 02: the switch; where it is on, the number of entries, then the entries to the end.
+// Version 02's tail: the switch; where it is on, the number of entries, then the entries to the end.
 fn read_selection(tail: &[u8], at: usize) -> ReadTail
     requires { ⌜ at + length (now tail) < 2 ^ 63 ⌝ }
     ensures { λ r. ⌜ r ≡ selectionTail (now (tail .entry)) at ⌝ }
@@ -58,6 +58,19 @@ fn read_selection(tail: &[u8], at: usize) -> ReadTail
     ReadTail::Refused(Refusal::BadSetup)
 }
 
+// The syllabus that a paper follows: from version 03 on its body's last byte.
+pub fn syllabus_in(version: u8, body: &[u8]) -> u8
+    ensures { λ r. ⌜ r ≡ syllabusIn version (now (body .entry)) ⌝ }
+{
+    if version < 3 {
+        return 0;
+    }
+    if body.len() == 0 {
+        return 0;
+    }
+    wire::byte_at(body, body.len() - 1)
+}
+
 // What stands behind the base, up to the body's end, or refusal 1.
 pub fn read_tail(version: u8, body: &[u8]) -> ReadTail
     ensures { λ r. ⌜ r ≡ readTail version (now (body .entry)) ⌝ }
@@ -66,5 +79,15 @@ pub fn read_tail(version: u8, body: &[u8]) -> ReadTail
         return ReadTail::Taken(Selecting::Off);
     }
     let at = base_end(version, body);
-    read_selection(&body[at..], at)
+    if version == 2 {
+        return read_selection(&body[at..], at);
+    }
+    if body.len() <= at {
+        return ReadTail::Refused(Refusal::BadSetup);
+    }
+    if 1 < syllabus_in(version, body) {
+        return ReadTail::Refused(Refusal::BadSetup);
+    }
+    let end = body.len() - 1;
+    read_selection(&body[at..end], at)
 }

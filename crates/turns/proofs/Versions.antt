@@ -15,7 +15,7 @@ use Rattle.rules.specs.Rules.{Rules, rulesOf}
 use Rattle.setup.specs.Setup.{readSetup, setupNumber, wordsAfter}
 use Rattle.tail.specs.declared.Selecting.the-variants.{Off}
 use Rattle.tail.specs.declared.ReadTail.the-variants.{Taken}
-use Rattle.tail.specs.Tail.{baseEnd, basePart, selectionTail, readTail}
+use Rattle.tail.specs.Tail.{baseEnd, basePart, syllabusIn, selectionTail, readTail}
 use Rattle.paper.specs.declared.Next.{Next}
 use Rattle.paper.specs.declared.Next.the-variants.{Record, Fault, End}
 use Rattle.paper.specs.declared.Opened.the-variants.{Setup}
@@ -127,9 +127,9 @@ front version body = version ∷ written (record { kind = 1; body = body })
 abbrev pub paperOf : (version : ℕ) (body rest : List ℕ) → List ℕ
 paperOf version body rest = front version body ++ rest
 
--- 01 or 02
+-- 01, 02 or 03
 abbrev Known : ℕ → Type 0
-Known version = (1 ≤ version) × (version ≤ 2)
+Known version = (1 ≤ version) × (version ≤ 3)
 
 module _ (version : ℕ) (known : Known version) (body rest : List ℕ) (short : length (paperOf version body rest) ≤ 65536) where
   said : number (paperOf version body rest) 1 2 ≡ length body + 1
@@ -151,7 +151,7 @@ module _ (version : ℕ) (known : Known version) (body rest : List ℕ) (short :
       (simp (
         le-ltb 65536 (length (paperOf version body rest)) short,
         ne-eqb version 0 (omega (arith, known .0)),
-        le-ltb 2 version (known .1),
+        le-ltb 3 version (known .1),
         ne-eqb (length body + 1) 0 (omega arith),
         le-ltb (length (paperOf version body rest)) (4 + length body) (omega arith),
         ne-eqb (length (paperOf version body rest)) 0 (omega arith),
@@ -162,24 +162,28 @@ module _ (version : ℕ) (known : Known version) (body rest : List ℕ) (short :
   its-body = take-at body rest (4 + length body - 4) (omega arith)
 
   -- the lines of a paper that selects nothing, from its base and its rest
-  module _ (words base : List ℕ) (off : readTail version body ≡ Taken Off) (is : basePart version body ≡ base) where
+  module _ (words base : List ℕ) (syllabus : ℕ) (follows : syllabusIn version body ≡ syllabus) (off : readTail version body ≡ Taken Off) (is : basePart version body ≡ base) where
     lines-are : sittingLines words (paperOf version body rest)
         ≡ followed (paceOf (readSetup base .answer)) (refusalLine 0 (setupNumber (readSetup base .answer)))
-        (linesFrom (length rest) (rulesOf (wordsAfter words base)) Off (freshState (readSetup base .fresh)) rest 0 1)
+        (linesFrom (length rest) (rulesOf (wordsAfter words base syllabus)) Off (freshState (readSetup base .fresh)) rest 0 1)
     unfolding sittingLines begunTold setupTold baseTold selectingIn wordsSetUp
     lines-are =
-        rw (opened, its-body, off, is)
+        rw (opened, its-body, off, is, follows)
         (ap (followed (paceOf (readSetup base .answer)) (refusalLine 0 (setupNumber (readSetup base .answer))))
-        (ap (λ (at : ℕ). linesFrom (length (paperOf version body rest)) (rulesOf (wordsAfter words base)) Off (freshState (readSetup base .fresh)) (paperOf version body rest) at 1)
+        (ap (λ (at : ℕ). linesFrom (length (paperOf version body rest)) (rulesOf (wordsAfter words base syllabus)) Off (freshState (readSetup base .fresh)) (paperOf version body rest) at 1)
         (sym front-length)
-        ∙ lines-of-rest (front version body) rest (rulesOf (wordsAfter words base)) (length (paperOf version body rest)) (freshState (readSetup base .fresh)) 1
+        ∙ lines-of-rest (front version body) rest (rulesOf (wordsAfter words base syllabus)) (length (paperOf version body rest)) (freshState (readSetup base .fresh)) 1
         (omega (arith, whole-length))))
 
--- ---- the same set-up in both versions
+-- ---- the same set-up in the three versions
 
 module _ (s : List ℕ) (sized : length s ≡ 52 + 107 * byte s 3 + 7 * byte s 4) where
+  -- with selection off; and with syllabus 0 behind that
   abbrev newer : List ℕ
   newer = s ++ 0 ∷ []
+
+  abbrev newest : List ℕ
+  newest = s ++ 0 ∷ 0 ∷ []
 
   old-off : readTail 1 s ≡ Taken Off
   unfolding readTail
@@ -189,27 +193,55 @@ module _ (s : List ℕ) (sized : length s ≡ 52 + 107 * byte s 3 + 7 * byte s 4
   unfolding baseEnd
   old-base = take-all (length s) s (le-refl (length s))
 
-  new-end : baseEnd 2 newer ≡ length s
+  -- behind the base of a later version stands its tail
+  base-ends : (version : ℕ) (tail : List ℕ) → eqb version 1 ≡ false → baseEnd version (s ++ tail) ≡ length s
   unfolding baseEnd
-  new-end =
-      let p : byte newer 3 ≡ byte s 3 = List·getD-append s (0 ∷ []) 0 3 (omega arith) in
-      let c : byte newer 4 ≡ byte s 4 = List·getD-append s (0 ∷ []) 0 4 (omega arith) in
-      let size : length newer ≡ length s + 1 = length-append s (0 ∷ []) in
-      rw (p, c, size) (omega arith)
+  base-ends version tail later =
+      let p : byte (s ++ tail) 3 ≡ byte s 3 = List·getD-append s tail 0 3 (omega arith) in
+      let c : byte (s ++ tail) 4 ≡ byte s 4 = List·getD-append s tail 0 4 (omega arith) in
+      let size : length (s ++ tail) ≡ length s + length tail = length-append s tail in
+      rw (later, p, c, size) (omega arith)
+
+  base-is : (version : ℕ) (tail : List ℕ) → eqb version 1 ≡ false → basePart version (s ++ tail) ≡ s
+  base-is version tail later = rw (base-ends version tail later) (take-at s tail (length s) refl)
 
   new-off : readTail 2 newer ≡ Taken Off
   unfolding readTail selectionTail
-  new-off = rw (new-end, drop-at s (0 ∷ []) (length s) refl)
+  new-off = rw (base-ends 2 (0 ∷ []) refl, drop-at s (0 ∷ []) (length s) refl)
 
-  new-base : basePart 2 newer ≡ s
-  new-base = rw new-end (take-at s (0 ∷ []) (length s) refl)
+  zero-last : syllabusIn 3 newest ≡ 0
+  unfolding syllabusIn
+  zero-last =
+      let last : length newest - 1 ≡ length s + 1 = omega (arith, length-append s (0 ∷ 0 ∷ [])) in
+      rw (last, getD-append-add s (0 ∷ 0 ∷ []) 1 0)
 
-  -- A VERSION 01 PAPER'S LINES ARE THOSE OF THE VERSION 02 PAPER WITH SELECTION OFF
-  pub off-reads-as-older : (words rest : List ℕ) → length (paperOf 2 newer rest) ≤ 65536
-      → sittingLines words (paperOf 2 newer rest) ≡ sittingLines words (paperOf 1 s rest)
-  off-reads-as-older words rest short =
-      let size : length newer ≡ length s + 1 = length-append s (0 ∷ []) in
-      let new : length (paperOf 2 newer rest) ≡ 4 + length newer + length rest = whole-length 2 (lit≤ tt, lit≤ tt) newer rest short in
-      let old : length (paperOf 1 s rest) ≤ 65536 = omega (arith, length-append s rest) in
-      lines-are 2 (lit≤ tt, lit≤ tt) newer rest short words s new-off new-base
-      ∙ sym (lines-are 1 (lit≤ tt, lit≤ tt) s rest old words s old-off old-base)
+  newest-off : readTail 3 newest ≡ Taken Off
+  unfolding readTail selectionTail
+  newest-off =
+      let size : length newest ≡ length s + 2 = length-append s (0 ∷ 0 ∷ []) in
+      let one : length s + 2 - 1 - length s ≡ 1 = omega arith in
+      rw (base-ends 3 (0 ∷ 0 ∷ []) refl, drop-at s (0 ∷ 0 ∷ []) (length s) refl, zero-last, size, one, lt-leb (length s + 2) (length s) (omega arith))
+
+  module _ (words rest : List ℕ) where
+    old-lines : length (paperOf 1 s rest) ≤ 65536 → sittingLines words (paperOf 1 s rest)
+        ≡ followed (paceOf (readSetup s .answer)) (refusalLine 0 (setupNumber (readSetup s .answer)))
+        (linesFrom (length rest) (rulesOf (wordsAfter words s 0)) Off (freshState (readSetup s .fresh)) rest 0 1)
+    unfolding syllabusIn
+    old-lines short = lines-are 1 (lit≤ tt, lit≤ tt) s rest short words s 0 refl old-off old-base
+
+    -- A VERSION 01 PAPER'S LINES ARE THOSE OF THE VERSION 02 PAPER WITH SELECTION OFF
+    pub off-reads-as-older : length (paperOf 2 newer rest) ≤ 65536 → sittingLines words (paperOf 2 newer rest) ≡ sittingLines words (paperOf 1 s rest)
+    unfolding syllabusIn
+    off-reads-as-older short =
+        let size : length newer ≡ length s + 1 = length-append s (0 ∷ []) in
+        let new = whole-length 2 (lit≤ tt, lit≤ tt) newer rest short in
+        lines-are 2 (lit≤ tt, lit≤ tt) newer rest short words s 0 refl new-off (base-is 2 (0 ∷ []) refl)
+        ∙ sym (old-lines (omega (arith, length-append s rest)))
+
+    -- AND OF THE VERSION 03 PAPER WITH SELECTION OFF AND SYLLABUS 0
+    pub both-off-read-as-older : length (paperOf 3 newest rest) ≤ 65536 → sittingLines words (paperOf 3 newest rest) ≡ sittingLines words (paperOf 1 s rest)
+    both-off-read-as-older short =
+        let size : length newest ≡ length s + 2 = length-append s (0 ∷ 0 ∷ []) in
+        let new = whole-length 3 (lit≤ tt, lit≤ tt) newest rest short in
+        lines-are 3 (lit≤ tt, lit≤ tt) newest rest short words s 0 zero-last newest-off (base-is 3 (0 ∷ 0 ∷ []) refl)
+        ∙ sym (old-lines (omega (arith, length-append s rest)))

@@ -15,7 +15,7 @@ use Rattle.tail.specs.declared.Selecting.{Selecting}
 use Rattle.tail.specs.declared.Selecting.the-variants.{Off, On as SelectingOn}
 use Rattle.tail.specs.declared.ReadTail.{ReadTail}
 use Rattle.tail.specs.declared.ReadTail.the-variants.{Taken as TailTaken, Refused as TailRefused}
-use Rattle.tail.specs.Tail.{basePart, readTail}
+use Rattle.tail.specs.Tail.{basePart, syllabusIn, readTail}
 use Rattle.paper.specs.declared.Next.{Next}
 use Rattle.paper.specs.declared.Next.the-variants.{Record, Fault, End}
 use Rattle.paper.specs.declared.Opened.{Opened}
@@ -118,10 +118,10 @@ openedTold paper (Setup version start end) = setupTold version (part paper start
 unfoldable pub begunTold : List ℕ → Told
 begunTold paper = openedTold paper (openPaper paper)
 
--- the lent words then hold the base's rules; where the set-up is refused they stay
+-- the lent words then hold the base's rules, by the paper's syllabus; where the set-up is refused they stay
 abbrev pub wordsTail : List ℕ → (version : ℕ) (body : List ℕ) → ReadTail → List ℕ
 wordsTail words version body (TailRefused refusal) = words
-wordsTail words version body (TailTaken selecting) = wordsAfter words (basePart version body)
+wordsTail words version body (TailTaken selecting) = wordsAfter words (basePart version body) (syllabusIn version body)
 
 unfoldable pub wordsSetUp : List ℕ → (version : ℕ) (body : List ℕ) → List ℕ
 wordsSetUp words version body = wordsTail words version body (readTail version body)

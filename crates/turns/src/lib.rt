@@ -200,10 +200,17 @@ fn setup_number(answer: SetupAnswer) -> u8
 }
 
 // The turn of a set-up's base.
-fn take_base(body: &[u8], end: usize, words: &mut Words, room: &mut [u8], to: usize) -> Turn
-    ensures { λ r. ⌜ Written (baseTold (now (body .entry)) end) (now (room .entry)) to r (now (room .exit)) × (now (words .exit) ≡ wordsAfter (now (words .entry)) (now (body .entry))) ⌝ }
+fn take_base(
+    body: &[u8],
+    syllabus: u8,
+    end: usize,
+    words: &mut Words,
+    room: &mut [u8],
+    to: usize,
+) -> Turn
+    ensures { λ r. ⌜ Written (baseTold (now (body .entry)) end) (now (room .entry)) to r (now (room .exit)) × (now (words .exit) ≡ wordsAfter (now (words .entry)) (now (body .entry)) syllabus) ⌝ }
 {
-    let read = setup::read_setup(body, words);
+    let read = setup::read_setup(body, syllabus, words);
     let fresh = read.fresh;
     let answer = read.answer;
     Turn {
@@ -273,7 +280,8 @@ fn take_setup(
         }
         ReadTail::Taken(_) => {
             let base = tail::base_end(version, body);
-            take_base(&body[..base], end, words, room, to)
+            let syllabus = tail::syllabus_in(version, body);
+            take_base(&body[..base], syllabus, end, words, room, to)
         }
     }
 }

@@ -1,6 +1,7 @@
 use borrow.Author.Needs.{needs}
 use denote.Ref.{now}
 use mathlib.Core.Path.{refl}
+use mathlib.Core.List.{[], _∷_}
 use Rattle.load.specs.Load.{loaded, headWords}
 use Rattle.load.proofs.Sizes.{head-size, profiles-size, rates-size}
 use Rattle.load.proofs.Stores.{Run, behind}
@@ -15,7 +16,8 @@ returns c =
     let run1 : Run (now (a .words)) 0 (headWords s) 7 _ = record { is = c .before .before .before .before .load-head .ensures; size = head-size s } in
     let run2 = behind _ _ _ 0 7 7 20 run1 (c .before .before .load-rates .ensures) (rates-size s) refl in
     let run3 = behind _ _ _ 0 27 27 136 run2 (c .load-profiles .ensures) (profiles-size s) refl in
-    run3 .is
+    let run4 = behind _ _ (a .syllabus ∷ []) 0 163 163 1 run3 refl refl refl in
+    run4 .is
 
 pub load-spec : {M : Type 1} → statement M
-load-spec = tie.close (tie.spec (search needs) (search needs) (search needs) returns)
+load-spec = tie.close (tie.spec (search needs) (search needs) (search needs) (search needs) returns)

@@ -7,19 +7,19 @@ use Prim.Native.Nat.{ℕ, _+_, _-_, _*_, _^_, _≤_}
 use native.Mathlib.Omega.{arith}
 use lib.Pow.{pow-add}
 use Rattle.money.specs.Money.{scaled}
-use Rattle.money.proofs.Power.{ten-pos, down, up, digits-fit, power-fits, shift-fits}
+use Rattle.money.proofs.Power.{ten-pos, divides, multiplies, product-most, power-most, shift-fits}
 use Rattle.money.proofs.scale.Statement.{statement}
 use Rattle.money.proofs.scale.Tie as tie
 
 abbrev Inv-loop : tie.InvT-loop
-Inv-loop amount rate product exponent power₀ i₀ power i =
+Inv-loop amount rate up product exponent power₀ i₀ power i =
     (i ≤ exponent) × (exponent ≡ (9 - rate .shift) + (rate .shift - 9)) × (power ≡ 10 ^ i)
 
 abbrev μ-loop : tie.MeasureT-loop
-μ-loop amount rate product exponent power₀ i₀ power i = exponent - i
+μ-loop amount rate up product exponent power₀ i₀ power i = exponent - i
 
 mul-product : tie.Need-mul-product Inv-loop μ-loop
-mul-product c = record { fits = digits-fit (c .before .pre .0) (c .before .pre .1) }
+mul-product c = let product = product-most (c .before .pre .0) (c .before .pre .1) in record { fits = omega arith }
 
 loop-holds : tie.Need-loop-holds Inv-loop μ-loop
 loop-holds c = (omega arith, ⊎-elim (λ w. omega arith) (λ w. omega arith) (c .if1 .came), refl)
@@ -27,15 +27,21 @@ loop-holds c = (omega arith, ⊎-elim (λ w. omega arith) (λ w. omega arith) (c
 mul-power : tie.Need-mul-power Inv-loop μ-loop
 mul-power c =
     let l = c .before .loop in
-    rw (l .inv .2) (record { fits = power-fits {k = l .counter} (omega arith) })
+    let power = power-most {k = l .counter} (omega arith) in
+    record { fits = omega (arith, l .inv .2) }
 
 loop-again : tie.Need-loop-again Inv-loop μ-loop
 loop-again c =
     let l = c .before .loop in
     (omega arith, l .inv .1, ap (λ (power : ℕ). power * 10) (l .inv .2) ∙ sym (pow-add 10 (l .counter) 1))
 
-div-result : tie.Need-div-result Inv-loop μ-loop
-div-result c = rw (c .before .before .before .loop .inv .2) (ten-pos _)
+divide-requires : tie.Need-divide-requires Inv-loop μ-loop
+divide-requires c κs =
+    let l = c .before .before .before .loop in
+    let pre = c .before .before .before .before .before .before .before .pre in
+    let product = product-most (pre .0) (pre .1) in
+    let power = power-most {k = l .counter} (omega arith) in
+    (rw (l .inv .2) (ten-pos _), omega (arith, l .inv .2))
 
 mul-result : tie.Need-mul-result Inv-loop μ-loop
 mul-result c =
@@ -46,10 +52,10 @@ mul-result c =
 returns : tie.Need-returns Inv-loop μ-loop
 unfolding scaled
 returns c =
-    let l = c .before .before .before .loop in
-    let a = c .before .before .before .before .before .before .before .args in
+    let l = c .before .before .before .before .loop in
+    let a = c .before .before .before .before .before .before .before .before .args in
     let turns : l .counter ≡ 9 - a .rate .shift = omega arith in
-    simp (l .inv .2, turns, down (a .amount * a .rate .digits) (a .rate .shift) (omega arith))
+    simp (c .divide .ensures, l .inv .2, turns, divides (a .up) (a .amount * a .rate .digits) (a .rate .shift) (omega arith))
 
 returns-2 : tie.Need-returns-2 Inv-loop μ-loop
 unfolding scaled
@@ -57,7 +63,7 @@ returns-2 c =
     let l = c .before .before .before .loop in
     let a = c .before .before .before .before .before .before .before .args in
     let turns : l .counter ≡ a .rate .shift - 9 = omega arith in
-    simp (l .inv .2, turns, up (a .amount * a .rate .digits) (a .rate .shift) (omega arith))
+    simp (l .inv .2, turns, multiplies (a .up) (a .amount * a .rate .digits) (a .rate .shift) (omega arith))
 
 pub scale-spec : {M : Type 1} → statement M
 scale-spec =
@@ -73,7 +79,7 @@ scale-spec =
     (search needs)
     (search needs)
     loop-again
-    div-result
+    divide-requires
     mul-result
     returns
     returns-2)

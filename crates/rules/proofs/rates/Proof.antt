@@ -8,4 +8,4 @@ unfolding rulesOf
 returns c = cc
 
 pub rates-spec : {M : Type 1} → statement M
-rates-spec = tie.close (tie.spec (search needs) (search needs) (search needs) (search needs) (search needs) returns)
+rates-spec = tie.close (tie.spec (search needs) (search needs) (search needs) (search needs) (search needs) (search needs) returns)
