@@ -1,0 +1,26 @@
+-- The codes, then the rate, then the MTA.
+use borrow.Author.Needs.{needs}
+use borrow.Author.Tests.{not-true, not-false}
+use mathlib.Core.Path.{sym, _∙_}
+use Rattle.import.specs.Import.{takeOver}
+use Rattle.import.proofs.take_over.Statement.{statement}
+use Rattle.import.proofs.take_over.Tie as tie
+
+returns : tie.Need-returns
+unfolding takeOver
+returns c = simp (sym (c .before .are-currencies .ensures) ∙ not-true _ (c .if1 .taken))
+
+returns-2 : tie.Need-returns-2
+unfolding takeOver
+returns-2 c =
+    let d = c .before .before .before .before in
+    simp (sym (d .before .before .are-currencies .ensures) ∙ not-false _ (d .before .if1 .left), sym (d .rate-of .ensures) ∙ c .before .before .found .given .1, c .with-mta .ensures)
+
+returns-3 : tie.Need-returns-3
+unfolding takeOver
+returns-3 c =
+    let d = c .before .before in
+    simp (sym (d .before .before .are-currencies .ensures) ∙ not-false _ (d .before .if1 .left), sym (d .rate-of .ensures) ∙ c .enum-told .given .1)
+
+pub take-over-spec : {M : Type 1} → statement M
+take-over-spec = tie.close (tie.spec (search needs) returns (search needs) (search needs) (search needs) (search needs) returns-2 returns-3)

@@ -1,0 +1,9 @@
+pub mod Search
+pub mod Power
+pub mod Rounding
+pub mod Names
+pub mod Exactly
+pub mod Request
+pub mod Apart
+pub mod Decimal
+pub mod Settled
