@@ -379,6 +379,31 @@ static void wide(void)
     emit();
 }
 
+/* A file that ends too early for one who does not look: what stands behind an
+ * entry, or behind the file, would serve as the rest or as the next entry. */
+static void beyond(void)
+{
+    uint8_t filler[255] = {0};
+    uint8_t behind[0x0A00] = {2, 0, 0, 0, 0, 0, 1, 1};
+
+    fresh(); /* nL + 6 is 262, which is not 6 */
+    entry(&(const struct bytes){6, {1, 128, 2, 0, 0, 0}});
+    filler[253] = 1;
+    filler[254] = 1;
+    draft_entry(&setup.file, filler, sizeof filler);
+    begin();
+    draft_data(draft, filler, sizeof filler);
+    first(TC, 1);
+    emit();
+
+    fresh(); /* length 0A01 and kind 2 read like E, P and L */
+    always(0x81);
+    begin();
+    draft_data(draft, behind, sizeof behind);
+    first(TC, 1);
+    emit();
+}
+
 /* From the first to the last of so many entries, by moves of so many at most;
  * all that are passed over are ill-formed. */
 static void ladder(unsigned entries, unsigned step)
@@ -544,6 +569,7 @@ void listed_selection(struct draft *to, void (*then)(struct draft *draft))
     actions();
     tests();
     wide();
+    beyond();
     moves();
     tails();
 }
