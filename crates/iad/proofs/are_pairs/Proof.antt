@@ -20,7 +20,8 @@ loop-holds c = (refl, search needs)
 
 loop-again : tie.Need-loop-again Inv-loop μ-loop
 unfolding arePairs
-loop-again c = (rw add-one (cc), search needs)
+loop-again c =
+    (rw add-one (simp (c .is-pair .ensures, c .before .byte-at .ensures, c .before .before .before .loop .inv .0)), search needs)
 
 returns : tie.Need-returns Inv-loop μ-loop
 returns c = let six : c .before .loop .i ≡ 6 = omega arith in rw six at (c .before .loop .inv .0)

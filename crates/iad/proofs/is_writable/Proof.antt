@@ -6,7 +6,7 @@ use Rattle.iad.proofs.is_writable.Tie as tie
 
 returns : tie.Need-returns
 unfolding isWritable
-returns c = cc
+returns c = simp (c .is-profile .ensures, c .before .is-cvr .ensures)
 
 pub is-writable-spec : {M : Type 1} → statement M
 is-writable-spec = tie.close (tie.spec (search needs) (search needs) returns)

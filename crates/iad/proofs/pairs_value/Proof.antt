@@ -28,7 +28,12 @@ add-amount c = omega (arith, small (c .before .before .before .loop .i) (search 
 
 loop-again : tie.Need-loop-again Inv-loop μ-loop
 unfolding pairsValue
-loop-again c = (rw add-one (cc), rw add-one (omega (arith, pow-suc 100 (c .before .before .before .loop .i))), search needs)
+loop-again c =
+    let at-loop = c .before .before .before .loop in (
+      rw add-one (simp (c .pair-value .ensures, c .before .byte-at .ensures, at-loop .inv .0)),
+      rw add-one (omega (arith, pow-suc 100 (at-loop .i))),
+      search needs,
+    )
 
 returns : tie.Need-returns Inv-loop μ-loop
 returns c = let six : c .before .loop .i ≡ 6 = omega arith in rw six at (c .before .loop .inv .0)
