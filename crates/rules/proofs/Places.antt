@@ -1,12 +1,12 @@
 -- A profile stands in the words at its base; what is four times there is found by its index. Assumes nothing.
-use mathlib.Core.Path.{_≡_, refl}
+use mathlib.Core.Path.{_≡_, refl, sym, ap, _∙_}
 use mathlib.Core.List.{List}
 use Prim.Native.Nat.{ℕ, zero, suc, _≤_, _<_}
 use native.Mathlib.Omega.{arith}
 use lib.ListN.{getD, List·getD-eq-default}
 use Rattle.rules.specs.declared.Place.{Place}
 use Rattle.rules.specs.declared.Place.the-variants.{One, Two, Three, Four}
-use Rattle.rules.specs.Rules.{four, profileOf, rulesOf, profileBase, profileAt}
+use Rattle.rules.specs.Rules.{Profile, four, profileOf, rulesOf, profileBase, profileAt}
 
 pub profile-at : (w : List ℕ) (place : Place) → profileAt (rulesOf w) place ≡ profileOf w (profileBase place)
 unfolding rulesOf
@@ -14,6 +14,11 @@ profile-at w One = refl
 profile-at w Two = refl
 profile-at w Three = refl
 profile-at w Four = refl
+
+-- what is read of a profile at its base
+pub part-at : {A : Type 0} (part : Profile → A) (w : List ℕ) (place : Place) (at : ℕ) → at ≡ profileBase place
+    → part (profileOf w at) ≡ part (profileAt (rulesOf w) place)
+part-at part w place at e = ap (λ (k : ℕ). part (profileOf w k)) e ∙ sym (ap part (profile-at w place))
 
 module _ {A : Type 0} (f : ℕ → A) (d : A) where
   pub four-at : (i : ℕ) → i < 4 → getD (four f) i d ≡ f i

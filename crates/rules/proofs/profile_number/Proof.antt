@@ -1,13 +1,13 @@
 use borrow.Author.Needs.{needs}
 use denote.Ref.{now}
 use Rattle.rules.specs.Rules.{profileOf}
-use Rattle.rules.proofs.Places.{profile-at}
+use Rattle.rules.proofs.Places.{part-at}
 use Rattle.rules.proofs.profile_number.Statement.{statement}
 use Rattle.rules.proofs.profile_number.Tie as tie
 
 returns : tie.Need-returns
 unfolding profileOf
-returns c = let a = c .before .before .args in simp (c .before .base .ensures .0, profile-at (now (a .words)) (a .place))
+returns c = let a = c .before .before .args in part-at (λ p. p .number) (now (a .words)) (a .place) _ (c .before .base .ensures .0)
 
 pub profile-number-spec : {M : Type 1} → statement M
 profile-number-spec = tie.close (tie.spec (search needs) (search needs) (search needs) (search needs) returns)
