@@ -15,4 +15,4 @@ returns c =
     simp (at1, at2, c .u64-at2 .ensures, c .before .u64-at .ensures, c .before .before .byte-at .ensures)
 
 pub load-accumulator-spec : {M : Type 1} → statement M
-load-accumulator-spec = tie.close (tie.spec (search needs) (search needs) (search needs) (search needs) (search needs) (search needs) (search needs) (search needs) (search needs) (search needs) (search needs) (search needs) (search needs) (search needs) returns)
+load-accumulator-spec = tie.close (tie.spec (search needs) (search needs) (λ c. omega arith) (λ c. omega arith) (λ c. omega arith) (search needs) (λ c. omega arith) (λ c. omega arith) (λ c. omega arith) (λ c. omega arith) (search needs) (λ c. omega arith) (λ c. omega arith) (λ c. omega arith) returns)

@@ -15,4 +15,4 @@ returns c =
     simp (at1, at2, c .byte-at3 .ensures, c .before .byte-at2 .ensures, c .before .before .byte-at .ensures)
 
 pub load-bytes-spec : {M : Type 1} → statement M
-load-bytes-spec = tie.close (tie.spec (search needs) (search needs) (search needs) (search needs) (search needs) (search needs) (search needs) (search needs) (search needs) (search needs) (search needs) (search needs) (search needs) (search needs) (search needs) (search needs) returns)
+load-bytes-spec = tie.close (tie.spec (search needs) (search needs) (λ c. omega arith) (λ c. omega arith) (λ c. omega arith) (search needs) (search needs) (λ c. omega arith) (λ c. omega arith) (λ c. omega arith) (λ c. omega arith) (search needs) (search needs) (λ c. omega arith) (λ c. omega arith) (λ c. omega arith) returns)

@@ -19,4 +19,4 @@ returns c =
     simp (at1, at2, at3, at4, at5, at6, c .u64-at .ensures, c .before .u16-at .ensures, c .before .before .byte-at2 .ensures, c .before .before .before .u32-at3 .ensures, c .before .before .before .before .u32-at2 .ensures, c .before .before .before .before .before .u32-at .ensures, c .before .before .before .before .before .before .byte-at .ensures)
 
 pub load-profile-head-spec : {M : Type 1} → statement M
-load-profile-head-spec = tie.close (tie.spec (search needs) (search needs) (search needs) (search needs) (search needs) (search needs) (search needs) (search needs) (search needs) (search needs) (search needs) (search needs) (search needs) (search needs) (search needs) (search needs) (search needs) (search needs) (search needs) (search needs) (search needs) (search needs) (search needs) (search needs) (search needs) (search needs) (search needs) (search needs) (search needs) (search needs) (search needs) (search needs) (search needs) (search needs) (search needs) (search needs) (search needs) (search needs) (search needs) returns)
+load-profile-head-spec = tie.close (tie.spec (search needs) (search needs) (λ c. omega arith) (λ c. omega arith) (λ c. omega arith) (search needs) (search needs) (λ c. omega arith) (λ c. omega arith) (λ c. omega arith) (λ c. omega arith) (search needs) (search needs) (λ c. omega arith) (λ c. omega arith) (λ c. omega arith) (λ c. omega arith) (search needs) (search needs) (λ c. omega arith) (λ c. omega arith) (λ c. omega arith) (λ c. omega arith) (search needs) (search needs) (λ c. omega arith) (λ c. omega arith) (λ c. omega arith) (λ c. omega arith) (search needs) (search needs) (λ c. omega arith) (λ c. omega arith) (λ c. omega arith) (λ c. omega arith) (search needs) (λ c. omega arith) (λ c. omega arith) (λ c. omega arith) returns)
