@@ -1,4 +1,5 @@
 use borrow.Author.Needs.{needs}
+use native.Mathlib.Omega.{arith}
 use Rattle.ranges.specs.Ranges.{isConversion}
 use Rattle.ranges.proofs.is_conversion.Statement.{statement}
 use Rattle.ranges.proofs.is_conversion.Tie as tie
@@ -8,4 +9,4 @@ unfolding isConversion
 returns c = simp (c .byte-at .ensures, c .before .is-currency2 .ensures, c .before .before .is-currency .ensures, c .before .before .before .u16-at3 .ensures, c .before .before .before .before .u16-at2 .ensures, c .before .before .before .before .before .u16-at .ensures)
 
 pub is-conversion-spec : {M : Type 1} → statement M
-is-conversion-spec = tie.close (tie.spec (search needs) (search needs) (search needs) (search needs) (search needs) (search needs) (search needs) (search needs) (search needs) returns)
+is-conversion-spec = tie.close (tie.spec (search needs) (λ c. omega arith) (search needs) (λ c. omega arith) (search needs) (search needs) (search needs) (λ c. omega arith) (search needs) returns)

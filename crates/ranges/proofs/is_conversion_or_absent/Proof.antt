@@ -1,5 +1,6 @@
 use borrow.Author.Needs.{needs}
 use borrow.Author.Tests.{lt-ltb, le-ltb}
+use native.Mathlib.Omega.{arith}
 use Rattle.ranges.specs.Ranges.{isConversionOrAbsent}
 use Rattle.ranges.proofs.is_conversion_or_absent.Statement.{statement}
 use Rattle.ranges.proofs.is_conversion_or_absent.Tie as tie
@@ -13,4 +14,4 @@ unfolding isConversionOrAbsent
 returns-2 c = rw (← c .before .conversion-place .ensures .0, ← c .before .before .before .byte-at .ensures) (simp (lt-ltb _ _ (c .before .before .if1 .left), c .is-conversion .ensures))
 
 pub is-conversion-or-absent-spec : {M : Type 1} → statement M
-is-conversion-or-absent-spec = tie.close (tie.spec (search needs) (search needs) returns (search needs) (search needs) returns-2)
+is-conversion-or-absent-spec = tie.close (tie.spec (search needs) (search needs) returns (search needs) (λ c. omega arith) returns-2)

@@ -1,4 +1,5 @@
 use borrow.Author.Needs.{needs}
+use native.Mathlib.Omega.{arith}
 use Rattle.ranges.specs.Ranges.{isMaximumAmount}
 use Rattle.ranges.proofs.is_maximum_amount.Statement.{statement}
 use Rattle.ranges.proofs.is_maximum_amount.Tie as tie
@@ -8,4 +9,4 @@ unfolding isMaximumAmount
 returns c = simp (c .u64-at .ensures, c .before .is-currency .ensures, c .before .before .u16-at .ensures, c .before .before .before .byte-at .ensures)
 
 pub is-maximum-amount-spec : {M : Type 1} → statement M
-is-maximum-amount-spec = tie.close (tie.spec (search needs) (search needs) (search needs) (search needs) (search needs) (search needs) (search needs) returns)
+is-maximum-amount-spec = tie.close (tie.spec (λ c. omega arith) (search needs) (λ c. omega arith) (search needs) (search needs) (λ c. omega arith) (search needs) returns)

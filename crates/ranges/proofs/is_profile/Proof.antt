@@ -1,4 +1,5 @@
 use borrow.Author.Needs.{needs}
+use native.Mathlib.Omega.{arith}
 use Rattle.ranges.specs.Ranges.{isProfile}
 use Rattle.ranges.proofs.is_profile.Statement.{statement}
 use Rattle.ranges.proofs.is_profile.Tie as tie
@@ -8,4 +9,4 @@ unfolding isProfile
 returns c = simp (c .are-sent .ensures, c .before .are-counter-rules .ensures, c .before .before .are-accumulator-rules .ensures, c .before .before .before .is-maximum-amount .ensures, c .before .before .before .before .are-masks .ensures, c .before .before .before .before .before .byte-at .ensures)
 
 pub is-profile-spec : {M : Type 1} → statement M
-is-profile-spec = tie.close (tie.spec (search needs) (search needs) (search needs) (search needs) (search needs) (search needs) returns)
+is-profile-spec = tie.close (tie.spec (search needs) (λ c. omega arith) (λ c. omega arith) (λ c. omega arith) (λ c. omega arith) (λ c. omega arith) returns)

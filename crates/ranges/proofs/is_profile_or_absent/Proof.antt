@@ -1,5 +1,6 @@
 use borrow.Author.Needs.{needs}
 use borrow.Author.Tests.{lt-ltb, le-ltb}
+use native.Mathlib.Omega.{arith}
 use Rattle.ranges.specs.Ranges.{isProfileOrAbsent}
 use Rattle.ranges.proofs.is_profile_or_absent.Statement.{statement}
 use Rattle.ranges.proofs.is_profile_or_absent.Tie as tie
@@ -13,4 +14,4 @@ unfolding isProfileOrAbsent
 returns-2 c = rw (← c .before .profile-place .ensures .0, ← c .before .before .before .byte-at .ensures) (simp (lt-ltb _ _ (c .before .before .if1 .left), c .is-profile .ensures))
 
 pub is-profile-or-absent-spec : {M : Type 1} → statement M
-is-profile-or-absent-spec = tie.close (tie.spec (search needs) (search needs) returns (search needs) (search needs) returns-2)
+is-profile-or-absent-spec = tie.close (tie.spec (search needs) (search needs) returns (search needs) (λ c. omega arith) returns-2)
