@@ -6,8 +6,9 @@ use Rattle.rules.proofs.rates.Tie as tie
 returns : tie.Need-returns
 unfolding rulesOf
 returns c =
-    let d = c .before .before .before in
-    simp (c .rate5 .ensures, c .before .rate4 .ensures, c .before .before .rate3 .ensures, d .rate2 .ensures, d .before .rate .ensures)
+    let five = c .before in
+    let two = five .before .before .before in
+    simp (five .rate5 .ensures, five .before .rate4 .ensures, five .before .before .rate3 .ensures, two .rate2 .ensures, two .before .rate .ensures)
 
 pub rates-spec : {M : Type 1} → statement M
 rates-spec = tie.close (tie.spec (search needs) (search needs) (search needs) (search needs) (search needs) (search needs) returns)
