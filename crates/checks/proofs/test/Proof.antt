@@ -5,7 +5,7 @@ use Rattle.checks.proofs.test.Tie as tie
 
 returns : tie.Need-returns
 unfolding testsOf
-returns c = cc
+returns c = simp (c .exceeds-maximum .ensures, c .before .test-counters .ensures, c .before .before .test-accumulators .ensures)
 
 pub test-spec : {M : Type 1} → statement M
 test-spec = tie.close (tie.spec (search needs) (search needs) (search needs) returns)

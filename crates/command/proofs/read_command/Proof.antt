@@ -6,15 +6,15 @@ use Rattle.command.proofs.read_command.Tie as tie
 
 returns : tie.Need-returns
 unfolding commandOf
-returns c = simp (c .before .if1 .taken) (cc)
+returns c = simp (c .before .if1 .taken, c .read-start .ensures)
 
 returns-2 : tie.Need-returns-2
 unfolding commandOf
-returns-2 c = simp (c .before .before .if1 .left, c .before .if2 .taken) (cc)
+returns-2 c = simp (c .before .before .if1 .left, c .before .if2 .taken, c .read-first .ensures)
 
 returns-3 : tie.Need-returns-3
 unfolding commandOf
-returns-3 c = simp (c .before .before .before .if1 .left, c .before .before .if2 .left, c .before .if3 .taken) (cc)
+returns-3 c = simp (c .before .before .before .if1 .left, c .before .before .if2 .left, c .before .if3 .taken, c .read-second .ensures)
 
 returns-4 : tie.Need-returns-4
 unfolding commandOf

@@ -6,7 +6,7 @@ use Rattle.command.proofs.read_start.Tie as tie
 
 returns : tie.Need-returns
 unfolding startOf
-returns c = cc
+returns c = simp (c .byte-at .ensures)
 
 pub read-start-spec : {M : Type 1} → statement M
 read-start-spec = tie.close (tie.spec (search needs) returns)
