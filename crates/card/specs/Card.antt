@@ -22,8 +22,6 @@ use Rattle.command.specs.declared.Command.{Command}
 use Rattle.command.specs.declared.Command.the-variants.{Start as StartCommand, First as FirstCommand, Second as SecondCommand}
 use Rattle.state.specs.declared.Answer.{Answer}
 use Rattle.state.specs.declared.Answer.the-variants.{Refused, Started, Given}
-use Rattle.state.specs.declared.Kind.{Kind}
-use Rattle.state.specs.declared.Kind.the-variants.{Aac, Tc, Arqc}
 use Rattle.state.specs.declared.Pending.{Pending}
 use Rattle.state.specs.declared.Phase.{Phase}
 use Rattle.state.specs.declared.Phase.the-variants.{Idle, Opened, Asked}
@@ -118,13 +116,8 @@ stepOf rules state (StartCommand start) = startStep rules state start
 stepOf rules state (FirstCommand first) = firstStep rules state first
 stepOf rules state (SecondCommand second) = secondStep rules state second
 
--- the number of each answer, and the CID of a cryptogram: TC 40, ARQC 80, AAC 00
+-- the number of each answer
 abbrev pub answerNumber : Answer → ℕ
 answerNumber (Refused refusal) = refusalNumber refusal
 answerNumber (Started atc visits) = 0
 answerNumber (Given kind atc iad) = 0
-
-abbrev pub cidOf : Kind → ℕ
-cidOf Aac = 0x00
-cidOf Tc = 0x40
-cidOf Arqc = 0x80

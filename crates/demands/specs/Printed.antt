@@ -9,7 +9,7 @@ use Rattle.command.specs.declared.Command.the-variants.{Start as StartCommand, 
 use Rattle.selection.specs.declared.Selection.the-variants.{Selected}
 use Rattle.state.specs.declared.Answer.{Answer}
 use Rattle.state.specs.declared.Answer.the-variants.{Refused, Started, Given}
-use Rattle.card.specs.Card.{cidOf}
+use Rattle.state.specs.State.{cidOf}
 use Rattle.demands.specs.Conversation.{Exchange}
 
 abbrev zeros : ℕ → List ℕ

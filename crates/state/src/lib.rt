@@ -1,4 +1,6 @@
 // The card's state, and what a command comes to.
+ghost use mathlib.Core.Path.{_≡_};
+ghost use Rattle.state.specs.State.{cidOf};
 use checks::History;
 use iad::Iad;
 use meters::Purchase;
@@ -45,4 +47,14 @@ pub enum Answer {
 pub struct Outcome {
     pub state: State,
     pub answer: Answer,
+}
+
+pub fn cid_of(kind: Kind) -> u8
+    ensures { λ r. ⌜ r ≡ cidOf kind ⌝ }
+{
+    match kind {
+        Kind::Aac => 0x00,
+        Kind::Tc => 0x40,
+        Kind::Arqc => 0x80,
+    }
 }

@@ -1,4 +1,3 @@
 pub mod Parts
 pub mod Rooms
 pub mod Sitting
-pub mod Versions

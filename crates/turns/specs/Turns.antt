@@ -28,7 +28,8 @@ use Rattle.command.specs.Command.{commandOf, selectingOf}
 use Rattle.state.specs.declared.Answer.{Answer}
 use Rattle.state.specs.declared.Answer.the-variants.{Refused, Started, Given}
 use Rattle.state.specs.declared.State.{State}
-use Rattle.card.specs.Card.{stepOf, freshState, cidOf}
+use Rattle.state.specs.State.{cidOf}
+use Rattle.card.specs.Card.{stepOf, freshState}
 use Rattle.lines.specs.Lines.{longest, refusalLine, startLine, selectedLine, cryptogramLine, placed, placeBehind}
 use Rattle.turns.specs.declared.Pace.{Pace}
 use Rattle.turns.specs.declared.Pace.the-variants.{On, Over, NoRoom}

@@ -4,7 +4,6 @@ ghost use Prim.Native.Nat.{_+_, _<_, _^_};
 ghost use lib.ListN.{length};
 ghost use Rattle.rules.specs.Rules.{rulesOf};
 ghost use Rattle.lines.specs.Lines.{placed, placeBehind};
-ghost use Rattle.card.specs.Card.{cidOf};
 ghost use Rattle.setup.specs.Setup.{setupNumber, wordsAfter};
 ghost use Rattle.tail.specs.Tail.{readTail};
 ghost use Rattle.turns.specs.Turns.{hasRoom, startedLine, answerLine, Written, commandIn, commandTold, turnTold, turnOf, paceOf, baseTold, inPaper, selectingIn, setupTold, wordsSetUp, begunTold, beginning, wordsBegun};
@@ -15,7 +14,6 @@ use refusal::Refusal;
 use rules::Words;
 use setup::SetupAnswer;
 use state::Answer;
-use state::Kind;
 use state::State;
 use tail::ReadTail;
 use tail::Selecting;
@@ -45,16 +43,6 @@ fn has_room(bytes: usize, to: usize) -> bool
     to <= bytes - lines::LONGEST
 }
 
-fn cid_of(kind: Kind) -> u8
-    ensures { λ r. ⌜ r ≡ cidOf kind ⌝ }
-{
-    match kind {
-        Kind::Aac => 0x00,
-        Kind::Tc => 0x40,
-        Kind::Arqc => 0x80,
-    }
-}
-
 // The visits show where a profile was selected.
 fn put_started(room: &mut [u8], to: usize, number: u16, atc: u16, visits: u8) -> usize
     ensures { λ r. ⌜ (r ≡ placeBehind (length (now (room .entry))) to (startedLine number atc visits)) × (now (room .exit) ≡ placed (now (room .entry)) to (startedLine number atc visits)) ⌝ }
@@ -80,7 +68,7 @@ fn put_answer(room: &mut [u8], to: usize, number: u16, answer: Answer) -> usize
             room,
             to,
             number,
-            cid_of(kind),
+            state::cid_of(kind),
             atc,
             iad,
         ),

@@ -1,0 +1,1 @@
+// What a version of papers means to an older one, as theorems.
