@@ -1,6 +1,6 @@
 // Commands out of record bodies. What a command says is judged by the card.
 ghost use mathlib.Core.Path.{_≡_};
-ghost use Rattle.command.specs.Command.{startOf, firstOf, secondOf, commandOf, selectingOf};
+ghost use Rattle.command.specs.Command.{startOf, firstOf, secondOf, commandOf};
 use money::TransactionAmount;
 use refusal::Refusal;
 use selection::Selection;
@@ -92,15 +92,4 @@ pub fn read_command(kind: u8, body: &[u8]) -> ReadCommand
         return ReadCommand::Taken(Command::Second(read_second(body)));
     }
     ReadCommand::Refused(Refusal::Unreadable)
-}
-
-// The same where profiles are selected: a Start's body is the terminal's data, of any length.
-pub fn read_selecting(file: &[u8], entries: u8, kind: u8, body: &[u8]) -> ReadCommand
-    ensures { λ r. ⌜ r ≡ selectingOf (now (file .entry)) entries kind (now (body .entry)) ⌝ }
-{
-    if kind == START {
-        let chosen = selection::select(file, entries, body);
-        return ReadCommand::Taken(Command::Start(Start { chosen }));
-    }
-    read_command(kind, body)
 }

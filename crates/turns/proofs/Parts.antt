@@ -18,7 +18,13 @@ use Rattle.paper.specs.declared.Opened.{Opened}
 use Rattle.paper.specs.declared.Opened.the-variants.{Setup, Refused}
 use Rattle.paper.specs.Paper.{isUnreadable, nextAt, setupIn, openPaper}
 use Rattle.paper.proofs.Walk.{inside}
+use Rattle.tail.specs.declared.Selecting.{Selecting}
+use Rattle.tail.specs.declared.Selecting.the-variants.{Off, On}
+use Rattle.command.specs.declared.Command.the-variants.{Start as StartCommand}
+use Rattle.command.specs.declared.ReadCommand.the-variants.{Taken}
+use Rattle.command.specs.Command.{commandOf, selectingOf}
 use Rattle.lines.specs.Lines.{longest, placed, placeBehind}
+use Rattle.turns.specs.Turns.{isSelecting, selectedIn, commandIn}
 
 pub record-inside : (s : List ℕ) (at kind start end : ℕ) → nextAt s at ≡ Record kind start end → (start ≤ end) × (end ≤ length s)
 record-inside s at kind start end e =
@@ -84,3 +90,16 @@ both a b c d e = by (leb a b) (leb c d) refl refl e where
 
 pub part-length : (s : List ℕ) (start end : ℕ) → start ≤ end → end ≤ length s → length (part s start end) ≡ end - start
 part-length s start end h l = length-take-le (end - start) (drop start s) (rw (length-drop start s) (omega arith))
+
+-- a Start that selects is what the file selects, and every other record reads as where nothing is selected
+pub selected : (selecting : Selecting) (paper : List ℕ) (kind : ℕ) (body : List ℕ) → isSelecting selecting kind ≡ true
+    → commandIn selecting paper kind body ≡ Taken (StartCommand (record { chosen = selectedIn selecting paper body }))
+unfolding commandIn selectingOf
+selected Off paper kind body e = absurd (let z : _≡_ {A = ℕ} 0 1 = cc in omega arith)
+selected (On start end entries) paper kind body e = rw e
+
+pub unselected : (selecting : Selecting) (paper : List ℕ) (kind : ℕ) (body : List ℕ) → isSelecting selecting kind ≡ false
+    → commandIn selecting paper kind body ≡ commandOf kind body
+unfolding commandIn selectingOf
+unselected Off paper kind body e = refl
+unselected (On start end entries) paper kind body e = rw e

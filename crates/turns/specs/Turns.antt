@@ -1,7 +1,7 @@
 -- The turns of a sitting (document 01, "The paper" and "A sitting in full").
 use mathlib.Core.Path.{_≡_}
 use Prim.Native.Nat.{ℕ, _+_}
-use mathlib.Core.Bool.{Bool, cond, _&&_}
+use mathlib.Core.Bool.{Bool, false, cond, _&&_}
 use mathlib.Core.List.{List, []}
 use lib.Dec.{eqb, leb}
 use lib.ListN.{length}
@@ -11,6 +11,9 @@ use Rattle.rules.specs.Rules.{Rules}
 use Rattle.setup.specs.declared.SetupAnswer.{SetupAnswer}
 use Rattle.setup.specs.declared.SetupAnswer.the-variants.{Done, Refused as SetupRefused}
 use Rattle.setup.specs.Setup.{readSetup, noCard, setupNumber, wordsAfter}
+use Rattle.selection.specs.declared.Selection.{Selection}
+use Rattle.selection.specs.declared.Selection.the-variants.{NotSelected}
+use Rattle.selection.specs.Selection.{selectionOf}
 use Rattle.tail.specs.declared.Selecting.{Selecting}
 use Rattle.tail.specs.declared.Selecting.the-variants.{Off, On as SelectingOn}
 use Rattle.tail.specs.declared.ReadTail.{ReadTail}
@@ -59,6 +62,15 @@ pub record Told : Type 0 where
 -- a file that does not lie in the paper is empty
 abbrev pub fileIn : List ℕ → (start end : ℕ) → List ℕ
 fileIn paper start end = cond (leb start end && leb end (length paper)) (part paper start end) []
+
+-- a record of a kind is a Start that selects its profile, and what the paper's file selects
+abbrev pub isSelecting : Selecting → (kind : ℕ) → Bool
+isSelecting Off kind = false
+isSelecting (SelectingOn start end entries) kind = eqb kind 2
+
+abbrev pub selectedIn : Selecting → (paper terminal : List ℕ) → Selection
+selectedIn Off paper terminal = NotSelected
+selectedIn (SelectingOn start end entries) paper terminal = selectionOf (fileIn paper start end) entries terminal
 
 -- the command in a record of a paper
 unfoldable pub commandIn : Selecting → (paper : List ℕ) (kind : ℕ) (body : List ℕ) → ReadCommand

@@ -6,17 +6,22 @@ ghost use Rattle.rules.specs.Rules.{rulesOf};
 ghost use Rattle.lines.specs.Lines.{placed, placeBehind};
 ghost use Rattle.setup.specs.Setup.{setupNumber, wordsAfter};
 ghost use Rattle.tail.specs.Tail.{readTail};
-ghost use Rattle.turns.specs.Turns.{hasRoom, startedLine, answerLine, Written, commandIn, commandTold, turnTold, turnOf, paceOf, baseTold, inPaper, selectingIn, setupTold, wordsSetUp, begunTold, beginning, wordsBegun};
+ghost use Rattle.turns.specs.Turns.{hasRoom, startedLine, answerLine, Written, isSelecting, selectedIn, commandIn, commandTold, turnTold, turnOf, paceOf, baseTold, inPaper, selectingIn, setupTold, wordsSetUp, begunTold, beginning, wordsBegun};
+use command::Command;
 use command::ReadCommand;
+use command::Start;
 use paper::Next;
 use paper::Opened;
 use refusal::Refusal;
 use rules::Words;
+use selection::Selection;
 use setup::SetupAnswer;
 use state::Answer;
 use state::State;
 use tail::ReadTail;
 use tail::Selecting;
+
+const START: u8 = 2;
 
 // The sitting goes on, is over, or waits until a line has room.
 pub enum Pace {
@@ -75,23 +80,45 @@ fn put_answer(room: &mut [u8], to: usize, number: u16, answer: Answer) -> usize
     }
 }
 
-// The command in a record of a paper. A file that does not lie in the paper is empty.
-fn read_record(selecting: Selecting, paper: &[u8], kind: u8, body: &[u8]) -> ReadCommand
-    ensures { λ r. ⌜ r ≡ commandIn selecting (now (paper .entry)) kind (now (body .entry)) ⌝ }
+// Whether a record of a kind is a Start that selects its profile.
+fn selects(selecting: Selecting, kind: u8) -> bool
+    ensures { λ r. ⌜ r ≡ isSelecting selecting kind ⌝ }
 {
     match selecting {
-        Selecting::Off => command::read_command(kind, body),
+        Selecting::Off => false,
+        Selecting::On { .. } => kind == START,
+    }
+}
+
+// What the paper's file selects for the terminal's data. A file that does not lie in the paper is
+// empty.
+fn select_profile(selecting: Selecting, paper: &[u8], data: &[u8]) -> Selection
+    ensures { λ r. ⌜ r ≡ selectedIn selecting (now (paper .entry)) (now («data» .entry)) ⌝ }
+{
+    match selecting {
+        Selecting::Off => Selection::NotSelected,
         Selecting::On {
             start,
             end,
             entries,
         } => {
             if (start <= end) & (end <= paper.len()) {
-                return command::read_selecting(&paper[start..end], entries, kind, body);
+                return selection::select(&paper[start..end], entries, data);
             }
-            command::read_selecting(&paper[..0], entries, kind, body)
+            selection::select(&paper[..0], entries, data)
         }
     }
+}
+
+// The command in a record of a paper.
+fn read_record(selecting: Selecting, paper: &[u8], kind: u8, body: &[u8]) -> ReadCommand
+    ensures { λ r. ⌜ r ≡ commandIn selecting (now (paper .entry)) kind (now (body .entry)) ⌝ }
+{
+    if selects(selecting, kind) {
+        let chosen = select_profile(selecting, paper, body);
+        return ReadCommand::Taken(Command::Start(Start { chosen }));
+    }
+    command::read_command(kind, body)
 }
 
 // A record's turn: its command is answered, or refusal 9 ends the paper.
