@@ -13,7 +13,6 @@ use Rattle.rules.specs.declared.Place.{Place}
 use Rattle.rules.specs.declared.Values.{Values}
 use Rattle.rules.specs.Rules.{Rules, four}
 use Rattle.meters.specs.declared.Purchase.{Purchase}
-use Rattle.meters.specs.declared.Worths.{Worths}
 use Rattle.checks.specs.declared.History.{History}
 use Rattle.checks.specs.Checks.{bit, packed, any, meetsMask, accumulatorsLower, accumulatorsUpper, countersLower, countersUpper, maximumExceeded, testsOf, decisionBits, decisionFlags}
 
@@ -98,7 +97,7 @@ each P a b c d (suc (suc zero)) h = c
 each P a b c d (suc (suc (suc zero))) h = d
 each P a b c d (suc (suc (suc (suc i)))) h = let z : ⊥ = omega arith in absurd z
 
-module _ (history : History) (rules : Rules) (place : Place) (values : Values) (purchase : Purchase) (worths : Worths) where
+module _ (history : History) (rules : Rules) (place : Place) (values : Values) (purchase : Purchase) where
   -- document 01's list of the decision bits, with accumulator or counter i + 1; no bit stands above 21
   pub record HouseOrder (adr : ℕ) : Type 0 where
     pub uncompleted : bitOf 0 adr ≡ bit (history .uncompleted)
@@ -107,22 +106,22 @@ module _ (history : History) (rules : Rules) (place : Place) (values : Values) (
     pub unable : bitOf 3 adr ≡ bit (history .unable)
     pub missing : bitOf 4 adr ≡ bit (history .missing)
     pub maximum : bitOf 5 adr ≡ bit (maximumExceeded rules place purchase)
-    pub accumulatorLower : (i : ℕ) → i < 4 → bitOf (6 + i) adr ≡ bit (getD (accumulatorsLower rules place values worths) i false)
-    pub accumulatorUpper : (i : ℕ) → i < 4 → bitOf (10 + i) adr ≡ bit (getD (accumulatorsUpper rules place values worths) i false)
+    pub accumulatorLower : (i : ℕ) → i < 4 → bitOf (6 + i) adr ≡ bit (getD (accumulatorsLower rules place values purchase) i false)
+    pub accumulatorUpper : (i : ℕ) → i < 4 → bitOf (10 + i) adr ≡ bit (getD (accumulatorsUpper rules place values purchase) i false)
     pub counterLower : (i : ℕ) → i < 4 → bitOf (14 + i) adr ≡ bit (getD (countersLower rules place values) i false)
     pub counterUpper : (i : ℕ) → i < 4 → bitOf (18 + i) adr ≡ bit (getD (countersUpper rules place values) i false)
     pub rest : adr < 2 ^ 22
 
   -- the decision bits of the tests are the flags in house order
   pub decision-packed :
-      decisionBits history (testsOf rules place values purchase worths) ≡ packed (decisionFlags history rules place values purchase worths)
+      decisionBits history (testsOf rules place values purchase) ≡ packed (decisionFlags history rules place values purchase)
   unfolding decisionBits testsOf accumulatorsLower accumulatorsUpper countersLower countersUpper
   decision-packed = omega arith
 
-  pub house-order : HouseOrder (decisionBits history (testsOf rules place values purchase worths))
+  pub house-order : HouseOrder (decisionBits history (testsOf rules place values purchase))
   unfolding accumulatorsLower accumulatorsUpper countersLower countersUpper
   house-order =
-      let flags = decisionFlags history rules place values purchase worths in
+      let flags = decisionFlags history rules place values purchase in
       let flag = packed-bit flags in
       rw decision-packed
       record {

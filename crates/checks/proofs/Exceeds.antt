@@ -1,6 +1,6 @@
 -- What it is to exceed a limit, in numbers. Assumes nothing.
-use mathlib.Core.Path.{_≡_, refl, sym, _∙_}
-use mathlib.Core.Bool.{Bool, true, false, _&&_, _||_, or-true, or-false}
+use mathlib.Core.Path.{_≡_, refl, sym, ap, _∙_}
+use mathlib.Core.Bool.{Bool, true, false, cond, _&&_, _||_, or-true, or-false}
 use Prim.Native.Nat.{ℕ, _+_, _-_, _<_, _≤_}
 use native.Mathlib.Numerals.{add-one}
 use native.Mathlib.Omega.{arith}
@@ -14,8 +14,8 @@ use Rattle.rules.specs.declared.Place.{Place}
 use Rattle.rules.specs.declared.Values.{Values}
 use Rattle.rules.specs.Rules.{Rules, accumulatorRule, counterRule}
 use Rattle.rules.proofs.Places.{four-at}
-use Rattle.meters.specs.declared.Worths.{Worths}
-use Rattle.meters.specs.Meters.{amountAt, countAt, worthAt}
+use Rattle.meters.specs.declared.Purchase.{Purchase}
+use Rattle.meters.specs.Meters.{amountAt, countAt, worth}
 use Rattle.checks.specs.Checks.{sumExceeds, amountExceeds, accumulatorExceeds, counterExceeds, accumulatorsLower, accumulatorsUpper, countersLower, countersUpper}
 
 -- a sum against a limit is the summand against what is left to it
@@ -28,15 +28,28 @@ left-to limit value more h = by (ltb (limit - value) more) refl where
 pub one-more : (limit value : ℕ) → leb limit value ≡ ltb limit (value + 1)
 one-more limit value = sym (rw add-one (leb·suc-suc limit value))
 
--- without a conversion the value alone is tested
-pub unconverted : (limit value : ℕ) (include : Bool) → ltb limit value ≡ amountExceeds limit value include NoEntry
-unconverted limit value true = sym (or-false (ltb limit value))
-unconverted limit value false = sym (or-false (ltb limit value))
+-- a value and what a test adds to it exceed a limit
+abbrev pub sumAbove : (limit value : ℕ) → Converted → Bool
+sumAbove limit value (Amount more) = ltb limit (value + more .0)
+sumAbove limit value Over = true
+sumAbove limit value NoEntry = ltb limit (value + 0)
 
--- an amount that is over exceeds the limit where it is included
-pub over-included : (limit value : ℕ) (include : Bool) → (ltb limit value || include) ≡ amountExceeds limit value include Over
-over-included limit value true = refl
-over-included limit value false = refl
+-- so an accumulator is tested by one sum, to which a purchase that isn't included or doesn't convert adds nothing
+pub exceeds-sum : (limit value : ℕ) (include : Bool) (worth : Converted)
+    → amountExceeds limit value include worth ≡ sumAbove limit value (cond include worth NoEntry)
+exceeds-sum limit value = by where
+  alone : ltb limit value ≡ ltb limit (value + 0)
+  alone = let e : value ≡ value + 0 = omega arith in ap (ltb limit) e
+
+  together : (more : ℕ) (b : Bool) → ltb limit value ≡ b → (b || ltb limit (value + more)) ≡ ltb limit (value + more)
+  together more true e = let h = ltb-true limit value e in sym (lt-ltb limit (value + more) (omega arith))
+  together more false e = refl
+
+  by : (include : Bool) (worth : Converted) → amountExceeds limit value include worth ≡ sumAbove limit value (cond include worth NoEntry)
+  by true (Amount more) = together (more .0) (ltb limit value) refl
+  by true Over = or-true (ltb limit value)
+  by true NoEntry = or-false (ltb limit value) ∙ alone
+  by false worth = or-false (ltb limit value) ∙ alone
 
 -- above a limit: by itself, with an amount that is included and converts, or with one that is over
 pub data Above (limit value : ℕ) (include : Bool) (worth : Converted) : Type 0 where
@@ -96,32 +109,32 @@ module _ (limit value : ℕ) (include : Bool) (worth : Converted) where
   within-kept w = rw (le-ltb limit value (w .alone)) (kept limit value include worth (w .together) (w .not-over))
 
 -- the flags of accumulator i + 1
-module _ (rules : Rules) (place : Place) (values : Values) (worths : Worths) (i : ℕ) where
+module _ (rules : Rules) (place : Place) (values : Values) (purchase : Purchase) (i : ℕ) where
   pub accumulator-active : accumulatorRule rules place i .active ≡ true → (limit : ℕ)
-      → accumulatorExceeds rules place values worths limit i
-      ≡ amountExceeds limit (amountAt values i .0) (accumulatorRule rules place i .include) (worthAt worths i)
+      → accumulatorExceeds rules place values purchase limit i
+      ≡ amountExceeds limit (amountAt values i .0) (accumulatorRule rules place i .include) (worth rules purchase i)
   accumulator-active e limit = simp e
 
   pub accumulator-inactive : accumulatorRule rules place i .active ≡ false → (limit : ℕ)
-      → accumulatorExceeds rules place values worths limit i ≡ false
+      → accumulatorExceeds rules place values purchase limit i ≡ false
   accumulator-inactive e limit = simp e
 
-  pub accumulator-lower : i < 4 → getD (accumulatorsLower rules place values worths) i false
-      ≡ accumulatorExceeds rules place values worths (accumulatorRule rules place i .lower .0) i
+  pub accumulator-lower : i < 4 → getD (accumulatorsLower rules place values purchase) i false
+      ≡ accumulatorExceeds rules place values purchase (accumulatorRule rules place i .lower .0) i
   unfolding accumulatorsLower
-  accumulator-lower h = four-at (λ i. accumulatorExceeds rules place values worths (accumulatorRule rules place i .lower .0) i) false i h
+  accumulator-lower h = four-at (λ i. accumulatorExceeds rules place values purchase (accumulatorRule rules place i .lower .0) i) false i h
 
-  pub accumulator-upper : i < 4 → getD (accumulatorsUpper rules place values worths) i false
-      ≡ accumulatorExceeds rules place values worths (accumulatorRule rules place i .upper .0) i
+  pub accumulator-upper : i < 4 → getD (accumulatorsUpper rules place values purchase) i false
+      ≡ accumulatorExceeds rules place values purchase (accumulatorRule rules place i .upper .0) i
   unfolding accumulatorsUpper
-  accumulator-upper h = four-at (λ i. accumulatorExceeds rules place values worths (accumulatorRule rules place i .upper .0) i) false i h
+  accumulator-upper h = four-at (λ i. accumulatorExceeds rules place values purchase (accumulatorRule rules place i .upper .0) i) false i h
 
   -- without the upper flag the value, and the value with an amount that converts, are within the upper limit, and the amount is not over
   pub accumulator-kept : i < 4 → accumulatorRule rules place i .active ≡ true → accumulatorRule rules place i .include ≡ true
-      → getD (accumulatorsUpper rules place values worths) i false ≡ false
+      → getD (accumulatorsUpper rules place values purchase) i false ≡ false
       → (amountAt values i .0 ≤ accumulatorRule rules place i .upper .0)
-      × ((more : AccumulatorAmount) → worthAt worths i ≡ Amount more → amountAt values i .0 + more .0 ≤ accumulatorRule rules place i .upper .0)
-      × (worthAt worths i ≡ Over → ⊥)
+      × ((more : AccumulatorAmount) → worth rules purchase i ≡ Amount more → amountAt values i .0 + more .0 ≤ accumulatorRule rules place i .upper .0)
+      × (worth rules purchase i ≡ Over → ⊥)
   accumulator-kept h active include e =
       let flag = sym (accumulator-active active (accumulatorRule rules place i .upper .0)) ∙ sym (accumulator-upper h) ∙ e in
       let w = kept-within _ _ _ _ flag in

@@ -1,11 +1,13 @@
 // The tests of document 01, "Start and the checks", and the decision bits (ADR).
 ghost use mathlib.Core.Path.{_≡_};
+ghost use mathlib.Core.Bool.{true, cond};
 ghost use Prim.Native.Nat.{_+_, _≤_};
 ghost use lib.Dec.{ltb};
+ghost use Rattle.money.specs.declared.Converted.the-variants.{NoEntry};
 ghost use Rattle.rules.specs.Rules.{rulesOf};
-ghost use Rattle.checks.specs.Checks.{bit, packed, amountExceeds, countExceeds, limitBits, accumulatorBits, counterBits, maximumExceeded, historyFlags, testsOf, decisionBits, meetsMask};
+ghost use Rattle.meters.specs.Meters.{worth};
+ghost use Rattle.checks.specs.Checks.{bit, packed, countExceeds, limitBits, accumulatorLimits, accumulatorBits, counterBits, maximumExceeded, historyFlags, testsOf, decisionBits, meetsMask};
 use meters::Purchase;
-use meters::Worths;
 use money::AccumulatorAmount;
 use money::Converted;
 use rules::AccumulatorRule;
@@ -26,8 +28,8 @@ pub struct History {
 
 // What the tests found. Of accumulators and of counters: bits 0 to 3 lower exceeded, 4 to 7 upper.
 pub struct Tests {
-    pub accumulators: u8,
-    pub counters: u8,
+    pub accumulators: u16,
+    pub counters: u16,
     pub maximum: bool,
 }
 
@@ -47,35 +49,44 @@ fn sum_exceeds(limit: AccumulatorAmount, value: AccumulatorAmount, more: Accumul
     limit.0 - value.0 < more.0
 }
 
-// A value exceeds a limit, or, with "include this transaction", does with what the purchase is worth:
-// an amount that is over exceeds every limit.
-fn amount_exceeds(
-    limit: AccumulatorAmount,
-    value: AccumulatorAmount,
-    include: bool,
-    worth: Converted,
-) -> bool
-    ensures { λ r. ⌜ r ≡ amountExceeds (limit .0) (value .0) include worth ⌝ }
+// The limits that a value and an amount exceed: bit 0 the lower, bit 4 the upper.
+fn limits_exceeded(rule: AccumulatorRule, value: AccumulatorAmount, more: AccumulatorAmount) -> u8
+    ensures { λ r. ⌜ (r ≡ limitBits true (ltb (rule .lower .0) (value .0 + more .0)) (ltb (rule .upper .0) (value .0 + more .0))) × (r ≤ 17) ⌝ }
 {
-    let already = limit.0 < value.0;
-    match worth {
-        Converted::Amount(more) => already | (include & sum_exceeds(limit, value, more)),
-        Converted::Over => already | include,
-        Converted::NoEntry => already,
+    bit(sum_exceeds(rule.lower, value, more)) + bit(sum_exceeds(rule.upper, value, more)) * 16
+}
+
+// What the tests of accumulator i + 1 add to its value: the purchase, with "include this
+// transaction".
+fn included(words: &Words, purchase: Purchase, i: usize, include: bool) -> Converted
+    ensures { λ r. ⌜ r ≡ cond include (worth (rulesOf (now (words .entry))) purchase i) NoEntry ⌝ }
+{
+    if include {
+        meters::worth(words, purchase, i)
+    } else {
+        Converted::NoEntry
     }
 }
 
-// The limits that an accumulator exceeds: bit 0 the lower, bit 4 the upper.
-fn test_accumulator(rule: AccumulatorRule, value: AccumulatorAmount, worth: Converted) -> u8
-    ensures { λ r. ⌜ (r ≡ limitBits (rule .active)
-        (amountExceeds (rule .lower .0) (value .0) (rule .include) worth)
-        (amountExceeds (rule .upper .0) (value .0) (rule .include) worth)) × (r ≤ 17) ⌝ }
+// The limits that accumulator i + 1 exceeds: bit 0 the lower, bit 4 the upper. An amount that is
+// over exceeds both.
+fn test_accumulator(
+    words: &Words,
+    place: Place,
+    i: usize,
+    value: AccumulatorAmount,
+    purchase: Purchase,
+) -> u8
+    ensures { λ r. ⌜ (r ≡ accumulatorLimits (rulesOf (now (words .entry))) place value purchase i) × (r ≤ 17) ⌝ }
 {
-    if rule.active {
-        bit(amount_exceeds(rule.lower, value, rule.include, worth))
-            + bit(amount_exceeds(rule.upper, value, rule.include, worth)) * 16
-    } else {
-        0
+    let rule = rules::accumulator_rule(words, place, i);
+    if !rule.active {
+        return 0;
+    }
+    match included(words, purchase, i, rule.include) {
+        Converted::Amount(more) => limits_exceeded(rule, value, more),
+        Converted::Over => 17,
+        Converted::NoEntry => limits_exceeded(rule, value, AccumulatorAmount(0)),
     }
 }
 
@@ -91,26 +102,18 @@ fn test_counter(rule: CounterRule, value: u8) -> u8
         (countExceeds (rule .lower) value (rule .include))
         (countExceeds (rule .upper) value (rule .include))) × (r ≤ 17) ⌝ }
 {
-    if rule.active {
-        bit(count_exceeds(rule.lower, value, rule.include))
-            + bit(count_exceeds(rule.upper, value, rule.include)) * 16
-    } else {
-        0
-    }
+    bit(rule.active & count_exceeds(rule.lower, value, rule.include))
+        + bit(rule.active & count_exceeds(rule.upper, value, rule.include)) * 16
 }
 
-fn test_accumulators(words: &Words, place: Place, values: Values, worths: Worths) -> u8
-    ensures { λ r. ⌜ r ≡ accumulatorBits (rulesOf (now (words .entry))) place values worths ⌝ }
+fn test_accumulators(words: &Words, place: Place, values: Values, purchase: Purchase) -> u8
+    ensures { λ r. ⌜ r ≡ accumulatorBits (rulesOf (now (words .entry))) place values purchase ⌝ }
 {
     let amounts = values.accumulators;
-    let one = worths.one;
-    let two = worths.two;
-    let three = worths.three;
-    let four = worths.four;
-    test_accumulator(rules::accumulator_rule(words, place, 0), amounts[0], one)
-        + test_accumulator(rules::accumulator_rule(words, place, 1), amounts[1], two) * 2
-        + test_accumulator(rules::accumulator_rule(words, place, 2), amounts[2], three) * 4
-        + test_accumulator(rules::accumulator_rule(words, place, 3), amounts[3], four) * 8
+    test_accumulator(words, place, 0, amounts[0], purchase)
+        + test_accumulator(words, place, 1, amounts[1], purchase) * 2
+        + test_accumulator(words, place, 2, amounts[2], purchase) * 4
+        + test_accumulator(words, place, 3, amounts[3], purchase) * 8
 }
 
 fn test_counters(words: &Words, place: Place, values: Values) -> u8
@@ -131,8 +134,7 @@ fn exceeds_maximum(words: &Words, place: Place, purchase: Purchase) -> bool
     if !maximum.on {
         return false;
     }
-    let rates = rules::rates(words);
-    match money::convert(purchase.amount, purchase.currency, maximum.currency, rates) {
+    match meters::worth_in(words, purchase, maximum.currency) {
         Converted::Amount(spent) => maximum.amount.0 < spent.0,
         Converted::Over => true,
         Converted::NoEntry => false,
@@ -140,18 +142,12 @@ fn exceeds_maximum(words: &Words, place: Place, purchase: Purchase) -> bool
 }
 
 // The tests of a purchase under a profile.
-pub fn test(
-    words: &Words,
-    place: Place,
-    values: Values,
-    purchase: Purchase,
-    worths: Worths,
-) -> Tests
-    ensures { λ r. ⌜ r ≡ testsOf (rulesOf (now (words .entry))) place values purchase worths ⌝ }
+pub fn test(words: &Words, place: Place, values: Values, purchase: Purchase) -> Tests
+    ensures { λ r. ⌜ r ≡ testsOf (rulesOf (now (words .entry))) place values purchase ⌝ }
 {
     Tests {
-        accumulators: test_accumulators(words, place, values, worths),
-        counters: test_counters(words, place, values),
+        accumulators: test_accumulators(words, place, values, purchase) as u16,
+        counters: test_counters(words, place, values) as u16,
         maximum: exceeds_maximum(words, place, purchase),
     }
 }

@@ -23,9 +23,11 @@ pub struct First {
     pub terminal: u8,
 }
 
+// The response code has more room than its two bytes: a Second of eight bytes would be moved as one
+// number, through memory.
 pub struct Second {
     pub csu: u32,
-    pub code: u16,
+    pub code: u32,
     pub requested: u8,
     pub issuer: u8,
 }
@@ -71,7 +73,7 @@ fn read_second(body: &[u8]) -> Second
 {
     Second {
         csu: wire::u32_at(body, 4),
-        code: wire::u16_at(body, 1),
+        code: wire::u16_at(body, 1) as u32,
         requested: wire::byte_at(body, 0),
         issuer: wire::byte_at(body, 3),
     }

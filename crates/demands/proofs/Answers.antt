@@ -24,7 +24,7 @@ use Rattle.command.specs.declared.First.{First}
 use Rattle.command.specs.declared.Second.{Second}
 use Rattle.command.specs.declared.Command.{Command}
 use Rattle.command.specs.declared.Command.the-variants.{Start as StartCommand, First as FirstCommand, Second as SecondCommand}
-use Rattle.meters.specs.Meters.{worthsOf, approved}
+use Rattle.meters.specs.Meters.{approved}
 use Rattle.checks.specs.declared.History.{History}
 use Rattle.checks.specs.Checks.{meetsMask}
 use Rattle.state.specs.declared.Answer.the-variants.{Given}
@@ -117,7 +117,7 @@ module _ (s : List ℕ) (syllabus : ℕ) (fits : Accepted s) (sitting : Sitting)
         (verifies s syllabus at (first .amount .0) (first .currency) (audited s syllabus log) (state .history) limits limits-now kind NotRequested (issuerBefore (state .history)))
 
     abbrev outcome-of : Kind → Outcome
-    outcome-of kind = concluded rules state place (purchaseOf first) (worthsOf rules (purchaseOf first)) limits (cvr-of kind) kind
+    outcome-of kind = concluded rules state place (purchaseOf first) limits (cvr-of kind) kind
 
     concluded-iad : (kind : Kind) → outcome-of kind .answer ≡ Given kind (state .atc) (sentIad rules place (outcome-of kind .state .values) (cvr-of kind))
     unfolding concluded

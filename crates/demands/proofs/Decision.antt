@@ -21,8 +21,7 @@ use Rattle.rules.specs.Rules.{Rules, Profile, four}
 use Rattle.ranges.proofs.Accepted.{Accepted}
 use Rattle.setup.specs.Setup.{accumulatorIn, counterIn, profileIn, rulesIn}
 use Rattle.meters.specs.declared.Purchase.{Purchase}
-use Rattle.meters.specs.Meters.{amountAt, countAt, worth, worthAt, worthsOf}
-use Rattle.meters.proofs.Ledger.{worth-at}
+use Rattle.meters.specs.Meters.{amountAt, countAt, worth, worth}
 use Rattle.checks.specs.declared.History.{History}
 use Rattle.checks.specs.Checks.{bit, packed, sumExceeds, spentExceeds, accumulatorExceeds, counterExceeds, accumulatorsLower, accumulatorsUpper, countersLower, countersUpper, maximumExceeded, testsOf, decisionBits, decisionFlags, meetsMask}
 use Rattle.checks.proofs.Bits.{decision-packed}
@@ -92,15 +91,14 @@ module _ (s : List ℕ) (syllabus : ℕ) (fits : Accepted s) (place : Place) (at
   currency = purchase .currency
 
   accumulator-flag : (i : ℕ) → i < 4 → (limit : ℕ)
-      → accumulatorExceeds rules place values (worthsOf rules purchase) limit i ≡ exceeds s syllabus at amount currency (valueOf values (accumulator i)) limit (accumulator i)
+      → accumulatorExceeds rules place values purchase limit i ≡ exceeds s syllabus at amount currency (valueOf values (accumulator i)) limit (accumulator i)
   unfolding accumulatorIn
   accumulator-flag i l limit =
       let value = amountAt values i .0 in
-      ap (λ (rule : AccumulatorRule). rule .active && (ltb limit value || (rule .include && sumExceeds limit value (worthAt (worthsOf rules purchase) i))))
+      ap (λ (rule : AccumulatorRule). rule .active && (ltb limit value || (rule .include && sumExceeds limit value (worth rules purchase i))))
       (accumulator-is s syllabus place at stands i l)
       ∙ ap (λ b. eqb (byte s (at + (24 + 17 * i)) % 2) 1 && b)
-      (ap (λ w. ltb limit value || (isIncluded s at (accumulator i) && sumExceeds limit value w)) (worth-at rules purchase i l)
-      ∙ ap (λ b. ltb limit value || (isIncluded s at (accumulator i) && b))
+      (ap (λ b. ltb limit value || (isIncluded s at (accumulator i) && b))
       (sum-is limit value (worth rules purchase i) ∙ ap (exceedsWith limit value) (converts s syllabus fits purchase i l small)))
       ∙ rw div-one
 
@@ -127,20 +125,20 @@ module _ (s : List ℕ) (syllabus : ℕ) (fits : Accepted s) (place : Place) (at
   four-same : (f g : ℕ → Bool) → ((i : ℕ) → i < 4 → f i ≡ g i) → four f ≡ four g
   four-same f g h = simp (h 0 (omega arith), h 1 (omega arith), h 2 (omega arith), h 3 (omega arith))
 
-  pub accumulators-lower : accumulatorsLower rules place values (worthsOf rules purchase) ≡ eachOf accumulator (aboveLower s syllabus at amount currency value)
+  pub accumulators-lower : accumulatorsLower rules place values purchase ≡ eachOf accumulator (aboveLower s syllabus at amount currency value)
   unfolding accumulatorsLower accumulatorIn
   accumulators-lower =
       four-same _ (λ i. aboveLower s syllabus at amount currency value (accumulator i))
       (λ i l.
-      ap (λ (r : AccumulatorRule). accumulatorExceeds rules place values (worthsOf rules purchase) (r .lower .0) i) (accumulator-is s syllabus place at stands i l)
+      ap (λ (r : AccumulatorRule). accumulatorExceeds rules place values purchase (r .lower .0) i) (accumulator-is s syllabus place at stands i l)
       ∙ accumulator-flag i l (lowerOf s at (accumulator i)))
 
-  pub accumulators-upper : accumulatorsUpper rules place values (worthsOf rules purchase) ≡ eachOf accumulator (aboveUpper s syllabus at amount currency value)
+  pub accumulators-upper : accumulatorsUpper rules place values purchase ≡ eachOf accumulator (aboveUpper s syllabus at amount currency value)
   unfolding accumulatorsUpper accumulatorIn
   accumulators-upper =
       four-same _ (λ i. aboveUpper s syllabus at amount currency value (accumulator i))
       (λ i l.
-      ap (λ (r : AccumulatorRule). accumulatorExceeds rules place values (worthsOf rules purchase) (r .upper .0) i) (accumulator-is s syllabus place at stands i l)
+      ap (λ (r : AccumulatorRule). accumulatorExceeds rules place values purchase (r .upper .0) i) (accumulator-is s syllabus place at stands i l)
       ∙ accumulator-flag i l (upperOf s at (accumulator i)))
 
   pub counters-lower : countersLower rules place values ≡ eachOf counter (aboveLower s syllabus at amount currency value)
@@ -159,17 +157,17 @@ module _ (s : List ℕ) (syllabus : ℕ) (fits : Accepted s) (place : Place) (at
       ap (λ (r : CounterRule). counterExceeds rules place values (r .upper) i) (counter-is s syllabus place at stands i l)
       ∙ counter-flag i l (upperOf s at (counter i)))
 
-  flags-are : (history : History) → decisionFlags history rules place values purchase (worthsOf rules purchase) ≡ flags s syllabus at amount currency value history
+  flags-are : (history : History) → decisionFlags history rules place values purchase ≡ flags s syllabus at amount currency value history
   unfolding flags
   flags-are history = simp (mta-flag, accumulators-lower, accumulators-upper, counters-lower, counters-upper)
 
   pub adr-is : (history : History)
-      → decisionBits history (testsOf rules place values purchase (worthsOf rules purchase)) ≡ packed (flags s syllabus at amount currency value history)
-  adr-is history = decision-packed history rules place values purchase (worthsOf rules purchase) ∙ ap packed (flags-are history)
+      → decisionBits history (testsOf rules place values purchase) ≡ packed (flags s syllabus at amount currency value history)
+  adr-is history = decision-packed history rules place values purchase ∙ ap packed (flags-are history)
 
   -- a mask is met by the card's bits as by the flags
   pub met-is : (history : History) (mask : ℕ)
-      → meetsMask (decisionBits history (testsOf rules place values purchase (worthsOf rules purchase))) mask ≡ meets (flags s syllabus at amount currency value history) mask
+      → meetsMask (decisionBits history (testsOf rules place values purchase)) mask ≡ meets (flags s syllabus at amount currency value history) mask
   met-is history mask = ap (λ adr. meetsMask adr mask) (adr-is history) ∙ meets-is (flags s syllabus at amount currency value history) mask
 
 -- ---- the table

@@ -11,7 +11,7 @@ use Rattle.rules.specs.declared.Place.the-variants.{One}
 use Rattle.rules.specs.declared.Values.{Values}
 use Rattle.rules.specs.Rules.{Rules, four, blankAccumulator, blankCounter, blankProfile}
 use Rattle.meters.specs.declared.Purchase.{Purchase}
-use Rattle.meters.specs.Meters.{worth, worthsOf, approved, amountAt, countAt}
+use Rattle.meters.specs.Meters.{worth, approved, amountAt, countAt}
 use Rattle.checks.specs.declared.History.{History}
 use Rattle.checks.specs.Checks.{accumulatorsLower, accumulatorsUpper, countersLower, countersUpper, maximumExceeded, testsOf}
 use Rattle.state.specs.declared.Kind.{Kind}
@@ -87,12 +87,12 @@ pub data Row : Type 0 where
 
 unfoldable pub holds : Row → Bool
 holds (limitRow value amount upper bits) =
-    eqb (testsOf (card upper) One (values value 0) (purchase amount) (worthsOf (card upper) (purchase amount)) .accumulators) bits
+    eqb (testsOf (card upper) One (values value 0) (purchase amount) .accumulators) bits
 holds (rateRow up amount d t result) = isAmount (convertOf (record { 0 = amount }) 1 2 (rates up d t)) result
 holds (overRow up amount d t) = isOver (convertOf (record { 0 = amount }) 1 2 (rates up d t))
 holds (amountRow value more result) =
-    eqb (amountAt (approved (card max) One (values value 0) (worthsOf (card max) (purchase more))) 0 .0) result
-holds (countRow value result) = eqb (countAt (approved (card max) One (values 0 value) (worthsOf (card max) (purchase 1))) 0) result
+    eqb (amountAt (approved (card max) One (values value 0) (purchase more)) 0 .0) result
+holds (countRow value result) = eqb (countAt (approved (card max) One (values 0 value) (purchase 1)) 0) result
 holds (kindRow requested adr online decline default terminal k) =
     eqb (kindCode (decision requested adr (record { online = online; decline = decline; default = default }) terminal)) (kindCode k)
 holds (byteRow k n) = eqb (verification (card max) clear 0 k NotRequested (issuerBefore clear) .byte1) n
@@ -122,5 +122,5 @@ all (row ∷ rows) = holds row && all rows
 
 -- a) to l), in document 01's order; c), d) and e) by both rules
 pub edges : T (all table)
-unfolding all table holds testsOf accumulatorsLower accumulatorsUpper countersLower countersUpper maximumExceeded worthsOf worth convertOf rateFor scaled rounded approved decision verification
+unfolding all table holds testsOf accumulatorsLower accumulatorsUpper countersLower countersUpper maximumExceeded  worth convertOf rateFor scaled rounded approved decision verification
 edges = tt

@@ -20,7 +20,6 @@ use Rattle.command.specs.declared.First.{First}
 use Rattle.command.specs.declared.Command.{Command}
 use Rattle.command.specs.declared.Command.the-variants.{Start as StartCommand, First as FirstCommand, Second as SecondCommand}
 use Rattle.meters.specs.declared.Purchase.{Purchase}
-use Rattle.meters.specs.declared.Worths.{Worths}
 use Rattle.checks.specs.declared.History.{History}
 use Rattle.checks.specs.Checks.{decisionBits, meetsMask}
 use Rattle.state.specs.declared.Answer.the-variants.{Given}
@@ -59,12 +58,12 @@ flags-same s syllabus profile amount currency f g history h =
     )
 
 -- a concluded First answers with the kind that was decided
-pub concluded-kind : (rules : Rules) (state : State) (place : Place) (purchase : Purchase) (worths : Worths) (limits : ℕ) (cvr : Cvr) (decided kind : Kind) (atc : ℕ) (iad : Iad)
-    → concluded rules state place purchase worths limits cvr decided .answer ≡ Given kind atc iad → decided ≡ kind
+pub concluded-kind : (rules : Rules) (state : State) (place : Place) (purchase : Purchase) (limits : ℕ) (cvr : Cvr) (decided kind : Kind) (atc : ℕ) (iad : Iad)
+    → concluded rules state place purchase limits cvr decided .answer ≡ Given kind atc iad → decided ≡ kind
 unfolding concluded
-concluded-kind rules state place purchase worths limits cvr Aac kind atc iad e = cc
-concluded-kind rules state place purchase worths limits cvr Tc kind atc iad e = cc
-concluded-kind rules state place purchase worths limits cvr Arqc kind atc iad e = cc
+concluded-kind rules state place purchase limits cvr Aac kind atc iad e = cc
+concluded-kind rules state place purchase limits cvr Tc kind atc iad e = cc
+concluded-kind rules state place purchase limits cvr Arqc kind atc iad e = cc
 
 module _ (s : List ℕ) (syllabus : ℕ) (fits : Accepted s) (sitting : Sitting) (holding : Holding s syllabus sitting) (remembered : sitting .state .history ≡ past s (sitting .log)) where
   abbrev log : List Exchange
@@ -113,7 +112,7 @@ module _ (s : List ℕ) (syllabus : ℕ) (fits : Accepted s) (sitting : Sitting)
   did-answers (took-first first place is type small) =
       λ kind atc iad e.
       subst (FirstAnswers s at first (flags s syllabus at (first .amount .0) (first .currency) (audited s syllabus log) (past s log)))
-      (concluded-kind (rulesIn s syllabus) (sitting .state) place _ _ _ _ _ kind atc iad e)
+      (concluded-kind (rulesIn s syllabus) (sitting .state) place _ _ _ _ kind atc iad e)
       (kind-answers first place (subst (Agrees s (named log) (spent log) (spentIn log)) is (holding .agrees)) type small)
   did-answers (took-second second pending is type issuer) = tt
 

@@ -29,8 +29,7 @@ use Rattle.command.specs.declared.Second.{Second}
 use Rattle.command.specs.declared.Command.{Command}
 use Rattle.command.specs.declared.Command.the-variants.{Start as StartCommand, First as FirstCommand, Second as SecondCommand}
 use Rattle.meters.specs.declared.Purchase.{Purchase}
-use Rattle.meters.specs.declared.Worths.{Worths}
-use Rattle.meters.specs.Meters.{add, moved, addition, amountAt, countAt, worthAt, worthsOf, approved}
+use Rattle.meters.specs.Meters.{add, moved, addition, amountAt, countAt, worth, approved}
 use Rattle.meters.proofs.Ledger.{approved-amount, approved-count}
 use Rattle.checks.specs.declared.History.{History}
 use Rattle.checks.specs.Checks.{bit, testsOf, decisionBits, meetsMask}
@@ -85,35 +84,32 @@ module _ (s : List ℕ) (syllabus : ℕ) (place : Place) (at : ℕ) (stands : St
   abbrev rules : Rules
   rules = rulesIn s syllabus
 
-  abbrev worths : Worths
-  worths = worthsOf rules purchase
-
   abbrev adr : ℕ
-  adr = decisionBits history (testsOf rules place values purchase worths)
+  adr = decisionBits history (testsOf rules place values purchase)
 
   -- an approval while a mask that holds the upper limit's bit isn't met
   pub approved-within : (meter : Meter) → IsMeter meter → isActive s at meter ≡ true → isIncluded s at meter ≡ true
       → (mask : ℕ) → isOn mask (2 ^ upperBit meter) ≡ true → meetsMask adr mask ≡ false
-      → valueOf (approved rules place values worths) meter ≤ upperOf s at meter
+      → valueOf (approved rules place values purchase) meter ≤ upperOf s at meter
   unfolding accumulatorIn counterIn
   approved-within (accumulator i) l active included mask on q =
       let is = accumulator-is s syllabus place at stands i l in
       let active' : accumulatorRule rules place i .active ≡ true = ap (λ (r : AccumulatorRule). r .active) is ∙ (rw div-one at active) in
       let included' : accumulatorRule rules place i .include ≡ true = ap (λ (r : AccumulatorRule). r .include) is ∙ included in
       let upper : accumulatorRule rules place i .upper .0 ≡ upperOf s at (accumulator i) = ap (λ (r : AccumulatorRule). r .upper .0) is in
-      let flag = house-order history rules place values purchase worths .accumulatorUpper i l in
-      let kept = accumulator-kept rules place values worths i l active' included' (unmet (10 + i) adr mask _ flag on q) in
-      rw (approved-amount rules place values worths i l, ← upper)
+      let flag = house-order history rules place values purchase .accumulatorUpper i l in
+      let kept = accumulator-kept rules place values purchase i l active' included' (unmet (10 + i) adr mask _ flag on q) in
+      rw (approved-amount rules place values purchase i l, ← upper)
       (approval-within max (accumulatorRule rules place i .upper .0) (amountAt values i .0)
-      (accumulatorRule rules place i .active && accumulatorRule rules place i .allow) (worthAt worths i) (kept .0) (kept .1) (kept .2))
+      (accumulatorRule rules place i .active && accumulatorRule rules place i .allow) (worth rules purchase i) (kept .0) (kept .1) (kept .2))
   approved-within (counter i) l active included mask on q =
       let is = counter-is s syllabus place at stands i l in
       let active' : counterRule rules place i .active ≡ true = ap (λ (r : CounterRule). r .active) is ∙ (rw div-one at active) in
       let included' : counterRule rules place i .include ≡ true = ap (λ (r : CounterRule). r .include) is ∙ included in
       let upper : counterRule rules place i .upper ≡ upperOf s at (counter i) = ap (λ (r : CounterRule). r .upper) is in
-      let flag = house-order history rules place values purchase worths .counterUpper i l in
+      let flag = house-order history rules place values purchase .counterUpper i l in
       let kept = counter-kept rules place values i l active' included' (unmet (18 + i) adr mask _ flag on q) in
-      rw (approved-count rules place values worths i l, ← upper)
+      rw (approved-count rules place values purchase i l, ← upper)
       (counting-within 255 (counterRule rules place i .upper) (countAt values i)
       (counterRule rules place i .active && counterRule rules place i .allow) (kept .0) (kept .1))
 
@@ -147,7 +143,7 @@ module _ (s : List ℕ) (syllabus : ℕ) (sitting : Sitting) (holding : Holding 
 
   concluded-within : (first : First) (place : Place) → Stands s place at → (limits : ℕ) (cvr : Cvr) (kind : Kind)
       → kind ≡ firstKind card-rules state place first
-      → Within (FirstCommand first) (concluded card-rules state place (purchaseOf first) (worthsOf card-rules (purchaseOf first)) limits cvr kind)
+      → Within (FirstCommand first) (concluded card-rules state place (purchaseOf first) limits cvr kind)
   unfolding concluded profileIn
   concluded-within first place stands limits cvr Tc is e =
       let mask : profileAt card-rules place .masks .decline ≡ number s (at + 5) 4 = ap (λ (p : Profile). p .masks .decline) (profile-is s syllabus place at stands) in
@@ -164,7 +160,7 @@ module _ (s : List ℕ) (syllabus : ℕ) (sitting : Sitting) (holding : Holding 
       → (eqb (second .requested) 0 || meetsMask (unableBits card-rules state pending) (profileAt card-rules (pending .place) .masks .default)) ≡ b
       → (values : Values) (history : History) (issuer : Issuer)
       → Within (SecondCommand second) (cond b (closed card-rules (state .atc) pending false values history issuer)
-      (closed card-rules (state .atc) pending true (approved card-rules (pending .place) (state .values) (worthsOf card-rules (pending .purchase))) history issuer))
+      (closed card-rules (state .atc) pending true (approved card-rules (pending .place) (state .values) (pending .purchase)) history issuer))
   unfolding closed profileIn
   unable-within second pending stands true q values history issuer e = absurd (never (both-false (isUnable (second .code)) e))
   unable-within second pending stands false q values history issuer e =

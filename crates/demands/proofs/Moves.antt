@@ -15,9 +15,9 @@ use Rattle.rules.specs.Rules.{Rules, accumulatorRule, counterRule}
 use Rattle.ranges.proofs.Accepted.{Accepted}
 use Rattle.setup.specs.Setup.{accumulatorIn, counterIn, rulesIn}
 use Rattle.meters.specs.declared.Purchase.{Purchase}
-use Rattle.meters.specs.Meters.{Entry, put, add, moved, counterCap, approval, counting, declining, putting, amountAt, countAt, worthAt, worthsOf, approved, limited, cleared}
+use Rattle.meters.specs.Meters.{Entry, put, add, moved, counterCap, approval, counting, declining, putting, amountAt, countAt, worth, approved, limited, cleared}
 use Rattle.meters.specs.Meters.{declined as declinedValues}
-use Rattle.meters.proofs.Ledger.{worth-at, approved-amount, approved-count, declined-amount, declined-count, limited-amount, limited-count, cleared-amount, cleared-count}
+use Rattle.meters.proofs.Ledger.{approved-amount, approved-count, declined-amount, declined-count, limited-amount, limited-count, cleared-amount, cleared-count}
 use Rattle.second.specs.Second.{updateByte, ordered as orderedValues}
 use Rattle.demands.specs.Ledger.{Meter, accumulator, counter, IsMeter}
 use Rattle.demands.specs.Conversation.{valueOf}
@@ -35,23 +35,22 @@ module _ (s : List ℕ) (syllabus : ℕ) (fits : Accepted s) (place : Place) (at
 
   module _ (purchase : Purchase) (small : purchase .amount .0 ≤ max) where
     approval-is : (i : ℕ) → i < 4
-        → approval (accumulatorRule rules place i) (worthAt (worthsOf rules purchase) i) ≡ counted s syllabus at (purchase .amount .0) (purchase .currency) (accumulator i)
+        → approval (accumulatorRule rules place i) (worth rules purchase i) ≡ counted s syllabus at (purchase .amount .0) (purchase .currency) (accumulator i)
     unfolding accumulatorIn
     approval-is i l =
-        ap (λ rule. approval rule (worthAt (worthsOf rules purchase) i)) (accumulator-is s syllabus place at stands i l)
-        ∙ ap (λ w. approval (accumulatorIn s (at + (24 + 17 * i))) w) (worth-at rules purchase i l)
+        ap (λ rule. approval rule (worth rules purchase i)) (accumulator-is s syllabus place at stands i l)
         ∙ rw (div-one, converts-adds s syllabus fits purchase i l small)
 
     counting-is : (i : ℕ) → i < 4 → counting (counterRule rules place i) ≡ counted s syllabus at (purchase .amount .0) (purchase .currency) (counter i)
     unfolding counterIn
     counting-is i l = ap counting (counter-is s syllabus place at stands i l) ∙ rw div-one
 
-    pub approved-moves : (meter : Meter) → IsMeter meter → valueOf (approved rules place values (worthsOf rules purchase)) meter
+    pub approved-moves : (meter : Meter) → IsMeter meter → valueOf (approved rules place values purchase) meter
         ≡ moved (capOf meter) (valueOf values meter) (counted s syllabus at (purchase .amount .0) (purchase .currency) meter)
     approved-moves (accumulator i) l =
-        approved-amount rules place values (worthsOf rules purchase) i l ∙ ap (moved max (amountAt values i .0)) (approval-is i l)
+        approved-amount rules place values purchase i l ∙ ap (moved max (amountAt values i .0)) (approval-is i l)
     approved-moves (counter i) l =
-        approved-count rules place values (worthsOf rules purchase) i l ∙ ap (moved counterCap (countAt values i)) (counting-is i l)
+        approved-count rules place values purchase i l ∙ ap (moved counterCap (countAt values i)) (counting-is i l)
 
   pub declined-moves : (meter : Meter) → IsMeter meter
       → valueOf (declinedValues rules place values) meter ≡ moved (capOf meter) (valueOf values meter) (declined s at meter)
@@ -100,7 +99,7 @@ module _ (s : List ℕ) (syllabus : ℕ) (fits : Accepted s) (place : Place) (at
     where
       by : (order : ℕ) → order < 4
           → valueOf (cond (eqb order 0) values (cond (eqb order 1) (limited rules place values)
-          (cond (eqb order 2) (cleared rules place values) (approved rules place values (worthsOf rules purchase))))) meter
+          (cond (eqb order 2) (cleared rules place values) (approved rules place values purchase)))) meter
           ≡ moved (capOf meter) (valueOf values meter)
           (cond (eqb order 1) (whereActive s at meter (upperOf s at meter)) (cond (eqb order 2) (whereActive s at meter 0)
           (cond (eqb order 3) (counted s syllabus at (purchase .amount .0) (purchase .currency) meter) [])))

@@ -20,7 +20,6 @@ use Rattle.command.specs.declared.Second.{Second}
 use Rattle.command.specs.declared.Command.{Command}
 use Rattle.command.specs.declared.Command.the-variants.{Start as StartCommand, First as FirstCommand, Second as SecondCommand}
 use Rattle.meters.specs.declared.Purchase.{Purchase}
-use Rattle.meters.specs.declared.Worths.{Worths}
 use Rattle.checks.specs.declared.History.{History}
 use Rattle.checks.specs.Checks.{meetsMask}
 use Rattle.cryptogram.specs.declared.Issuer.{Issuer}
@@ -59,14 +58,14 @@ module _ (s : List ℕ) (syllabus : ℕ) (sitting : Sitting) (recalls : Recalls 
   refused-keeps (FirstCommand first) r = record { recalls = record { history-is = recalls .history-is; atc-is = recalls .atc-is }; says = tt }
   refused-keeps (SecondCommand second) r = record { recalls = record { history-is = recalls .history-is; atc-is = recalls .atc-is }; says = tt }
 
-  concluded-keeps : (first : First) (place : Place) (purchase : Purchase) (worths : Worths) (limits : ℕ) (cvr : Cvr) (kind : Kind)
-      → Keeps s sitting (FirstCommand first) (concluded rules state place purchase worths limits cvr kind)
+  concluded-keeps : (first : First) (place : Place) (purchase : Purchase) (limits : ℕ) (cvr : Cvr) (kind : Kind)
+      → Keeps s sitting (FirstCommand first) (concluded rules state place purchase limits cvr kind)
   unfolding concluded past atcBy
-  concluded-keeps first place purchase worths limits cvr Tc =
+  concluded-keeps first place purchase limits cvr Tc =
       record { recalls = record { history-is = recalls .history-is; atc-is = recalls .atc-is }; says = recalls .atc-is }
-  concluded-keeps first place purchase worths limits cvr Aac =
+  concluded-keeps first place purchase limits cvr Aac =
       record { recalls = record { history-is = recalls .history-is; atc-is = recalls .atc-is }; says = recalls .atc-is }
-  concluded-keeps first place purchase worths limits cvr Arqc =
+  concluded-keeps first place purchase limits cvr Arqc =
       record { recalls = record { history-is = ap uncompleted (recalls .history-is); atc-is = recalls .atc-is }; says = recalls .atc-is }
 
   closed-keeps : (second : Second) (pending : Pending) (approves : Bool) (values : Values) (history : History) (issuer : Issuer)
@@ -143,7 +142,7 @@ module _ (s : List ℕ) (syllabus : ℕ) (sitting : Sitting) (recalls : Recalls 
         recalls = record { history-is = recalls .history-is; atc-is = ap (λ n. n + 1) (recalls .atc-is) };
         says = ap (λ n. n + 1) (recalls .atc-is);
       }
-  did-keeps (took-first first place is type small) = concluded-keeps first place _ _ _ _ (firstKind rules state place first)
+  did-keeps (took-first first place is type small) = concluded-keeps first place _ _ _ (firstKind rules state place first)
   did-keeps (took-second second pending is type issuer) = second-keeps second pending
 
 module _ (s : List ℕ) (syllabus : ℕ) (bytes : Bytes s) (good : isSetup s ≡ true) where

@@ -17,7 +17,6 @@ use Rattle.checks.specs.Checks.{meetsMask}
 use Rattle.rules.specs.declared.Values.{Values}
 use Rattle.cryptogram.specs.declared.Issuer.{Issuer}
 use Rattle.meters.specs.declared.Purchase.{Purchase}
-use Rattle.meters.specs.declared.Worths.{Worths}
 use Rattle.ranges.proofs.Accepted.{currency}
 use Rattle.rules.specs.declared.Place.{Place}
 use Rattle.rules.specs.declared.Found.{Found}
@@ -60,16 +59,16 @@ chosen true p q = p
 chosen false p q = q
 
 module _ (rules : Rules) (state : State) where
-  concluded-taken : (place : Place) (purchase : Purchase) (worths : Worths) (limits : ℕ) (cvr : Cvr) (kind : Kind)
-      → Taken (concluded rules state place purchase worths limits cvr kind)
+  concluded-taken : (place : Place) (purchase : Purchase) (limits : ℕ) (cvr : Cvr) (kind : Kind)
+      → Taken (concluded rules state place purchase limits cvr kind)
   unfolding concluded
-  concluded-taken place purchase worths limits cvr Tc = record { is = refl }
-  concluded-taken place purchase worths limits cvr Aac = record { is = refl }
-  concluded-taken place purchase worths limits cvr Arqc = record { is = refl }
+  concluded-taken place purchase limits cvr Tc = record { is = refl }
+  concluded-taken place purchase limits cvr Aac = record { is = refl }
+  concluded-taken place purchase limits cvr Arqc = record { is = refl }
 
   first-taken : (first : First) (place : Place) → Taken (firstPerformed rules state first place)
   unfolding firstPerformed
-  first-taken first place = concluded-taken place _ _ _ _ (firstKind rules state place first)
+  first-taken first place = concluded-taken place _ _ _ (firstKind rules state place first)
 
   closed-taken : (pending : Pending) (approves : Bool) (values : Values) (history : History) (issuer : Issuer)
       → Taken (closed rules (state .atc) pending approves values history issuer)

@@ -11,7 +11,7 @@ use Rattle.ranges.specs.Ranges.{isSetup, hasLength, isHead, areAccumulators, is
 use Rattle.rules.specs.Rules.{findProfile}
 use Rattle.setup.specs.Setup.{rateIn, accumulatorIn, counterIn, profileIn, rulesIn, freshIn, readSetup}
 use Rattle.money.specs.Money.{rateFor, rounded, scaled, convertOf}
-use Rattle.meters.specs.Meters.{worth, worthsOf, approved, declined, limited, cleared}
+use Rattle.meters.specs.Meters.{worth, approved, declined, limited, cleared}
 use Rattle.checks.specs.declared.History.{History}
 use Rattle.checks.specs.Checks.{accumulatorsLower, accumulatorsUpper, countersLower, countersUpper, maximumExceeded, testsOf, decisionBits}
 use Rattle.state.specs.declared.Answer.{Answer}
@@ -133,7 +133,7 @@ pub record Samples : Type 0 where
   pub upper-declined : T (answers 0x17 0x70 0x0840 Aac)
 
 pub samples : Samples
-unfolding counting limiting approvals limits resets agrees answers run freshState readSetup freshIn isSetup hasLength isHead areAccumulators isAccumulator number areProfiles isProfileOrAbsent isProfile areMasks isMaximumAmount areAccumulatorRules isAccumulatorRule areCounterRules areSent areNumbersApart profileNumber areConversions isConversionOrAbsent isConversion conversionPair arePairsApart rulesIn rateIn profileIn accumulatorIn counterIn stepOf startStep firstStep secondStep findProfile firstPerformed decision limitsByte concluded testsOf decisionBits accumulatorsLower accumulatorsUpper countersLower countersUpper maximumExceeded worth worthsOf convertOf rateFor rounded scaled approved declined limited cleared verification sentIad secondPerformed unablePerformed verifiedPerformed failedPerformed absentPerformed closed ordered placeOf converted named spent spentIn ledger owed past atcBy
+unfolding counting limiting approvals limits resets agrees answers run freshState readSetup freshIn isSetup hasLength isHead areAccumulators isAccumulator number areProfiles isProfileOrAbsent isProfile areMasks isMaximumAmount areAccumulatorRules isAccumulatorRule areCounterRules areSent areNumbersApart profileNumber areConversions isConversionOrAbsent isConversion conversionPair arePairsApart rulesIn rateIn profileIn accumulatorIn counterIn stepOf startStep firstStep secondStep findProfile firstPerformed decision limitsByte concluded testsOf decisionBits accumulatorsLower accumulatorsUpper countersLower countersUpper maximumExceeded worth convertOf rateFor rounded scaled approved declined limited cleared verification sentIad secondPerformed unablePerformed verifiedPerformed failedPerformed absentPerformed closed ordered placeOf converted named spent spentIn ledger owed past atcBy
 samples =
     record {
       accepted = tt;

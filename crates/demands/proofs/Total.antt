@@ -26,7 +26,7 @@ use Rattle.command.specs.declared.First.{First}
 use Rattle.command.specs.declared.Second.{Second}
 use Rattle.command.specs.declared.Command.{Command}
 use Rattle.command.specs.declared.Command.the-variants.{Start as StartCommand, First as FirstCommand, Second as SecondCommand}
-use Rattle.meters.specs.Meters.{Entry, moved, worthsOf, approved}
+use Rattle.meters.specs.Meters.{Entry, moved, approved}
 use Rattle.meters.specs.Meters.{declined as declinedValues}
 use Rattle.checks.specs.declared.History.{History}
 use Rattle.checks.specs.Checks.{meetsMask}
@@ -111,14 +111,14 @@ module _ (s : List ℕ) (syllabus : ℕ) (bytes : Bytes s) (fits : Accepted s) (
   start-taken start place stands = record { agrees = stands; values = holding .values }
 
   concluded-holds : (first : First) (place : Place) → Stands s place (placeOf s (named log)) → first .amount .0 ≤ max → (limits : ℕ) (cvr : Cvr) (kind : Kind)
-      → Holding s syllabus (then sitting (FirstCommand first) (concluded rules state place (purchaseOf first) (worthsOf rules (purchaseOf first)) limits cvr kind))
+      → Holding s syllabus (then sitting (FirstCommand first) (concluded rules state place (purchaseOf first) limits cvr kind))
   unfolding concluded named spent spentIn ledger
   concluded-holds first place stands small limits cvr Tc =
       record {
         agrees = tt;
         values =
             λ meter l.
-            carry (approved rules place (state .values) (worthsOf rules (purchaseOf first))) meter
+            carry (approved rules place (state .values) (purchaseOf first)) meter
             (counted s syllabus (placeOf s (named log)) (first .amount .0) (first .currency) meter) l
             (approved-moves s syllabus fits place (placeOf s (named log)) stands (state .values) (purchaseOf first) small meter l)
             (counted-fair s syllabus (placeOf s (named log)) (first .amount .0) (first .currency) (capOf meter) meter);
@@ -177,7 +177,7 @@ module _ (s : List ℕ) (syllabus : ℕ) (bytes : Bytes s) (fits : Accepted s) (
     unable-holds : (b : Bool) → isUnable (second .code) ≡ true → (history : History) (issuer : Issuer)
         → Holding s syllabus (then sitting (SecondCommand second) (cond b
         (closed rules (state .atc) pending false (declinedValues rules place (state .values)) history issuer)
-        (closed rules (state .atc) pending true (approved rules place (state .values) (worthsOf rules (pending .purchase))) history issuer)))
+        (closed rules (state .atc) pending true (approved rules place (state .values) (pending .purchase)) history issuer)))
     unfolding closed
     unable-holds true e history issuer =
         closed-holds second pending false (declinedValues rules place (state .values)) history issuer (declined s at)
@@ -185,7 +185,7 @@ module _ (s : List ℕ) (syllabus : ℕ) (bytes : Bytes s) (fits : Accepted s) (
         (λ meter l. declined-fair s syllabus at (spent log) (spentIn log) (capOf meter) meter)
         (λ meter. rw e)
     unable-holds false e history issuer =
-        closed-holds second pending true (approved rules place (state .values) (worthsOf rules (pending .purchase))) history issuer
+        closed-holds second pending true (approved rules place (state .values) (pending .purchase)) history issuer
         (counted s syllabus at (pending .purchase .amount .0) (pending .purchase .currency))
         (approved-moves s syllabus fits place at (remembers .stands) (state .values) (pending .purchase) (remembers .small))
         (λ meter l. counted-fair s syllabus at (pending .purchase .amount .0) (pending .purchase .currency) (capOf meter) meter)

@@ -14,7 +14,6 @@ use Rattle.rules.specs.Rules.{Rules, Profile, accumulatorRule, counterRule, ind
 use Rattle.ranges.proofs.Accepted.{Accepted}
 use Rattle.setup.specs.Setup.{profileIn, rulesIn}
 use Rattle.meters.specs.declared.Purchase.{Purchase}
-use Rattle.meters.specs.Meters.{worthsOf}
 use Rattle.checks.specs.declared.History.{History}
 use Rattle.checks.specs.Checks.{bit, any, accumulatorExceeds, counterExceeds, accumulatorsLower, accumulatorsUpper, countersLower, countersUpper, testsOf}
 use Rattle.checks.proofs.Bits.{any-lower, any-upper}
@@ -60,19 +59,18 @@ module _ (s : List ℕ) (syllabus : ℕ) (fits : Accepted s) (place : Place) (at
   abbrev upper : Meter → Bool
   upper = aboveUpper s syllabus at (purchase .amount .0) (purchase .currency) (valueOf values)
 
-  causes : limitsByte (testsOf rules place values purchase (worthsOf rules purchase))
+  causes : limitsByte (testsOf rules place values purchase)
       ≡ limitsOf (any (countersLower rules place values)) (any (countersUpper rules place values))
-      (any (accumulatorsLower rules place values (worthsOf rules purchase))) (any (accumulatorsUpper rules place values (worthsOf rules purchase)))
+      (any (accumulatorsLower rules place values purchase)) (any (accumulatorsUpper rules place values purchase))
   unfolding limitsByte testsOf accumulatorsLower accumulatorsUpper countersLower countersUpper
   causes =
-      let worths = worthsOf rules purchase in
       let cl : ℕ → Bool = λ i. counterExceeds rules place values (counterRule rules place i .lower) i in
       let cu : ℕ → Bool = λ i. counterExceeds rules place values (counterRule rules place i .upper) i in
-      let al : ℕ → Bool = λ i. accumulatorExceeds rules place values worths (accumulatorRule rules place i .lower .0) i in
-      let au : ℕ → Bool = λ i. accumulatorExceeds rules place values worths (accumulatorRule rules place i .upper .0) i in
+      let al : ℕ → Bool = λ i. accumulatorExceeds rules place values purchase (accumulatorRule rules place i .lower .0) i in
+      let au : ℕ → Bool = λ i. accumulatorExceeds rules place values purchase (accumulatorRule rules place i .upper .0) i in
       sym (limits-same (any-lower cl cu) (any-upper cl cu) (any-lower al au) (any-upper al au))
 
-  pub limits-are : limitsByte (testsOf rules place values purchase (worthsOf rules purchase))
+  pub limits-are : limitsByte (testsOf rules place values purchase)
       ≡ limitsOf (anyOf counter lower) (anyOf counter upper) (anyOf accumulator lower) (anyOf accumulator upper)
   limits-are =
       causes

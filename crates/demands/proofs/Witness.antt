@@ -14,7 +14,7 @@ use Rattle.rules.specs.Rules.{Rules, rulesOf, findProfile}
 use Rattle.setup.specs.Setup.{rateIn, accumulatorIn, counterIn, profileIn, rulesIn, freshIn, readSetup, wordsAfter}
 use Rattle.money.specs.Money.{rateFor, scaled, convertOf}
 use Rattle.iad.specs.Iad.{pairsOf, iadBytes}
-use Rattle.meters.specs.Meters.{worth, worthsOf, approved, declined}
+use Rattle.meters.specs.Meters.{worth, approved, declined}
 use Rattle.checks.specs.Checks.{accumulatorsLower, accumulatorsUpper, countersLower, countersUpper, maximumExceeded, testsOf, decisionBits}
 use Rattle.cryptogram.specs.Cryptogram.{verification, sentIad}
 use Rattle.first.specs.First.{decision, limitsByte, concluded, firstPerformed}
@@ -54,7 +54,7 @@ good = refl
 -- ---- runs, by the rules that stand in the bytes
 
 printed-by : linesOf (run (rulesIn body 0) (begin body) commands .log) ≡ lines
-unfolding body commands lines run freshState readSetup freshIn isSetup hasLength isHead areAccumulators isAccumulator number areProfiles isProfileOrAbsent isProfile areMasks isMaximumAmount areAccumulatorRules isAccumulatorRule areCounterRules areSent areNumbersApart profileNumber areConversions isConversionOrAbsent isConversion conversionPair arePairsApart rulesIn rateIn profileIn accumulatorIn counterIn stepOf startStep firstStep secondStep findProfile firstPerformed decision limitsByte concluded testsOf decisionBits accumulatorsLower accumulatorsUpper countersLower countersUpper maximumExceeded worth worthsOf convertOf rateFor scaled approved declined verification sentIad pairsOf iadBytes secondPerformed unablePerformed closed
+unfolding body commands lines run freshState readSetup freshIn isSetup hasLength isHead areAccumulators isAccumulator number areProfiles isProfileOrAbsent isProfile areMasks isMaximumAmount areAccumulatorRules isAccumulatorRule areCounterRules areSent areNumbersApart profileNumber areConversions isConversionOrAbsent isConversion conversionPair arePairsApart rulesIn rateIn profileIn accumulatorIn counterIn stepOf startStep firstStep secondStep findProfile firstPerformed decision limitsByte concluded testsOf decisionBits accumulatorsLower accumulatorsUpper countersLower countersUpper maximumExceeded worth convertOf rateFor scaled approved declined verification sentIad pairsOf iadBytes secondPerformed unablePerformed closed
 printed-by = refl
 
 -- an approval happens: the answer approves, the value is what it is after it, and the profile guards accumulator 1 against 10000
@@ -65,11 +65,11 @@ pub record Approval (rules : Rules) (before : List Command) (command : Command) 
   pub upper-is : upperOf body (placeOf body (named (run rules (begin body) before .log))) (accumulator 0) ≡ 10000
 
 at-first-by : Approval (rulesIn body 0) (start ∷ []) (first 5000) 5000
-unfolding body run freshState readSetup freshIn isSetup hasLength isHead areAccumulators isAccumulator number areProfiles isProfileOrAbsent isProfile areMasks isMaximumAmount areAccumulatorRules isAccumulatorRule areCounterRules areSent areNumbersApart profileNumber areConversions isConversionOrAbsent isConversion conversionPair arePairsApart rulesIn rateIn profileIn accumulatorIn counterIn stepOf startStep firstStep secondStep findProfile firstPerformed decision limitsByte concluded testsOf decisionBits accumulatorsLower accumulatorsUpper countersLower countersUpper maximumExceeded worth worthsOf convertOf rateFor scaled approved declined verification sentIad pairsOf iadBytes secondPerformed unablePerformed closed placeOf named
+unfolding body run freshState readSetup freshIn isSetup hasLength isHead areAccumulators isAccumulator number areProfiles isProfileOrAbsent isProfile areMasks isMaximumAmount areAccumulatorRules isAccumulatorRule areCounterRules areSent areNumbersApart profileNumber areConversions isConversionOrAbsent isConversion conversionPair arePairsApart rulesIn rateIn profileIn accumulatorIn counterIn stepOf startStep firstStep secondStep findProfile firstPerformed decision limitsByte concluded testsOf decisionBits accumulatorsLower accumulatorsUpper countersLower countersUpper maximumExceeded worth convertOf rateFor scaled approved declined verification sentIad pairsOf iadBytes secondPerformed unablePerformed closed placeOf named
 at-first-by = record { guards = record { active = refl; included = refl; decline = refl; default = refl }; approves-it = refl; value-is = refl; upper-is = refl }
 
 at-second-by : Approval (rulesIn body 0) (start ∷ first 5000 ∷ start ∷ first 1 ∷ []) second 5001
-unfolding body run freshState readSetup freshIn isSetup hasLength isHead areAccumulators isAccumulator number areProfiles isProfileOrAbsent isProfile areMasks isMaximumAmount areAccumulatorRules isAccumulatorRule areCounterRules areSent areNumbersApart profileNumber areConversions isConversionOrAbsent isConversion conversionPair arePairsApart rulesIn rateIn profileIn accumulatorIn counterIn stepOf startStep firstStep secondStep findProfile firstPerformed decision limitsByte concluded testsOf decisionBits accumulatorsLower accumulatorsUpper countersLower countersUpper maximumExceeded worth worthsOf convertOf rateFor scaled approved declined verification sentIad pairsOf iadBytes secondPerformed unablePerformed closed placeOf named
+unfolding body run freshState readSetup freshIn isSetup hasLength isHead areAccumulators isAccumulator number areProfiles isProfileOrAbsent isProfile areMasks isMaximumAmount areAccumulatorRules isAccumulatorRule areCounterRules areSent areNumbersApart profileNumber areConversions isConversionOrAbsent isConversion conversionPair arePairsApart rulesIn rateIn profileIn accumulatorIn counterIn stepOf startStep firstStep secondStep findProfile firstPerformed decision limitsByte concluded testsOf decisionBits accumulatorsLower accumulatorsUpper countersLower countersUpper maximumExceeded worth convertOf rateFor scaled approved declined verification sentIad pairsOf iadBytes secondPerformed unablePerformed closed placeOf named
 at-second-by = record { guards = record { active = refl; included = refl; decline = refl; default = refl }; approves-it = refl; value-is = refl; upper-is = refl }
 
 module _ (words : List ℕ) (size : length words ≡ 164) where

@@ -1,14 +1,13 @@
 -- First GENERATE AC (document 01, "First: the answer", with request One: declines at First count).
 use Prim.Native.Nat.{ℕ, _+_, _*_, _/_, _%_}
-use mathlib.Core.Bool.{Bool, true, false, cond, not, _||_}
+use mathlib.Core.Bool.{Bool, true, cond, not, _||_}
 use lib.Dec.{eqb}
 use Rattle.iad.specs.declared.Cvr.{Cvr}
 use Rattle.rules.specs.declared.Masks.{Masks}
 use Rattle.rules.specs.declared.Place.{Place}
 use Rattle.rules.specs.Rules.{Rules, profileAt}
 use Rattle.meters.specs.declared.Purchase.{Purchase}
-use Rattle.meters.specs.declared.Worths.{Worths}
-use Rattle.meters.specs.Meters.{worthsOf, approved, declined}
+use Rattle.meters.specs.Meters.{approved, declined}
 use Rattle.checks.specs.declared.History.{History}
 use Rattle.checks.specs.declared.Tests.{Tests}
 use Rattle.checks.specs.Checks.{bit, testsOf, decisionBits, meetsMask}
@@ -57,20 +56,20 @@ uncompleted history =
 
 -- an offline approval moves the values; AAC raises the counters that include offline declines, and no accumulator; ARQC moves none; TC or
 -- AAC closes the transaction
-unfoldable pub concluded : Rules → State → Place → Purchase → Worths → ℕ → Cvr → Kind → Outcome
-concluded rules state place purchase worths limits cvr Tc =
-    let values = approved rules place (state .values) worths in
+unfoldable pub concluded : Rules → State → Place → Purchase → ℕ → Cvr → Kind → Outcome
+concluded rules state place purchase limits cvr Tc =
+    let values = approved rules place (state .values) purchase in
     record {
       state = record { values = values; phase = Idle; atc = state .atc; history = state .history };
       answer = Given Tc (state .atc) (sentIad rules place values cvr);
     }
-concluded rules state place purchase worths limits cvr Aac =
+concluded rules state place purchase limits cvr Aac =
     let raised = declined rules place (state .values) in
     record {
       state = record { values = raised; phase = Idle; atc = state .atc; history = state .history };
       answer = Given Aac (state .atc) (sentIad rules place raised cvr);
     }
-concluded rules state place purchase worths limits cvr Arqc =
+concluded rules state place purchase limits cvr Arqc =
     record {
       state =
           record {
@@ -86,8 +85,7 @@ abbrev pub purchaseOf : First → Purchase
 purchaseOf first = record { amount = first .amount; currency = first .currency }
 
 abbrev pub firstTests : Rules → State → Place → First → Tests
-firstTests rules state place first =
-    testsOf rules place (state .values) (purchaseOf first) (worthsOf rules (purchaseOf first))
+firstTests rules state place first = testsOf rules place (state .values) (purchaseOf first)
 
 abbrev pub firstKind : Rules → State → Place → First → Kind
 firstKind rules state place first =
@@ -98,5 +96,5 @@ unfoldable pub firstPerformed : Rules → State → First → Place → Outcome
 firstPerformed rules state first place =
     let limits = limitsByte (firstTests rules state place first) in
     let kind = firstKind rules state place first in
-    concluded rules state place (purchaseOf first) (worthsOf rules (purchaseOf first)) limits
+    concluded rules state place (purchaseOf first) limits
     (verification rules (state .history) limits kind NotRequested (issuerBefore (state .history))) kind

@@ -9,7 +9,6 @@ use cryptogram::Issuer;
 use cryptogram::Later;
 use iad::Cvr;
 use meters::Purchase;
-use meters::Worths;
 use rules::Masks;
 use rules::Place;
 use rules::Words;
@@ -72,19 +71,18 @@ fn conclude(
     state: State,
     place: Place,
     purchase: Purchase,
-    worths: Worths,
     limits: u8,
     cvr: Cvr,
     kind: Kind,
 ) -> Outcome
-    ensures { λ r. ⌜ r ≡ concluded (rulesOf (now (words .entry))) state place purchase worths limits cvr kind ⌝ }
+    ensures { λ r. ⌜ r ≡ concluded (rulesOf (now (words .entry))) state place purchase limits cvr kind ⌝ }
 {
     let values = state.values;
     let history = state.history;
     let atc = state.atc;
     match kind {
         Kind::Tc => {
-            let approved = meters::approve(words, place, values, worths);
+            let approved = meters::approve(words, place, values, purchase);
             let iad = cryptogram::send(words, place, approved, cvr);
             Outcome {
                 state: State {
@@ -157,8 +155,7 @@ pub fn perform(words: &Words, state: State, place: Place, first: First) -> Outco
         amount,
         currency: first.currency,
     };
-    let worths = meters::worths_of(words, purchase);
-    let tests = checks::test(words, place, values, purchase, worths);
+    let tests = checks::test(words, place, values, purchase);
     let adr = checks::decision_bits(history, tests);
     let kind = decide(
         first.requested,
@@ -173,5 +170,5 @@ pub fn perform(words: &Words, state: State, place: Place, first: First) -> Outco
         unable: false,
     };
     let cvr = cryptogram::verify(words, history, limits, kind, Later::NotRequested, issuer);
-    conclude(words, state, place, purchase, worths, limits, cvr, kind)
+    conclude(words, state, place, purchase, limits, cvr, kind)
 }

@@ -15,8 +15,7 @@ use Rattle.rules.specs.declared.CounterRule.{CounterRule}
 use Rattle.rules.specs.declared.Values.{Values}
 use Rattle.rules.specs.Rules.{Rules, accumulatorRule, counterRule}
 use Rattle.meters.specs.declared.Purchase.{Purchase}
-use Rattle.meters.specs.declared.Worths.{Worths}
-use Rattle.meters.specs.Meters.{Entry, put, add, move, moved, counterCap, worth, worthsOf, worthAt, amountAt, countAt, addition, approval, counting, declining, putting, approved, declined, limited, cleared}
+use Rattle.meters.specs.Meters.{Entry, put, add, move, moved, counterCap, worth, amountAt, countAt, addition, approval, counting, declining, putting, approved, declined, limited, cleared}
 
 -- what holds at 0 to 3 holds below 4
 each : (P : ℕ → Type 0) → P 0 → P 1 → P 2 → P 3 → (i : ℕ) → i < 4 → P i
@@ -26,20 +25,16 @@ each P a b c d (suc (suc zero)) h = c
 each P a b c d (suc (suc (suc zero))) h = d
 each P a b c d (suc (suc (suc (suc i)))) h = let z : ⊥ = omega arith in absurd z
 
-pub worth-at : (rules : Rules) (purchase : Purchase) (i : ℕ) → i < 4 → worthAt (worthsOf rules purchase) i ≡ worth rules purchase i
-unfolding worthsOf
-worth-at rules purchase = each _ refl refl refl refl
-
 module _ (rules : Rules) (place : Place) (values : Values) where
-  pub approved-amount : (worths : Worths) (i : ℕ) → i < 4
-      → amountAt (approved rules place values worths) i .0 ≡ moved max (amountAt values i .0) (approval (accumulatorRule rules place i) (worthAt worths i))
+  pub approved-amount : (purchase : Purchase) (i : ℕ) → i < 4
+      → amountAt (approved rules place values purchase) i .0 ≡ moved max (amountAt values i .0) (approval (accumulatorRule rules place i) (worth rules purchase i))
   unfolding approved
-  approved-amount worths = each _ refl refl refl refl
+  approved-amount purchase = each _ refl refl refl refl
 
-  pub approved-count : (worths : Worths) (i : ℕ) → i < 4
-      → countAt (approved rules place values worths) i ≡ moved counterCap (countAt values i) (counting (counterRule rules place i))
+  pub approved-count : (purchase : Purchase) (i : ℕ) → i < 4
+      → countAt (approved rules place values purchase) i ≡ moved counterCap (countAt values i) (counting (counterRule rules place i))
   unfolding approved
-  approved-count worths = each _ refl refl refl refl
+  approved-count purchase = each _ refl refl refl refl
 
   pub declined-amount : (i : ℕ) → amountAt (declined rules place values) i ≡ amountAt values i
   unfolding declined

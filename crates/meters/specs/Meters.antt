@@ -1,7 +1,7 @@
 -- What a purchase is worth, and what approvals, declines and orders enter into an accumulator or a counter
 -- (document 01, "First: the answer" and "Second: the answer"). Both are meters: a counter is one that stops at 255 and
 -- to which a purchase is worth 1.
-use Prim.Native.Nat.{ℕ, zero, suc, _+_}
+use Prim.Native.Nat.{ℕ, _+_}
 use mathlib.Core.Bool.{Bool, cond, _&&_}
 use mathlib.Core.List.{List, [], _∷_}
 use lib.ListN.{getD}
@@ -16,7 +16,6 @@ use Rattle.rules.specs.declared.CounterRule.{CounterRule}
 use Rattle.rules.specs.declared.Values.{Values}
 use Rattle.rules.specs.Rules.{Rules, four, currencyAt, accumulatorRule, counterRule}
 use Rattle.meters.specs.declared.Purchase.{Purchase}
-use Rattle.meters.specs.declared.Worths.{Worths}
 
 -- an entry puts a value or adds to it, the sum stopping at the cap
 pub data Entry : Type 0 where
@@ -37,16 +36,6 @@ counterCap = 255
 -- the purchase in the currency of accumulator i + 1
 unfoldable pub worth : Rules → Purchase → ℕ → Converted
 worth rules purchase i = convertOf (purchase .amount) (purchase .currency) (currencyAt rules i) (rules .rates)
-
-unfoldable pub worthsOf : Rules → Purchase → Worths
-worthsOf rules purchase =
-    record { one = worth rules purchase 0; two = worth rules purchase 1; three = worth rules purchase 2; four = worth rules purchase 3 }
-
-abbrev pub worthAt : Worths → ℕ → Converted
-worthAt worths zero = worths .one
-worthAt worths (suc zero) = worths .two
-worthAt worths (suc (suc zero)) = worths .three
-worthAt worths (suc (suc (suc i))) = worths .four
 
 abbrev pub amountAt : Values → ℕ → AccumulatorAmount
 amountAt values i = getD (values .accumulators) i (record { 0 = 0 })
@@ -80,10 +69,10 @@ abbrev pub amountMoved : AccumulatorAmount → List Entry → AccumulatorAmount
 amountMoved value entries = record { 0 = moved max (value .0) entries }
 
 -- after an offline approval, or after CSU order 11
-unfoldable pub approved : Rules → Place → Values → Worths → Values
-approved rules place values worths =
+unfoldable pub approved : Rules → Place → Values → Purchase → Values
+approved rules place values purchase =
     record {
-      accumulators = four (λ i. amountMoved (amountAt values i) (approval (accumulatorRule rules place i) (worthAt worths i)));
+      accumulators = four (λ i. amountMoved (amountAt values i) (approval (accumulatorRule rules place i) (worth rules purchase i)));
       counters = four (λ i. moved counterCap (countAt values i) (counting (counterRule rules place i)));
     }
 

@@ -1,8 +1,9 @@
-// What a purchase is worth to each accumulator, and what approvals, declines and the issuer's
-// orders do to the values.
+// What a purchase is worth to an accumulator, and what approvals, declines and the issuer's orders
+// do to the values.
 ghost use mathlib.Core.Path.{_≡_};
-ghost use Rattle.rules.specs.Rules.{rulesOf};
-ghost use Rattle.meters.specs.Meters.{add, move, moved, counterCap, amountMoved, worthsOf, approval, counting, declining, putting, approved, declined, limited, cleared};
+ghost use Rattle.money.specs.Money.{convertOf};
+ghost use Rattle.rules.specs.Rules.{rulesOf, accumulatorRule};
+ghost use Rattle.meters.specs.Meters.{add, move, moved, counterCap, amountMoved, worth, approval, counting, declining, putting, approved, declined, limited, cleared};
 use money::AccumulatorAmount;
 use money::Converted;
 use money::TransactionAmount;
@@ -17,37 +18,40 @@ pub struct Purchase {
     pub currency: u16,
 }
 
-// The purchase in the currency of each accumulator.
-pub struct Worths {
-    pub one: Converted,
-    pub two: Converted,
-    pub three: Converted,
-    pub four: Converted,
-}
-
-pub fn worths_of(words: &Words, purchase: Purchase) -> Worths
-    ensures { λ r. ⌜ r ≡ worthsOf (rulesOf (now (words .entry))) purchase ⌝ }
+// The purchase in a currency. The table is read only for another one.
+pub fn worth_in(words: &Words, purchase: Purchase, currency: u16) -> Converted
+    ensures { λ r. ⌜ r ≡ convertOf (purchase .amount) (purchase .currency) currency (rulesOf (now (words .entry)) .rates) ⌝ }
 {
-    let rates = rules::rates(words);
     let amount = purchase.amount;
-    let from = purchase.currency;
-    Worths {
-        one: money::convert(amount, from, rules::currency(words, 0), rates),
-        two: money::convert(amount, from, rules::currency(words, 1), rates),
-        three: money::convert(amount, from, rules::currency(words, 2), rates),
-        four: money::convert(amount, from, rules::currency(words, 3), rates),
+    if purchase.currency == currency {
+        return Converted::Amount(AccumulatorAmount(money::stop(amount.0)));
     }
+    money::convert(amount, purchase.currency, currency, rules::rates(words))
 }
 
-// An accumulator at an approval. An amount that is over fills it; without a conversion the purchase
-// doesn't count there.
-fn grow(rule: AccumulatorRule, amount: AccumulatorAmount, worth: Converted) -> AccumulatorAmount
-    ensures { λ r. ⌜ r ≡ amountMoved amount (approval rule worth) ⌝ }
+// The purchase in the currency of accumulator i + 1.
+pub fn worth(words: &Words, purchase: Purchase, i: usize) -> Converted
+    ensures { λ r. ⌜ r ≡ worth (rulesOf (now (words .entry))) purchase i ⌝ }
 {
+    worth_in(words, purchase, rules::currency(words, i))
+}
+
+// Accumulator i + 1 at an approval. An amount that is over fills it; without a conversion the
+// purchase doesn't count there.
+fn grow(
+    words: &Words,
+    place: Place,
+    i: usize,
+    amount: AccumulatorAmount,
+    purchase: Purchase,
+) -> AccumulatorAmount
+    ensures { λ r. ⌜ r ≡ amountMoved amount (approval (accumulatorRule (rulesOf (now (words .entry))) place i) (worth (rulesOf (now (words .entry))) purchase i)) ⌝ }
+{
+    let rule = rules::accumulator_rule(words, place, i);
     if !(rule.active & rule.allow) {
         return amount;
     }
-    match worth {
+    match worth(words, purchase, i) {
         Converted::Amount(more) => money::plus(amount, more),
         Converted::Over => AccumulatorAmount(money::MAX),
         Converted::NoEntry => amount,
@@ -73,21 +77,17 @@ fn count(rule: CounterRule, value: u8) -> u8
 }
 
 // An offline approval, or the addition that CSU order 11 asks for.
-pub fn approve(words: &Words, place: Place, values: Values, worths: Worths) -> Values
-    ensures { λ r. ⌜ r ≡ approved (rulesOf (now (words .entry))) place values worths ⌝ }
+pub fn approve(words: &Words, place: Place, values: Values, purchase: Purchase) -> Values
+    ensures { λ r. ⌜ r ≡ approved (rulesOf (now (words .entry))) place values purchase ⌝ }
 {
     let amounts = values.accumulators;
     let counters = values.counters;
-    let one = worths.one;
-    let two = worths.two;
-    let three = worths.three;
-    let four = worths.four;
     Values {
         accumulators: [
-            grow(rules::accumulator_rule(words, place, 0), amounts[0], one),
-            grow(rules::accumulator_rule(words, place, 1), amounts[1], two),
-            grow(rules::accumulator_rule(words, place, 2), amounts[2], three),
-            grow(rules::accumulator_rule(words, place, 3), amounts[3], four),
+            grow(words, place, 0, amounts[0], purchase),
+            grow(words, place, 1, amounts[1], purchase),
+            grow(words, place, 2, amounts[2], purchase),
+            grow(words, place, 3, amounts[3], purchase),
         ],
         counters: [
             count(rules::counter_rule(words, place, 0), counters[0]),

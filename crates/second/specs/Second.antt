@@ -6,7 +6,7 @@ use Rattle.rules.specs.declared.Place.{Place}
 use Rattle.rules.specs.declared.Values.{Values}
 use Rattle.rules.specs.Rules.{Rules, profileAt}
 use Rattle.meters.specs.declared.Purchase.{Purchase}
-use Rattle.meters.specs.Meters.{worthsOf, approved, declined, limited, cleared}
+use Rattle.meters.specs.Meters.{approved, declined, limited, cleared}
 use Rattle.checks.specs.declared.History.{History}
 use Rattle.checks.specs.Checks.{testsOf, decisionBits, meetsMask}
 use Rattle.command.specs.declared.Second.{Second}
@@ -59,7 +59,7 @@ unableIn history =
 abbrev pub unableBits : Rules → State → Pending → ℕ
 unableBits rules state pending =
     decisionBits (unableIn (pending .history))
-    (testsOf rules (pending .place) (state .values) (pending .purchase) (worthsOf rules (pending .purchase)))
+    (testsOf rules (pending .place) (state .values) (pending .purchase))
 
 abbrev pub issuerUnable : History → Issuer
 issuerUnable history = record { unperformed = true; failed = history .failed; unable = true }
@@ -70,7 +70,7 @@ unablePerformed rules state requested pending =
     let place = pending .place in
     cond (eqb requested 0 || meetsMask (unableBits rules state pending) (profileAt rules place .masks .default))
     (closed rules (state .atc) pending false (declined rules place (state .values)) (unableIn (state .history)) (issuerUnable (pending .history)))
-    (closed rules (state .atc) pending true (approved rules place (state .values) (worthsOf rules (pending .purchase))) (unableIn (state .history))
+    (closed rules (state .atc) pending true (approved rules place (state .values) (pending .purchase)) (unableIn (state .history))
     (issuerUnable (pending .history)))
 
 -- CSU byte 2
@@ -82,7 +82,7 @@ unfoldable pub ordered : Rules → Place → Values → Purchase → ℕ → Val
 ordered rules place values purchase update =
     cond (eqb (update % 4) 0) values
     (cond (eqb (update % 4) 1) (limited rules place values)
-    (cond (eqb (update % 4) 2) (cleared rules place values) (approved rules place values (worthsOf rules purchase))))
+    (cond (eqb (update % 4) 2) (cleared rules place values) (approved rules place values purchase)))
 
 -- verified: history bits 0, 2, 3, 4 are cleared, "go online next" becomes CSU byte 2 b4; TC if requested and b8 is set
 unfoldable pub verifiedPerformed : Rules → State → Second → Pending → Outcome

@@ -78,11 +78,11 @@ fn order(words: &Words, place: Place, values: Values, purchase: Purchase, update
     if what == 2 {
         return meters::reset(words, place, values);
     }
-    meters::approve(words, place, values, meters::worths_of(words, purchase))
+    meters::approve(words, place, values, purchase)
 }
 
 // Response code Y3 or Z3.
-fn is_unable(code: u16) -> bool
+fn is_unable(code: u32) -> bool
     ensures { λ r. ⌜ r ≡ isUnable code ⌝ }
 {
     (code == 0x5933) | (code == 0x5A33)
@@ -111,8 +111,7 @@ fn unable(words: &Words, state: State, pending: Pending, requested: u8) -> Outco
         unable: true,
         missing: before.missing,
     };
-    let worths = meters::worths_of(words, purchase);
-    let tests = checks::test(words, place, values, purchase, worths);
+    let tests = checks::test(words, place, values, purchase);
     let adr = checks::decision_bits(shown, tests);
     let issuer = Issuer {
         unperformed: true,
@@ -124,7 +123,7 @@ fn unable(words: &Words, state: State, pending: Pending, requested: u8) -> Outco
         let values = meters::decline(words, place, values);
         return close(words, state.atc, pending, false, values, history, issuer);
     }
-    let values = meters::approve(words, place, values, worths);
+    let values = meters::approve(words, place, values, purchase);
     close(words, state.atc, pending, true, values, history, issuer)
 }
 

@@ -8,47 +8,28 @@ returns : tie.Need-returns
 unfolding maximumExceeded
 returns c =
     let maximum = c .before .before .maximum-amount in
-    let off = not-true (maximum .result .on) (c .if1 .taken) in
-    simp (← maximum .ensures, off)
+    simp (← maximum .ensures, not-true (maximum .result .on) (c .if1 .taken))
 
 returns-2 : tie.Need-returns-2
 unfolding maximumExceeded
 returns-2 c =
-    let maximum = c .before .before .before .before .before .before .before .before .before .maximum-amount in
-    let on = not-false (maximum .result .on) (c .before .before .before .before .before .before .before .if1 .left) in
-    simp (
-      ← maximum .ensures,
-      on,
-      ← c .before .before .before .before .before .before .rates .ensures,
-      ← c .before .before .before .before .before .convert .ensures,
-      c .before .before .before .spent .given .1,
-    )
+    let worth = c .before .before .before .before .before in
+    let maximum = worth .before .before .before .maximum-amount in
+    simp (← maximum .ensures, not-false (maximum .result .on) (worth .before .if1 .left), ← worth .worth-in .ensures, c .before .before .before .spent .given .1)
 
 returns-3 : tie.Need-returns-3
 unfolding maximumExceeded
 returns-3 c =
-    let maximum = c .before .before .before .before .before .before .maximum-amount in
-    let on = not-false (maximum .result .on) (c .before .before .before .before .if1 .left) in
-    simp (
-      ← maximum .ensures,
-      on,
-      ← c .before .before .before .rates .ensures,
-      ← c .before .before .convert .ensures,
-      c .enum-told .given .1,
-    )
+    let worth = c .before .before in
+    let maximum = worth .before .before .before .maximum-amount in
+    simp (← maximum .ensures, not-false (maximum .result .on) (worth .before .if1 .left), ← worth .worth-in .ensures, c .enum-told .given .1)
 
 returns-4 : tie.Need-returns-4
 unfolding maximumExceeded
 returns-4 c =
-    let maximum = c .before .before .before .before .before .before .maximum-amount in
-    let on = not-false (maximum .result .on) (c .before .before .before .before .if1 .left) in
-    simp (
-      ← maximum .ensures,
-      on,
-      ← c .before .before .before .rates .ensures,
-      ← c .before .before .convert .ensures,
-      c .enum-told2 .given .1,
-    )
+    let worth = c .before .before in
+    let maximum = worth .before .before .before .maximum-amount in
+    simp (← maximum .ensures, not-false (maximum .result .on) (worth .before .if1 .left), ← worth .worth-in .ensures, c .enum-told2 .given .1)
 
 pub exceeds-maximum-spec : {M : Type 1} → statement M
-exceeds-maximum-spec = tie.close (tie.spec (search needs) returns (search needs) (search needs) (search needs) (search needs) (search needs) returns-2 returns-3 returns-4)
+exceeds-maximum-spec = tie.close (tie.spec (search needs) returns (search needs) (search needs) (search needs) (search needs) returns-2 returns-3 returns-4)

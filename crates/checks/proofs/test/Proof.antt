@@ -8,4 +8,4 @@ unfolding testsOf
 returns c = simp (c .exceeds-maximum .ensures, c .before .test-counters .ensures, c .before .before .test-accumulators .ensures)
 
 pub test-spec : {M : Type 1} → statement M
-test-spec = tie.close (tie.spec (search needs) (search needs) (search needs) returns)
+test-spec = tie.close (tie.spec (search needs) (search needs) (search needs) (search needs) (search needs) returns)

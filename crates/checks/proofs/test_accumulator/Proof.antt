@@ -1,22 +1,44 @@
+-- What is active is tested by one sum.
 use borrow.Author.Needs.{needs}
+use borrow.Author.Tests.{not-true, not-false}
 use native.Mathlib.Omega.{arith}
+use Rattle.checks.proofs.Exceeds.{exceeds-sum}
 use Rattle.checks.proofs.test_accumulator.Statement.{statement}
 use Rattle.checks.proofs.test_accumulator.Tie as tie
 
 returns : tie.Need-returns
-returns c = (
-  simp (
-    c .bit2 .ensures .0,
-    c .before .amount-exceeds2 .ensures,
-    c .before .before .bit .ensures .0,
-    c .before .before .before .amount-exceeds .ensures,
-    c .before .before .before .before .if1 .taken,
-  ),
-  omega arith,
-)
+returns c =
+    let rule = c .before .before .accumulator-rule in
+    (simp (← rule .ensures, not-true (rule .result .active) (c .if1 .taken)), omega arith)
 
 returns-2 : tie.Need-returns-2
-returns-2 c = (simp (c .if1 .left), omega arith)
+returns-2 c =
+    let left = c .before .before .before .before in
+    let rule = left .before .before .before .accumulator-rule in
+    (
+      simp (← rule .ensures, not-false (rule .result .active) (left .before .if1 .left), exceeds-sum, ← left .included .ensures, c .before .before .more .given .1)
+      (c .limits-exceeded .ensures .0),
+      c .limits-exceeded .ensures .1,
+    )
+
+returns-3 : tie.Need-returns-3
+returns-3 c =
+    let left = c .before .before in
+    let rule = left .before .before .before .accumulator-rule in
+    (
+      simp (← rule .ensures, not-false (rule .result .active) (left .before .if1 .left), exceeds-sum, ← left .included .ensures, c .enum-told .given .1),
+      omega arith,
+    )
+
+returns-4 : tie.Need-returns-4
+returns-4 c =
+    let left = c .before .before .before in
+    let rule = left .before .before .before .accumulator-rule in
+    (
+      simp (← rule .ensures, not-false (rule .result .active) (left .before .if1 .left), exceeds-sum, ← left .included .ensures, c .before .enum-told2 .given .1)
+      (c .limits-exceeded2 .ensures .0),
+      c .limits-exceeded2 .ensures .1,
+    )
 
 pub test-accumulator-spec : {M : Type 1} → statement M
-test-accumulator-spec = tie.close (tie.spec (search needs) (search needs) (search needs) (search needs) (search needs) (search needs) returns returns-2)
+test-accumulator-spec = tie.close (tie.spec (search needs) returns (search needs) (search needs) (search needs) (search needs) (search needs) (search needs) returns-2 returns-3 returns-4)

@@ -8,15 +8,11 @@ returns : tie.Need-returns
 unfolding accumulatorsLower accumulatorsUpper
 returns c =
     simp (
-      c .before .before .before .before .before .before .before .before .before .test-accumulator .ensures .0,
-      c .before .before .before .before .before .before .before .before .before .before .before .accumulator-rule .ensures,
-      c .before .before .before .before .before .before .test-accumulator2 .ensures .0,
-      c .before .before .before .before .before .before .before .before .accumulator-rule2 .ensures,
-      c .before .before .before .test-accumulator3 .ensures .0,
-      c .before .before .before .before .before .accumulator-rule3 .ensures,
       c .test-accumulator4 .ensures .0,
-      c .before .before .accumulator-rule4 .ensures,
+      c .before .before .test-accumulator3 .ensures .0,
+      c .before .before .before .before .test-accumulator2 .ensures .0,
+      c .before .before .before .before .before .before .test-accumulator .ensures .0,
     ) (omega arith)
 
 pub test-accumulators-spec : {M : Type 1} → statement M
-test-accumulators-spec = tie.close (tie.spec (search needs) (search needs) (search needs) (search needs) (search needs) (search needs) (search needs) (search needs) (search needs) (search needs) (search needs) (search needs) (search needs) (search needs) (search needs) (search needs) (search needs) (search needs) returns)
+test-accumulators-spec = tie.close (tie.spec (search needs) (search needs) (search needs) (search needs) (search needs) (search needs) (search needs) (search needs) (search needs) (search needs) (search needs) (search needs) (search needs) (search needs) returns)

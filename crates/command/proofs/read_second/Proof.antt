@@ -9,4 +9,4 @@ unfolding secondOf
 returns c = simp (c .byte-at2 .ensures, c .before .byte-at .ensures, c .before .before .u16-at .ensures, c .before .before .before .u32-at .ensures)
 
 pub read-second-spec : {M : Type 1} → statement M
-read-second-spec = tie.close (tie.spec (search needs) (search needs) (search needs) (search needs) returns)
+read-second-spec = tie.close (tie.spec (search needs) (search needs) (search needs) (search needs) (search needs) returns)

@@ -14,8 +14,7 @@ returns c =
       c .before .before .before .before .before .profile-masks .ensures,
       c .before .before .before .before .before .before .decision-bits .ensures,
       c .before .before .before .before .before .before .before .test .ensures,
-      c .before .before .before .before .before .before .before .before .worths-of .ensures,
     )
 
 pub perform-spec : {M : Type 1} → statement M
-perform-spec = tie.close (tie.spec (search needs) (search needs) (search needs) (search needs) (search needs) (search needs) (search needs) (search needs) returns)
+perform-spec = tie.close (tie.spec (search needs) (search needs) (search needs) (search needs) (search needs) (search needs) (search needs) returns)

@@ -11,9 +11,9 @@ returns c =
     let counter2 = counter3 .before .before in
     let counter1 = counter2 .before .before in
     let accumulator4 = counter1 .before .before in
-    let accumulator3 = accumulator4 .before .before .before in
-    let accumulator2 = accumulator3 .before .before .before in
-    let accumulator1 = accumulator2 .before .before .before in
+    let accumulator3 = accumulator4 .before .before in
+    let accumulator2 = accumulator3 .before .before in
+    let accumulator1 = accumulator2 .before .before in
     simp (
       c .count4 .ensures,
       c .before .counter-rule4 .ensures,
@@ -24,14 +24,10 @@ returns c =
       counter1 .count .ensures,
       counter1 .before .counter-rule .ensures,
       accumulator4 .grow4 .ensures,
-      accumulator4 .before .before .accumulator-rule4 .ensures,
       accumulator3 .grow3 .ensures,
-      accumulator3 .before .before .accumulator-rule3 .ensures,
       accumulator2 .grow2 .ensures,
-      accumulator2 .before .before .accumulator-rule2 .ensures,
       accumulator1 .grow .ensures,
-      accumulator1 .before .before .accumulator-rule .ensures,
     )
 
 pub approve-spec : {M : Type 1} → statement M
-approve-spec = tie.close (tie.spec (search needs) (search needs) (search needs) (search needs) (search needs) (search needs) (search needs) (search needs) (search needs) (search needs) (search needs) (search needs) (search needs) (search needs) (search needs) (search needs) (search needs) (search needs) (search needs) (search needs) (search needs) (search needs) (search needs) (search needs) returns)
+approve-spec = tie.close (tie.spec (search needs) (search needs) (search needs) (search needs) (search needs) (search needs) (search needs) (search needs) (search needs) (search needs) (search needs) (search needs) (search needs) (search needs) (search needs) (search needs) (search needs) (search needs) (search needs) (search needs) returns)

@@ -11,29 +11,30 @@ use Rattle.meters.proofs.grow.Tie as tie
 
 returns : tie.Need-returns
 returns c =
-    let rule = c .before .before .args .rule in
-    simp (not-true (rule .active && rule .allow) (c .if1 .taken))
+    let rule = c .before .before .accumulator-rule in
+    simp (← rule .ensures, not-true (rule .result .active && rule .result .allow) (c .if1 .taken))
 
 returns-2 : tie.Need-returns-2
 returns-2 c =
     let left = c .before .before .before .before in
-    let rule = left .before .before .args .rule in
+    let rule = left .before .before .before .accumulator-rule in
     let amount : ℕ → AccumulatorAmount = λ n. record { 0 = n } in
-    simp (not-false (rule .active && rule .allow) (left .if1 .left), c .before .before .worth .given .1) (ap amount (c .plus .ensures))
+    simp (← rule .ensures, not-false (rule .result .active && rule .result .allow) (left .before .if1 .left), ← left .worth .ensures, c .before .before .more .given .1)
+    (ap amount (c .plus .ensures))
 
 returns-3 : tie.Need-returns-3
 returns-3 c =
     let left = c .before .before in
-    let start = left .before .before .args in
-    let rule = start .rule in
+    let rule = left .before .before .before .accumulator-rule in
     let amount : ℕ → AccumulatorAmount = λ n. record { 0 = n } in
-    simp (not-false (rule .active && rule .allow) (left .if1 .left), c .enum-told .given .1) (ap amount (sym (over-stores-max (start .amount .0))))
+    simp (← rule .ensures, not-false (rule .result .active && rule .result .allow) (left .before .if1 .left), ← left .worth .ensures, c .enum-told .given .1)
+    (ap amount (sym (over-stores-max (left .before .before .before .before .args .amount .0))))
 
 returns-4 : tie.Need-returns-4
 returns-4 c =
     let left = c .before .before in
-    let rule = left .before .before .args .rule in
-    simp (not-false (rule .active && rule .allow) (left .if1 .left), c .enum-told2 .given .1)
+    let rule = left .before .before .before .accumulator-rule in
+    simp (← rule .ensures, not-false (rule .result .active && rule .result .allow) (left .before .if1 .left), ← left .worth .ensures, c .enum-told2 .given .1)
 
 pub grow-spec : {M : Type 1} → statement M
-grow-spec = tie.close (tie.spec returns (search needs) (search needs) (search needs) (search needs) returns-2 returns-3 returns-4)
+grow-spec = tie.close (tie.spec (search needs) returns (search needs) (search needs) (search needs) (search needs) (search needs) returns-2 returns-3 returns-4)

@@ -19,7 +19,7 @@ returns-3 c = simp (ne-eqb _ _ (c .before .before .before .if1 .left), ne-eqb _ 
 returns-4 : tie.Need-returns-4
 unfolding ordered
 returns-4 c =
-    simp (ne-eqb _ _ (c .before .before .before .before .if1 .left), ne-eqb _ _ (c .before .before .before .if2 .left), ne-eqb _ _ (c .before .before .if3 .left), c .approve .ensures, c .before .worths-of .ensures)
+    simp (ne-eqb _ _ (c .before .before .before .if1 .left), ne-eqb _ _ (c .before .before .if2 .left), ne-eqb _ _ (c .before .if3 .left), c .approve .ensures)
 
 pub order-spec : {M : Type 1} → statement M
-order-spec = tie.close (tie.spec returns (search needs) returns-2 (search needs) returns-3 (search needs) (search needs) returns-4)
+order-spec = tie.close (tie.spec returns (search needs) returns-2 (search needs) returns-3 (search needs) returns-4)
