@@ -1,7 +1,7 @@
 use borrow.Author.Tests.{lt-ltb, le-ltb, eq-eqb, ne-eqb}
-use Rattle.selection.specs.Entry.{actionOf}
-use Rattle.selection.proofs.read_action.Statement.{statement}
-use Rattle.selection.proofs.read_action.Tie as tie
+use Rattle.entry.specs.Entry.{actionOf}
+use Rattle.entry.proofs.read_action.Statement.{statement}
+use Rattle.entry.proofs.read_action.Tie as tie
 
 returns : tie.Need-returns
 unfolding actionOf

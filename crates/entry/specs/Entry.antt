@@ -6,10 +6,10 @@ use lib.ListN.{length}
 use lib.Dec.{ltb, leb, eqb}
 use lib.Bits.{bitAnd}
 use Rattle.wire.specs.Wire.{byte, number}
-use Rattle.selection.specs.declared.Action.{Action}
-use Rattle.selection.specs.declared.Action.the-variants.{Profile, Move, Refused}
-use Rattle.selection.specs.declared.Order.{Order}
-use Rattle.selection.specs.declared.Order.the-variants.{Less, Equal, Greater}
+use Rattle.entry.specs.declared.Action.{Action}
+use Rattle.entry.specs.declared.Action.the-variants.{Profile, Move, Refused}
+use Rattle.entry.specs.declared.Order.{Order}
+use Rattle.entry.specs.declared.Order.the-variants.{Less, Equal, Greater}
 
 -- TABLE A-1, in its order
 abbrev pub entryLength : List ℕ → ℕ

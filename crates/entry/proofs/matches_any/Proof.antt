@@ -4,10 +4,10 @@ use denote.Ref.{now}
 use mathlib.Core.Path.{_≡_, refl, sym, ap, _∙_}
 use Prim.Native.Nat.{ℕ, _-_}
 use lib.Dec.{eqb}
-use Rattle.selection.specs.Entry.{masked, block, isAnyOf, isEqual}
-use Rattle.selection.proofs.Compared.{equal-is, none-left, found, passed}
-use Rattle.selection.proofs.matches_any.Statement.{statement}
-use Rattle.selection.proofs.matches_any.Tie as tie
+use Rattle.entry.specs.Entry.{masked, block, isAnyOf, isEqual}
+use Rattle.entry.proofs.Compared.{equal-is, none-left, found, passed}
+use Rattle.entry.proofs.matches_any.Statement.{statement}
+use Rattle.entry.proofs.matches_any.Tie as tie
 
 abbrev Inv-loop : tie.InvT-loop
 Inv-loop entry «data» blocks i₀ i =

@@ -1,10 +1,10 @@
 use borrow.Author.Needs.{needs}
 use borrow.Author.Tests.{not-true, not-false}
 use mathlib.Core.Path.{sym, ap, _∙_}
-use Rattle.selection.specs.Entry.{actionOf, actionTaken}
-use Rattle.selection.proofs.Facts.{has-position}
-use Rattle.selection.proofs.take_action.Statement.{statement}
-use Rattle.selection.proofs.take_action.Tie as tie
+use Rattle.entry.specs.Entry.{actionOf, actionTaken}
+use Rattle.entry.proofs.Facts.{has-position}
+use Rattle.entry.proofs.take_action.Statement.{statement}
+use Rattle.entry.proofs.take_action.Tie as tie
 
 returns : tie.Need-returns
 unfolding actionTaken

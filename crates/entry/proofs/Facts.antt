@@ -8,8 +8,8 @@ use native.Mathlib.Omega.{arith}
 use lib.Dec.{ltb, leb, eqb}
 use borrow.Author.Tests.{lt-ltb, le-ltb, ltb-true, ltb-false, eqb-false}
 use Rattle.wire.proofs.Pairs.{both}
-use Rattle.selection.specs.Entry.{position, blockLength, checkType, positiveAction, negativeAction, isWhole, isWellFormed, reachesPast, passes, actionOf, actionTaken}
-use Rattle.selection.specs.declared.Action.the-variants.{Profile, Move, Refused}
+use Rattle.entry.specs.Entry.{position, blockLength, checkType, positiveAction, negativeAction, isWhole, isWellFormed, reachesPast, passes, actionOf, actionTaken}
+use Rattle.entry.specs.declared.Action.the-variants.{Profile, Move, Refused}
 
 module _ (e : List ℕ) (h : isWellFormed e ≡ true) where
   pub has-position : 0 < position e

@@ -3,9 +3,9 @@ use native.Mathlib.Omega.{arith}
 use denote.Ref.{now}
 use mathlib.Core.Path.{_≡_}
 use Prim.Native.Nat.{_+_, _*_}
-use Rattle.selection.specs.Entry.{blocks, blockLength, isWellFormed}
-use Rattle.selection.proofs.is_well_formed.Statement.{statement}
-use Rattle.selection.proofs.is_well_formed.Tie as tie
+use Rattle.entry.specs.Entry.{blocks, blockLength, isWellFormed}
+use Rattle.entry.proofs.is_well_formed.Statement.{statement}
+use Rattle.entry.proofs.is_well_formed.Tie as tie
 
 returns : tie.Need-returns
 unfolding isWellFormed

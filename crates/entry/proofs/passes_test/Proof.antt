@@ -2,10 +2,10 @@ use borrow.Author.Needs.{needs}
 use borrow.Author.Tests.{eq-eqb, ne-eqb}
 use denote.Ref.{now}
 use mathlib.Core.Path.{sym, ap, _∙_}
-use Rattle.selection.specs.Entry.{checkType, passes, isLess, isGreater}
-use Rattle.selection.proofs.Compared.{less-is, greater-is}
-use Rattle.selection.proofs.passes_test.Statement.{statement}
-use Rattle.selection.proofs.passes_test.Tie as tie
+use Rattle.entry.specs.Entry.{checkType, passes, isLess, isGreater}
+use Rattle.entry.proofs.Compared.{less-is, greater-is}
+use Rattle.entry.proofs.passes_test.Statement.{statement}
+use Rattle.entry.proofs.passes_test.Tie as tie
 
 returns : tie.Need-returns
 unfolding passes

@@ -6,11 +6,11 @@ use mathlib.Core.Path.{_≡_, refl}
 use Prim.Native.Nat.{_+_, _-_, _≤_, _<_}
 use lib.Bits.{bitAnd}
 use Rattle.wire.specs.Wire.{number}
-use Rattle.selection.specs.Entry.{masked, block, orderOf}
-use Rattle.selection.specs.declared.Order.the-variants.{Less, Greater}
-use Rattle.selection.proofs.Compared.{turn, ended}
-use Rattle.selection.proofs.compare.Statement.{statement}
-use Rattle.selection.proofs.compare.Tie as tie
+use Rattle.entry.specs.Entry.{masked, block, orderOf}
+use Rattle.entry.specs.declared.Order.the-variants.{Less, Greater}
+use Rattle.entry.proofs.Compared.{turn, ended}
+use Rattle.entry.proofs.compare.Statement.{statement}
+use Rattle.entry.proofs.compare.Tie as tie
 
 abbrev Inv-loop : tie.InvT-loop
 Inv-loop entry i «data» start length place k₀ k =

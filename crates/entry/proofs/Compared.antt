@@ -10,8 +10,8 @@ use lib.Bits.{bitAnd, and-block, and-lt}
 use lib.Dec.{ltb, eqb}
 use borrow.Author.Tests.{lt-ltb, le-ltb, eq-eqb, ne-eqb, ltb-true, ltb-false}
 use Rattle.wire.specs.Wire.{byte, number}
-use Rattle.selection.specs.Entry.{position, blockLength, blockPlace, block, masked, isAnyOf, orderOf, isLess, isEqual, isGreater}
-use Rattle.selection.specs.declared.Order.the-variants.{Less, Equal, Greater}
+use Rattle.entry.specs.Entry.{position, blockLength, blockPlace, block, masked, isAnyOf, orderOf, isLess, isEqual, isGreater}
+use Rattle.entry.specs.declared.Order.the-variants.{Less, Equal, Greater}
 
 -- x and y: numbers that grow by a byte at each step
 module _ (x y : ℕ → ℕ) (a b : ℕ → ℕ) (x-more : (i : ℕ) → x (suc i) ≡ x i * 256 + a i) (y-more : (i : ℕ) → y (suc i) ≡ y i * 256 + b i) (small : (i : ℕ) → a i < 256) where

@@ -4,10 +4,10 @@ use mathlib.Core.Path.{ap₂, _∙_}
 use Prim.Native.Nat.{ℕ, _+_}
 use lib.Dec.{ltb}
 use lib.ListN.{length}
-use Rattle.selection.specs.Entry.{position, blockLength, reachesPast}
-use Rattle.selection.proofs.Facts.{past-test}
-use Rattle.selection.proofs.reaches_past.Statement.{statement}
-use Rattle.selection.proofs.reaches_past.Tie as tie
+use Rattle.entry.specs.Entry.{position, blockLength, reachesPast}
+use Rattle.entry.proofs.Facts.{past-test}
+use Rattle.entry.proofs.reaches_past.Statement.{statement}
+use Rattle.entry.proofs.reaches_past.Tie as tie
 
 returns : tie.Need-returns
 unfolding reachesPast
