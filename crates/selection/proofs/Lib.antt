@@ -1,5 +1,3 @@
-pub mod Compared
-pub mod Facts
 pub mod Files
 pub mod Moves
 pub mod Visits

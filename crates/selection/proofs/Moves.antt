@@ -9,13 +9,13 @@ use lib.ListN.{length}
 use lib.Dec.{ltb, eqb}
 use borrow.Author.Tests.{lt-ltb, le-ltb}
 use Rattle.wire.specs.Wire.{byte}
-use Rattle.selection.specs.Entry.{actionTaken}
+use Rattle.entry.specs.Entry.{actionTaken}
+use Rattle.entry.specs.declared.Action.{Action}
+use Rattle.entry.specs.declared.Action.the-variants.{Move}
+use Rattle.entry.proofs.Facts.{moves-down}
 use Rattle.selection.specs.Selection.{firstEntry, below, entriesOf, isFile, oneMore, follow, selectFrom, selectionOf, skipped}
-use Rattle.selection.specs.declared.Action.{Action}
-use Rattle.selection.specs.declared.Action.the-variants.{Move}
 use Rattle.selection.specs.declared.Selection.{Selection}
 use Rattle.selection.specs.declared.Selection.the-variants.{NotSelected}
-use Rattle.selection.proofs.Facts.{moves-down}
 
 pub skip-none : (s : List ℕ) (k : ℕ) → k ≡ 0 → s ≡ skipped s k
 unfolding skipped

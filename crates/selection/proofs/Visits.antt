@@ -10,14 +10,14 @@ use lib.Seq.{getD-take, getD-drop, length-take-le}
 use lib.Dec.{ltb}
 use lib.Bits.{bitAnd}
 use Rattle.wire.specs.Wire.{byte, number}
-use Rattle.selection.specs.Entry.{position, blockLength, bitMask, isWellFormed, reachesPast, masked, passes, actionTaken}
+use Rattle.entry.specs.Entry.{position, blockLength, bitMask, isWellFormed, reachesPast, masked, passes, actionTaken}
+use Rattle.entry.specs.declared.Action.{Action}
+use Rattle.entry.specs.declared.Action.the-variants.{Profile, Move, Refused}
+use Rattle.entry.proofs.Facts.{has-position, has-length, same-test}
 use Rattle.selection.specs.Selection.{below, entriesOf, oneMore, follow, selectFrom, selectionOf, visitsOf}
 use Rattle.selection.specs.Visits.{onward, visitedFrom, visited, entryAt, stretch, Alike, All}
-use Rattle.selection.specs.declared.Action.{Action}
-use Rattle.selection.specs.declared.Action.the-variants.{Profile, Move, Refused}
 use Rattle.selection.specs.declared.Selection.{Selection}
 use Rattle.selection.specs.declared.Selection.the-variants.{Selected, NotSelected}
-use Rattle.selection.proofs.Facts.{has-position, has-length, same-test}
 
 -- AT MOST AS MANY VISITS AS ENTRIES
 follow-few : (a : Action) (f : ℕ → Selection) (n : ℕ) → ((m : ℕ) → visitsOf (f m) ≤ n) → visitsOf (follow a f) ≤ suc n

@@ -5,7 +5,7 @@ use mathlib.Core.Bool.{true}
 use mathlib.Core.List.{List, [], _∷_, _++_}
 use Prim.Native.Nat.{ℕ}
 use Rattle.wire.specs.Wire.{number}
-use Rattle.selection.specs.Entry.{block, isWellFormed, reachesPast, masked, isAnyOf, passes, actionOf, actionTaken}
+use Rattle.entry.specs.Entry.{block, isWellFormed, reachesPast, masked, isAnyOf, passes, actionOf, actionTaken}
 use Rattle.selection.specs.Selection.{entriesOf, isFile, follow, selectFrom, selectionOf}
 use Rattle.selection.specs.declared.Selection.{Selection}
 use Rattle.selection.specs.declared.Selection.the-variants.{Selected}

@@ -5,9 +5,9 @@ use mathlib.Core.List.{List, [], _∷_}
 use lib.ListN.{length, take, drop}
 use lib.Dec.{ltb, eqb}
 use Rattle.wire.specs.Wire.{byte}
-use Rattle.selection.specs.Entry.{actionTaken}
-use Rattle.selection.specs.declared.Action.{Action}
-use Rattle.selection.specs.declared.Action.the-variants.{Profile, Move, Refused}
+use Rattle.entry.specs.Entry.{actionTaken}
+use Rattle.entry.specs.declared.Action.{Action}
+use Rattle.entry.specs.declared.Action.the-variants.{Profile, Move, Refused}
 use Rattle.selection.specs.declared.Selection.{Selection}
 use Rattle.selection.specs.declared.Selection.the-variants.{Selected, NotSelected}
 

@@ -3,10 +3,10 @@ use Prim.Native.Nat.{ℕ, zero, suc, _-_}
 use mathlib.Core.Path.{_≡_}
 use mathlib.Core.List.{List, [], _∷_, map}
 use lib.ListN.{getD, take, drop}
-use Rattle.selection.specs.Entry.{position, blockLength, actionTaken}
+use Rattle.entry.specs.Entry.{position, blockLength, actionTaken}
+use Rattle.entry.specs.declared.Action.{Action}
+use Rattle.entry.specs.declared.Action.the-variants.{Profile, Move, Refused}
 use Rattle.selection.specs.Selection.{entriesOf}
-use Rattle.selection.specs.declared.Action.{Action}
-use Rattle.selection.specs.declared.Action.the-variants.{Profile, Move, Refused}
 
 -- the places that a move leads on to; an action that names a profile or is refused leads to none
 abbrev pub onward : Action → (ℕ → List ℕ) → List ℕ

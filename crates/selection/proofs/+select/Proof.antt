@@ -6,8 +6,8 @@ use mathlib.Core.Path.{sym, ap, _∙_}
 use Prim.Native.Nat.{ℕ, _<_}
 use borrow.Fn.Kinds.{In}
 use borrow.Fn.PlainCycle.{Measures, is, falls, and}
+use Rattle.entry.proofs.Facts.{moves-down}
 use Rattle.selection.specs.Selection.{firstEntry, oneMore, follow}
-use Rattle.selection.proofs.Facts.{moves-down}
 use Rattle.selection.proofs.Moves.{taken-is, none, step, moves-on, moves-past}
 use Rattle.selection.proofs.Visits.{few-told}
 use Rattle.selection.proofs.select.Reads as select
@@ -15,7 +15,7 @@ use Rattle.selection.proofs.select.Kinds as select-kinds
 use Rattle.selection.proofs.+select.Lts-select as select-lts
 use Rattle.selection.proofs.first_entry.Reads as first-entry-reads
 use Rattle.selection.proofs.move_down.Reads as move-down-reads
-use Rattle.selection.proofs.take_action.Reads as take-action-reads
+use Rattle.entry.proofs.take_action.Reads as take-action-reads
 use Rattle.selection.proofs.+select.{statement}
 use Rattle.selection.proofs.+select.Tie.{close}
 
