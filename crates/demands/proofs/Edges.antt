@@ -122,5 +122,5 @@ all (row ∷ rows) = holds row && all rows
 
 -- a) to l), in document 01's order; c), d) and e) by both rules
 pub edges : T (all table)
-unfolding all table holds testsOf accumulatorsLower accumulatorsUpper countersLower countersUpper maximumExceeded  worth convertOf rateFor scaled rounded approved decision verification
+unfolding all table holds testsOf accumulatorsLower accumulatorsUpper countersLower countersUpper maximumExceeded worth convertOf rateFor scaled rounded approved decision verification
 edges = tt

@@ -2,13 +2,11 @@
 // do to the values.
 ghost use mathlib.Core.Path.{_≡_};
 ghost use Rattle.money.specs.Money.{convertOf};
-ghost use Rattle.rules.specs.Rules.{rulesOf, accumulatorRule};
+ghost use Rattle.rules.specs.Rules.{rulesOf, accumulatorRule, counterRule};
 ghost use Rattle.meters.specs.Meters.{add, move, moved, counterCap, amountMoved, worth, approval, counting, declining, putting, approved, declined, limited, cleared};
 use money::AccumulatorAmount;
 use money::Converted;
 use money::TransactionAmount;
-use rules::AccumulatorRule;
-use rules::CounterRule;
 use rules::Place;
 use rules::Values;
 use rules::Words;
@@ -65,10 +63,11 @@ fn next(value: u8) -> u8
     if value < 255 { value + 1 } else { 255 }
 }
 
-// A counter at an approval.
-fn count(rule: CounterRule, value: u8) -> u8
-    ensures { λ r. ⌜ r ≡ moved counterCap value (counting rule) ⌝ }
+// Counter i + 1 at an approval.
+fn count(words: &Words, place: Place, i: usize, value: u8) -> u8
+    ensures { λ r. ⌜ r ≡ moved counterCap value (counting (counterRule (rulesOf (now (words .entry))) place i)) ⌝ }
 {
+    let rule = rules::counter_rule(words, place, i);
     if rule.active & rule.allow {
         next(value)
     } else {
@@ -90,18 +89,19 @@ pub fn approve(words: &Words, place: Place, values: Values, purchase: Purchase) 
             grow(words, place, 3, amounts[3], purchase),
         ],
         counters: [
-            count(rules::counter_rule(words, place, 0), counters[0]),
-            count(rules::counter_rule(words, place, 1), counters[1]),
-            count(rules::counter_rule(words, place, 2), counters[2]),
-            count(rules::counter_rule(words, place, 3), counters[3]),
+            count(words, place, 0, counters[0]),
+            count(words, place, 1, counters[1]),
+            count(words, place, 2, counters[2]),
+            count(words, place, 3, counters[3]),
         ],
     }
 }
 
-// A counter at an offline decline.
-fn count_decline(rule: CounterRule, value: u8) -> u8
-    ensures { λ r. ⌜ r ≡ moved counterCap value (declining rule) ⌝ }
+// Counter i + 1 at an offline decline.
+fn count_decline(words: &Words, place: Place, i: usize, value: u8) -> u8
+    ensures { λ r. ⌜ r ≡ moved counterCap value (declining (counterRule (rulesOf (now (words .entry))) place i)) ⌝ }
 {
+    let rule = rules::counter_rule(words, place, i);
     if rule.active & rule.allow & rule.declines {
         next(value)
     } else {
@@ -118,23 +118,30 @@ pub fn decline(words: &Words, place: Place, values: Values) -> Values
     Values {
         accumulators,
         counters: [
-            count_decline(rules::counter_rule(words, place, 0), counters[0]),
-            count_decline(rules::counter_rule(words, place, 1), counters[1]),
-            count_decline(rules::counter_rule(words, place, 2), counters[2]),
-            count_decline(rules::counter_rule(words, place, 3), counters[3]),
+            count_decline(words, place, 0, counters[0]),
+            count_decline(words, place, 1, counters[1]),
+            count_decline(words, place, 2, counters[2]),
+            count_decline(words, place, 3, counters[3]),
         ],
     }
 }
 
-fn limit_accumulator(rule: AccumulatorRule, amount: AccumulatorAmount) -> AccumulatorAmount
-    ensures { λ r. ⌜ r ≡ amountMoved amount (putting (rule .active) (rule .upper .0)) ⌝ }
+fn limit_accumulator(
+    words: &Words,
+    place: Place,
+    i: usize,
+    amount: AccumulatorAmount,
+) -> AccumulatorAmount
+    ensures { λ r. ⌜ r ≡ amountMoved amount (putting (accumulatorRule (rulesOf (now (words .entry))) place i .active) (accumulatorRule (rulesOf (now (words .entry))) place i .upper .0)) ⌝ }
 {
+    let rule = rules::accumulator_rule(words, place, i);
     if rule.active { rule.upper } else { amount }
 }
 
-fn limit_counter(rule: CounterRule, value: u8) -> u8
-    ensures { λ r. ⌜ r ≡ moved counterCap value (putting (rule .active) (rule .upper)) ⌝ }
+fn limit_counter(words: &Words, place: Place, i: usize, value: u8) -> u8
+    ensures { λ r. ⌜ r ≡ moved counterCap value (putting (counterRule (rulesOf (now (words .entry))) place i .active) (counterRule (rulesOf (now (words .entry))) place i .upper)) ⌝ }
 {
+    let rule = rules::counter_rule(words, place, i);
     if rule.active { rule.upper } else { value }
 }
 
@@ -146,30 +153,37 @@ pub fn set_to_limits(words: &Words, place: Place, values: Values) -> Values
     let counters = values.counters;
     Values {
         accumulators: [
-            limit_accumulator(rules::accumulator_rule(words, place, 0), amounts[0]),
-            limit_accumulator(rules::accumulator_rule(words, place, 1), amounts[1]),
-            limit_accumulator(rules::accumulator_rule(words, place, 2), amounts[2]),
-            limit_accumulator(rules::accumulator_rule(words, place, 3), amounts[3]),
+            limit_accumulator(words, place, 0, amounts[0]),
+            limit_accumulator(words, place, 1, amounts[1]),
+            limit_accumulator(words, place, 2, amounts[2]),
+            limit_accumulator(words, place, 3, amounts[3]),
         ],
         counters: [
-            limit_counter(rules::counter_rule(words, place, 0), counters[0]),
-            limit_counter(rules::counter_rule(words, place, 1), counters[1]),
-            limit_counter(rules::counter_rule(words, place, 2), counters[2]),
-            limit_counter(rules::counter_rule(words, place, 3), counters[3]),
+            limit_counter(words, place, 0, counters[0]),
+            limit_counter(words, place, 1, counters[1]),
+            limit_counter(words, place, 2, counters[2]),
+            limit_counter(words, place, 3, counters[3]),
         ],
     }
 }
 
-fn clear_accumulator(rule: AccumulatorRule, amount: AccumulatorAmount) -> AccumulatorAmount
-    ensures { λ r. ⌜ r ≡ amountMoved amount (putting (rule .active) 0) ⌝ }
+fn clear_accumulator(
+    words: &Words,
+    place: Place,
+    i: usize,
+    amount: AccumulatorAmount,
+) -> AccumulatorAmount
+    ensures { λ r. ⌜ r ≡ amountMoved amount (putting (accumulatorRule (rulesOf (now (words .entry))) place i .active) 0) ⌝ }
 {
+    let rule = rules::accumulator_rule(words, place, i);
     let zero = AccumulatorAmount(0);
     if rule.active { zero } else { amount }
 }
 
-fn clear_counter(rule: CounterRule, value: u8) -> u8
-    ensures { λ r. ⌜ r ≡ moved counterCap value (putting (rule .active) 0) ⌝ }
+fn clear_counter(words: &Words, place: Place, i: usize, value: u8) -> u8
+    ensures { λ r. ⌜ r ≡ moved counterCap value (putting (counterRule (rulesOf (now (words .entry))) place i .active) 0) ⌝ }
 {
+    let rule = rules::counter_rule(words, place, i);
     if rule.active { 0 } else { value }
 }
 
@@ -181,16 +195,16 @@ pub fn reset(words: &Words, place: Place, values: Values) -> Values
     let counters = values.counters;
     Values {
         accumulators: [
-            clear_accumulator(rules::accumulator_rule(words, place, 0), amounts[0]),
-            clear_accumulator(rules::accumulator_rule(words, place, 1), amounts[1]),
-            clear_accumulator(rules::accumulator_rule(words, place, 2), amounts[2]),
-            clear_accumulator(rules::accumulator_rule(words, place, 3), amounts[3]),
+            clear_accumulator(words, place, 0, amounts[0]),
+            clear_accumulator(words, place, 1, amounts[1]),
+            clear_accumulator(words, place, 2, amounts[2]),
+            clear_accumulator(words, place, 3, amounts[3]),
         ],
         counters: [
-            clear_counter(rules::counter_rule(words, place, 0), counters[0]),
-            clear_counter(rules::counter_rule(words, place, 1), counters[1]),
-            clear_counter(rules::counter_rule(words, place, 2), counters[2]),
-            clear_counter(rules::counter_rule(words, place, 3), counters[3]),
+            clear_counter(words, place, 0, counters[0]),
+            clear_counter(words, place, 1, counters[1]),
+            clear_counter(words, place, 2, counters[2]),
+            clear_counter(words, place, 3, counters[3]),
         ],
     }
 }

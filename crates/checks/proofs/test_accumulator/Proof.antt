@@ -14,18 +14,16 @@ returns c =
 returns-2 : tie.Need-returns-2
 returns-2 c =
     let left = c .before .before .before .before in
-    let rule = left .before .before .before .accumulator-rule in
-    (
+    let rule = left .before .before .before .accumulator-rule in (
       simp (← rule .ensures, not-false (rule .result .active) (left .before .if1 .left), exceeds-sum, ← left .included .ensures, c .before .before .more .given .1)
-      (c .limits-exceeded .ensures .0),
+          (c .limits-exceeded .ensures .0),
       c .limits-exceeded .ensures .1,
     )
 
 returns-3 : tie.Need-returns-3
 returns-3 c =
     let left = c .before .before in
-    let rule = left .before .before .before .accumulator-rule in
-    (
+    let rule = left .before .before .before .accumulator-rule in (
       simp (← rule .ensures, not-false (rule .result .active) (left .before .if1 .left), exceeds-sum, ← left .included .ensures, c .enum-told .given .1),
       omega arith,
     )
@@ -33,10 +31,9 @@ returns-3 c =
 returns-4 : tie.Need-returns-4
 returns-4 c =
     let left = c .before .before .before in
-    let rule = left .before .before .before .accumulator-rule in
-    (
+    let rule = left .before .before .before .accumulator-rule in (
       simp (← rule .ensures, not-false (rule .result .active) (left .before .if1 .left), exceeds-sum, ← left .included .ensures, c .before .enum-told2 .given .1)
-      (c .limits-exceeded2 .ensures .0),
+          (c .limits-exceeded2 .ensures .0),
       c .limits-exceeded2 .ensures .1,
     )
 

@@ -1,4 +1,4 @@
--- Each value is moved as its leaf says, by the rule of its own index.
+-- Each counter is moved as its leaf says.
 use borrow.Author.Needs.{needs}
 use Rattle.meters.specs.Meters.{declined}
 use Rattle.meters.proofs.decline.Statement.{statement}
@@ -7,19 +7,7 @@ use Rattle.meters.proofs.decline.Tie as tie
 returns : tie.Need-returns
 unfolding declined
 returns c =
-    let three = c .before .before in
-    let two = three .before .before in
-    let one = two .before .before in
-    simp (
-      c .count-decline4 .ensures,
-      c .before .counter-rule4 .ensures,
-      three .count-decline3 .ensures,
-      three .before .counter-rule3 .ensures,
-      two .count-decline2 .ensures,
-      two .before .counter-rule2 .ensures,
-      one .count-decline .ensures,
-      one .before .counter-rule .ensures,
-    )
+    simp (c .count-decline4 .ensures, c .before .count-decline3 .ensures, c .before .before .count-decline2 .ensures, c .before .before .before .count-decline .ensures)
 
 pub decline-spec : {M : Type 1} → statement M
-decline-spec = tie.close (tie.spec (search needs) (search needs) (search needs) (search needs) (search needs) (search needs) (search needs) (search needs) (search needs) (search needs) (search needs) (search needs) returns)
+decline-spec = tie.close (tie.spec (search needs) (search needs) (search needs) (search needs) (search needs) (search needs) (search needs) (search needs) returns)
