@@ -5,7 +5,7 @@ use money::TransactionAmount;
 use refusal::Refusal;
 use selection::Selection;
 
-const START: u8 = 2;
+pub const START: u8 = 2;
 
 const FIRST: u8 = 3;
 

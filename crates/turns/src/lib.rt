@@ -21,8 +21,6 @@ use state::State;
 use tail::ReadTail;
 use tail::Selecting;
 
-const START: u8 = 2;
-
 // The sitting goes on, is over, or waits until a line has room.
 pub enum Pace {
     On,
@@ -86,7 +84,7 @@ fn selects(selecting: Selecting, kind: u8) -> bool
 {
     match selecting {
         Selecting::Off => false,
-        Selecting::On { .. } => kind == START,
+        Selecting::On { .. } => kind == command::START,
     }
 }
 
