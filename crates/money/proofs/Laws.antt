@@ -1,11 +1,11 @@
 -- What conversion is, said apart from its definition. Assumes nothing.
 use mathlib.Core.Path.{_≡_, refl, sym, ap, subst, _∙_}
-use mathlib.Core.Bool.{Bool, true, false, cond}
+use mathlib.Core.Bool.{Bool, true, false, cond, _&&_}
 use mathlib.Core.List.{List, [], _∷_}
 use Prim.Native.Nat.{ℕ, zero, suc, _+_, _-_, _*_, _%_, _^_, _≤_, _<_}
 use native.Mathlib.Nat.{div-mul-le-self, div-add-mod', mod-lt, mul-le-mul-right, le-trans, le-div-iff-mul-le}
 use native.Mathlib.Omega.{arith}
-use borrow.Author.Tests.{lt-ltb, le-ltb, ltb-true, ltb-false, eq-eqb, ne-eqb}
+use borrow.Author.Tests.{lt-ltb, le-ltb, ltb-true, ltb-false, eq-eqb, ne-eqb, eqb-true}
 use lib.Dec.{ltb, eqb}
 use lib.ListN.{getD}
 use Rattle.money.specs.declared.Rate.{Rate}
@@ -16,15 +16,29 @@ use Rattle.money.specs.declared.Converted.the-variants.{Amount, Over, No
 use Rattle.money.specs.Money.{max, stopped, blank, isFor, rateFor, isRate, rounded, scaled, amountOf, amountOrOver, convertOf}
 use Rattle.money.proofs.Power.{ten-pos, divides, multiplies, stopped-most}
 
+-- an entry leads from the one currency to the other
+abbrev pub Leads : Rate → ℕ → ℕ → Type 0
+Leads rate from to = (rate .from ≡ from) × (rate .to ≡ to)
+
 -- place k of a table is the first entry for the pair
 pub record First (entries : List Rate) (from to k : ℕ) : Type 0 where
   pub within : k < 5
-  pub here : isFor (getD entries k blank) from to ≡ true
-  pub before : (j : ℕ) → j < k → isFor (getD entries j blank) from to ≡ false
+  pub here : Leads (getD entries k blank) from to
+  pub before : (j : ℕ) → j < k → Leads (getD entries j blank) from to → ⊥
 
 -- no entry of a table is for the pair
 abbrev pub Missing : List Rate → ℕ → ℕ → Type 0
-Missing entries from to = (k : ℕ) → k < 5 → isFor (getD entries k blank) from to ≡ false
+Missing entries from to = (k : ℕ) → k < 5 → Leads (getD entries k blank) from to → ⊥
+
+leads : (rate : Rate) (from to : ℕ) → Leads rate from to → isFor rate from to ≡ true
+leads rate from to l = simp (eq-eqb _ _ (l .0), eq-eqb _ _ (l .1))
+
+leads-not : (rate : Rate) (from to : ℕ) → (Leads rate from to → ⊥) → isFor rate from to ≡ false
+leads-not rate from to n = by (eqb (rate .from) from) refl (eqb (rate .to) to) refl where
+  by : (a : Bool) → eqb (rate .from) from ≡ a → (b : Bool) → eqb (rate .to) to ≡ b → (a && b) ≡ false
+  by true p true q = absurd (n (eqb-true _ _ p, eqb-true _ _ q))
+  by true p false q = refl
+  by false p b q = refl
 
 module _ (entries : List Rate) (from to : ℕ) where
   reach : (k i n : ℕ) → First entries from to k → i ≤ k → k < i + n → rateFor entries from to i n ≡ getD entries k blank
@@ -33,13 +47,13 @@ module _ (entries : List Rate) (from to : ℕ) where
   reach k i (suc n) f h l = at-place (ltb i k) refl (λ p. reach k (suc i) n f p (omega arith)) where
     at-place : (b : Bool) → ltb i k ≡ b → (i < k → rateFor entries from to (suc i) n ≡ getD entries k blank)
         → rateFor entries from to i (suc n) ≡ getD entries k blank
-    at-place true e r = rw (f .before i (ltb-true i k e)) (r (ltb-true i k e))
-    at-place false e r = let s : i ≡ k = omega (arith, ltb-false i k e) in rw (s, f .here)
+    at-place true e r = rw (leads-not (getD entries i blank) from to (f .before i (ltb-true i k e))) (r (ltb-true i k e))
+    at-place false e r = let s : i ≡ k = omega (arith, ltb-false i k e) in rw (s, leads (getD entries k blank) from to (f .here))
 
   missed : (i n : ℕ) → i + n ≤ 5 → Missing entries from to → rateFor entries from to i n ≡ blank
   unfolding rateFor
   missed i zero h m = refl
-  missed i (suc n) h m = rw (m i (omega arith)) (missed (suc i) n (omega arith) m)
+  missed i (suc n) h m = rw (leads-not (getD entries i blank) from to (m i (omega arith))) (missed (suc i) n (omega arith) m)
 
 stays : (n : ℕ) → n ≤ max → stopped n ≡ n
 stays n h = simp (le-ltb max n h)
