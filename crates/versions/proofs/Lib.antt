@@ -1,1 +1,2 @@
+pub mod Papers
 pub mod Versions

@@ -2,217 +2,28 @@
 -- selection off, and those of a version 02 paper, whether or not it selects, those of the version 03 paper with syllabus 0. Assumes nothing.
 use mathlib.Core.Path.{_≡_, refl, sym, ap, _∙_}
 use mathlib.Core.Bool.{Bool, true, false, cond, not, _&&_, _||_}
-use mathlib.Core.List.{List, [], _∷_, _++_}
-use Prim.Native.Nat.{ℕ, zero, suc, _+_, _-_, _*_, _/_, _%_, _≤_, _<_}
-use native.Mathlib.Nat.{add-zero, add-assoc, le-refl}
+use mathlib.Core.List.{List, [], _∷_, _++_, append-nil}
+use Prim.Native.Nat.{ℕ, _+_, _-_, _*_, _≤_}
+use native.Mathlib.Nat.{le-refl}
 use native.Mathlib.Omega.{arith}
-use borrow.Author.Tests.{le-leb, lt-leb, leb-true, leb-false, lt-ltb, le-ltb, ltb-true, ltb-false, ne-eqb}
+use borrow.Author.Tests.{le-leb, lt-leb, leb-true, le-ltb}
 use lib.Dec.{leb, ltb, eqb, lit≤}
 use lib.ListN.{length, take, drop, length-append, length-drop, List·getD-append}
-use lib.Seq.{getD-append-add, getD-at, drop-append-add, drop-append-le, take-append-le, take-at, drop-at, take-all}
-use Rattle.wire.specs.Wire.{byte, number}
-use Rattle.rules.specs.Rules.{Rules, rulesOf}
-use Rattle.setup.specs.Setup.{readSetup, setupNumber, wordsAfter}
+use lib.Seq.{getD-append-add, getD-append-seam, getD-at, drop-append-add, drop-append-le, take-append-le, take-append-seam, take-at, drop-at, take-all}
+use Rattle.wire.specs.Wire.{byte}
 use Rattle.refusal.specs.declared.Refusal.the-variants.{BadSetup}
-use Rattle.refusal.specs.Refusal.{refusalNumber}
-use Rattle.selection.specs.Selection.{isFile}
-use Rattle.tail.specs.declared.Selecting.{Selecting}
+use Rattle.selection.specs.Selection.{isFile, selectionOf}
 use Rattle.tail.specs.declared.Selecting.the-variants.{Off, On as SelectingOn}
 use Rattle.tail.specs.declared.ReadTail.{ReadTail}
 use Rattle.tail.specs.declared.ReadTail.the-variants.{Taken, Refused as TailRefused}
 use Rattle.tail.specs.Tail.{baseEnd, basePart, syllabusIn, selectionTail, readTail}
-use Rattle.paper.specs.declared.Next.{Next}
-use Rattle.paper.specs.declared.Next.the-variants.{Record, Fault, End}
-use Rattle.paper.specs.declared.Opened.the-variants.{Setup}
-use Rattle.paper.specs.Paper.{endAt, isFaultAt, nextAt, openPaper}
-use Rattle.paper.specs.Walk.{part, written}
+use Rattle.paper.specs.Walk.{part}
 use Rattle.command.specs.Command.{commandOf, selectingOf}
-use Rattle.command.specs.declared.ReadCommand.{ReadCommand}
-use Rattle.command.specs.declared.ReadCommand.the-variants.{Taken as CommandTaken, Refused}
-use Rattle.state.specs.declared.State.{State}
-use Rattle.card.specs.Card.{freshState}
-use Rattle.lines.specs.Lines.{refusalLine}
-use Rattle.turns.specs.Turns.{Told, paceOf, fileIn, inPaper, baseTold, commandIn, commandTold, nextTold, turnTold, setupTold, begunTold, openedWords, wordsSetUp, selectingIn}
-use Rattle.turns.specs.Sitting.{lastly, followed, linesFrom, sittingLines}
-use Rattle.turns.proofs.Sitting.{settled}
-
--- ---- what stands in front of a record does not matter, but for the file
-
--- the lines of n turns over a rest, whatever reads its records
-abbrev toldBy : Rules → (ℕ → List ℕ → ReadCommand) → State → List ℕ → (at number : ℕ) → Next → Told
-toldBy rules reads state s at number End = nextTold rules Off state s at number End
-toldBy rules reads state s at number Fault = nextTold rules Off state s at number Fault
-toldBy rules reads state s at number (Record kind start end) = commandTold rules state end number (reads kind (part s start end))
-
-unfoldable linesBy : ℕ → Rules → (ℕ → List ℕ → ReadCommand) → State → List ℕ → (at number : ℕ) → List (List ℕ)
-linesBy zero rules reads state s at record-number = []
-linesBy (suc n) rules reads state s at record-number =
-    let turn = toldBy rules reads state s at record-number (nextAt s at) in
-    followed (turn .pace) (turn .line) (linesBy n rules reads (turn .state) s (turn .at) (record-number + 1))
-
-module _ (front s : List ℕ) where
-  abbrev from : ℕ → ℕ
-  from at = length front + at
-
-  abbrev all : List ℕ
-  all = front ++ s
-
-  number-behind : (at n : ℕ) → number all (from at) n ≡ number s at n
-  unfolding number
-  number-behind at zero = refl
-  number-behind at (suc n) = rw (number-behind at n, add-assoc (length front) at n, getD-append-add front s (at + n) 0)
-
-  part-behind : (start end : ℕ) → part all (from start) (from end) ≡ part s start end
-  part-behind start end =
-      let size : from end - from start ≡ end - start = omega arith in
-      rw (size, drop-append-add front s start)
-
-  -- a record's places, counted from the front
-  abbrev shift : Next → Next
-  shift (Record kind start end) = Record kind (from start) (from end)
-  shift Fault = Fault
-  shift End = End
-
-  same-leb : (m n : ℕ) → leb (from m) (from n) ≡ leb m n
-  same-leb m n = by (leb m n) refl where
-    by : (b : Bool) → leb m n ≡ b → leb (from m) (from n) ≡ b
-    by true e = let l = leb-true m n e in le-leb (from m) (from n) (omega arith)
-    by false e = let l = leb-false m n e in lt-leb (from m) (from n) (omega arith)
-
-  same-ltb : (m n : ℕ) → ltb (from m) (from n) ≡ ltb m n
-  same-ltb m n = by (ltb m n) refl where
-    by : (b : Bool) → ltb m n ≡ b → ltb (from m) (from n) ≡ b
-    by true e = let l = ltb-true m n e in lt-ltb (from m) (from n) (omega arith)
-    by false e = let l = ltb-false m n e in le-ltb (from m) (from n) (omega arith)
-
-  next-behind : (at : ℕ) → nextAt all (from at) ≡ shift (nextAt s at)
-  unfolding nextAt
-  next-behind at =
-      let size : length all ≡ from (length s) = length-append front s in
-      let ends : from at + 2 + number s at 2 ≡ from (at + 2 + number s at 2) = omega arith in
-      let kind : from at + 2 ≡ from (at + 2) = omega arith in
-      let start : from at + 3 ≡ from (at + 3) = omega arith in
-      rw (number-behind at 2, size, ends, same-leb (length s) at, same-ltb (length s) (at + 2 + number s at 2), kind, getD-append-add front s (at + 2) 0, start)
-      (by (leb (length s) at) (eqb (number s at 2) 0 || ltb (length s) (at + 2 + number s at 2)))
-    where
-      by : (a b : Bool) → cond a End (cond b Fault (Record (byte s (at + 2)) (from (at + 3)) (from (endAt s at))))
-          ≡ shift (cond a End (cond b Fault (Record (byte s (at + 2)) (at + 3) (endAt s at))))
-      by true b = refl
-      by false true = refl
-      by false false = refl
-
-  module _ (rules : Rules) (selecting : Selecting) (reads : ℕ → List ℕ → ReadCommand)
-      (agrees : (kind : ℕ) (body : List ℕ) → commandIn selecting all kind body ≡ reads kind body) where
-    -- what a turn comes to, its place counted from the front
-    abbrev further-on : Told → Told
-    further-on t = record { state = t .state; at = from (t .at); pace = t .pace; line = t .line }
-
-    turn-behind : (state : State) (at number : ℕ)
-        → turnTold rules selecting state all (from at) number ≡ further-on (toldBy rules reads state s at number (nextAt s at))
-    unfolding turnTold
-    turn-behind state at number = rw (next-behind at) (by (nextAt s at)) where
-      answered : (end : ℕ) (read : ReadCommand)
-          → commandTold rules state (from end) number read ≡ further-on (commandTold rules state end number read)
-      answered end (CommandTaken command) = refl
-      answered end (Refused refusal) = refl
-
-      by : (n : Next) → nextTold rules selecting state all (from at) number (shift n) ≡ further-on (toldBy rules reads state s at number n)
-      by End = refl
-      by Fault = refl
-      by (Record kind start end) = rw (part-behind start end, agrees kind (part s start end)) (answered end (reads kind (part s start end)))
-
-    lines-behind : (n : ℕ) (state : State) (at number : ℕ) → linesFrom n rules selecting state all (from at) number ≡ linesBy n rules reads state s at number
-    unfolding linesFrom linesBy
-    lines-behind zero state at number = refl
-    lines-behind (suc n) state at number =
-        let turn = toldBy rules reads state s at number (nextAt s at) in
-        rw (turn-behind state at number) (ap (followed (turn .pace) (turn .line)) (lines-behind n (turn .state) (turn .at) (number + 1)))
-
-    -- and the lines behind it are those of the rest
-    lines-of-rest : (n : ℕ) (state : State) (number : ℕ) → length s ≤ n
-        → linesFrom n rules selecting state all (length front) number ≡ linesBy (length s) rules reads state s 0 number
-    lines-of-rest n state number h =
-        settled rules selecting all (length s) n state (length front) number (omega (arith, length-append front s)) h
-        ∙ ap (λ (at : ℕ). linesFrom (length s) rules selecting state all at number) (sym (add-zero (length front)))
-        ∙ lines-behind (length s) state 0 number
-
--- ---- a paper of a version
-
-abbrev front : (version : ℕ) (body : List ℕ) → List ℕ
-front version body = version ∷ written (record { kind = 1; body = body })
-
--- its version, its set-up's record, and the rest
-abbrev pub paperOf : (version : ℕ) (body rest : List ℕ) → List ℕ
-paperOf version body rest = front version body ++ rest
-
--- the lines of a paper, from its base, its rest, its syllabus, what reads its records, and its tail
-abbrev linesGiven : (words base rest : List ℕ) (syllabus : ℕ) (reads : ℕ → List ℕ → ReadCommand) → ReadTail → List (List ℕ)
-linesGiven words base rest syllabus reads (TailRefused refusal) = lastly (refusalLine 0 (refusalNumber refusal))
-linesGiven words base rest syllabus reads (Taken selecting) =
-    followed (paceOf (readSetup base .answer)) (refusalLine 0 (setupNumber (readSetup base .answer)))
-    (linesBy (length rest) (rulesOf (wordsAfter words base syllabus)) reads (freshState (readSetup base .fresh)) rest 0 1)
-
-off-reads : (paper : List ℕ) (kind : ℕ) (body : List ℕ) → commandIn Off paper kind body ≡ commandOf kind body
-unfolding commandIn
-off-reads paper kind body = refl
-
--- 01, 02 or 03
-abbrev Known : ℕ → Type 0
-Known version = (1 ≤ version) × (version ≤ 3)
-
-module _ (version : ℕ) (known : Known version) (body rest : List ℕ) (short : length (paperOf version body rest) ≤ 65536) where
-  said : number (paperOf version body rest) 1 2 ≡ length body + 1
-  unfolding number
-  said = omega arith
-
-  front-length : length (front version body) ≡ 4 + length body
-  front-length = omega arith
-
-  whole-length : length (paperOf version body rest) ≡ 4 + length body + length rest
-  whole-length = length-append (front version body) rest ∙ ap (λ (n : ℕ). n + length rest) front-length
-
-  opened : openPaper (paperOf version body rest) ≡ Setup version 4 (4 + length body)
-  unfolding openPaper nextAt
-  opened =
-      let whole = whole-length in
-      let end : 3 + (length body + 1) ≡ 4 + length body = omega arith in
-      rw (said, end)
-      (simp (
-        le-ltb 65536 (length (paperOf version body rest)) short,
-        ne-eqb version 0 (omega (arith, known .0)),
-        le-ltb 3 version (known .1),
-        ne-eqb (length body + 1) 0 (omega arith),
-        le-ltb (length (paperOf version body rest)) (4 + length body) (omega arith),
-        ne-eqb (length (paperOf version body rest)) 0 (omega arith),
-        lt-leb (length (paperOf version body rest)) 1 (omega arith),
-      ))
-
-  its-body : part (paperOf version body rest) 4 (4 + length body) ≡ body
-  its-body = take-at body rest (4 + length body - 4) (omega arith)
-
-  -- a part of the body, by its places in the paper
-  part-of-body : (start end : ℕ) → start ≤ end → end ≤ length body → part (paperOf version body rest) (4 + start) (4 + end) ≡ part body start end
-  part-of-body start end l h =
-      let size : 4 + end - (4 + start) ≡ end - start = omega arith in
-      let left : end - start ≤ length (drop start body) = omega (arith, length-drop start body) in
-      rw (size, drop-append-add (version ∷ (length body + 1) / 256 ∷ (length body + 1) % 256 ∷ 1 ∷ []) (body ++ rest) start, drop-append-le start body rest (omega arith))
-      (take-append-le (end - start) (drop start body) rest left)
-
-  module _ (words base : List ℕ) (syllabus : ℕ) (follows : syllabusIn version body ≡ syllabus) (is : basePart version body ≡ base)
-      (reads : ℕ → List ℕ → ReadCommand) where
-    lines-are : (tail : ReadTail) → readTail version body ≡ tail
-        → ((kind : ℕ) (b : List ℕ) → commandIn (inPaper 4 tail) (paperOf version body rest) kind b ≡ reads kind b)
-        → sittingLines words (paperOf version body rest) ≡ linesGiven words base rest syllabus reads tail
-    unfolding sittingLines begunTold setupTold baseTold selectingIn wordsSetUp
-    lines-are (TailRefused refusal) e agrees = rw (opened, its-body, e)
-    lines-are (Taken selecting) e agrees =
-        let rules = rulesOf (wordsAfter words base syllabus) in
-        let state = freshState (readSetup base .fresh) in
-        let paper = paperOf version body rest in
-        rw (opened, its-body, e, is, follows)
-        (ap (followed (paceOf (readSetup base .answer)) (refusalLine 0 (setupNumber (readSetup base .answer))))
-        (ap (λ (at : ℕ). linesFrom (length paper) rules (inPaper 4 (Taken selecting)) state paper at 1) (sym front-length)
-        ∙ lines-of-rest (front version body) rest rules (inPaper 4 (Taken selecting)) reads agrees (length paper) state 1 (omega (arith, whole-length))))
+use Rattle.command.specs.declared.Command.the-variants.{Start as StartCommand}
+use Rattle.command.specs.declared.ReadCommand.the-variants.{Taken as CommandTaken}
+use Rattle.turns.specs.Turns.{fileIn, inPaper, commandIn, selectingIn}
+use Rattle.turns.specs.Sitting.{sittingLines}
+use Rattle.versions.proofs.Papers.{paperOf, linesGiven, off-reads, whole-length, part-of-body, by-file, lines-are}
 
 -- ---- the same set-up in the three versions
 
@@ -282,6 +93,68 @@ module _ (s : List ℕ) (sized : length s ≡ 52 + 107 * byte s 3 + 7 * byte s 4
         let new = whole-length 3 (lit≤ tt, lit≤ tt) newest rest short in
         lines-are 3 (lit≤ tt, lit≤ tt) newest rest short words s 0 zero-last (base-is 3 (0 ∷ 0 ∷ []) refl) commandOf (Taken Off) newest-off (off-reads _)
         ∙ sym (old-lines (omega (arith, length-append s rest)))
+
+  -- ---- where selection is on
+
+  module _ (entries : ℕ) (file : List ℕ) (good : isFile file entries ≡ true) where
+    abbrev selecting-tail : List ℕ
+    selecting-tail = 1 ∷ entries ∷ file
+
+    last-is : (syllabus : ℕ) → syllabusIn 3 (s ++ (selecting-tail ++ syllabus ∷ [])) ≡ syllabus
+    unfolding syllabusIn
+    last-is syllabus =
+        let tail = selecting-tail ++ syllabus ∷ [] in
+        let tailed = length-append selecting-tail (syllabus ∷ []) in
+        let last : length (s ++ tail) - 1 ≡ length s + length selecting-tail = omega (arith, length-append s tail, tailed) in
+        ap (byte (s ++ tail)) last ∙ getD-append-add s tail (length selecting-tail) 0 ∙ getD-append-seam selecting-tail syllabus [] 0
+
+    -- the file in a body that goes on behind it
+    file-is : (behind : List ℕ) → part (s ++ (selecting-tail ++ behind)) (length s + 2) (length s + length selecting-tail) ≡ file
+    file-is behind =
+        let size : length s + length selecting-tail - (length s + 2) ≡ length file = omega arith in
+        ap (λ (n : ℕ). take n (drop (length s + 2) (s ++ (selecting-tail ++ behind)))) size
+        ∙ ap (take (length file)) (drop-append-add s (selecting-tail ++ behind) 2)
+        ∙ take-append-seam file behind
+
+    read-on : selectionTail selecting-tail (length s) ≡ Taken (SelectingOn (length s + 2) (length s + length selecting-tail) entries)
+    unfolding selectionTail
+    read-on = rw (good, le-ltb (length selecting-tail) 2 (omega arith))
+
+    on-2 : readTail 2 (s ++ selecting-tail) ≡ Taken (SelectingOn (length s + 2) (length s + length selecting-tail) entries)
+    unfolding readTail
+    on-2 = rw (base-ends 2 selecting-tail refl, drop-at s selecting-tail (length s) refl) read-on
+
+    on-3 : (syllabus : ℕ) → syllabus ≤ 1
+        → readTail 3 (s ++ (selecting-tail ++ syllabus ∷ [])) ≡ Taken (SelectingOn (length s + 2) (length s + length selecting-tail) entries)
+    unfolding readTail
+    on-3 syllabus h =
+        let tail = selecting-tail ++ syllabus ∷ [] in
+        let tailed : length tail ≡ length selecting-tail + 1 = length-append selecting-tail (syllabus ∷ []) in
+        let size : length (s ++ tail) ≡ length s + length selecting-tail + 1 = omega (arith, length-append s tail, tailed) in
+        let left : length s + length selecting-tail + 1 - 1 - length s ≡ length selecting-tail = omega arith in
+        rw (base-ends 3 tail refl, drop-at s tail (length s) refl, last-is syllabus, size, lt-leb (length s + length selecting-tail + 1) (length s) (omega arith), le-ltb 1 syllabus h, left, take-append-seam selecting-tail (syllabus ∷ []))
+        read-on
+
+    -- A VERSION 02 PAPER'S STARTS ARE READ BY THE FILE BEHIND ITS SWITCH
+    pub file-selects : (rest : List ℕ) → length (paperOf 2 (s ++ selecting-tail) rest) ≤ 65536 → (terminal : List ℕ)
+        → commandIn (selectingIn (paperOf 2 (s ++ selecting-tail) rest)) (paperOf 2 (s ++ selecting-tail) rest) 2 terminal
+        ≡ CommandTaken (StartCommand (record { chosen = selectionOf file entries terminal }))
+    file-selects rest short terminal =
+        by-file 2 (lit≤ tt, lit≤ tt) (s ++ selecting-tail) rest short (length s + 2) (length s + length selecting-tail) entries on-2
+        (omega arith) (omega (arith, length-append s selecting-tail)) terminal
+        ∙ ap (λ (f : List ℕ). CommandTaken (StartCommand (record { chosen = selectionOf f entries terminal })))
+        (ap (λ (t : List ℕ). part (s ++ t) (length s + 2) (length s + length selecting-tail)) (sym (append-nil selecting-tail)) ∙ file-is [])
+
+    -- AND SO ARE A VERSION 03 PAPER'S, WHATEVER ITS SYLLABUS
+    pub file-selects-3 : (syllabus : ℕ) → syllabus ≤ 1 → (rest : List ℕ)
+        → length (paperOf 3 (s ++ (selecting-tail ++ syllabus ∷ [])) rest) ≤ 65536 → (terminal : List ℕ)
+        → commandIn (selectingIn (paperOf 3 (s ++ (selecting-tail ++ syllabus ∷ [])) rest)) (paperOf 3 (s ++ (selecting-tail ++ syllabus ∷ [])) rest) 2 terminal
+        ≡ CommandTaken (StartCommand (record { chosen = selectionOf file entries terminal }))
+    file-selects-3 syllabus h rest short terminal =
+        let tail = selecting-tail ++ syllabus ∷ [] in
+        by-file 3 (lit≤ tt, lit≤ tt) (s ++ tail) rest short (length s + 2) (length s + length selecting-tail) entries (on-3 syllabus h)
+        (omega arith) (omega (arith, length-append s tail, length-append selecting-tail (syllabus ∷ []))) terminal
+        ∙ ap (λ (f : List ℕ). CommandTaken (StartCommand (record { chosen = selectionOf f entries terminal }))) (file-is (syllabus ∷ []))
 
 -- ---- a version 02 set-up with syllabus 0 behind it
 
