@@ -12,6 +12,7 @@ use lib.ListN.{length, getD}
 use Rattle.rules.specs.declared.Place.{Place}
 use Rattle.rules.specs.declared.Values.{Values}
 use Rattle.rules.specs.Rules.{Rules, four}
+use Rattle.rules.proofs.Places.{each}
 use Rattle.meters.specs.declared.Purchase.{Purchase}
 use Rattle.checks.specs.declared.History.{History}
 use Rattle.checks.specs.Checks.{bit, packed, any, meetsMask, accumulatorsLower, accumulatorsUpper, countersLower, countersUpper, maximumExceeded, testsOf, decisionBits, decisionFlags}
@@ -89,13 +90,6 @@ module _ (f g : ℕ → Bool) where
       let h = packed-small (four f) in
       let e : packed (four f ++ four g) / 16 ≡ packed (four g) = omega (arith, parts) in
       rw e (any-packed (four g))
-
-each : (P : ℕ → Type 0) → P 0 → P 1 → P 2 → P 3 → (i : ℕ) → i < 4 → P i
-each P a b c d zero h = a
-each P a b c d (suc zero) h = b
-each P a b c d (suc (suc zero)) h = c
-each P a b c d (suc (suc (suc zero))) h = d
-each P a b c d (suc (suc (suc (suc i)))) h = let z : ⊥ = omega arith in absurd z
 
 module _ (history : History) (rules : Rules) (place : Place) (values : Values) (purchase : Purchase) where
   -- document 01's list of the decision bits, with accumulator or counter i + 1; no bit stands above 21

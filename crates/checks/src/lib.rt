@@ -90,7 +90,7 @@ fn test_accumulator(
     }
 }
 
-// A counter likewise, with 1 added.
+// A counter exceeds a limit, or, with "include this transaction", does with 1 added.
 fn count_exceeds(limit: u8, value: u8, include: bool) -> bool
     ensures { λ r. ⌜ r ≡ countExceeds limit value include ⌝ }
 {

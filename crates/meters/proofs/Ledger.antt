@@ -2,7 +2,7 @@
 use mathlib.Core.Path.{_≡_, refl}
 use mathlib.Core.Bool.{Bool, true, false, cond, _&&_}
 use mathlib.Core.List.{List, [], _∷_, _++_}
-use Prim.Native.Nat.{ℕ, zero, suc, _+_, _≤_, _<_}
+use Prim.Native.Nat.{ℕ, _+_, _≤_, _<_}
 use native.Mathlib.Omega.{arith}
 use borrow.Author.Tests.{ltb-false}
 use lib.Dec.{ltb}
@@ -14,16 +14,9 @@ use Rattle.rules.specs.declared.AccumulatorRule.{AccumulatorRule}
 use Rattle.rules.specs.declared.CounterRule.{CounterRule}
 use Rattle.rules.specs.declared.Values.{Values}
 use Rattle.rules.specs.Rules.{Rules, accumulatorRule, counterRule}
+use Rattle.rules.proofs.Places.{each}
 use Rattle.meters.specs.declared.Purchase.{Purchase}
 use Rattle.meters.specs.Meters.{Entry, put, add, move, moved, counterCap, worth, amountAt, countAt, addition, approval, counting, declining, putting, approved, declined, limited, cleared}
-
--- what holds at 0 to 3 holds below 4
-each : (P : ℕ → Type 0) → P 0 → P 1 → P 2 → P 3 → (i : ℕ) → i < 4 → P i
-each P a b c d zero h = a
-each P a b c d (suc zero) h = b
-each P a b c d (suc (suc zero)) h = c
-each P a b c d (suc (suc (suc zero))) h = d
-each P a b c d (suc (suc (suc (suc i)))) h = let z : ⊥ = omega arith in absurd z
 
 module _ (rules : Rules) (place : Place) (values : Values) where
   pub approved-amount : (purchase : Purchase) (i : ℕ) → i < 4

@@ -20,13 +20,17 @@ pub part-at : {A : Type 0} (part : Profile → A) (w : List ℕ) (place : Place)
     → part (profileOf w at) ≡ part (profileAt (rulesOf w) place)
 part-at part w place at e = ap (λ (k : ℕ). part (profileOf w k)) e ∙ sym (ap part (profile-at w place))
 
+-- what holds at 0 to 3 holds below 4
+pub each : (P : ℕ → Type 0) → P 0 → P 1 → P 2 → P 3 → (i : ℕ) → i < 4 → P i
+each P a b c d zero h = a
+each P a b c d (suc zero) h = b
+each P a b c d (suc (suc zero)) h = c
+each P a b c d (suc (suc (suc zero))) h = d
+each P a b c d (suc (suc (suc (suc i)))) h = let z : ⊥ = omega arith in absurd z
+
 module _ {A : Type 0} (f : ℕ → A) (d : A) where
   pub four-at : (i : ℕ) → i < 4 → getD (four f) i d ≡ f i
-  four-at zero h = refl
-  four-at (suc zero) h = refl
-  four-at (suc (suc zero)) h = refl
-  four-at (suc (suc (suc zero))) h = refl
-  four-at (suc (suc (suc (suc i)))) h = let z : ⊥ = omega arith in absurd z
+  four-at = each _ refl refl refl refl
 
   pub four-past : (i : ℕ) → 4 ≤ i → getD (four f) i d ≡ d
   four-past i h = List·getD-eq-default (four f) d h
