@@ -21,7 +21,7 @@ use Rattle.rules.specs.Rules.{Rules, Profile, four}
 use Rattle.ranges.proofs.Accepted.{Accepted}
 use Rattle.setup.specs.Setup.{accumulatorIn, counterIn, profileIn, rulesIn}
 use Rattle.meters.specs.declared.Purchase.{Purchase}
-use Rattle.meters.specs.Meters.{amountAt, countAt, worth, worth}
+use Rattle.meters.specs.Meters.{amountAt, countAt, worth}
 use Rattle.checks.specs.declared.History.{History}
 use Rattle.checks.specs.Checks.{bit, packed, sumExceeds, spentExceeds, accumulatorExceeds, counterExceeds, accumulatorsLower, accumulatorsUpper, countersLower, countersUpper, maximumExceeded, testsOf, decisionBits, decisionFlags, meetsMask}
 use Rattle.checks.proofs.Bits.{decision-packed}
