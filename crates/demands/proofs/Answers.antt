@@ -20,6 +20,9 @@ use Rattle.ranges.specs.Ranges.{isSetup}
 use Rattle.ranges.proofs.Accepted.{Accepted, accepted}
 use Rattle.setup.specs.Setup.{profileIn, rulesIn}
 use Rattle.setup.proofs.Faithful.{Bytes, faithful}
+use Rattle.selection.specs.declared.Selection.{Selection}
+use Rattle.selection.specs.declared.Selection.the-variants.{Selected, NotSelected}
+use Rattle.selection.specs.Selection.{profileOf, visitsOf}
 use Rattle.command.specs.declared.First.{First}
 use Rattle.command.specs.declared.Second.{Second}
 use Rattle.command.specs.declared.Command.{Command}
@@ -27,7 +30,8 @@ use Rattle.command.specs.declared.Command.the-variants.{Start as StartCommand, 
 use Rattle.meters.specs.Meters.{approved}
 use Rattle.checks.specs.declared.History.{History}
 use Rattle.checks.specs.Checks.{meetsMask}
-use Rattle.state.specs.declared.Answer.the-variants.{Given}
+use Rattle.state.specs.declared.Answer.{Answer}
+use Rattle.state.specs.declared.Answer.the-variants.{Refused, Started, Given}
 use Rattle.cryptogram.specs.declared.Issuer.{Issuer}
 use Rattle.state.specs.declared.Kind.{Kind}
 use Rattle.state.specs.declared.Kind.the-variants.{Aac, Tc, Arqc}
@@ -45,8 +49,10 @@ use Rattle.demands.specs.Conversation.{Exchange, Sitting, told, run, beg
 use Rattle.demands.specs.Audit.{isOn, placeOf, named, spent, spentIn, audited}
 use Rattle.demands.specs.Past.{past, beforeFirst}
 use Rattle.demands.specs.Decision.{flags, meets}
-use Rattle.demands.specs.Verification.{Issuing, Verifies, typeOf, notRequested, issuingAtFirst, issuingAtSecond, secondApproves, withUnable, FirstGives, SecondGives}
+use Rattle.demands.specs.Verification.{Issuing, Verifies, typeOf, notRequested, issuingAtFirst, issuingAtSecond, secondApproves, withUnable, FirstGives, SecondGives, Gives}
 use Rattle.demands.proofs.Step.{Did, refused-it, started-it, took-first, took-second, did}
+use Rattle.demands.proofs.Ends.{second-closes}
+use Rattle.demands.proofs.Refusal.{in-rules, in-bytes}
 use Rattle.demands.proofs.Bytes.{Stands, profile-is}
 use Rattle.demands.proofs.Total.{Remembers, Agrees, Holding, then, did-holds, begin-holds}
 use Rattle.demands.proofs.Past.{Recalls, did-keeps, begin-recalls}
@@ -68,19 +74,6 @@ pub record Knows (s : List ℕ) (syllabus : ℕ) (sitting : Sitting) : Type 0 wh
   pub holding : Holding s syllabus sitting
   pub recalls : Recalls s sitting
   pub keeps : KeepsIn s syllabus (beforeFirst (sitting .log)) (named (sitting .log)) (spent (sitting .log)) (spentIn (sitting .log)) (sitting .state .phase)
-
--- what an outcome gives
-abbrev pub Gives : List ℕ → (syllabus : ℕ) → List Exchange → Command → Outcome → Type 0
-Gives s syllabus before (StartCommand start) outcome = Unit
-Gives s syllabus before (FirstCommand first) outcome =
-    (kind : Kind) (atc : ℕ) (iad : Iad) → outcome .answer ≡ Given kind atc iad
-    → FirstGives s syllabus before (record { command = FirstCommand first; answer = outcome .answer } ∷ before) first kind iad
-Gives s syllabus before (SecondCommand second) outcome =
-    (kind : Kind) (atc : ℕ) (iad : Iad) → outcome .answer ≡ Given kind atc iad
-    → SecondGives s syllabus before (record { command = SecondCommand second; answer = outcome .answer } ∷ before) second kind iad
-
-record Idle-after (outcome : Outcome) : Type 0 where
-  is : outcome .state .phase ≡ Idle
 
 module _ (s : List ℕ) (syllabus : ℕ) (fits : Accepted s) (sitting : Sitting) (knows : Knows s syllabus sitting) where
   abbrev rules : Rules
@@ -292,23 +285,20 @@ module _ (s : List ℕ) (syllabus : ℕ) (fits : Accepted s) (sitting : Sitting)
 
   -- ---- every step
 
-  idle-or : (b : Bool) {x y : Outcome} → Idle-after x → Idle-after y → Idle-after (cond b x y)
-  idle-or true p q = p
-  idle-or false p q = q
+  -- what a Start's answer says
+  abbrev saidAtc : Answer → ℕ
+  saidAtc (Refused refusal) = 0
+  saidAtc (Started atc visits) = atc
+  saidAtc (Given kind atc iad) = 0
 
-  closed-idle : (pending : Pending) (approves : Bool) (values : Values) (history : History) (issuer : Issuer)
-      → Idle-after (closed rules (state .atc) pending approves values history issuer)
-  unfolding closed
-  closed-idle pending approves values history issuer = record { is = refl }
+  abbrev saidVisits : Answer → ℕ
+  saidVisits (Refused refusal) = 0
+  saidVisits (Started atc visits) = visits
+  saidVisits (Given kind atc iad) = 0
 
-  second-idle : (second : Second) (pending : Pending) → Idle-after (secondPerformed rules state second pending)
-  unfolding secondPerformed unablePerformed verifiedPerformed failedPerformed absentPerformed
-  second-idle second pending =
-      idle-or (isUnable (second .code))
-      (idle-or (eqb (second .requested) 0 || meetsMask (unableBits rules state pending) (profileAt rules (pending .place) .masks .default))
-      (closed-idle pending _ _ _ _) (closed-idle pending _ _ _ _))
-      (idle-or (eqb (second .issuer) 1) (closed-idle pending _ _ _ _)
-      (idle-or (eqb (second .issuer) 2) (closed-idle pending _ _ _ _) (closed-idle pending _ _ _ _)))
+  selected : (chosen : Selection) → 1 ≤ profileOf chosen → chosen ≡ Selected (profileOf chosen) (visitsOf chosen)
+  selected (Selected profile visits) some = refl
+  selected NotSelected some = absurd (omega arith)
 
   abbrev Kept : Command → Outcome → Type 0
   Kept command outcome =
@@ -322,7 +312,7 @@ module _ (s : List ℕ) (syllabus : ℕ) (fits : Accepted s) (sitting : Sitting)
   refused-kept (SecondCommand second) r = knows .keeps
 
   refused-gives : (command : Command) (r : Refusal) → Gives s syllabus log command (refused state r)
-  refused-gives (StartCommand start) r = tt
+  refused-gives (StartCommand start) r = λ atc visits e. let z : _≡_ {A = ℕ} 0 1 = cc in absurd (omega arith)
   refused-gives (FirstCommand first) r = λ kind atc iad e. let z : _≡_ {A = ℕ} 0 1 = cc in absurd (omega arith)
   refused-gives (SecondCommand second) r = λ kind atc iad e. let z : _≡_ {A = ℕ} 0 1 = cc in absurd (omega arith)
 
@@ -335,12 +325,17 @@ module _ (s : List ℕ) (syllabus : ℕ) (fits : Accepted s) (sitting : Sitting)
   did-kept (started-it start place holds) = tt
   did-kept (took-first first place is type small) = concluded-knows first place (stood place is) type small (firstKind rules state place first)
   did-kept (took-second second pending is type issuer) =
-      subst (KeepsIn s syllabus _ _ _ _) (sym (second-idle second pending .is)) tt
+      subst (KeepsIn s syllabus _ _ _ _) (sym (second-closes rules state second pending .idle)) tt
 
   did-gives : {command : Command} {outcome : Outcome} → Did rules state command outcome → Holding s syllabus (then sitting command outcome) → Gives s syllabus log command outcome
   unfolding firstPerformed
   did-gives {command} (refused-it r) after = refused-gives command r
-  did-gives (started-it start place holds) after = tt
+  did-gives (started-it start place holds) after = λ atc visits e.
+      record {
+        counts = sym (ap saidAtc e) ∙ ap (λ n. n + 1) (knows .recalls .atc-is);
+        chose = selected (start .chosen) (holds .some) ∙ ap (Selected (profileOf (start .chosen))) (ap saidVisits e);
+        known = in-bytes s syllabus fits _ (in-rules rules _ place holds);
+      }
   did-gives (took-first first place is type small) after = first-gives first place (stood place is) type small after
   did-gives (took-second second pending is type issuer) after = second-gives second pending is type after
 

@@ -1,6 +1,7 @@
 pub mod Found
 pub mod Refusal
 pub mod Step
+pub mod Ends
 pub mod Owed
 pub mod Bytes
 pub mod Moves

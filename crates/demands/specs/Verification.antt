@@ -2,21 +2,29 @@
 use mathlib.Core.Path.{_≡_}
 use Prim.Native.Nat.{ℕ, zero, suc, _+_, _/_, _%_}
 use mathlib.Core.Bool.{Bool, true, false, cond, not, _&&_, _||_}
-use mathlib.Core.List.{List}
+use mathlib.Core.List.{List, _∷_}
 use lib.Dec.{eqb}
 use Rattle.wire.specs.Wire.{byte, number}
 use Rattle.iad.specs.declared.Cvr.{Cvr}
 use Rattle.iad.specs.declared.Iad.{Iad}
+use Rattle.selection.specs.declared.Selection.the-variants.{Selected}
+use Rattle.selection.specs.Selection.{profileOf}
+use Rattle.command.specs.declared.Start.{Start}
 use Rattle.command.specs.declared.First.{First}
 use Rattle.command.specs.declared.Second.{Second}
+use Rattle.command.specs.declared.Command.{Command}
+use Rattle.command.specs.declared.Command.the-variants.{Start as StartCommand, First as FirstCommand, Second as SecondCommand}
 use Rattle.checks.specs.declared.History.{History}
 use Rattle.checks.specs.Checks.{bit}
+use Rattle.state.specs.declared.Answer.the-variants.{Started, Given}
+use Rattle.state.specs.declared.Outcome.{Outcome}
 use Rattle.state.specs.declared.Kind.{Kind}
 use Rattle.state.specs.declared.Kind.the-variants.{Aac, Tc, Arqc}
 use Rattle.demands.specs.Ledger.{Meter, accumulator, counter}
 use Rattle.demands.specs.Conversation.{Exchange}
 use Rattle.demands.specs.Audit.{isOn, placeOf, named, spent, spentIn, audited}
-use Rattle.demands.specs.Past.{byOutcome, past, beforeFirst}
+use Rattle.demands.specs.Past.{byOutcome, past, atcBy, beforeFirst}
+use Rattle.demands.specs.Rows.{InSetup}
 use Rattle.demands.specs.Decision.{aboveLower, aboveUpper, flags, meets, FirstAnswers}
 
 -- 00 AAC, 01 TC, 10 ARQC (first type) or not requested (second type)
@@ -115,3 +123,19 @@ pub record SecondGives (s : List ℕ) (syllabus : ℕ) (before after : List Exch
   pub verifies : Verifies s syllabus (placeOf s (named before)) (spent before) (spentIn before) (audited s syllabus (beforeFirst before)) (past s (beforeFirst before)) (typeOf kind)
       (typeOf Arqc) (issuingAtSecond second (past s (beforeFirst before))) (iad .cvr)
   pub sends : Sends s (placeOf s (named before)) (named before) (audited s syllabus after) iad
+
+-- WHAT AN ACCEPTED START SAYS: the ATC, 1 more than before; the profile was named or selected, and is in the set-up; the entries visited
+pub record StartGives (s : List ℕ) (before : List Exchange) (start : Start) (atc visits : ℕ) : Type 0 where
+  pub counts : atc ≡ atcBy s before + 1
+  pub chose : start .chosen ≡ Selected (profileOf (start .chosen)) visits
+  pub known : InSetup s (profileOf (start .chosen))
+
+-- WHAT AN OUTCOME GIVES
+abbrev pub Gives : List ℕ → (syllabus : ℕ) → List Exchange → Command → Outcome → Type 0
+Gives s syllabus before (StartCommand start) outcome = (atc visits : ℕ) → outcome .answer ≡ Started atc visits → StartGives s before start atc visits
+Gives s syllabus before (FirstCommand first) outcome =
+    (kind : Kind) (atc : ℕ) (iad : Iad) → outcome .answer ≡ Given kind atc iad
+    → FirstGives s syllabus before (record { command = FirstCommand first; answer = outcome .answer } ∷ before) first kind iad
+Gives s syllabus before (SecondCommand second) outcome =
+    (kind : Kind) (atc : ℕ) (iad : Iad) → outcome .answer ≡ Given kind atc iad
+    → SecondGives s syllabus before (record { command = SecondCommand second; answer = outcome .answer } ∷ before) second kind iad
