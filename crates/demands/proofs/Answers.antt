@@ -15,7 +15,7 @@ use Rattle.iad.specs.declared.Cvr.{Cvr}
 use Rattle.iad.specs.declared.Iad.{Iad}
 use Rattle.rules.specs.declared.Place.{Place}
 use Rattle.rules.specs.declared.Values.{Values}
-use Rattle.rules.specs.Rules.{Rules, Profile, profileAt}
+use Rattle.rules.specs.Rules.{Rules, Profile, indexOf, profileAt}
 use Rattle.ranges.specs.Ranges.{isSetup}
 use Rattle.ranges.proofs.Accepted.{Accepted, accepted}
 use Rattle.setup.specs.Setup.{profileIn, rulesIn}
@@ -48,12 +48,13 @@ use Rattle.card.specs.Card.{stepOf, refused, freshState}
 use Rattle.demands.specs.Conversation.{Exchange, Sitting, told, run, begin, sat, next, valueOf}
 use Rattle.demands.specs.Audit.{isOn, placeOf, named, spent, spentIn, audited}
 use Rattle.demands.specs.Past.{past, beforeFirst}
+use Rattle.demands.specs.Rows.{InSetup}
 use Rattle.demands.specs.Decision.{flags, meets}
 use Rattle.demands.specs.Verification.{Issuing, Verifies, typeOf, notRequested, issuingAtFirst, issuingAtSecond, secondApproves, withUnable, FirstGives, SecondGives, Gives}
 use Rattle.demands.proofs.Step.{Did, refused-it, started-it, took-first, took-second, did}
 use Rattle.demands.proofs.Ends.{second-closes}
 use Rattle.demands.proofs.Refusal.{in-rules, in-bytes}
-use Rattle.demands.proofs.Bytes.{Stands, profile-is}
+use Rattle.demands.proofs.Bytes.{Stands, profile-is, number-there}
 use Rattle.demands.proofs.Total.{Remembers, Agrees, Holding, then, did-holds, begin-holds}
 use Rattle.demands.proofs.Past.{Recalls, did-keeps, begin-recalls}
 use Rattle.demands.proofs.Decision.{met-is}
@@ -87,6 +88,15 @@ module _ (s : List ℕ) (syllabus : ℕ) (fits : Accepted s) (sitting : Sitting)
 
   abbrev at : ℕ
   at = placeOf s (named log)
+
+  -- the profile of an open transaction is in the set-up
+  standing : (place : Place) → Stands s place at → InSetup s (named log)
+  standing place stands =
+      record {
+        index = indexOf place;
+        there = stands .there;
+        its = ap (byte s) (sym (stands .offset)) ∙ number-there s fits (named log) place stands;
+      }
 
   -- ---- First
 
@@ -137,6 +147,7 @@ module _ (s : List ℕ) (syllabus : ℕ) (fits : Accepted s) (sitting : Sitting)
         let parts : FirstGives s syllabus log (record { command = FirstCommand first; answer = outcome-of decided .answer } ∷ log) first decided
         (sentIad rules place (outcome-of decided .state .values) (cvr-of decided)) =
         record {
+          known = standing place stands;
           decides = kind-answers s syllabus fits sitting (knows .holding) (knows .recalls .history-is) first place stands type small;
           verifies = cvr-verifies decided;
           sends = sends-audited s syllabus fits (named log) place stands (outcome-of decided .state .values) (cvr-of decided) _ (after .values);
@@ -194,6 +205,7 @@ module _ (s : List ℕ) (syllabus : ℕ) (fits : Accepted s) (sitting : Sitting)
         let sent : sentIad rules (pending .place) values cvr ≡ iad = cc in
         let parts : SecondGives s syllabus log (exchange ∷ log) second (closingKind approves) (sentIad rules (pending .place) values cvr) =
         record {
+          known = standing (pending .place) (remembers .stands);
           decides = closing-is approves ∙ ap (λ b. cond b Tc Aac) right;
           verifies =
               subst (λ i. Verifies s syllabus at (spent log) (spentIn log) (audited s syllabus (beforeFirst log)) first-past (typeOf (closingKind approves)) (typeOf Arqc) i cvr) issuing

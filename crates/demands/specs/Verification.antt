@@ -87,6 +87,7 @@ pub record Sends (s : List ℕ) (profile number : ℕ) (value : Meter → ℕ) (
 
 -- WHAT FIRST GIVES, by the conversation before it and the one with it
 pub record FirstGives (s : List ℕ) (syllabus : ℕ) (before after : List Exchange) (first : First) (kind : Kind) (iad : Iad) : Type 0 where
+  pub known : InSetup s (named before)
   pub decides : FirstAnswers s (placeOf s (named before)) first
       (flags s syllabus (placeOf s (named before)) (first .amount .0) (first .currency) (audited s syllabus before) (past s before)) kind
   pub verifies : Verifies s syllabus (placeOf s (named before)) (first .amount .0) (first .currency) (audited s syllabus before) (past s before) notRequested (typeOf kind)
@@ -117,6 +118,7 @@ withUnable history =
 
 -- WHAT SECOND GIVES: the amount is First's, the tests are repeated, the CVR is First's but for what is replaced
 pub record SecondGives (s : List ℕ) (syllabus : ℕ) (before after : List Exchange) (second : Second) (kind : Kind) (iad : Iad) : Type 0 where
+  pub known : InSetup s (named before)
   pub decides : kind
       ≡ cond (secondApproves s (placeOf s (named before))
       (flags s syllabus (placeOf s (named before)) (spent before) (spentIn before) (audited s syllabus before) (withUnable (past s (beforeFirst before)))) second) Tc Aac
