@@ -15,7 +15,6 @@ use Rattle.command.specs.declared.Second.{Second}
 use Rattle.command.specs.declared.Command.{Command}
 use Rattle.command.specs.declared.Command.the-variants.{Start as StartCommand, First as FirstCommand, Second as SecondCommand}
 use Rattle.checks.specs.declared.History.{History}
-use Rattle.checks.specs.Checks.{bit}
 use Rattle.state.specs.declared.Answer.the-variants.{Started, Given}
 use Rattle.state.specs.declared.Outcome.{Outcome}
 use Rattle.state.specs.declared.Kind.{Kind}
@@ -35,6 +34,11 @@ typeOf Arqc = 2
 
 abbrev pub notRequested : ℕ
 notRequested = 2
+
+-- 1 where it is so
+abbrev pub bit : Bool → ℕ
+bit true = 1
+bit false = 0
 
 -- one of the four
 abbrev pub anyOf : (ℕ → Meter) → (Meter → Bool) → Bool
