@@ -1,0 +1,5 @@
+pub mod Places
+pub mod Writes
+pub mod Readable
+pub mod Leaves
+pub mod Words
