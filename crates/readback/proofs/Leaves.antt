@@ -1,7 +1,7 @@
 -- What writing answers, by its causes, and what it leaves in the room. Assumes nothing.
 use mathlib.Core.Path.{_≡_, refl, sym, ap, _∙_}
 use mathlib.Core.Bool.{Bool, true, false, not, cond}
-use mathlib.Core.List.{List}
+use mathlib.Core.List.{List, append-nil}
 use mathlib.Core.Logic.{_↔_, _⊎_, inl, inr}
 use Prim.Native.Nat.{ℕ, _%_, _≤_, _<_}
 use native.Mathlib.Omega.{arith}
@@ -11,7 +11,7 @@ use lib.ListN.{length, take, drop, replicate}
 use Rattle.iad.specs.declared.Iad.{Iad}
 use Rattle.iad.specs.declared.ReadIad.the-variants.{Fields}
 use Rattle.iad.specs.declared.Written.the-variants.{Done, Refused}
-use Rattle.iad.specs.Iad.{isWritable, iadOf, readIad, writeIad, written, writtenNumber}
+use Rattle.iad.specs.Iad.{isWritable, iadBytes, iadOf, readIad, writeIad, written, writtenNumber}
 use Rattle.iad.proofs.RoundTrip.{write-number, whole, back}
 use Rattle.readback.specs.WellFormed.{Types, Profile, WellFormed, Writable, Unwritable, LaidOut, Left}
 use Rattle.readback.specs.WellFormed.{above, second-type, first-type, fifth-byte, no-profile, high-profile}
@@ -131,8 +131,15 @@ module _ (iad : Iad) (room : List ℕ) where
       (λ h. rw (writable iad .1 w, lt-ltb (length room) 32 h)))
       (λ u. rw (bad u))
 
-abbrev zeros : List ℕ
+abbrev pub zeros : List ℕ
 zeros = replicate 32 0
+
+-- 32 zeros become just the bytes of the fields
+pub filled : (iad : Iad) (s : List ℕ) → Writable iad → LaidOut iad s → written iad zeros ≡ s
+unfolding written
+filled iad s w l =
+    let same = back s iad (exactly-read s iad .1 (w, l)) .0 in
+    rw (answered iad zeros w (omega arith)) (append-nil (iadBytes iad) ∙ same)
 
 -- what is well formed is just what an accepted write leaves in the first 32 bytes
 pub exactly-written : (s : List ℕ)

@@ -9,6 +9,10 @@ use Rattle.iad.specs.declared.Iad.{Iad}
 abbrev pub octet : List ℕ → ℕ → ℕ
 octet s place = getD s place 0
 
+-- each is a byte
+abbrev pub Octets : List ℕ → Type 0
+Octets s = (place : ℕ) → octet s place < 256
+
 -- the digits in the two halves of a byte
 abbrev pub upper : List ℕ → ℕ → ℕ
 upper s place = octet s place / 16
