@@ -1,0 +1,67 @@
+-- The statements at single inputs, by computation: line 2 of the printed sitting, and what differs from it in one byte. Assumes nothing.
+use mathlib.Core.Path.{_≡_, refl}
+use mathlib.Core.List.{List, [], _∷_}
+use Prim.Native.Nat.{ℕ}
+use lib.ListN.{replicate}
+use Rattle.iad.specs.declared.Iad.{Iad}
+use Rattle.iad.specs.declared.ReadIad.the-variants.{Fields}
+use Rattle.iad.specs.Iad.{cvrOf, pairsValue, iadOf, hasFixedBytes, isCvr, arePairs, isIad, readIad, readNumber}
+use Rattle.iad.specs.Iad.{pairsOf, iadBytes, isWritable, writeIad, written, writtenNumber}
+use Rattle.wire.specs.Wire.{number}
+use Rattle.lines.specs.Lines.{digit, decimal, hex, refusalLine, startLine, selectedLine, cryptogramLine}
+use Rattle.readback.specs.WellFormed.{WellFormed, Writable, LaidOut}
+use Rattle.readback.specs.Fields.{wordsIn, areDigits, valueIn, isHex, bytesIn, Two, Three, Four, Five, fieldsIn}
+use Rattle.readback.proofs.Readable.{exactly-readable, exactly-read}
+
+-- the bytes of line 2, with byte 1 and byte 5 of the CVR left open
+abbrev bytes : ℕ → ℕ → List ℕ
+bytes byte1 byte5 =
+    0x0F ∷ 0xA5 ∷ 0x01 ∷ byte1 ∷ 0x30 ∷ 0x00 ∷ 0x00 ∷ byte5 ∷ 0x00 ∷ 0x00 ∷ 0x00 ∷ 0x00 ∷ 0x50 ∷ 0x00 ∷ 0x01 ∷ 0x00 ∷ 0x0F ∷ 0x01
+    ∷ replicate 14 0x00
+
+-- their fields
+abbrev fields : ℕ → ℕ → Iad
+fields byte1 byte5 =
+    record {
+      accumulator = record { 0 = 5000 };
+      key = 0x01;
+      cvr = record { byte1 = byte1; byte2 = 0x30; byte3 = 0x00; byte4 = 0x00; byte5 = byte5 };
+      first = 1;
+      second = 0;
+      profile = 1;
+    }
+
+pub sample-read : readIad (bytes 0x90 0) ≡ Fields (fields 0x90 0)
+unfolding readIad isIad hasFixedBytes number isCvr cvrOf arePairs iadOf pairsValue
+sample-read = refl
+
+-- so the premises of the statements can be met
+pub sample-formed : WellFormed (bytes 0x90 0)
+sample-formed = exactly-readable (bytes 0x90 0) .0 (rw sample-read)
+
+pub sample-held : Writable (fields 0x90 0) × LaidOut (fields 0x90 0) (bytes 0x90 0)
+sample-held = exactly-read (bytes 0x90 0) (fields 0x90 0) .0 sample-read
+
+pub sample-first-type : readNumber (readIad (bytes 0xB0 0)) ≡ 8
+unfolding readIad isIad hasFixedBytes number isCvr cvrOf arePairs iadOf pairsValue
+sample-first-type = refl
+
+pub sample-second-type : readNumber (readIad (bytes 0xD0 0)) ≡ 8
+unfolding readIad isIad hasFixedBytes number isCvr cvrOf arePairs iadOf pairsValue
+sample-second-type = refl
+
+pub sample-byte-8 : readNumber (readIad (bytes 0x90 1)) ≡ 8
+unfolding readIad isIad hasFixedBytes number isCvr cvrOf arePairs iadOf pairsValue
+sample-byte-8 = refl
+
+pub sample-unwritten : writtenNumber (writeIad (fields 0xB0 0) (replicate 32 0)) ≡ 6
+unfolding writeIad isWritable isCvr
+sample-unwritten = refl
+
+pub sample-start : fieldsIn (startLine 12 65_535) ≡ Three 12 0 65_535
+unfolding startLine decimal digit fieldsIn wordsIn areDigits valueIn
+sample-start = refl
+
+pub sample-cryptogram : fieldsIn (cryptogramLine 2 0x40 1 (fields 0x90 0)) ≡ Five 2 0 (0x40 ∷ []) 1 (bytes 0x90 0)
+unfolding cryptogramLine written writeIad isWritable isCvr iadBytes pairsOf decimal digit hex fieldsIn wordsIn areDigits valueIn isHex bytesIn
+sample-cryptogram = refl
