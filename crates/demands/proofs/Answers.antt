@@ -15,11 +15,14 @@ use Rattle.iad.specs.declared.Cvr.{Cvr}
 use Rattle.iad.specs.declared.Iad.{Iad}
 use Rattle.rules.specs.declared.Place.{Place}
 use Rattle.rules.specs.declared.Values.{Values}
-use Rattle.rules.specs.Rules.{Rules, Profile, profileAt}
+use Rattle.rules.specs.Rules.{Rules, Profile, indexOf, profileAt}
 use Rattle.ranges.specs.Ranges.{isSetup}
 use Rattle.ranges.proofs.Accepted.{Accepted, accepted}
 use Rattle.setup.specs.Setup.{profileIn, rulesIn}
 use Rattle.setup.proofs.Faithful.{Bytes, faithful}
+use Rattle.selection.specs.declared.Selection.{Selection}
+use Rattle.selection.specs.declared.Selection.the-variants.{Selected, NotSelected}
+use Rattle.selection.specs.Selection.{profileOf, visitsOf}
 use Rattle.command.specs.declared.First.{First}
 use Rattle.command.specs.declared.Second.{Second}
 use Rattle.command.specs.declared.Command.{Command}
@@ -27,7 +30,8 @@ use Rattle.command.specs.declared.Command.the-variants.{Start as StartCommand, 
 use Rattle.meters.specs.Meters.{approved}
 use Rattle.checks.specs.declared.History.{History}
 use Rattle.checks.specs.Checks.{meetsMask}
-use Rattle.state.specs.declared.Answer.the-variants.{Given}
+use Rattle.state.specs.declared.Answer.{Answer}
+use Rattle.state.specs.declared.Answer.the-variants.{Refused, Started, Given}
 use Rattle.cryptogram.specs.declared.Issuer.{Issuer}
 use Rattle.state.specs.declared.Kind.{Kind}
 use Rattle.state.specs.declared.Kind.the-variants.{Aac, Tc, Arqc}
@@ -44,10 +48,13 @@ use Rattle.card.specs.Card.{stepOf, refused, freshState}
 use Rattle.demands.specs.Conversation.{Exchange, Sitting, told, run, begin, sat, next, valueOf}
 use Rattle.demands.specs.Audit.{isOn, placeOf, named, spent, spentIn, audited}
 use Rattle.demands.specs.Past.{past, beforeFirst}
+use Rattle.demands.specs.Rows.{InSetup}
 use Rattle.demands.specs.Decision.{flags, meets}
-use Rattle.demands.specs.Verification.{Issuing, Verifies, typeOf, notRequested, issuingAtFirst, issuingAtSecond, secondApproves, withUnable, FirstGives, SecondGives}
+use Rattle.demands.specs.Verification.{Issuing, Verifies, typeOf, notRequested, issuingAtFirst, issuingAtSecond, secondApproves, withUnable, FirstGives, SecondGives, Gives}
 use Rattle.demands.proofs.Step.{Did, refused-it, started-it, took-first, took-second, did}
-use Rattle.demands.proofs.Bytes.{Stands, profile-is}
+use Rattle.demands.proofs.Ends.{second-closes}
+use Rattle.demands.proofs.Refusal.{in-rules, in-bytes}
+use Rattle.demands.proofs.Bytes.{Stands, profile-is, number-there}
 use Rattle.demands.proofs.Total.{Remembers, Agrees, Holding, then, did-holds, begin-holds}
 use Rattle.demands.proofs.Past.{Recalls, did-keeps, begin-recalls}
 use Rattle.demands.proofs.Decision.{met-is}
@@ -69,19 +76,6 @@ pub record Knows (s : List ℕ) (syllabus : ℕ) (sitting : Sitting) : Type 0 wh
   pub recalls : Recalls s sitting
   pub keeps : KeepsIn s syllabus (beforeFirst (sitting .log)) (named (sitting .log)) (spent (sitting .log)) (spentIn (sitting .log)) (sitting .state .phase)
 
--- what an outcome gives
-abbrev pub Gives : List ℕ → (syllabus : ℕ) → List Exchange → Command → Outcome → Type 0
-Gives s syllabus before (StartCommand start) outcome = Unit
-Gives s syllabus before (FirstCommand first) outcome =
-    (kind : Kind) (atc : ℕ) (iad : Iad) → outcome .answer ≡ Given kind atc iad
-    → FirstGives s syllabus before (record { command = FirstCommand first; answer = outcome .answer } ∷ before) first kind iad
-Gives s syllabus before (SecondCommand second) outcome =
-    (kind : Kind) (atc : ℕ) (iad : Iad) → outcome .answer ≡ Given kind atc iad
-    → SecondGives s syllabus before (record { command = SecondCommand second; answer = outcome .answer } ∷ before) second kind iad
-
-record Idle-after (outcome : Outcome) : Type 0 where
-  is : outcome .state .phase ≡ Idle
-
 module _ (s : List ℕ) (syllabus : ℕ) (fits : Accepted s) (sitting : Sitting) (knows : Knows s syllabus sitting) where
   abbrev rules : Rules
   rules = rulesIn s syllabus
@@ -94,6 +88,15 @@ module _ (s : List ℕ) (syllabus : ℕ) (fits : Accepted s) (sitting : Sitting)
 
   abbrev at : ℕ
   at = placeOf s (named log)
+
+  -- the profile of an open transaction is in the set-up
+  standing : (place : Place) → Stands s place at → InSetup s (named log)
+  standing place stands =
+      record {
+        index = indexOf place;
+        there = stands .there;
+        its = ap (byte s) (sym (stands .offset)) ∙ number-there s fits (named log) place stands;
+      }
 
   -- ---- First
 
@@ -144,6 +147,7 @@ module _ (s : List ℕ) (syllabus : ℕ) (fits : Accepted s) (sitting : Sitting)
         let parts : FirstGives s syllabus log (record { command = FirstCommand first; answer = outcome-of decided .answer } ∷ log) first decided
         (sentIad rules place (outcome-of decided .state .values) (cvr-of decided)) =
         record {
+          known = standing place stands;
           decides = kind-answers s syllabus fits sitting (knows .holding) (knows .recalls .history-is) first place stands type small;
           verifies = cvr-verifies decided;
           sends = sends-audited s syllabus fits (named log) place stands (outcome-of decided .state .values) (cvr-of decided) _ (after .values);
@@ -201,6 +205,7 @@ module _ (s : List ℕ) (syllabus : ℕ) (fits : Accepted s) (sitting : Sitting)
         let sent : sentIad rules (pending .place) values cvr ≡ iad = cc in
         let parts : SecondGives s syllabus log (exchange ∷ log) second (closingKind approves) (sentIad rules (pending .place) values cvr) =
         record {
+          known = standing (pending .place) (remembers .stands);
           decides = closing-is approves ∙ ap (λ b. cond b Tc Aac) right;
           verifies =
               subst (λ i. Verifies s syllabus at (spent log) (spentIn log) (audited s syllabus (beforeFirst log)) first-past (typeOf (closingKind approves)) (typeOf Arqc) i cvr) issuing
@@ -292,23 +297,20 @@ module _ (s : List ℕ) (syllabus : ℕ) (fits : Accepted s) (sitting : Sitting)
 
   -- ---- every step
 
-  idle-or : (b : Bool) {x y : Outcome} → Idle-after x → Idle-after y → Idle-after (cond b x y)
-  idle-or true p q = p
-  idle-or false p q = q
+  -- what a Start's answer says
+  abbrev saidAtc : Answer → ℕ
+  saidAtc (Refused refusal) = 0
+  saidAtc (Started atc visits) = atc
+  saidAtc (Given kind atc iad) = 0
 
-  closed-idle : (pending : Pending) (approves : Bool) (values : Values) (history : History) (issuer : Issuer)
-      → Idle-after (closed rules (state .atc) pending approves values history issuer)
-  unfolding closed
-  closed-idle pending approves values history issuer = record { is = refl }
+  abbrev saidVisits : Answer → ℕ
+  saidVisits (Refused refusal) = 0
+  saidVisits (Started atc visits) = visits
+  saidVisits (Given kind atc iad) = 0
 
-  second-idle : (second : Second) (pending : Pending) → Idle-after (secondPerformed rules state second pending)
-  unfolding secondPerformed unablePerformed verifiedPerformed failedPerformed absentPerformed
-  second-idle second pending =
-      idle-or (isUnable (second .code))
-      (idle-or (eqb (second .requested) 0 || meetsMask (unableBits rules state pending) (profileAt rules (pending .place) .masks .default))
-      (closed-idle pending _ _ _ _) (closed-idle pending _ _ _ _))
-      (idle-or (eqb (second .issuer) 1) (closed-idle pending _ _ _ _)
-      (idle-or (eqb (second .issuer) 2) (closed-idle pending _ _ _ _) (closed-idle pending _ _ _ _)))
+  selected : (chosen : Selection) → 1 ≤ profileOf chosen → chosen ≡ Selected (profileOf chosen) (visitsOf chosen)
+  selected (Selected profile visits) some = refl
+  selected NotSelected some = absurd (omega arith)
 
   abbrev Kept : Command → Outcome → Type 0
   Kept command outcome =
@@ -322,7 +324,7 @@ module _ (s : List ℕ) (syllabus : ℕ) (fits : Accepted s) (sitting : Sitting)
   refused-kept (SecondCommand second) r = knows .keeps
 
   refused-gives : (command : Command) (r : Refusal) → Gives s syllabus log command (refused state r)
-  refused-gives (StartCommand start) r = tt
+  refused-gives (StartCommand start) r = λ atc visits e. let z : _≡_ {A = ℕ} 0 1 = cc in absurd (omega arith)
   refused-gives (FirstCommand first) r = λ kind atc iad e. let z : _≡_ {A = ℕ} 0 1 = cc in absurd (omega arith)
   refused-gives (SecondCommand second) r = λ kind atc iad e. let z : _≡_ {A = ℕ} 0 1 = cc in absurd (omega arith)
 
@@ -335,12 +337,17 @@ module _ (s : List ℕ) (syllabus : ℕ) (fits : Accepted s) (sitting : Sitting)
   did-kept (started-it start place holds) = tt
   did-kept (took-first first place is type small) = concluded-knows first place (stood place is) type small (firstKind rules state place first)
   did-kept (took-second second pending is type issuer) =
-      subst (KeepsIn s syllabus _ _ _ _) (sym (second-idle second pending .is)) tt
+      subst (KeepsIn s syllabus _ _ _ _) (sym (second-closes rules state second pending .idle)) tt
 
   did-gives : {command : Command} {outcome : Outcome} → Did rules state command outcome → Holding s syllabus (then sitting command outcome) → Gives s syllabus log command outcome
   unfolding firstPerformed
   did-gives {command} (refused-it r) after = refused-gives command r
-  did-gives (started-it start place holds) after = tt
+  did-gives (started-it start place holds) after = λ atc visits e.
+      record {
+        counts = sym (ap saidAtc e) ∙ ap (λ n. n + 1) (knows .recalls .atc-is);
+        chose = selected (start .chosen) (holds .some) ∙ ap (Selected (profileOf (start .chosen))) (ap saidVisits e);
+        known = in-bytes s syllabus fits _ (in-rules rules _ place holds);
+      }
   did-gives (took-first first place is type small) after = first-gives first place (stood place is) type small after
   did-gives (took-second second pending is type issuer) after = second-gives second pending is type after
 

@@ -1,6 +1,7 @@
 pub mod Found
 pub mod Refusal
 pub mod Step
+pub mod Ends
 pub mod Owed
 pub mod Bytes
 pub mod Moves
@@ -13,6 +14,7 @@ pub mod Decision
 pub mod First
 pub mod Verification
 pub mod Answers
+pub mod Sendable
 pub mod Edges
 pub mod Selected
 pub mod Samples

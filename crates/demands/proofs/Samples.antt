@@ -1,6 +1,6 @@
 -- The statements of `demands`, computed for a few sittings: what a card holds and what the auditor finds, value by value. They follow
--- from `total`, `history`, `atc` and `first-answers`; said apart, they show of a wrong card that the statement itself is false of it.
--- Assumes nothing.
+-- from `total`, `history`, `atc`, `due-is`, `in-kind` and `first-answers`; said apart, they show of a wrong card that the statement itself is
+-- false of it. Assumes nothing.
 use mathlib.Core.Bool.{Bool, true, false, not, _&&_}
 use mathlib.Core.List.{List, [], _∷_, _++_}
 use Prim.Native.Nat.{ℕ, _*_}
@@ -26,9 +26,10 @@ use Rattle.selection.specs.declared.Selection.the-variants.{Selected}
 use Rattle.command.specs.declared.Command.{Command}
 use Rattle.command.specs.declared.Command.the-variants.{Start as StartCommand, First as FirstCommand, Second as SecondCommand}
 use Rattle.demands.specs.Ledger.{Meter, accumulator, counter, owed}
-use Rattle.demands.specs.Conversation.{Sitting, run, begin, valueOf}
+use Rattle.demands.specs.Conversation.{Exchange, Sitting, run, begin, valueOf}
 use Rattle.demands.specs.Audit.{placeOf, converted, named, spent, spentIn, ledger, audited}
 use Rattle.demands.specs.Past.{past, atcBy}
+use Rattle.demands.specs.Due.{Due, nothing, aFirst, aSecond, due, dueIn}
 
 abbrev zeros : ℕ → List ℕ
 zeros n = replicate n 0
@@ -88,6 +89,20 @@ limits = approvals ++ start 1 ∷ first 1 0x0978 2 ∷ second 0x01 ∷ []
 unfoldable pub resets : List Command
 resets = limits ++ start 1 ∷ first 1 0x0978 2 ∷ second 0x82 ∷ []
 
+-- TC requested after Y3; issuer data failed; absent
+abbrev unable : Command
+unable = SecondCommand (record { csu = 0; code = 0x5933; requested = 1; issuer = 0 })
+
+abbrev after : ℕ → Command
+after issuer = SecondCommand (record { csu = 0; code = 0x3030; requested = 1; issuer = issuer })
+
+-- one transaction that First answers, and one that it sends online
+unfoldable pub answered : ℕ → List Command
+answered requested = start 1 ∷ first 1 0x0978 requested ∷ []
+
+unfoldable pub online : Command → List Command
+online command = start 1 ∷ first 1 0x0978 2 ∷ command ∷ []
+
 -- ---- what is compared
 
 abbrev same : Bool → Bool → Bool
@@ -111,6 +126,40 @@ agrees s commands =
     && sameHistory (sitting .state .history) (past s (sitting .log))
     && eqb (sitting .state .atc) (atcBy s (sitting .log))
 
+-- `due-is`: what the card's phase says is due, and what the conversation says
+abbrev sameDue : Due → Due → Bool
+sameDue nothing nothing = true
+sameDue nothing aFirst = false
+sameDue nothing aSecond = false
+sameDue aFirst nothing = false
+sameDue aFirst aFirst = true
+sameDue aFirst aSecond = false
+sameDue aSecond nothing = false
+sameDue aSecond aFirst = false
+sameDue aSecond aSecond = true
+
+unfoldable pub duly : List Command → Bool
+duly commands =
+    let sitting = run (rulesIn counting 0) (begin counting) commands in
+    sameDue (dueIn (sitting .state .phase)) (due (sitting .log))
+
+-- `in-kind`: Start starts, First and Second give
+abbrev isInKind : Command → Answer → Bool
+isInKind command (Refused refusal) = false
+isInKind (StartCommand start) (Started atc visits) = true
+isInKind (StartCommand start) (Given kind atc iad) = false
+isInKind (FirstCommand first) (Started atc visits) = false
+isInKind (FirstCommand first) (Given kind atc iad) = true
+isInKind (SecondCommand second) (Started atc visits) = false
+isInKind (SecondCommand second) (Given kind atc iad) = true
+
+abbrev areInKind : List Exchange → Bool
+areInKind [] = true
+areInKind (exchange ∷ older) = isInKind (exchange .command) (exchange .answer) && areInKind older
+
+unfoldable pub kindly : List Command → Bool
+kindly commands = areInKind (run (rulesIn counting 0) (begin counting) commands .log)
+
 abbrev isOf : Answer → Kind → Bool
 isOf (Refused refusal) kind = false
 isOf (Started atc visits) kind = false
@@ -127,19 +176,42 @@ pub record Samples : Type 0 where
   pub approvals-agree : T (agrees counting approvals)
   pub limits-agree : T (agrees counting limits)
   pub resets-agree : T (agrees counting resets)
+  -- what is due after each way in which a transaction goes on or closes
+  pub due-after-arqc : T (duly (answered 2))
+  pub due-after-tc : T (duly (answered 1))
+  pub due-after-aac : T (duly (answered 0))
+  pub due-after-unable : T (duly (online unable))
+  pub due-after-verified : T (duly (online (second 0x80)))
+  pub due-after-failed : T (duly (online (after 2)))
+  pub due-after-absent : T (duly (online (after 0)))
+  pub due-after-start : T (duly (online (start 1)))
+  pub starts-in-kind : T (kindly (start 1 ∷ []))
+  pub firsts-in-kind : T (kindly (answered 0) && kindly (answered 1) && kindly (answered 2))
+  pub seconds-in-kind : T (kindly (online unable) && kindly (online (second 0x80)) && kindly (online (after 2)) && kindly (online (after 0)))
   -- accumulator 1 at 2000 is above its lower limit: online
   pub lower-online : T (answers 0x07 0xD0 0x0978 Arqc)
   -- at 6000 above its upper: declined, in a currency without a conversion too
   pub upper-declined : T (answers 0x17 0x70 0x0840 Aac)
 
 pub samples : Samples
-unfolding counting limiting approvals limits resets agrees answers run freshState readSetup freshIn isSetup hasLength isHead areAccumulators isAccumulator number areProfiles isProfileOrAbsent isProfile areMasks isMaximumAmount areAccumulatorRules isAccumulatorRule areCounterRules areSent areNumbersApart profileNumber areConversions isConversionOrAbsent isConversion conversionPair arePairsApart rulesIn rateIn profileIn accumulatorIn counterIn stepOf startStep firstStep secondStep findProfile firstPerformed decision limitsByte concluded testsOf decisionBits accumulatorsLower accumulatorsUpper countersLower countersUpper maximumExceeded worth convertOf rateFor rounded scaled approved declined limited cleared verification sentIad secondPerformed unablePerformed verifiedPerformed failedPerformed absentPerformed closed ordered placeOf converted named spent spentIn ledger owed past atcBy
+unfolding counting limiting approvals limits resets answered online agrees duly kindly answers due run freshState readSetup freshIn isSetup hasLength isHead areAccumulators isAccumulator number areProfiles isProfileOrAbsent isProfile areMasks isMaximumAmount areAccumulatorRules isAccumulatorRule areCounterRules areSent areNumbersApart profileNumber areConversions isConversionOrAbsent isConversion conversionPair arePairsApart rulesIn rateIn profileIn accumulatorIn counterIn stepOf startStep firstStep secondStep findProfile firstPerformed decision limitsByte concluded testsOf decisionBits accumulatorsLower accumulatorsUpper countersLower countersUpper maximumExceeded worth convertOf rateFor rounded scaled approved declined limited cleared verification sentIad secondPerformed unablePerformed verifiedPerformed failedPerformed absentPerformed closed ordered placeOf converted named spent spentIn ledger owed past atcBy
 samples =
     record {
       accepted = tt;
       approvals-agree = tt;
       limits-agree = tt;
       resets-agree = tt;
+      due-after-arqc = tt;
+      due-after-tc = tt;
+      due-after-aac = tt;
+      due-after-unable = tt;
+      due-after-verified = tt;
+      due-after-failed = tt;
+      due-after-absent = tt;
+      due-after-start = tt;
+      starts-in-kind = tt;
+      firsts-in-kind = tt;
+      seconds-in-kind = tt;
       lower-online = tt;
       upper-declined = tt;
     }

@@ -33,7 +33,8 @@ use Rattle.demands.specs.Selecting.{Said, start, first, heard, allHeard}
 use Rattle.demands.proofs.Total.{total}
 use Rattle.demands.proofs.Limit.{limit}
 use Rattle.demands.proofs.First.{first-answers}
-use Rattle.demands.proofs.Answers.{Gives, gives}
+use Rattle.demands.specs.Verification.{Gives}
+use Rattle.demands.proofs.Answers.{gives}
 
 -- the visits that an answer says
 visitsIn : Answer → ℕ

@@ -7,7 +7,6 @@ use mathlib.Core.List.{List, [], _∷_, _++_}
 use lib.Dec.{ltb, eqb}
 use lib.ListN.{length}
 use Rattle.wire.specs.Wire.{byte, number}
-use Rattle.money.specs.Money.{max}
 use Rattle.selection.specs.Selection.{profileOf}
 use Rattle.command.specs.declared.Command.{Command}
 use Rattle.command.specs.declared.Command.the-variants.{Start as StartCommand, First as FirstCommand, Second as SecondCommand}
@@ -55,6 +54,10 @@ countsDeclines s profile (counter i) = isOn (byte s (ruleAt profile (counter i))
 abbrev pub upperOf : List ℕ → ℕ → Meter → ℕ
 upperOf s profile (accumulator i) = number s (ruleAt profile (accumulator i) + 9) 8
 upperOf s profile (counter i) = byte s (ruleAt profile (counter i) + 2)
+
+-- 0 to 999,999,999,999 (called MAX)
+abbrev pub max : ℕ
+max = 999_999_999_999
 
 -- what the card starts from, and where a sum stops
 abbrev pub startOf : List ℕ → Meter → ℕ

@@ -5,6 +5,7 @@ pub mod Audit
 pub mod Guards
 pub mod Printed
 pub mod Past
+pub mod Due
 pub mod Decision
 pub mod Verification
 pub mod Selecting

@@ -2,21 +2,28 @@
 use mathlib.Core.Path.{_≡_}
 use Prim.Native.Nat.{ℕ, zero, suc, _+_, _/_, _%_}
 use mathlib.Core.Bool.{Bool, true, false, cond, not, _&&_, _||_}
-use mathlib.Core.List.{List}
+use mathlib.Core.List.{List, _∷_}
 use lib.Dec.{eqb}
 use Rattle.wire.specs.Wire.{byte, number}
 use Rattle.iad.specs.declared.Cvr.{Cvr}
 use Rattle.iad.specs.declared.Iad.{Iad}
+use Rattle.selection.specs.declared.Selection.the-variants.{Selected}
+use Rattle.selection.specs.Selection.{profileOf}
+use Rattle.command.specs.declared.Start.{Start}
 use Rattle.command.specs.declared.First.{First}
 use Rattle.command.specs.declared.Second.{Second}
+use Rattle.command.specs.declared.Command.{Command}
+use Rattle.command.specs.declared.Command.the-variants.{Start as StartCommand, First as FirstCommand, Second as SecondCommand}
 use Rattle.checks.specs.declared.History.{History}
-use Rattle.checks.specs.Checks.{bit}
+use Rattle.state.specs.declared.Answer.the-variants.{Started, Given}
+use Rattle.state.specs.declared.Outcome.{Outcome}
 use Rattle.state.specs.declared.Kind.{Kind}
 use Rattle.state.specs.declared.Kind.the-variants.{Aac, Tc, Arqc}
 use Rattle.demands.specs.Ledger.{Meter, accumulator, counter}
 use Rattle.demands.specs.Conversation.{Exchange}
 use Rattle.demands.specs.Audit.{isOn, placeOf, named, spent, spentIn, audited}
-use Rattle.demands.specs.Past.{byOutcome, past, beforeFirst}
+use Rattle.demands.specs.Past.{byOutcome, past, atcBy, beforeFirst}
+use Rattle.demands.specs.Rows.{InSetup}
 use Rattle.demands.specs.Decision.{aboveLower, aboveUpper, flags, meets, FirstAnswers}
 
 -- 00 AAC, 01 TC, 10 ARQC (first type) or not requested (second type)
@@ -27,6 +34,11 @@ typeOf Arqc = 2
 
 abbrev pub notRequested : ℕ
 notRequested = 2
+
+-- 1 where it is so
+abbrev pub bit : Bool → ℕ
+bit true = 1
+bit false = 0
 
 -- one of the four
 abbrev pub anyOf : (ℕ → Meter) → (Meter → Bool) → Bool
@@ -79,6 +91,7 @@ pub record Sends (s : List ℕ) (profile number : ℕ) (value : Meter → ℕ) (
 
 -- WHAT FIRST GIVES, by the conversation before it and the one with it
 pub record FirstGives (s : List ℕ) (syllabus : ℕ) (before after : List Exchange) (first : First) (kind : Kind) (iad : Iad) : Type 0 where
+  pub known : InSetup s (named before)
   pub decides : FirstAnswers s (placeOf s (named before)) first
       (flags s syllabus (placeOf s (named before)) (first .amount .0) (first .currency) (audited s syllabus before) (past s before)) kind
   pub verifies : Verifies s syllabus (placeOf s (named before)) (first .amount .0) (first .currency) (audited s syllabus before) (past s before) notRequested (typeOf kind)
@@ -109,9 +122,26 @@ withUnable history =
 
 -- WHAT SECOND GIVES: the amount is First's, the tests are repeated, the CVR is First's but for what is replaced
 pub record SecondGives (s : List ℕ) (syllabus : ℕ) (before after : List Exchange) (second : Second) (kind : Kind) (iad : Iad) : Type 0 where
+  pub known : InSetup s (named before)
   pub decides : kind
       ≡ cond (secondApproves s (placeOf s (named before))
       (flags s syllabus (placeOf s (named before)) (spent before) (spentIn before) (audited s syllabus before) (withUnable (past s (beforeFirst before)))) second) Tc Aac
   pub verifies : Verifies s syllabus (placeOf s (named before)) (spent before) (spentIn before) (audited s syllabus (beforeFirst before)) (past s (beforeFirst before)) (typeOf kind)
       (typeOf Arqc) (issuingAtSecond second (past s (beforeFirst before))) (iad .cvr)
   pub sends : Sends s (placeOf s (named before)) (named before) (audited s syllabus after) iad
+
+-- WHAT AN ACCEPTED START SAYS: the ATC, 1 more than before; the profile was named or selected, and is in the set-up; the entries visited
+pub record StartGives (s : List ℕ) (before : List Exchange) (start : Start) (atc visits : ℕ) : Type 0 where
+  pub counts : atc ≡ atcBy s before + 1
+  pub chose : start .chosen ≡ Selected (profileOf (start .chosen)) visits
+  pub known : InSetup s (profileOf (start .chosen))
+
+-- WHAT AN OUTCOME GIVES
+abbrev pub Gives : List ℕ → (syllabus : ℕ) → List Exchange → Command → Outcome → Type 0
+Gives s syllabus before (StartCommand start) outcome = (atc visits : ℕ) → outcome .answer ≡ Started atc visits → StartGives s before start atc visits
+Gives s syllabus before (FirstCommand first) outcome =
+    (kind : Kind) (atc : ℕ) (iad : Iad) → outcome .answer ≡ Given kind atc iad
+    → FirstGives s syllabus before (record { command = FirstCommand first; answer = outcome .answer } ∷ before) first kind iad
+Gives s syllabus before (SecondCommand second) outcome =
+    (kind : Kind) (atc : ℕ) (iad : Iad) → outcome .answer ≡ Given kind atc iad
+    → SecondGives s syllabus before (record { command = SecondCommand second; answer = outcome .answer } ∷ before) second kind iad

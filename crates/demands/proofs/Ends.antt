@@ -1,0 +1,118 @@
+-- A command that is taken is answered in its kind, and leaves due what the conversation says. Assumes nothing.
+use mathlib.Core.Path.{_≡_, refl, sym, ap, _∙_}
+use mathlib.Core.Bool.{Bool, true, false, cond, _||_}
+use mathlib.Core.List.{List, [], _∷_}
+use Prim.Native.Nat.{ℕ}
+use lib.Dec.{eqb}
+use Rattle.refusal.specs.declared.Refusal.{Refusal}
+use Rattle.iad.specs.declared.Cvr.{Cvr}
+use Rattle.checks.specs.declared.History.{History}
+use Rattle.checks.specs.Checks.{meetsMask}
+use Rattle.rules.specs.declared.Place.{Place}
+use Rattle.rules.specs.declared.Values.{Values}
+use Rattle.rules.specs.Rules.{Rules, profileAt}
+use Rattle.meters.specs.declared.Purchase.{Purchase}
+use Rattle.cryptogram.specs.declared.Issuer.{Issuer}
+use Rattle.command.specs.declared.First.{First}
+use Rattle.command.specs.declared.Second.{Second}
+use Rattle.command.specs.declared.Command.{Command}
+use Rattle.command.specs.declared.Command.the-variants.{Start as StartCommand, First as FirstCommand, Second as SecondCommand}
+use Rattle.state.specs.declared.Answer.{Answer}
+use Rattle.state.specs.declared.Answer.the-variants.{Refused, Started, Given}
+use Rattle.state.specs.declared.Kind.{Kind}
+use Rattle.state.specs.declared.Kind.the-variants.{Aac, Tc, Arqc}
+use Rattle.state.specs.declared.Pending.{Pending}
+use Rattle.state.specs.declared.Phase.the-variants.{Idle}
+use Rattle.state.specs.declared.State.{State}
+use Rattle.state.specs.declared.Outcome.{Outcome}
+use Rattle.first.specs.First.{firstPerformed, firstKind, concluded}
+use Rattle.second.specs.Second.{secondPerformed, isUnable, unableBits, unablePerformed, verifiedPerformed, failedPerformed, absentPerformed, closed}
+use Rattle.card.specs.Card.{refused, freshState}
+use Rattle.demands.specs.Audit.{isAccepted}
+use Rattle.demands.specs.Conversation.{Sitting, told, run, sat}
+use Rattle.demands.specs.Due.{Due, nothing, dueBy, due, dueIn, InKind}
+use Rattle.demands.proofs.Step.{Did, refused-it, started-it, took-first, took-second, did}
+
+pub accepted-in-kind : (command : Command) (answer : Answer) → InKind command answer → isAccepted answer ≡ true
+accepted-in-kind (StartCommand start) (Started atc visits) k = refl
+accepted-in-kind (FirstCommand first) (Given kind atc iad) k = refl
+accepted-in-kind (SecondCommand second) (Given kind atc iad) k = refl
+accepted-in-kind (StartCommand start) (Refused refusal) k = absurd k
+accepted-in-kind (StartCommand start) (Given kind atc iad) k = absurd k
+accepted-in-kind (FirstCommand first) (Refused refusal) k = absurd k
+accepted-in-kind (FirstCommand first) (Started atc visits) k = absurd k
+accepted-in-kind (SecondCommand second) (Refused refusal) k = absurd k
+accepted-in-kind (SecondCommand second) (Started atc visits) k = absurd k
+
+-- First: what it gives, and what is due then, whatever was before
+pub record Concludes (first : First) (outcome : Outcome) : Type 0 where
+  pub in-kind : InKind (FirstCommand first) (outcome .answer)
+  pub leaves : (before : Due) → dueIn (outcome .state .phase) ≡ dueBy (FirstCommand first) (outcome .answer) before
+
+-- Second: a TC or an AAC, and the transaction is closed
+pub record Closes (second : Second) (outcome : Outcome) : Type 0 where
+  pub in-kind : InKind (SecondCommand second) (outcome .answer)
+  pub idle : outcome .state .phase ≡ Idle
+
+module _ (rules : Rules) (state : State) where
+  concluded-ends : (first : First) (place : Place) (purchase : Purchase) (limits : ℕ) (cvr : Cvr) (kind : Kind)
+      → Concludes first (concluded rules state place purchase limits cvr kind)
+  unfolding concluded
+  concluded-ends first place purchase limits cvr Tc = record { in-kind = tt; leaves = λ before. refl }
+  concluded-ends first place purchase limits cvr Aac = record { in-kind = tt; leaves = λ before. refl }
+  concluded-ends first place purchase limits cvr Arqc = record { in-kind = tt; leaves = λ before. refl }
+
+  pub first-concludes : (first : First) (place : Place) → Concludes first (firstPerformed rules state first place)
+  unfolding firstPerformed
+  first-concludes first place = concluded-ends first place _ _ _ (firstKind rules state place first)
+
+  closed-ends : (second : Second) (pending : Pending) (approves : Bool) (values : Values) (history : History) (issuer : Issuer)
+      → Closes second (closed rules (state .atc) pending approves values history issuer)
+  unfolding closed
+  closed-ends second pending true values history issuer = record { in-kind = tt; idle = refl }
+  closed-ends second pending false values history issuer = record { in-kind = tt; idle = refl }
+
+  chosen : (b : Bool) {second : Second} {x y : Outcome} → Closes second x → Closes second y → Closes second (cond b x y)
+  chosen true p q = p
+  chosen false p q = q
+
+  pub second-closes : (second : Second) (pending : Pending) → Closes second (secondPerformed rules state second pending)
+  unfolding secondPerformed unablePerformed verifiedPerformed failedPerformed absentPerformed
+  second-closes second pending =
+      let closes = closed-ends second pending in
+      chosen (isUnable (second .code))
+      (chosen (eqb (second .requested) 0 || meetsMask (unableBits rules state pending) (profileAt rules (pending .place) .masks .default))
+      (closes _ _ _ _) (closes _ _ _ _))
+      (chosen (eqb (second .issuer) 1) (closes _ _ _ _) (chosen (eqb (second .issuer) 2) (closes _ _ _ _) (closes _ _ _ _)))
+
+  refused-leaves : (command : Command) (refusal : Refusal) (before : Due) → before ≡ dueBy command (Refused refusal) before
+  refused-leaves (StartCommand start) refusal before = refl
+  refused-leaves (FirstCommand first) refusal before = refl
+  refused-leaves (SecondCommand second) refusal before = refl
+
+  did-leaves : {command : Command} {outcome : Outcome} → Did rules state command outcome
+      → dueIn (outcome .state .phase) ≡ dueBy command (outcome .answer) (dueIn (state .phase))
+  did-leaves {command} (refused-it refusal) = refused-leaves command refusal (dueIn (state .phase))
+  did-leaves (started-it start place holds) = refl
+  did-leaves (took-first first place is type small) = first-concludes first place .leaves (dueIn (state .phase))
+  did-leaves (took-second second pending is type issuer) =
+      let closes = second-closes second pending in
+      let outcome = secondPerformed rules state second pending in
+      ap dueIn (closes .idle)
+      ∙ sym (ap (λ b. cond b nothing (dueIn (state .phase))) (accepted-in-kind (SecondCommand second) (outcome .answer) (closes .in-kind)))
+
+-- ---- over a list of commands
+
+run-due : (rules : Rules) (sitting : Sitting) → dueIn (sitting .state .phase) ≡ due (sitting .log) → (commands : List Command)
+    → dueIn (run rules sitting commands .state .phase) ≡ due (run rules sitting commands .log)
+unfolding run due
+run-due rules sitting h [] = h
+run-due rules sitting h (command ∷ commands) =
+    run-due rules (told rules sitting command)
+    (did-leaves rules (sitting .state) (did rules (sitting .state) command) ∙ ap (dueBy command _) h) commands
+
+-- WHAT IS DUE, by the card's phase, is what the conversation says
+pub due-is : (words s : List ℕ) (syllabus : ℕ) (commands : List Command)
+    → dueIn (sat words s syllabus commands .state .phase) ≡ due (sat words s syllabus commands .log)
+unfolding freshState due
+due-is words s syllabus commands = run-due _ _ refl commands
