@@ -1,33 +1,83 @@
--- Records with several causes, worked out: what the statement asks, and what is answered. Assumes nothing.
+-- `imports`, computed for a few records: the number that is answered where two causes apply. Said apart, they show of a wrong card that the
+-- statement itself is false of it. The search for a rate is by lemma, all else by computation. Assumes nothing.
 use mathlib.Core.Path.{_≡_, refl, ap}
-use mathlib.Core.List.{List, [], _∷_}
+use mathlib.Core.Bool.{Bool, not}
+use mathlib.Core.List.{List, [], _∷_, _++_}
 use Prim.Native.Nat.{ℕ, _<_}
 use native.Mathlib.Omega.{arith}
-use lib.Ieee.{binary64, ofBits}
+use lib.Dec.{T, eqb}
+use lib.ListN.{replicate}
+use lib.Ieee.{binary64, ofBits, whole, inUnsigned, toUnsigned}
 use lib.Ieee.Bits.{ofBits-fits}
 use Rattle.wire.specs.Wire.{number}
+use Rattle.mta.specs.Mta.{mtaOf}
 use Rattle.rate.specs.declared.Found.the-variants.{NoPair}
 use Rattle.rate.specs.Rate.{rateOf}
 use Rattle.rate.proofs.Request.{never}
-use Rattle.refusal.specs.declared.Refusal.the-variants.{BadRate}
-use Rattle.import.specs.declared.TakenOver.the-variants.{Refused}
+use Rattle.rate.proofs.Settled.{euro}
 use Rattle.import.specs.Import.{oldRecord, takeOver, importRecord, importedNumber}
 use Rattle.moved.specs.Causes.{float, Cause, not-twenty, in-fields, small-room, no-pair, rank, Numbered, refused}
 use Rattle.moved.proofs.Fields.{Codes, unpaired, clear}
-use Rattle.moved.proofs.Imports.{only-number, taken as taken-exactly}
-use Rattle.moved.proofs.Witness.{old, room, taken, done}
+use Rattle.moved.proofs.Imports.{only-number, taken}
+use Rattle.moved.proofs.Witness as witness
 
--- from 0978 to 0840, a rate that is not-a-number, an MTA of 0.5
-abbrev pub bad : List ℕ
-bad = 0x09 ∷ 0x78 ∷ 0x08 ∷ 0x40 ∷ 0x7F ∷ 0xF8 ∷ 0 ∷ 0 ∷ 0 ∷ 0 ∷ 0 ∷ 0 ∷ 0x3F ∷ 0xE0 ∷ 0 ∷ 0 ∷ 0 ∷ 0 ∷ 0 ∷ 0 ∷ []
+-- ---- records: from 0978 or 0840 to 0840; the rate is not-a-number or 0.85, the MTA 0.5 or 12,345
+abbrev zeros : ℕ → List ℕ
+zeros n = replicate n 0
 
--- 14 bytes
-abbrev pub small : List ℕ
-small = 0 ∷ 0 ∷ 0 ∷ 0 ∷ 0 ∷ 0 ∷ 0 ∷ 0 ∷ 0 ∷ 0 ∷ 0 ∷ 0 ∷ 0 ∷ 0 ∷ []
+abbrev unequal : List ℕ
+unequal = 0x09 ∷ 0x78 ∷ 0x08 ∷ 0x40 ∷ []
 
-no-rate : rateOf (float bad 4) ≡ NoPair
+abbrev equal : List ℕ
+equal = 0x08 ∷ 0x40 ∷ 0x08 ∷ 0x40 ∷ []
+
+abbrev no-number : List ℕ
+no-number = 0x7F ∷ 0xF8 ∷ zeros 6
+
+abbrev euros : List ℕ
+euros = 0x3F ∷ 0xEB ∷ 0x33 ∷ 0x33 ∷ 0x33 ∷ 0x33 ∷ 0x33 ∷ 0x33 ∷ []
+
+abbrev half : List ℕ
+half = 0x3F ∷ 0xE0 ∷ zeros 6
+
+abbrev amount : List ℕ
+amount = 0x40 ∷ 0xC8 ∷ 0x1C ∷ 0x80 ∷ zeros 4
+
+no-rate : rateOf (float no-number 0) ≡ NoPair
 unfolding ofBits
-no-rate = never (float bad 4) (ofBits-fits binary64 0x7FF8_0000_0000_0000) (λ p. p)
+no-rate = never (float no-number 0) (ofBits-fits binary64 0x7FF8_0000_0000_0000) (λ p. p)
+
+abbrev answers : (old : List ℕ) (room n : ℕ) → Bool
+answers old room n = eqb (importedNumber (importRecord old (zeros room))) n
+
+pub record Samples : Type 0 where
+  pub length-before-codes : T (answers (equal ++ no-number ++ half ++ zeros 1) 14 9)
+  pub codes-before-rate : T (answers (equal ++ no-number ++ half) 14 6)
+  pub rate-before-mta : T (answers (unequal ++ no-number ++ half) 15 10)
+  pub rate-before-room : T (answers (unequal ++ no-number ++ amount) 14 10)
+  pub mta-before-room : T (answers (unequal ++ euros ++ half) 14 11)
+  pub room-last : T (answers (unequal ++ euros ++ amount) 14 7)
+  pub none : T (answers (unequal ++ euros ++ amount) 15 0)
+
+pub samples : Samples
+unfolding importRecord oldRecord number ofBits takeOver mtaOf whole inUnsigned toUnsigned
+samples =
+    record {
+      length-before-codes = tt;
+      codes-before-rate = tt;
+      rate-before-mta = rw no-rate tt;
+      rate-before-room = rw no-rate tt;
+      mta-before-room = rw euro tt;
+      room-last = rw euro tt;
+      none = rw euro tt;
+    }
+
+-- ---- the statement at one of them: it asks for 10, and for no other number
+abbrev bad : List ℕ
+bad = unequal ++ no-number ++ amount
+
+abbrev small : List ℕ
+small = zeros 14
 
 codes : Codes 0x0978 0x0840
 codes = (
@@ -41,31 +91,12 @@ none-earlier m l (not-twenty n h) = h refl
 none-earlier m l (in-fields c) = clear 2 (λ h. codes) (λ h. absurd (omega arith)) (λ h. absurd (omega arith)) m l c
 none-earlier m l (small-room n h) = omega (arith, ap rank n)
 
--- its rate, its MTA and the room are bad: the statement asks for 10, and for no other number
 pub asks-rate : Numbered (Cause bad small) 10
 asks-rate = refused (in-fields (no-pair refl (λ p. unpaired (float bad 4) no-rate (p .digits) (p .shift) (p .taken)))) none-earlier
 
 pub asks-only-rate : (n : ℕ) → Numbered (Cause bad small) n → n ≡ 10
 asks-only-rate n h = only-number bad small n 10 h asks-rate
 
-unrated : takeOver (oldRecord bad) ≡ Refused BadRate
-unfolding oldRecord number ofBits takeOver
-unrated = rw no-rate refl
-
-pub sample-rate : importedNumber (importRecord bad small) ≡ 10
-unfolding importRecord
-sample-rate = rw unrated refl
-
--- a good record in the small room
-pub sample-room : importedNumber (importRecord old small) ≡ 7
-unfolding importRecord
-sample-room = rw taken refl
-
--- nothing is right
-pub sample-length : importedNumber (importRecord [] []) ≡ 9
-unfolding importRecord
-sample-length = refl
-
 -- no cause applies to the record of `Witness` in its room, so the premise of `becomes` can be met
-pub no-cause : (m : ℕ) → Cause old room m → ⊥
-no-cause = taken-exactly old room .0 done
+pub no-cause : (m : ℕ) → Cause witness.old witness.room m → ⊥
+no-cause = taken witness.old witness.room .0 witness.done

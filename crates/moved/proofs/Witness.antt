@@ -28,7 +28,7 @@ record-is = refl
 abbrev new : NewRecord
 new = record { mta = record { 0 = 12345 }; conversion = record { from = 0x0978; to = 0x0840; digits = 85; shift = 7 } }
 
-pub taken : takeOver (oldRecord old) ≡ Record new
+taken : takeOver (oldRecord old) ≡ Record new
 unfolding takeOver
 taken = rw record-is (rw (euro, whole-taken 12345 (omega arith)) refl)
 
