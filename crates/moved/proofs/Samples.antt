@@ -1,12 +1,12 @@
--- `imports`, computed for a few records: the number that is answered where two causes apply. Said apart, they show of a wrong card that the
--- statement itself is false of it. The search for a rate is by lemma, all else by computation. Assumes nothing.
+-- `imports` and `becomes`, computed for a few records: the number that is answered where two causes apply, and what a taken one becomes. Said
+-- apart, they show of a wrong card that the statement itself is false of it. The search for a rate is by lemma, all else by computation. Assumes nothing.
 use mathlib.Core.Path.{_≡_, refl, ap}
-use mathlib.Core.Bool.{Bool, not}
+use mathlib.Core.Bool.{Bool, not, _&&_}
 use mathlib.Core.List.{List, [], _∷_, _++_}
 use Prim.Native.Nat.{ℕ, _<_}
 use native.Mathlib.Omega.{arith}
 use lib.Dec.{T, eqb}
-use lib.ListN.{replicate}
+use lib.ListN.{getD, replicate}
 use lib.Ieee.{binary64, ofBits, whole, inUnsigned, toUnsigned}
 use lib.Ieee.Bits.{ofBits-fits}
 use Rattle.wire.specs.Wire.{number}
@@ -15,8 +15,8 @@ use Rattle.rate.specs.declared.Found.the-variants.{NoPair}
 use Rattle.rate.specs.Rate.{rateOf}
 use Rattle.rate.proofs.Request.{never}
 use Rattle.rate.proofs.Settled.{euro}
-use Rattle.import.specs.Import.{oldRecord, takeOver, importRecord, importedNumber}
-use Rattle.moved.specs.Causes.{float, Cause, not-twenty, in-fields, small-room, no-pair, rank, Numbered, refused}
+use Rattle.import.specs.Import.{oldRecord, takeOver, bytesOf, newBytes, importRecord, importedNumber, imported}
+use Rattle.moved.specs.Causes.{two, eight, float, Cause, not-twenty, in-fields, small-room, no-pair, rank, Numbered, refused}
 use Rattle.moved.proofs.Fields.{Codes, unpaired, clear}
 use Rattle.moved.proofs.Imports.{only-number, taken}
 use Rattle.moved.proofs.Witness as witness
@@ -50,6 +50,10 @@ no-rate = never (float no-number 0) (ofBits-fits binary64 0x7FF8_0000_0000_0000)
 abbrev answers : (old : List ℕ) (room n : ℕ) → Bool
 answers old room n = eqb (importedNumber (importRecord old (zeros room))) n
 
+-- the room after 0978 to 0840 by 0.85 with 12,345, a byte more than is set
+abbrev after : List ℕ
+after = imported (unequal ++ euros ++ amount) (replicate 16 0xEE)
+
 pub record Samples : Type 0 where
   pub length-before-codes : T (answers (equal ++ no-number ++ half ++ zeros 1) 14 9)
   pub codes-before-rate : T (answers (equal ++ no-number ++ half) 14 6)
@@ -58,9 +62,14 @@ pub record Samples : Type 0 where
   pub mta-before-room : T (answers (unequal ++ euros ++ half) 14 11)
   pub room-last : T (answers (unequal ++ euros ++ amount) 14 7)
   pub none : T (answers (unequal ++ euros ++ amount) 15 0)
+  -- `becomes`
+  pub codes-kept : T (eqb (two after 0) 0x0978 && eqb (two after 2) 0x0840)
+  pub rate-kept : T (eqb (two after 4) 85 && eqb (getD after 6 0) 7)
+  pub mta-kept : T (eqb (eight after 7) 12345)
+  pub behind-kept : T (eqb (getD after 15 0) 0xEE)
 
 pub samples : Samples
-unfolding importRecord oldRecord number ofBits takeOver mtaOf whole inUnsigned toUnsigned
+unfolding importRecord imported oldRecord number ofBits takeOver newBytes bytesOf mtaOf whole inUnsigned toUnsigned
 samples =
     record {
       length-before-codes = tt;
@@ -70,6 +79,10 @@ samples =
       mta-before-room = rw euro tt;
       room-last = rw euro tt;
       none = rw euro tt;
+      codes-kept = rw euro tt;
+      rate-kept = rw euro tt;
+      mta-kept = rw euro tt;
+      behind-kept = rw euro tt;
     }
 
 -- ---- the statement at one of them: it asks for 10, and for no other number
