@@ -1,10 +1,13 @@
 -- What an old record's fields are refused by: its rate, its MTA, and the first of the causes 6, 10, 11. Assumes nothing.
-use mathlib.Core.Path.{_≡_, refl, sym, ap, _∙_}
+use mathlib.Core.Path.{_≡_, refl, sym, ap, _∙_, subst}
 use mathlib.Core.Bool.{Bool, true, false, cond}
+use mathlib.Core.List.{[], _∷_}
 use Prim.Native.Nat.{ℕ, suc, _≤_, _<_}
+use native.Mathlib.Nat.{le-antisymm}
 use native.Mathlib.Omega.{arith}
-use borrow.Author.Tests.{eqb-true, not-false}
-use lib.Dec.{T, eqb}
+use borrow.Author.Tests.{ltb-true, ltb-false, eqb-true, not-false}
+use lib.Dec.{T, eqb, ltb}
+use lib.ListN.{getD}
 use lib.Ieee.{Float, binary64, fits}
 use Rattle.wire.specs.Wire.{isCurrency}
 use Rattle.money.specs.declared.Rate.{Rate}
@@ -63,6 +66,13 @@ mta-number mta held = judge-mta mta held (mtaOf mta) refl
 abbrev pub Codes : ℕ → ℕ → Type 0
 Codes from to = Currency from × Currency to × (from ≡ to → ⊥)
 
+-- the number at a place of the order; a cause has its place's
+abbrev pub numberAt : ℕ → ℕ
+numberAt k = getD (9 ∷ 6 ∷ 10 ∷ 11 ∷ 7 ∷ []) k 0
+
+pub at-place : (n k : ℕ) → n ≡ k → k ≡ numberAt (rank k) → n ≡ numberAt (rank n)
+at-place n k e f = subst (λ (j : ℕ). j ≡ numberAt (rank j)) (sym e) f
+
 module _ {from to : ℕ} {rate mta : Float} where
   pub clear : (k : ℕ) → (1 < k → Codes from to) → (2 < k → Paired rate) → (3 < k → Whole mta)
       → (m : ℕ) → rank m < k → FieldCause from to rate mta m → ⊥
@@ -79,6 +89,25 @@ module _ {from to : ℕ} {rate mta : Float} where
   before-room n (same-codes e h) = omega (arith, ap rank e)
   before-room n (no-pair e h) = omega (arith, ap rank e)
   before-room n (not-whole e h) = omega (arith, ap rank e)
+
+  pub field-place : (n : ℕ) → FieldCause from to rate mta n → n ≡ numberAt (rank n)
+  field-place n (from-not-digits e h) = at-place n 6 e refl
+  field-place n (to-not-digits e h) = at-place n 6 e refl
+  field-place n (same-codes e h) = at-place n 6 e refl
+  field-place n (no-pair e h) = at-place n 10 e refl
+  field-place n (not-whole e h) = at-place n 11 e refl
+
+-- only one number is the first
+pub only : {cause : ℕ → Type 0} → ((n : ℕ) → cause n → n ≡ numberAt (rank n)) → (n m : ℕ) → Numbered cause n → Numbered cause m → n ≡ m
+only place n m (done p f) (done q g) = p ∙ sym q
+only place n m (done p f) (refused a g) = absurd (f m a)
+only place n m (refused a f) (done q g) = absurd (g n a)
+only place n m (refused a f) (refused b g) = by (ltb (rank n) (rank m)) refl (ltb (rank m) (rank n)) refl where
+  by : (x : Bool) → ltb (rank n) (rank m) ≡ x → (y : Bool) → ltb (rank m) (rank n) ≡ y → n ≡ m
+  by true e y k = absurd (g n (ltb-true _ _ e) a)
+  by false e true k = absurd (f m (ltb-true _ _ k) b)
+  by false e false k =
+      place n a ∙ ap numberAt (le-antisymm (ltb-false (rank m) (rank n) k) (ltb-false (rank n) (rank m) e)) ∙ sym (place m b)
 
 -- ---- refused with the first number that applies, taken where none does
 abbrev pub FieldsOf : OldRecord → ℕ → Type 0
@@ -138,3 +167,7 @@ module _ (old : OldRecord) (rate-held : T (fits binary64 (old .rate))) (mta-held
   -- THE NUMBER OF A RECORD'S FIELDS IS THE FIRST OF 6, 10, 11 THAT APPLIES, 0 WHERE NONE DOES
   pub takes : Numbered (FieldCause (old .from) (old .to) (old .rate) (old .mta)) (takenNumber (takeOver old))
   takes = numbered-by (takeOver old) ruled
+
+  -- AND NO OTHER NUMBER IS
+  pub only-taken : (n m : ℕ) → Numbered (FieldsOf old) n → Numbered (FieldsOf old) m → n ≡ m
+  only-taken = only field-place

@@ -1,10 +1,9 @@
 -- A record of version one is taken exactly when no cause applies, and else refused by the first; what its room then holds. Assumes nothing.
 use mathlib.Core.Path.{_≡_, refl, sym, ap, _∙_, subst}
 use mathlib.Core.Bool.{Bool, true, false, cond}
-use mathlib.Core.List.{List, [], _∷_}
+use mathlib.Core.List.{List}
 use mathlib.Core.Logic.{_↔_}
 use Prim.Native.Nat.{ℕ, _+_}
-use native.Mathlib.Nat.{le-antisymm}
 use native.Mathlib.Omega.{arith}
 use borrow.Author.Tests.{ltb-true, ltb-false, eqb-true, eqb-false}
 use lib.Dec.{ltb, eqb}
@@ -25,10 +24,9 @@ use Rattle.import.specs.declared.Imported.{Imported}
 use Rattle.import.specs.declared.Imported.the-variants.{Done, Refused as ImportRefused}
 use Rattle.import.specs.Import.{oldRecord, takeOver, inRoom, importRecord, importedNumber, imported}
 use Rattle.moved.specs.Moved.{Read}
-use Rattle.moved.specs.Causes.{two, eight, float, from-not-digits, to-not-digits, same-codes, no-pair, not-whole, rank}
-use Rattle.moved.specs.Causes.{Cause, not-twenty, in-fields, small-room, Numbered, done, refused, Becomes}
+use Rattle.moved.specs.Causes.{two, eight, float, rank, Cause, not-twenty, in-fields, small-room, Numbered, done, refused, Becomes}
 use Rattle.moved.proofs.Written.{read-back, refusal-keeps}
-use Rattle.moved.proofs.Fields.{before-room, FieldsOf, FirstOf, Ruled, ruled}
+use Rattle.moved.proofs.Fields.{before-room, numberAt, at-place, field-place, only, FieldsOf, FirstOf, Ruled, ruled}
 
 -- ---- the bytes
 abbrev fields : List ℕ → OldRecord
@@ -84,33 +82,14 @@ module _ (old room : List ℕ) where
   pub imports : Numbered (Cause old room) (importedNumber (importRecord old room))
   imports = number-by (importRecord old room) answers
 
-  -- a cause has its place's number
-  abbrev numberAt : ℕ → ℕ
-  numberAt k = getD (9 ∷ 6 ∷ 10 ∷ 11 ∷ 7 ∷ []) k 0
-
-  at-place : (n k : ℕ) → n ≡ k → k ≡ numberAt (rank k) → n ≡ numberAt (rank n)
-  at-place n k e f = subst (λ (j : ℕ). j ≡ numberAt (rank j)) (sym e) f
-
-  its-number : (n : ℕ) → Cause old room n → n ≡ numberAt (rank n)
-  its-number n (not-twenty e h) = at-place n 9 e refl
-  its-number n (in-fields (from-not-digits e h)) = at-place n 6 e refl
-  its-number n (in-fields (to-not-digits e h)) = at-place n 6 e refl
-  its-number n (in-fields (same-codes e h)) = at-place n 6 e refl
-  its-number n (in-fields (no-pair e h)) = at-place n 10 e refl
-  its-number n (in-fields (not-whole e h)) = at-place n 11 e refl
-  its-number n (small-room e h) = at-place n 7 e refl
+  its-place : (n : ℕ) → Cause old room n → n ≡ numberAt (rank n)
+  its-place n (not-twenty e h) = at-place n 9 e refl
+  its-place n (in-fields c) = field-place n c
+  its-place n (small-room e h) = at-place n 7 e refl
 
   -- AND NO OTHER NUMBER IS
   pub only-number : (n m : ℕ) → Numbered (Cause old room) n → Numbered (Cause old room) m → n ≡ m
-  only-number n m (done p f) (done q g) = p ∙ sym q
-  only-number n m (done p f) (refused a g) = absurd (f m a)
-  only-number n m (refused a f) (done q g) = absurd (g n a)
-  only-number n m (refused a f) (refused b g) = by (ltb (rank n) (rank m)) refl (ltb (rank m) (rank n)) refl where
-    by : (x : Bool) → ltb (rank n) (rank m) ≡ x → (y : Bool) → ltb (rank m) (rank n) ≡ y → n ≡ m
-    by true e y k = absurd (g n (ltb-true _ _ e) a)
-    by false e true k = absurd (f m (ltb-true _ _ k) b)
-    by false e false k =
-        its-number n a ∙ ap numberAt (le-antisymm (ltb-false (rank m) (rank n) k) (ltb-false (rank n) (rank m) e)) ∙ sym (its-number m b)
+  only-number = only its-place
 
   taken-by : (answer : Imported) → Answers answer → (answer ≡ Done) ↔ ((m : ℕ) → Cause old room m → ⊥)
   taken-by Done none = (λ e. none, λ f. refl)
