@@ -1,9 +1,10 @@
-// The leaves at work: the conversions of document 01's edges, and the IAD of its printed sitting
-// written and read.
+// The leaves at work: the conversions of document 01's edges, the IAD of its printed sitting
+// written and read, and a record of version one imported.
 use iad::Cvr;
 use iad::Iad;
 use iad::ReadIad;
 use iad::Written;
+use import::Imported;
 use money::AccumulatorAmount;
 use money::Converted;
 use money::Rate;
@@ -157,8 +158,33 @@ fn show_iad(room: &mut [u8]) {
     show_read(room);
 }
 
+fn show_imported(name: &[u8], imported: Imported) {
+    match imported {
+        Imported::Done => line(name, 0),
+        Imported::Refused(refusal) => line(name, refusal::number_of(refusal) as u64),
+    }
+}
+
+// Importing into the first 14 bytes of a room.
+fn show_small_import(old: &[u8], room: &mut [u8]) {
+    if 14 <= room.len() {
+        show_imported(b"room of 14: ", import::import_record(old, &mut room[..14]));
+    }
+}
+
+// From 0978 to 0840, 0.85, 12,345.
+fn show_import(room: &mut [u8]) {
+    let old = b"\x09\x78\x08\x40\x3F\xEB\x33\x33\x33\x33\x33\x33\x40\xC8\x1C\x80\x00\x00\x00\x00";
+    show_small_import(old, room);
+    show_room(room);
+    show_imported(b"imported: ", import::import_record(old, room));
+    show_room(room);
+}
+
 fn main() {
     show_conversions();
     let mut room = [0xEEu8; 34];
     show_iad(&mut room);
+    let mut other = [0xEEu8; 34];
+    show_import(&mut other);
 }
