@@ -1,0 +1,4 @@
+pub mod Order
+pub mod Places
+pub mod Judged
+pub mod Walked
