@@ -84,14 +84,14 @@ module _ (file : List ℕ) (at : ℕ) where
           ap (byte entry) e ∙ inside (6 + count file at * width file at) (omega arith)
 
 -- all that an entry has for which there is no cause to call it ill-formed
-record Whole (file : List ℕ) (at : ℕ) : Type 0 where
-  fits : at + total file at < length file
-  six : 6 ≤ total file at
-  two : 2 ≤ count file at
-  wide : 0 < width file at
-  some : 0 < start file at
-  sum : total file at ≡ count file at * width file at + 6
-  known : check file at ≤ 2
+pub record Whole (file : List ℕ) (at : ℕ) : Type 0 where
+  pub fits : at + total file at < length file
+  pub six : 6 ≤ total file at
+  pub two : 2 ≤ count file at
+  pub wide : 0 < width file at
+  pub some : 0 < start file at
+  pub sum : total file at ≡ count file at * width file at + 6
+  pub known : check file at ≤ 2
 
 module _ (file : List ℕ) (at : ℕ) where
   abbrev Form : Type 0
@@ -115,7 +115,7 @@ module _ (file : List ℕ) (at : ℕ) where
       (λ n. inl (below-six (omega arith))))
       (λ n. inl (cut-short (omega arith)))
 
-  broken : IllFormed file at → Whole file at → ⊥
+  pub broken : IllFormed file at → Whole file at → ⊥
   broken (cut-short h) w = omega arith
   broken (below-six h) w = omega arith
   broken (below-two h) w = omega arith

@@ -38,6 +38,18 @@ pub stand : (n : ℕ) (a b : ℕ → ℕ) → Stand n a b
 stand zero a b = same (λ j h. absurd (omega arith))
 stand (suc n) a b = one-more n a b (stand n a b)
 
+-- a number is smaller than another in one way round only
+pub one-way : (n : ℕ) (a b : ℕ → ℕ) → Smaller n a b → Smaller n b a → ⊥
+one-way n a b s t = by (ltb (s .differ) (t .differ)) (ltb (t .differ) (s .differ)) refl refl
+  where
+    by : (x y : Bool) → ltb (s .differ) (t .differ) ≡ x → ltb (t .differ) (s .differ) ≡ y → ⊥
+    by true y e f = omega (arith, s .smaller, t .before (s .differ) (ltb-true (s .differ) (t .differ) e))
+    by false true e f = omega (arith, t .smaller, s .before (t .differ) (ltb-true (t .differ) (s .differ) f))
+    by false false e f =
+        let z : t .differ ≡ s .differ = omega (arith, ltb-false (s .differ) (t .differ) e, ltb-false (t .differ) (s .differ) f) in
+        let l : b (s .differ) < a (s .differ) = rw z at (t .smaller) in
+        omega (arith, s .smaller)
+
 -- x and y: numbers that grow by a byte at each step, from the same
 module _ (x y : ℕ → ℕ) (a b : ℕ → ℕ) (none : x 0 ≡ y 0) (x-more : (i : ℕ) → x (suc i) ≡ x i * 256 + a i) (y-more : (i : ℕ) → y (suc i) ≡ y i * 256 + b i) where
   pub same-number : (n : ℕ) → Same n a b → x n ≡ y n

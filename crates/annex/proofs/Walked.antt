@@ -16,7 +16,7 @@ use Rattle.selection.specs.Selection.{firstEntry, follow, oneMore, selectionOf,
 use Rattle.selection.specs.declared.Selection.{Selection}
 use Rattle.selection.specs.declared.Selection.the-variants.{Selected, NotSelected}
 use Rattle.selection.proofs.Moves.{none, step, moves-on, moves-past}
-use Rattle.annex.specs.Annex.{Bytes, place, positive, negative, IllFormed, ReachesPast, Acts, passed, failed, Walks, names, moves, Stops, empty-file, ill-formed, reaches-past, profile-zero, move-zero, profile-7F, past-the-end, moves as moves-on-to}
+use Rattle.annex.specs.Annex.{Bytes, place, positive, negative, IllFormed, ReachesPast, Acts, passed, failed, Leads, Moves, Walks, names, moves, Stops, profile-zero, move-zero, past-the-end, profile-7F, empty-file, ill-formed, reaches-past, onward}
 use Rattle.annex.proofs.Places.{skipped-is, skipped-more}
 use Rattle.annex.proofs.Judged.{given, entry, Judged, ill, past, acts, ill-refused, past-refused, acts-as, judged}
 
@@ -62,29 +62,32 @@ module _ (file : List ℕ) (entries : ℕ) (d : List ℕ) (fs : Bytes file) (ds 
         sym (moves-on (skipped file k) d (entries - k) left m (first-does k (Move m) e) (skipped file (k + m)) (sym (skipped-more file k m)) (from (k + m))
         (ap (λ (n : ℕ). selectionOf (skipped file (k + m)) n d) (sym z)))
 
-  acted : (k a : ℕ) (r : Action) → Acts file (place file k) d a → actionOf a ≡ r → does k ≡ r
-  acted k a r c e = acts-as file (place file k) d fs ds a c ∙ e
+  acted : (k a : ℕ) (r : Action) → Leads file entries d k a → actionOf a ≡ r → does k ≡ r
+  acted k a r c e = acts-as file (place file k) d fs ds a (c .1) ∙ e
 
-  moved : (k m : ℕ) → k < entries → Acts file (place file k) d (0x80 + m) → 1 ≤ m → from k ≡ oneMore (from (k + m))
-  moved k m h c l = from-move k h m (acted k (0x80 + m) (Move m) c (move-is m l))
+  refused : (k a : ℕ) → Leads file entries d k a → actionOf a ≡ Refused → from k ≡ NotSelected
+  refused k a c e = from-refused k (c .0) (acted k a Refused c e)
+
+  moved : (k m : ℕ) → Moves file entries d k m → from k ≡ oneMore (from (k + m))
+  moved k m c = from-move k (c .0 .0) m (acted k (0x80 + m) (Move m) (c .0) (move-is m (c .1)))
 
   past-last : (k : ℕ) → entries ≤ k → from k ≡ NotSelected
   past-last k h = none (skipped file k) d (entries - k) (omega arith)
 
   -- where the walk leads, the selection does
   walk-selects : {k p v : ℕ} → Walks file entries d k p v → from k ≡ Selected p v
-  walk-selects (names k p h c l g) = from-profile k h p (acted k p (Profile p) c (profile-is p l g))
-  walk-selects (moves k m p v h c l g w) = moved k m h c l ∙ ap oneMore (walk-selects w)
+  walk-selects (names k p c l g) = from-profile k (c .0) p (acted k p (Profile p) c (profile-is p l g))
+  walk-selects (moves k m p v c w) = moved k m c ∙ ap oneMore (walk-selects w)
 
   stop-refuses : {k : ℕ} → Stops file entries d k → from k ≡ NotSelected
+  stop-refuses (profile-zero k c) = refused k 0x00 c (refused-is .0)
+  stop-refuses (move-zero k c) = refused k 0x80 c (refused-is .1)
+  stop-refuses (past-the-end k m c e) = moved k m c ∙ ap oneMore (past-last (k + m) e)
+  stop-refuses (profile-7F k c) = refused k 0x7F c (refused-is .2)
   stop-refuses (empty-file k z) = past-last k (omega arith)
   stop-refuses (ill-formed k h i) = from-refused k h (ill-refused file (place file k) d fs ds i)
   stop-refuses (reaches-past k h r) = from-refused k h (past-refused file (place file k) d fs ds r)
-  stop-refuses (profile-zero k h c) = from-refused k h (acted k 0x00 Refused c (refused-is .0))
-  stop-refuses (move-zero k h c) = from-refused k h (acted k 0x80 Refused c (refused-is .1))
-  stop-refuses (profile-7F k h c) = from-refused k h (acted k 0x7F Refused c (refused-is .2))
-  stop-refuses (past-the-end k m h c l g e) = moved k m h c l ∙ ap oneMore (past-last (k + m) e)
-  stop-refuses (moves-on-to k m h c l g s) = moved k m h c l ∙ ap oneMore (stop-refuses s)
+  stop-refuses (onward k m c s) = moved k m c ∙ ap oneMore (stop-refuses s)
 
   -- the walk leads somewhere, or stops
   pub data Way (k : ℕ) : Type 0 where
@@ -97,22 +100,21 @@ module _ (file : List ℕ) (entries : ℕ) (d : List ℕ) (fs : Bytes file) (ds 
 
   -- from an entry on, if there is a way from each entry below
   module _ (k : ℕ) (h : k < entries) (on : (m : ℕ) → 1 ≤ m → k + m < entries → Way (k + m)) where
-    after : (m : ℕ) → Acts file (place file k) d (0x80 + m) → 1 ≤ m → m ≤ 0x7F → Way (k + m) → Way k
-    after m c l g (leads p v w) = leads p (v + 1) (moves k m p v h c l g w)
-    after m c l g (stops s) = stops (moves-on-to k m h c l g s)
+    after : (m : ℕ) → Moves file entries d k m → Way (k + m) → Way k
+    after m c (leads p v w) = leads p (v + 1) (moves k m p v c w)
+    after m c (stops s) = stops (onward k m c s)
+
+    move : (m : ℕ) → Moves file entries d k m → Way k
+    move m c = given (decLe entries (k + m)) (λ e. stops (past-the-end k m c e)) (λ e. after m c (on m (c .1) (omega arith)))
 
     act : (a : ℕ) → Acts file (place file k) d a → Way k
     act a c =
-        given (ℕ-discrete a 0x00) (λ z. stops (profile-zero k h (rw z at c))) (λ n.
-        given (ℕ-discrete a 0x7F) (λ z. stops (profile-7F k h (rw z at c))) (λ o.
-        given (ℕ-discrete a 0x80) (λ z. stops (move-zero k h (rw z at c))) (λ p.
-        given (decLe a 0x7E) (λ g. leads a 1 (names k a h c (omega arith) g)) (λ q.
+        given (ℕ-discrete a 0x00) (λ z. stops (profile-zero k (h, rw z at c))) (λ n.
+        given (ℕ-discrete a 0x7F) (λ z. stops (profile-7F k (h, rw z at c))) (λ o.
+        given (ℕ-discrete a 0x80) (λ z. stops (move-zero k (h, rw z at c))) (λ p.
+        given (decLe a 0x7E) (λ g. leads a 1 (names k a (h, c) (omega arith) g)) (λ q.
         let z : a ≡ 0x80 + (a - 0x80) = omega arith in
-        let c′ = subst (Acts file (place file k) d) z c in
-        let l : 1 ≤ a - 0x80 = omega arith in
-        let g : a - 0x80 ≤ 0x7F = omega (arith, byte-of k a c) in
-        given (decLe entries (k + (a - 0x80))) (λ e. stops (past-the-end k (a - 0x80) h c′ l g e))
-        (λ e. after (a - 0x80) c′ l g (on (a - 0x80) l (omega arith)))))))
+        move (a - 0x80) ((h, subst (Acts file (place file k) d) z c), omega arith, omega (arith, byte-of k a c))))))
 
     way-by : Judged file (place file k) d → Way k
     way-by (ill i) = stops (ill-formed k h i)
