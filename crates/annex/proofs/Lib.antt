@@ -1,0 +1,6 @@
+pub mod Order
+pub mod Places
+pub mod Judged
+pub mod Walked
+pub mod Witness
+pub mod Samples

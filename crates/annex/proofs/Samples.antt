@@ -1,0 +1,101 @@
+-- `walked` and `stopped`, computed for a few files: where the walk leads, or that it stops. They follow from the two; said apart, they show
+-- of a card that selects otherwise that the statement itself is false of it. Assumes nothing.
+use mathlib.Core.Bool.{Bool, true, false, not, _&&_}
+use mathlib.Core.List.{List, [], _∷_, _++_}
+use Prim.Native.Nat.{ℕ, _+_, _*_}
+use lib.Dec.{T, eqb}
+use lib.ListN.{replicate}
+use Rattle.wire.specs.Wire.{number}
+use Rattle.entry.specs.Entry.{block, isWellFormed, reachesPast, masked, isAnyOf, passes, actionOf, actionTaken}
+use Rattle.selection.specs.Selection.{entriesOf, follow, selectFrom, selectionOf, selectionNumber, profileOf, visitsOf}
+use Rattle.annex.proofs.Witness.{file, terminal}
+
+-- what is compared: the profile and the visits; that it is refused
+abbrev leads : List ℕ → ℕ → List ℕ → (profile visits : ℕ) → Bool
+leads s n d p v = eqb (selectionNumber (selectionOf s n d)) 0 && eqb (profileOf (selectionOf s n d)) p && eqb (visitsOf (selectionOf s n d)) v
+
+abbrev stops : List ℕ → ℕ → List ℕ → Bool
+stops s n d = eqb (selectionNumber (selectionOf s n d)) 12
+
+-- an entry that looks at the data from their first byte on, with its blocks, its check and its actions
+abbrev entry : (width count : ℕ) → List ℕ → (check positive negative : ℕ) → List ℕ
+entry width count blocks check positive negative = (count * width + 6) ∷ 1 ∷ width ∷ count ∷ blocks ++ check ∷ positive ∷ negative ∷ []
+
+-- values of three bytes, 010000, 80FFFF, 00FFFF and 123456; and of eight, the fourth byte 1 and the others 0, and all FF but the first
+abbrev three : ℕ → List ℕ
+three check = entry 3 5 (replicate 3 0xFF ++ 1 ∷ 0 ∷ 0 ∷ 0x80 ∷ 0xFF ∷ 0xFF ∷ 0 ∷ 0xFF ∷ 0xFF ∷ 0x12 ∷ 0x34 ∷ 0x56 ∷ []) check 5 6
+
+abbrev eight : ℕ → List ℕ
+eight check = entry 8 3 (replicate 8 0xFF ++ 0 ∷ 0 ∷ 0 ∷ 1 ∷ replicate 4 0 ++ 0 ∷ replicate 7 0xFF) check 5 6
+
+abbrev low : List ℕ
+low = 0 ∷ 0 ∷ 0 ∷ 0 ∷ replicate 4 0xFF
+
+-- an entry that takes every data of a byte, to an action
+abbrev always : ℕ → List ℕ
+always action = entry 1 2 (0 ∷ 0 ∷ []) 0 action 0
+
+pub record Samples : Type 0 where
+  pub walk : T (leads file 3 terminal 3 3)
+  pub equal-three : T (leads (three 0) 1 (0 ∷ 0xFF ∷ 0xFF ∷ []) 5 1)
+  pub unequal-three : T (leads (three 0) 1 (0x80 ∷ 0xFF ∷ 0xFE ∷ []) 6 1)
+  pub less-three : T (leads (three 1) 1 (0 ∷ 0xFF ∷ 0xFF ∷ []) 5 1)
+  pub not-less-three : T (leads (three 1) 1 (1 ∷ 0 ∷ 0 ∷ []) 6 1)
+  pub greater-three : T (leads (three 2) 1 (1 ∷ 0 ∷ 1 ∷ []) 5 1)
+  pub not-greater-three : T (leads (three 2) 1 (0 ∷ 0xFF ∷ 0xFF ∷ []) 6 1)
+  pub equal-eight : T (leads (eight 0) 1 (0 ∷ replicate 7 0xFF) 5 1)
+  pub less-eight : T (leads (eight 1) 1 low 5 1)
+  pub not-greater-eight : T (leads (eight 2) 1 low 6 1)
+  -- a value with a bit outside the mask is never equal
+  pub outside-mask : T (leads (entry 1 2 (0x0F ∷ 0x1F ∷ []) 0 5 6) 1 (0x1F ∷ []) 6 1)
+  -- 81 leads to the very next entry, 82 over one
+  pub next-entry : T (leads (always 0x81 ++ always 5 ++ always 6) 3 (0 ∷ []) 5 2)
+  pub over-one : T (leads (always 0x82 ++ always 5 ++ always 6 ++ always 7) 4 (0 ∷ []) 6 2)
+  -- each cause of 12
+  pub profile-zero : T (stops (always 0) 1 (0 ∷ []))
+  pub move-zero : T (stops (always 0x80 ++ always 5) 2 (0 ∷ []))
+  pub past-the-end : T (stops (always 0x82 ++ always 5) 2 (0 ∷ []))
+  pub profile-7F : T (stops (always 0x7F) 1 (0 ∷ []))
+  pub empty-file : T (stops [] 0 (0 ∷ []))
+  pub cut-short : T (stops (8 ∷ 1 ∷ 1 ∷ 2 ∷ 0 ∷ 0 ∷ 0 ∷ 5 ∷ []) 1 (0 ∷ []))
+  pub below-six : T (stops (5 ∷ 1 ∷ 1 ∷ 2 ∷ 0 ∷ 0 ∷ []) 1 (0 ∷ []))
+  pub below-two : T (stops (entry 1 1 (0 ∷ []) 0 5 5) 1 (0 ∷ []))
+  pub no-width : T (stops (entry 0 2 [] 0 5 5) 1 (0 ∷ []))
+  pub no-start : T (stops (8 ∷ 0 ∷ 1 ∷ 2 ∷ 0 ∷ 0 ∷ 0 ∷ 5 ∷ 5 ∷ []) 1 (0 ∷ []))
+  pub unfit : T (stops (9 ∷ 1 ∷ 1 ∷ 2 ∷ 0 ∷ 0 ∷ 0 ∷ 5 ∷ 5 ∷ 5 ∷ []) 1 (0 ∷ []))
+  pub unknown-check : T (stops (entry 1 2 (0 ∷ 0 ∷ []) 3 5 5) 1 (0 ∷ []))
+  pub reaches-past : T (stops (three 0) 1 (0 ∷ 0xFF ∷ []))
+  pub onward : T (stops (always 0x81 ++ always 0x7F ++ always 5) 3 (0 ∷ []))
+
+pub samples : Samples
+unfolding number block isWellFormed reachesPast masked isAnyOf passes actionOf actionTaken entriesOf follow selectFrom selectionOf
+samples =
+    record {
+      walk = tt;
+      equal-three = tt;
+      unequal-three = tt;
+      less-three = tt;
+      not-less-three = tt;
+      greater-three = tt;
+      not-greater-three = tt;
+      equal-eight = tt;
+      less-eight = tt;
+      not-greater-eight = tt;
+      outside-mask = tt;
+      next-entry = tt;
+      over-one = tt;
+      profile-zero = tt;
+      move-zero = tt;
+      past-the-end = tt;
+      profile-7F = tt;
+      empty-file = tt;
+      cut-short = tt;
+      below-six = tt;
+      below-two = tt;
+      no-width = tt;
+      no-start = tt;
+      unfit = tt;
+      unknown-check = tt;
+      reaches-past = tt;
+      onward = tt;
+    }
