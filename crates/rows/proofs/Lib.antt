@@ -1,3 +1,5 @@
 pub mod Spelling
 pub mod Fields
 pub mod Unspelled
+pub mod Entries
+pub mod Behind
