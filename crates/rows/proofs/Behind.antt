@@ -41,8 +41,11 @@ module _ (base : List ℕ) (sized : length base ≡ baseLength base) (tail : Lis
   byte-kept : (k : ℕ) → k < 52 → byte (base ++ tail) k ≡ byte base k
   byte-kept k h = List·getD-append base tail 0 k (omega arith)
 
+  pub length-kept : baseLength (base ++ tail) ≡ length base
+  length-kept = rw (byte-kept 3 (omega arith), byte-kept 4 (omega arith)) (sym sized)
+
   end-kept : min (length (base ++ tail)) (baseLength (base ++ tail)) ≡ length base
-  end-kept = rw (byte-kept 3 (omega arith), byte-kept 4 (omega arith), length-append base tail) (omega arith)
+  end-kept = rw (length-kept, length-append base tail) (omega arith)
 
   second-end : baseEnd 2 (base ++ tail) ≡ length base
   unfolding baseEnd
@@ -73,10 +76,10 @@ module _ (base : List ℕ) (c : Choosing) (y : ℕ) (sized : length base ≡ bas
   abbrev tail : List ℕ
   tail = choosingBytes c ++ y ∷ []
 
-  third-size : length (base ++ tail) ≡ length base + length (choosingBytes c) + 1
+  pub third-size : length (base ++ tail) ≡ length base + length (choosingBytes c) + 1
   third-size = omega (arith, length-append base tail, length-append (choosingBytes c) (y ∷ []))
 
-  third-last : byte (base ++ tail) (length (base ++ tail) - 1) ≡ y
+  pub third-last : byte (base ++ tail) (length (base ++ tail) - 1) ≡ y
   third-last =
       let place : length (base ++ choosingBytes c) ≡ length (base ++ tail) - 1 = omega (arith, third-size, length-append base (choosingBytes c)) in
       ap (λ (t : List ℕ). byte t (length (base ++ tail) - 1)) (sym (append-assoc base (choosingBytes c) (y ∷ [])))

@@ -36,7 +36,7 @@ unfolding entriesOf
 entries-read [] = refl
 entries-read (e ∷ es) =
     let front : take (length e + 1) (length e ∷ e ++ fileBytes es) ≡ length e ∷ e =
-        rw (add-one (length e)) (ap (λ (t : List ℕ). length e ∷ t) (take-at e (fileBytes es) (length e) refl)) in
+    rw (add-one (length e)) (ap (λ (t : List ℕ). length e ∷ t) (take-at e (fileBytes es) (length e) refl)) in
     let behind : drop (length e + 1) (length e ∷ e ++ fileBytes es) ≡ fileBytes es = rw (add-one (length e)) (drop-at e (fileBytes es) (length e) refl) in
     ap₂ _∷_ front (ap (λ (t : List ℕ). entriesOf t (length es)) behind ∙ entries-read es)
 

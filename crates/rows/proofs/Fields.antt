@@ -48,23 +48,74 @@ module _ (s : List ℕ) where
       let q = stands-at s (conversionRow c) at h in
       simp (ap (λ n. number s n 2) (sym (add-zero at)) ∙ q 0, q 1, q 2, at-byte (at + 6) (c .shift) (q 3))
 
+  -- where the parts of a profile stand
+  pub record ProfileAt (at : ℕ) (p : Profile) : Type 0 where
+    pub number-is : byte s at ≡ p .number
+    pub online : number s (at + 1) 4 ≡ p .online
+    pub decline : number s (at + 5) 4 ≡ p .decline
+    pub default : number s (at + 9) 4 ≡ p .default
+    pub maximum-on : byte s (at + 13) ≡ p .maximum-on
+    pub maximum-currency : number s (at + 14) 2 ≡ p .maximum-currency
+    pub maximum : number s (at + 16) 8 ≡ p .maximum
+    pub accumulators : Stands s (at + 24) (each (limitsRow 8) (listed (p .accumulators)))
+    pub counters : Stands s (at + 92) (each (limitsRow 1) (listed (p .counters)))
+    pub accumulator-sent : byte s (at + 104) ≡ p .accumulator-sent
+    pub first-sent : byte s (at + 105) ≡ p .first-sent
+    pub second-sent : byte s (at + 106) ≡ p .second-sent
+
+  pub profile-at : (at : ℕ) (p : Profile) → Stands s at (profileRow p) → ProfileAt at p
+  unfolding profileRow
+  profile-at at p h =
+      let accumulators = each (limitsRow 8) (listed (p .accumulators)) in
+      let counters = each (limitsRow 1) (listed (p .counters)) in
+      let (head, behind) = parts s (profileHead p) (accumulators ++ (counters ++ sentRow p)) at h in
+      let (middle, after) = parts s accumulators (counters ++ sentRow p) (at + 24) behind in
+      let (last, sent) = parts s counters (sentRow p) (at + 92) (subst (λ n. Stands s n (counters ++ sentRow p)) (add-assoc at 24 68) after) in
+      let q = stands-at s (profileHead p) at head in
+      let r = stands-at s (sentRow p) (at + 92 + 12) sent in
+      record {
+        number-is = ap (byte s) (sym (add-zero at)) ∙ at-byte (at + 0) (p .number) (q 0);
+        online = q 1;
+        decline = q 2;
+        default = q 3;
+        maximum-on = at-byte (at + 13) (p .maximum-on) (q 4);
+        maximum-currency = q 5;
+        maximum = q 6;
+        accumulators = middle;
+        counters = last;
+        accumulator-sent = simp add-assoc at (at-byte (at + 92 + 12 + 0) (p .accumulator-sent) (r 0));
+        first-sent = simp add-assoc at (at-byte (at + 92 + 12 + 1) (p .first-sent) (r 1));
+        second-sent = simp add-assoc at (at-byte (at + 92 + 12 + 2) (p .second-sent) (r 2));
+      }
+
   profile-read : (at : ℕ) (p : Profile) → Stands s at (profileRow p) → profileIn s at ≡ profileSaid p
-  unfolding profileIn profileSaid profileRow
+  unfolding profileIn profileSaid
   profile-read at p h =
-      let head = parts s (profileHead p) (each (limitsRow 8) (listed (p .accumulators)) ++ (each (limitsRow 1) (listed (p .counters)) ++ sentRow p)) at h in
-      let middle = parts s (each (limitsRow 8) (listed (p .accumulators))) (each (limitsRow 1) (listed (p .counters)) ++ sentRow p) (at + 24) (head .1) in
-      let at92 : at + 24 + 68 ≡ at + 92 = add-assoc at 24 68 in
-      let at104 : at + 92 + 12 ≡ at + 104 = add-assoc at 92 12 in
-      let last = parts s (each (limitsRow 1) (listed (p .counters))) (sentRow p) (at + 92) (subst (λ n. Stands s n (each (limitsRow 1) (listed (p .counters)) ++ sentRow p)) at92 (middle .1)) in
-      let q = stands-at s (profileHead p) at (head .0) in
-      let r = stands-at s (sentRow p) (at + 104) (subst (λ n. Stands s n (sentRow p)) at104 (last .1)) in
-      let a = each-said s (limitsRow 8) 17 (λ l. refl) (accumulatorIn s) accumulatorSaid blankAccumulator accumulator-read at (listed (p .accumulators)) 24 (middle .0) in
-      let c = each-said s (limitsRow 1) 3 (λ l. refl) (counterIn s) counterSaid blankCounter counter-read at (listed (p .counters)) 92 (last .0) in
-      let number-is : byte s at ≡ p .number = ap (byte s) (sym (add-zero at)) ∙ at-byte (at + 0) (p .number) (q 0) in
-      let sent0 : byte s (at + 104) ≡ p .accumulator-sent = ap (byte s) (sym (add-zero (at + 104))) ∙ at-byte (at + 104 + 0) (p .accumulator-sent) (r 0) in
-      let sent1 : byte s (at + 105) ≡ p .first-sent = ap (byte s) (sym (add-assoc at 104 1)) ∙ at-byte (at + 104 + 1) (p .first-sent) (r 1) in
-      let sent2 : byte s (at + 106) ≡ p .second-sent = ap (byte s) (sym (add-assoc at 104 2)) ∙ at-byte (at + 104 + 2) (p .second-sent) (r 2) in
-      simp (number-is, q 1, q 2, q 3, at-byte (at + 13) (p .maximum-on) (q 4), q 5, q 6, a 0, a 1, a 2, a 3, c 0, c 1, c 2, c 3, sent0, sent1, sent2)
+      let e = profile-at at p h in
+      let a =
+      each-said s (limitsRow 8) 17 (λ l. refl) (accumulatorIn s) accumulatorSaid blankAccumulator accumulator-read at (listed (p .accumulators)) 24
+      (e .accumulators) in
+      let c = each-said s (limitsRow 1) 3 (λ l. refl) (counterIn s) counterSaid blankCounter counter-read at (listed (p .counters)) 92 (e .counters) in
+      simp (
+        e .number-is,
+        e .online,
+        e .decline,
+        e .default,
+        e .maximum-on,
+        e .maximum-currency,
+        e .maximum,
+        a 0,
+        a 1,
+        a 2,
+        a 3,
+        c 0,
+        c 1,
+        c 2,
+        c 3,
+        e .accumulator-sent,
+        e .first-sent,
+        e .second-sent,
+      )
 
 -- ---- the whole
 

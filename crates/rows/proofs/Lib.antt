@@ -3,3 +3,5 @@ pub mod Fields
 pub mod Unspelled
 pub mod Entries
 pub mod Behind
+pub mod Causes
+pub mod Places

@@ -1,3 +1,4 @@
 pub mod Rows
 pub mod Said
+pub mod InRange
 pub mod Tails

@@ -125,9 +125,9 @@ pub data BadChoosing (tail : List ℕ) : Type 0 where
 abbrev pub butLast : List ℕ → List ℕ
 butLast s = take (length s - 1) s
 
--- version 02: what is behind the base; version 03: nothing behind the base, a syllabus above 1, or what stands between
-pub data BadTail : ℕ → List ℕ → Type 0 where
-  choosing : {body : List ℕ} → BadChoosing (drop (baseLength body) body) → BadTail 2 body
-  no-syllabus : {body : List ℕ} → length body ≤ baseLength body → BadTail 3 body
-  syllabus-above : {body : List ℕ} → 1 < byte body (length body - 1) → BadTail 3 body
-  between : {body : List ℕ} → BadChoosing (butLast (drop (baseLength body) body)) → BadTail 3 body
+-- version 02: what is behind the base; version 03: nothing behind the base, a syllabus above 1, or what stands between; version 01 has no cause
+pub data BadTail (version : ℕ) (body : List ℕ) : Type 0 where
+  choosing : version ≡ 2 → BadChoosing (drop (baseLength body) body) → BadTail version body
+  no-syllabus : version ≡ 3 → length body ≤ baseLength body → BadTail version body
+  syllabus-above : version ≡ 3 → 1 < byte body (length body - 1) → BadTail version body
+  between : version ≡ 3 → BadChoosing (butLast (drop (baseLength body) body)) → BadTail version body
