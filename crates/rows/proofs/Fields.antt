@@ -21,7 +21,7 @@ use Rattle.rows.proofs.Spelling.{Stands, stands-whole, stands-at, parts
 
 module _ (s : List ℕ) where
   -- a byte is a number of width 1
-  at-byte : (at v : ℕ) → number s at 1 ≡ v → byte s at ≡ v
+  pub at-byte : (at v : ℕ) → number s at 1 ≡ v → byte s at ≡ v
   at-byte at v h = sym (one s at) ∙ h
 
   accumulator-read : (at : ℕ) (l : Limits) → Stands s at (limitsRow 8 l) → accumulatorIn s at ≡ accumulatorSaid l
@@ -127,27 +127,27 @@ module _ (x : Setup) (fits : Fits (setupRow x)) where
   unfolding setupRow headRow
   whole-parts = parts s (headRow x) (each profileRow (x .profiles) ++ each conversionRow (x .conversions)) 0 (stands-whole (setupRow x) fits)
 
-  profile-width : (p : Profile) → widths (profileRow p) ≡ 107
+  pub profile-width : (p : Profile) → widths (profileRow p) ≡ 107
   unfolding profileRow
   profile-width p = refl
 
-  conversion-width : (c : Conversion) → widths (conversionRow c) ≡ 7
+  pub conversion-width : (c : Conversion) → widths (conversionRow c) ≡ 7
   unfolding conversionRow
   conversion-width c = refl
 
-  tables : Stands s 52 (each profileRow (x .profiles)) × Stands s (52 + 107 * length (x .profiles)) (each conversionRow (x .conversions))
+  pub tables : Stands s 52 (each profileRow (x .profiles)) × Stands s (52 + 107 * length (x .profiles)) (each conversionRow (x .conversions))
   tables =
       let p = parts s (each profileRow (x .profiles)) (each conversionRow (x .conversions)) 52 (whole-parts .1) in
       (p .0, subst (λ n. Stands s (52 + n) (each conversionRow (x .conversions))) (widths-each profileRow 107 profile-width (x .profiles)) (p .1))
 
-  head-parts : Stands s 0 (firstRow x) × Stands s 8 (each accumulatorRow (listed (x .accumulators))) × Stands s 48 (each counterRow (listed (x .counters)))
+  pub head-parts : Stands s 0 (firstRow x) × Stands s 8 (each accumulatorRow (listed (x .accumulators))) × Stands s 48 (each counterRow (listed (x .counters)))
   unfolding headRow
   head-parts =
       let p = parts s (firstRow x) (each accumulatorRow (listed (x .accumulators)) ++ each counterRow (listed (x .counters))) 0 (whole-parts .0) in
       let q = parts s (each accumulatorRow (listed (x .accumulators))) (each counterRow (listed (x .counters))) 8 (p .1) in
       (p .0, q .0, q .1)
 
-  first : (i : ℕ) → number s (0 + offset (firstRow x) i) (fieldAt (firstRow x) i .width) ≡ fieldAt (firstRow x) i .value
+  pub first : (i : ℕ) → number s (0 + offset (firstRow x) i) (fieldAt (firstRow x) i .width) ≡ fieldAt (firstRow x) i .value
   first = stands-at s (firstRow x) 0 (head-parts .0)
 
   currency-is : (i : ℕ) → cond (ltb i 4) (number s (0 + (8 + 10 * i)) 2) 0 ≡ saidAt (λ (a : Accumulator). a .currency) 0 (listed (x .accumulators)) i

@@ -5,3 +5,4 @@ pub mod Entries
 pub mod Behind
 pub mod Causes
 pub mod Places
+pub mod Ranges

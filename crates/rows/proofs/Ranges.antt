@@ -47,18 +47,20 @@ module _ (s : List ℕ) where
   accumulator-range : (at : ℕ) (a : Accumulator) → Stands s at (accumulatorRow a) → AccumulatorRange a ↔ AccumulatorRanges s at
   unfolding Stands
   accumulator-range at a h =
-      let value = h .1 .0 in
-      (λ r. record { currency = subst Currency (sym (h .0)) (there-digits (r .currency)); value = omega arith },
-      λ r. record { currency = subst ThreeDigits (h .0) (back-digits (r .currency)); value = omega arith })
+      let value = h .1 .0 in (
+        λ r. record { currency = subst Currency (sym (h .0)) (there-digits (r .currency)); value = omega arith },
+        λ r. record { currency = subst ThreeDigits (h .0) (back-digits (r .currency)); value = omega arith },
+      )
 
   limits-range : (at : ℕ) (l : Limits) → Stands s at (limitsRow 8 l) → AccumulatorLimits l ↔ AccumulatorRuleRanges s at
   limits-range at l h =
       let q = stands-at s (limitsRow 8 l) at h in
       let switches : byte s at ≡ l .switches = ap (byte s) (sym (add-zero at)) ∙ at-byte s (at + 0) (l .switches) (q 0) in
       let lower : number s (at + 1) 8 ≡ l .lower = q 1 in
-      let upper : number s (at + 9) 8 ≡ l .upper = q 2 in
-      (λ r. record { switches = omega arith; lower = omega arith; upper = omega arith },
-      λ r. record { switches = omega arith; lower = omega arith; upper = omega arith })
+      let upper : number s (at + 9) 8 ≡ l .upper = q 2 in (
+        λ r. record { switches = omega arith; lower = omega arith; upper = omega arith },
+        λ r. record { switches = omega arith; lower = omega arith; upper = omega arith },
+      )
 
   counter-range : (at : ℕ) (l : Limits) → Stands s at (limitsRow 1 l) → CounterLimits l ↔ (byte s at ≤ 15)
   unfolding Stands
@@ -73,25 +75,26 @@ module _ (s : List ℕ) where
       let from : number s at 2 ≡ c .from = ap (λ n. number s n 2) (sym (add-zero at)) ∙ q 0 in
       let to : number s (at + 2) 2 ≡ c .to = q 1 in
       let digits : number s (at + 4) 2 ≡ c .digits = q 2 in
-      let shift : byte s (at + 6) ≡ c .shift = at-byte s (at + 6) (c .shift) (q 3) in
-      (λ r.
-      record {
-        from = subst Currency (sym from) (there-digits (r .from));
-        to = subst Currency (sym to) (there-digits (r .to));
-        other = λ e. r .other (sym from ∙ e ∙ to);
-        digits-least = omega (arith, r .digits-least);
-        digits-most = omega (arith, r .digits-most);
-        shift = omega (arith, r .shift);
-      },
-      λ r.
-      record {
-        from = subst ThreeDigits from (back-digits (r .from));
-        to = subst ThreeDigits to (back-digits (r .to));
-        other = λ e. r .other (from ∙ e ∙ sym to);
-        digits-least = omega (arith, r .digits-least);
-        digits-most = omega (arith, r .digits-most);
-        shift = omega (arith, r .shift);
-      })
+      let shift : byte s (at + 6) ≡ c .shift = at-byte s (at + 6) (c .shift) (q 3) in (
+        λ r.
+            record {
+              from = subst Currency (sym from) (there-digits (r .from));
+              to = subst Currency (sym to) (there-digits (r .to));
+              other = λ e. r .other (sym from ∙ e ∙ to);
+              digits-least = omega (arith, r .digits-least);
+              digits-most = omega (arith, r .digits-most);
+              shift = omega (arith, r .shift);
+            },
+        λ r.
+            record {
+              from = subst ThreeDigits from (back-digits (r .from));
+              to = subst ThreeDigits to (back-digits (r .to));
+              other = λ e. r .other (from ∙ e ∙ sym to);
+              digits-least = omega (arith, r .digits-least);
+              digits-most = omega (arith, r .digits-most);
+              shift = omega (arith, r .shift);
+            },
+      )
 
   profile-range : (at : ℕ) (p : Profile) → Stands s at (profileRow p) → ProfileRange p ↔ ProfileRanges s at
   profile-range at p h =
@@ -99,39 +102,40 @@ module _ (s : List ℕ) where
       let there = at-each s (limitsRow 8) 17 (λ l. refl) at AccumulatorLimits (AccumulatorRuleRanges s) limits-range (listed (p .accumulators)) 24 (e .accumulators) in
       let back = each-at s (limitsRow 8) 17 (λ l. refl) at AccumulatorLimits (AccumulatorRuleRanges s) limits-range (listed (p .accumulators)) 24 (e .accumulators) in
       let counts = at-each s (limitsRow 1) 3 (λ l. refl) at CounterLimits (λ n. byte s n ≤ 15) counter-range (listed (p .counters)) 92 (e .counters) in
-      let counts-back = each-at s (limitsRow 1) 3 (λ l. refl) at CounterLimits (λ n. byte s n ≤ 15) counter-range (listed (p .counters)) 92 (e .counters) in
-      (λ r.
-      record {
-        number-least = rw (e .number-is) (r .number-least);
-        number-most = rw (e .number-is) (r .number-most);
-        online = rw (e .online) (r .online);
-        decline = rw (e .decline) (r .decline);
-        default = rw (e .default) (r .default);
-        maximum-on = rw (e .maximum-on) (r .maximum-on);
-        maximum-currency = rw (e .maximum-currency) (there-digits (r .maximum-currency));
-        maximum = rw (e .maximum) (r .maximum);
-        accumulators = there (r .accumulators);
-        counters = counts (r .counters);
-        accumulator-sent = rw (e .accumulator-sent) (r .accumulator-sent);
-        first-sent = rw (e .first-sent) (r .first-sent);
-        second-sent = rw (e .second-sent) (r .second-sent);
-      },
-      λ r.
-      record {
-        number-least = rw (e .number-is) at (r .number-least);
-        number-most = rw (e .number-is) at (r .number-most);
-        online = rw (e .online) at (r .online);
-        decline = rw (e .decline) at (r .decline);
-        default = rw (e .default) at (r .default);
-        maximum-on = rw (e .maximum-on) at (r .maximum-on);
-        maximum-currency = back-digits (rw (e .maximum-currency) at (r .maximum-currency));
-        maximum = rw (e .maximum) at (r .maximum);
-        accumulators = back (r .accumulators);
-        counters = counts-back (r .counters);
-        accumulator-sent = rw (e .accumulator-sent) at (r .accumulator-sent);
-        first-sent = rw (e .first-sent) at (r .first-sent);
-        second-sent = rw (e .second-sent) at (r .second-sent);
-      })
+      let counts-back = each-at s (limitsRow 1) 3 (λ l. refl) at CounterLimits (λ n. byte s n ≤ 15) counter-range (listed (p .counters)) 92 (e .counters) in (
+        λ r.
+            record {
+              number-least = rw (e .number-is) (r .number-least);
+              number-most = rw (e .number-is) (r .number-most);
+              online = rw (e .online) (r .online);
+              decline = rw (e .decline) (r .decline);
+              default = rw (e .default) (r .default);
+              maximum-on = rw (e .maximum-on) (r .maximum-on);
+              maximum-currency = rw (e .maximum-currency) (there-digits (r .maximum-currency));
+              maximum = rw (e .maximum) (r .maximum);
+              accumulators = there (r .accumulators);
+              counters = counts (r .counters);
+              accumulator-sent = rw (e .accumulator-sent) (r .accumulator-sent);
+              first-sent = rw (e .first-sent) (r .first-sent);
+              second-sent = rw (e .second-sent) (r .second-sent);
+            },
+        λ r.
+            record {
+              number-least = rw (e .number-is) at (r .number-least);
+              number-most = rw (e .number-is) at (r .number-most);
+              online = rw (e .online) at (r .online);
+              decline = rw (e .decline) at (r .decline);
+              default = rw (e .default) at (r .default);
+              maximum-on = rw (e .maximum-on) at (r .maximum-on);
+              maximum-currency = back-digits (rw (e .maximum-currency) at (r .maximum-currency));
+              maximum = rw (e .maximum) at (r .maximum);
+              accumulators = back (r .accumulators);
+              counters = counts-back (r .counters);
+              accumulator-sent = rw (e .accumulator-sent) at (r .accumulator-sent);
+              first-sent = rw (e .first-sent) at (r .first-sent);
+              second-sent = rw (e .second-sent) at (r .second-sent);
+            },
+      )
 
   number-alike : (m n : ℕ) (p q : Profile) → Stands s m (profileRow p) → Stands s n (profileRow q) → SameNumber p q ↔ (byte s m ≡ byte s n)
   number-alike m n p q h k =
