@@ -6,3 +6,5 @@ pub mod Behind
 pub mod Causes
 pub mod Places
 pub mod Ranges
+pub mod Placed
+pub mod Witness

@@ -5,7 +5,7 @@ use mathlib.Core.Logic.{_↔_}
 use Prim.Native.Nat.{ℕ, zero, suc, _+_, _*_, _<_}
 use native.Mathlib.Nat.{mul-zero, mul-suc, add-zero}
 use native.Mathlib.Omega.{arith}
-use lib.ListN.{length}
+use lib.ListN.{length, getD}
 use Rattle.rows.specs.Rows.{Field, widths, each}
 use Rattle.rows.specs.InRange.{Each, NoTwo}
 use Rattle.rows.proofs.Spelling.{Stands, parts}
@@ -24,6 +24,14 @@ module _ (s : List ℕ) {A : Type 0} (row : A → List Field) (w : ℕ) (same : 
 
   first-stands : (x : A) (xs : List A) (k : ℕ) → Stands s (at + k) (row x ++ each row xs) → Stands s (at + k) (row x)
   first-stands x xs k h = parts s (row x) (each row xs) (at + k) h .0
+
+  -- the row at a place of the table
+  pub each-stands : (xs : List A) (k : ℕ) → Stands s (at + k) (each row xs) → (i : ℕ) → i < length xs → (d : A)
+      → Stands s (at + (k + w * i)) (row (getD xs i d))
+  each-stands [] k h i l d = absurd (omega arith)
+  each-stands (x ∷ xs) k h zero l d = subst (λ n. Stands s n (row x)) (sym (first-place k)) (first-stands x xs k h)
+  each-stands (x ∷ xs) k h (suc i) l d =
+      subst (λ n. Stands s n (row (getD xs i d))) (next-place k i) (each-stands xs (k + w) (next-stands x xs k h) i (omega arith) d)
 
   module _ (P : A → Type 0) (Q : ℕ → Type 0) (same-there : (place : ℕ) (x : A) → Stands s place (row x) → P x ↔ Q place) where
     pub at-each : (xs : List A) (k : ℕ) → Stands s (at + k) (each row xs) → Each P xs → (i : ℕ) → i < length xs → Q (at + (k + w * i))
