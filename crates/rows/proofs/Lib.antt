@@ -8,3 +8,4 @@ pub mod Places
 pub mod Ranges
 pub mod Placed
 pub mod Witness
+pub mod Samples
