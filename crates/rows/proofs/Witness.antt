@@ -1,0 +1,159 @@
+-- The set-up of the sitting that document 01 prints ("A sitting in full"), from its fields: its bytes, and that the premises of the statements are met.
+-- Assumes nothing.
+use mathlib.Core.Path.{_≡_, refl}
+use mathlib.Core.Bool.{Bool, true, false, _&&_}
+use mathlib.Core.List.{List, [], _∷_, _++_}
+use Prim.Native.Nat.{ℕ, _^_}
+use native.Mathlib.Omega.{arith}
+use borrow.Author.Tests.{ltb-true}
+use lib.Dec.{ltb}
+use lib.ListN.{length, replicate}
+use Rattle.wire.specs.Wire.{byte, number}
+use Rattle.wire.proofs.Pairs.{both}
+use Rattle.ranges.specs.Ranges.{isSetup}
+use Rattle.tail.specs.Tail.{readTail, tailNumber}
+use Rattle.rows.specs.Rows.{Field, written, spelled, Fits, Four, Accumulator, Limits, Profile, Setup, headRow, profileRow, setupRow, body}
+use Rattle.rows.specs.Said.{Says}
+use Rattle.rows.specs.InRange.{ThreeDigits, AccumulatorRange, AccumulatorLimits, InRange}
+use Rattle.rows.specs.Tails.{on, first, second, third, Tail, tailBytes, TailSays}
+use Rattle.rows.proofs.Fields.{reads-fields}
+use Rattle.rows.proofs.Ranges.{accepted-in-range}
+use Rattle.rows.proofs.Behind.{reads-tails}
+
+-- all else zero
+abbrev same : {A : Type 0} → A → Four A
+same a = record { one = a; two = a; three = a; four = a }
+
+abbrev none : Limits
+none = record { switches = 0; lower = 0; upper = 0 }
+
+abbrev empty : Accumulator
+empty = record { currency = 0; value = 0 }
+
+-- profile 1 with Online 64, Decline 1024, Default 1024; accumulator 1 switches 7, lower 5000, upper 10000; counter 1 switches 3, limits 255;
+-- accumulator 1 sent, counters 1 and 0 sent
+abbrev profile : Profile
+profile =
+    record {
+      number = 1;
+      online = 64;
+      decline = 1024;
+      default = 1024;
+      maximum-on = 0;
+      maximum-currency = 0;
+      maximum = 0;
+      accumulators = record { one = record { switches = 7; lower = 5000; upper = 10000 }; two = none; three = none; four = none };
+      counters = record { one = record { switches = 3; lower = 255; upper = 255 }; two = none; three = none; four = none };
+      accumulator-sent = 1;
+      first-sent = 1;
+      second-sent = 0;
+    }
+
+-- key 01, PIN 3, not required, ATC 0, no conversions; accumulator 1 in 0978 from 0
+unfoldable pub printed : Setup
+printed =
+    record {
+      key = 0x01;
+      pin = 3;
+      required = 0;
+      atc = 0;
+      online = 0;
+      accumulators = record { one = record { currency = 0x0978; value = 0 }; two = empty; three = empty; four = empty };
+      counters = same 0;
+      profiles = profile ∷ [];
+      conversions = [];
+    }
+
+abbrev zeros : ℕ → List ℕ
+zeros n = replicate n 0
+
+-- the body of the printed paper's set-up, byte by byte (examples/printed.paper)
+unfoldable pub printedBytes : List ℕ
+printedBytes =
+    0x01 ∷ 0x03 ∷ 0x00 ∷ 0x01 ∷ 0x00 ∷ 0x00 ∷ 0x00 ∷ 0x00 ∷ 0x09 ∷ 0x78 ∷ zeros 42
+    ++ (0x01 ∷ 0x00 ∷ 0x00 ∷ 0x00 ∷ 0x40 ∷ 0x00 ∷ 0x00 ∷ 0x04 ∷ 0x00 ∷ 0x00 ∷ 0x00 ∷ 0x04 ∷ 0x00 ∷ zeros 11)
+    ++ (0x07 ∷ zeros 6 ++ 0x13 ∷ 0x88 ∷ zeros 6 ++ 0x27 ∷ 0x10 ∷ zeros 51)
+    ++ (0x03 ∷ 0xFF ∷ 0xFF ∷ zeros 9 ++ 0x01 ∷ 0x01 ∷ 0x00 ∷ [])
+
+-- THE WITNESS: its spelling is the printed body
+pub printed-spelled : body printed ≡ printedBytes
+unfolding printed printedBytes setupRow headRow profileRow spelled written
+printed-spelled = refl
+
+-- ---- its fields fit
+
+abbrev areFit : List Field → Bool
+areFit [] = true
+areFit (f ∷ fs) = ltb (f .value) (256 ^ f .width) && areFit fs
+
+fit : (fs : List Field) → areFit fs ≡ true → Fits fs
+unfolding Fits
+fit [] e = tt
+fit (f ∷ fs) e =
+    let (l, r) = both (ltb (f .value) (256 ^ f .width)) (areFit fs) e in
+    (ltb-true (f .value) (256 ^ f .width) l, fit fs r)
+
+pub printed-fits : Fits (setupRow printed)
+unfolding printed setupRow headRow profileRow
+printed-fits = fit (setupRow printed) refl
+
+pub printed-says : Says printed (body printed)
+printed-says = reads-fields printed printed-fits
+
+-- ---- and are in their ranges
+
+abbrev digits0 : ThreeDigits 0
+digits0 = record { hundreds = 0; tens = 0; ones = 0; hundreds-digit = omega arith; tens-digit = omega arith; ones-digit = omega arith; digits = refl }
+
+pub printed-in-range : InRange printed
+unfolding printed
+printed-in-range =
+    let none-fine : AccumulatorLimits none = record { switches = omega arith; lower = omega arith; upper = omega arith } in
+    let empty-fine : AccumulatorRange empty = record { currency = digits0; value = omega arith } in
+    let euro : ThreeDigits 0x0978 =
+    record { hundreds = 9; tens = 7; ones = 8; hundreds-digit = omega arith; tens-digit = omega arith; ones-digit = omega arith; digits = refl } in
+    record {
+      pin = omega arith;
+      required = omega arith;
+      profiles-least = omega arith;
+      profiles-most = omega arith;
+      conversions-most = omega arith;
+      online = omega arith;
+      accumulators = (record { currency = euro; value = omega arith }, (empty-fine, (empty-fine, (empty-fine, tt))));
+      profiles = (
+        record {
+          number-least = omega arith;
+          number-most = omega arith;
+          online = omega arith;
+          decline = omega arith;
+          default = omega arith;
+          maximum-on = omega arith;
+          maximum-currency = digits0;
+          maximum = omega arith;
+          accumulators = (record { switches = omega arith; lower = omega arith; upper = omega arith }, (none-fine, (none-fine, (none-fine, tt))));
+          counters = (omega arith, (omega arith, (omega arith, (omega arith, tt))));
+          accumulator-sent = omega arith;
+          first-sent = omega arith;
+          second-sent = omega arith;
+        },
+        tt,
+      );
+      numbers = (tt, tt);
+      conversions = tt;
+      pairs = tt;
+    }
+
+pub printed-accepted : isSetup (body printed) ≡ true
+printed-accepted = accepted-in-range printed printed-fits .1 printed-in-range
+
+-- ---- with tails: two entries, one of them empty, and syllabus 1
+
+abbrev pub selective : Tail
+selective = third (on ((0x01 ∷ 0x02 ∷ []) ∷ [] ∷ [])) 1
+
+pub selective-bytes : tailBytes selective ≡ 0x01 ∷ 0x02 ∷ 0x02 ∷ 0x01 ∷ 0x02 ∷ 0x00 ∷ 0x01 ∷ []
+selective-bytes = refl
+
+pub selective-says : TailSays printedBytes selective (printedBytes ++ tailBytes selective)
+unfolding printedBytes
+selective-says = reads-tails printedBytes selective refl ((omega arith, (omega arith, (omega arith, tt))), omega arith)

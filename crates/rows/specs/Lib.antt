@@ -1,0 +1,5 @@
+pub mod Rows
+pub mod Said
+pub mod InRange
+pub mod Offsets
+pub mod Tails

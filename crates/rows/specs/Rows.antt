@@ -1,0 +1,149 @@
+-- A set-up's body spelled from its fields (document 01, "The paper"; docs/PAPERS.md, "Set-up, kind 1"). Rows of fields in the paper's order, each field
+-- with its width in bytes. There is no offset here: a field stands where the widths before it end.
+use Prim.Native.Nat.{ℕ, zero, suc, _+_, _/_, _%_, _^_, _<_}
+use mathlib.Core.List.{List, [], _∷_, _++_}
+use lib.ListN.{length, getD}
+
+-- ---- fields and their bytes
+
+-- so many bytes, and the number that they write
+pub record Field : Type 0 where
+  pub width : ℕ
+  pub value : ℕ
+
+infix 70 _of_
+abbrev pub _of_ : ℕ → ℕ → Field
+width of value = record { width = width; value = value }
+
+-- big-endian: the last byte is the lowest
+unfoldable pub written : (width value : ℕ) → List ℕ
+written zero value = []
+written (suc n) value = written n (value / 256) ++ value % 256 ∷ []
+
+unfoldable pub spelled : List Field → List ℕ
+spelled [] = []
+spelled (f ∷ fs) = written (f .width) (f .value) ++ spelled fs
+
+-- each value fits its width
+unfoldable pub Fits : List Field → Type 0
+Fits [] = Unit
+Fits (f ∷ fs) = (f .value < 256 ^ f .width) × Fits fs
+
+abbrev pub widths : List Field → ℕ
+widths [] = 0
+widths (f ∷ fs) = f .width + widths fs
+
+-- the field at a place of the row, and where it stands: the sum of the widths before it
+abbrev pub fieldAt : List Field → ℕ → Field
+fieldAt fs i = getD fs i (0 of 0)
+
+abbrev pub offset : List Field → ℕ → ℕ
+offset fs zero = 0
+offset [] (suc i) = 0
+offset (f ∷ fs) (suc i) = f .width + offset fs i
+
+-- ---- what a set-up says
+
+-- numbered 1 to 4
+pub record Four (A : Type 0) : Type 0 where
+  pub one : A
+  pub two : A
+  pub three : A
+  pub four : A
+
+pub record Accumulator : Type 0 where
+  pub currency : ℕ
+  pub value : ℕ
+
+-- of an accumulator or of a counter
+pub record Limits : Type 0 where
+  pub switches : ℕ
+  pub lower : ℕ
+  pub upper : ℕ
+
+pub record Profile : Type 0 where
+  pub number : ℕ
+  pub online : ℕ
+  pub decline : ℕ
+  pub default : ℕ
+  pub maximum-on : ℕ
+  pub maximum-currency : ℕ
+  pub maximum : ℕ
+  pub accumulators : Four Limits
+  pub counters : Four Limits
+  pub accumulator-sent : ℕ
+  pub first-sent : ℕ
+  pub second-sent : ℕ
+
+-- shift is s + 9
+pub record Conversion : Type 0 where
+  pub from : ℕ
+  pub to : ℕ
+  pub digits : ℕ
+  pub shift : ℕ
+
+pub record Setup : Type 0 where
+  pub key : ℕ
+  pub pin : ℕ
+  pub required : ℕ
+  pub atc : ℕ
+  pub online : ℕ
+  pub accumulators : Four Accumulator
+  pub counters : Four ℕ
+  pub profiles : List Profile
+  pub conversions : List Conversion
+
+-- ---- its rows
+
+abbrev pub listed : {A : Type 0} → Four A → List A
+listed x = x .one ∷ x .two ∷ x .three ∷ x .four ∷ []
+
+-- a row for each, one after the other
+abbrev pub each : {A : Type 0} → (A → List Field) → List A → List Field
+each row [] = []
+each row (x ∷ xs) = row x ++ each row xs
+
+-- currency (2) and value (8)
+abbrev pub accumulatorRow : Accumulator → List Field
+accumulatorRow a = 2 of a .currency ∷ 8 of a .value ∷ []
+
+abbrev pub counterRow : ℕ → List Field
+counterRow value = 1 of value ∷ []
+
+-- key index; PIN tries; issuer authentication required; p; c; ATC (2); go online next
+abbrev pub firstRow : Setup → List Field
+firstRow x =
+    1 of x .key ∷ 1 of x .pin ∷ 1 of x .required ∷ 1 of length (x .profiles) ∷ 1 of length (x .conversions) ∷ 2 of x .atc ∷ 1 of x .online ∷ []
+
+-- and four accumulators; four counter values
+unfoldable pub headRow : Setup → List Field
+headRow x = firstRow x ++ (each accumulatorRow (listed (x .accumulators)) ++ each counterRow (listed (x .counters)))
+
+-- number; masks Online, Decline, Default (4 each); MTA on, its currency (2), MTA (8)
+abbrev pub profileHead : Profile → List Field
+profileHead p =
+    1 of p .number ∷ 4 of p .online ∷ 4 of p .decline ∷ 4 of p .default ∷ 1 of p .maximum-on ∷ 2 of p .maximum-currency ∷ 8 of p .maximum ∷ []
+
+-- switches (1), lower, upper: 8 bytes each of an accumulator, 1 of a counter
+abbrev pub limitsRow : ℕ → Limits → List Field
+limitsRow width l = 1 of l .switches ∷ width of l .lower ∷ width of l .upper ∷ []
+
+-- the accumulator sent; the two counters sent
+abbrev pub sentRow : Profile → List Field
+sentRow p = 1 of p .accumulator-sent ∷ 1 of p .first-sent ∷ 1 of p .second-sent ∷ []
+
+-- its head, four accumulators, four counters, what is sent
+unfoldable pub profileRow : Profile → List Field
+profileRow p =
+    profileHead p ++ (each (limitsRow 8) (listed (p .accumulators)) ++ (each (limitsRow 1) (listed (p .counters)) ++ sentRow p))
+
+-- from, to (2 each), d (2), s + 9 (1)
+unfoldable pub conversionRow : Conversion → List Field
+conversionRow c = 2 of c .from ∷ 2 of c .to ∷ 2 of c .digits ∷ 1 of c .shift ∷ []
+
+-- the head, p profiles, c conversions
+unfoldable pub setupRow : Setup → List Field
+setupRow x = headRow x ++ (each profileRow (x .profiles) ++ each conversionRow (x .conversions))
+
+abbrev pub body : Setup → List ℕ
+body x = spelled (setupRow x)
