@@ -1,0 +1,5 @@
+pub mod Numbers
+pub mod Shapes
+pub mod Commands
+pub mod Records
+pub mod Opening
