@@ -59,7 +59,7 @@ view choice s h = by-shape (shape s h) where
   by-shape (whole kind body w) = by-meaning kind body w (meaning body (body-bytes s kind body h w) choice kind (w .sized))
 
 -- a record of what fits has a length of 2 bytes
-body-short : (choice : Choice) (x : Sent) → Fits choice x → length (bodyOf x) < 65535
+pub body-short : (choice : Choice) (x : Sent) → Fits choice x → length (bodyOf x) < 65535
 unfolding Fits bodyOf big
 body-short byName (names profile) h = omega arith
 body-short byName (brings terminal) h = absurd h
@@ -70,7 +70,7 @@ body-short (byFile file entries) (brings terminal) h = h .0
 body-short (byFile file entries) (first a b c d) h = omega arith
 body-short (byFile file entries) (second a b c d) h = omega arith
 
-pub whole-spelled : (choice : Choice) (x : Sent) → Fits choice x → (s more : List ℕ) → s ≡ spell x ++ more → Whole s (kindOf x) (bodyOf x)
+abbrev pub whole-spelled : (choice : Choice) (x : Sent) → Fits choice x → (s more : List ℕ) → s ≡ spell x ++ more → Whole s (kindOf x) (bodyOf x)
 whole-spelled choice x h s more e = record { more = more; is = e; sized = body-short choice x h }
 
 -- ---- a place of a paper
@@ -104,7 +104,7 @@ module _ (selecting : Selecting) (s : List ℕ) (lies : Lies selecting s) (at : 
         is = ap (commandIn selecting s kind) (part-drop s at 3 (3 + length body) ∙ inside) ∙ commands-same selecting s lies kind body;
       }
 
-  sent-stands : (x : Sent) → Fits choice x → (rest : List ℕ) → drop at s ≡ spell x ++ rest
+  pub sent-stands : (x : Sent) → Fits choice x → (rest : List ℕ) → drop at s ≡ spell x ++ rest
       → Stands selecting s at (Taken (standsFor choice x)) (at + length (spell x))
   sent-stands x h rest e =
       let st = stands (kindOf x) (bodyOf x) (whole-spelled choice x h (drop at s) rest e) in
