@@ -6,3 +6,4 @@ pub mod Opening
 pub mod Lines
 pub mod Parsed
 pub mod Papers
+pub mod Witness
