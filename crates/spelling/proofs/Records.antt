@@ -1,0 +1,180 @@
+-- One record: what is sent is read as that, whatever is read was sent, and refusal 9 has one of its causes. Assumes nothing.
+use mathlib.Core.Path.{_≡_, refl, sym, ap, subst, _∙_}
+use mathlib.Core.Bool.{Bool, true, false, cond, _&&_}
+use mathlib.Core.Logic.{_⊎_, inl, inr}
+use mathlib.Core.List.{List, [], _∷_, _++_}
+use Prim.Native.Nat.{ℕ, _+_, _<_, _≤_}
+use native.Mathlib.Omega.{arith}
+use borrow.Author.Tests.{le-leb}
+use lib.ListN.{length, drop}
+use lib.Seq.{drop-drop, drop-append-seam}
+use Rattle.refusal.specs.declared.Refusal.the-variants.{Unreadable}
+use Rattle.tail.specs.declared.Selecting.{Selecting}
+use Rattle.tail.specs.declared.Selecting.the-variants.{Off, On}
+use Rattle.paper.specs.declared.Next.{Next}
+use Rattle.paper.specs.declared.Next.the-variants.{Record, Fault, End}
+use Rattle.paper.specs.Paper.{nextAt}
+use Rattle.paper.specs.Walk.{part}
+use Rattle.command.specs.declared.Command.{Command}
+use Rattle.command.specs.declared.ReadCommand.{ReadCommand}
+use Rattle.command.specs.declared.ReadCommand.the-variants.{Taken, Refused}
+use Rattle.command.specs.Command.{selectingOf}
+use Rattle.turns.specs.Turns.{commandIn}
+use Rattle.spelling.specs.Spelling.{Bytes, big, recordOf, Sent, names, brings, first, second, kindOf, bodyOf, spell, Choice, byName, byFile, choiceIn, Fits, standsFor}
+use Rattle.spelling.specs.Faults.{Broken, Whole, RestFault, broken, repeated, unknown, start-length, first-length, second-length}
+use Rattle.spelling.specs.Sitting.{Reading, over, refused, command, readingIn, readingOf, reading, Lies, Spelled}
+use Rattle.spelling.proofs.Numbers.{bytes-drop, bytes-front, bytes-behind}
+use Rattle.spelling.proofs.Shapes as S
+use Rattle.spelling.proofs.Shapes.{Shape, nothing, whole, shape, record-is, record-length, shift, next-drop, part-drop, next-nothing, next-broken, next-whole, body-there}
+use Rattle.spelling.proofs.Commands.{readBy, taken, one-sent, Wrong, a-setup, no-command, bad-start, bad-first, bad-second, Meaning, sent, wrong, meaning, refused-wrong}
+
+-- ---- what can stand at the front
+
+pub data View (choice : Choice) (s : List ℕ) : Type 0 where
+  none : s ≡ [] → View choice s
+  fault : RestFault choice s → View choice s
+  spelled : (x : Sent) (more : List ℕ) → Fits choice x → s ≡ spell x ++ more → View choice s
+
+as-fault : (choice : Choice) (s : List ℕ) (kind : ℕ) (body : List ℕ) → Whole s kind body → Wrong choice kind body → RestFault choice s
+as-fault choice s kind body w (a-setup e) = repeated body (subst (λ (k : ℕ). Whole s k body) e w)
+as-fault choice s kind body w (no-command h) = unknown kind body w h
+as-fault choice s kind body w (bad-start e c n) = start-length body (subst (λ (k : ℕ). Whole s k body) e w) c n
+as-fault choice s kind body w (bad-first e n) = first-length body (subst (λ (k : ℕ). Whole s k body) e w) n
+as-fault choice s kind body w (bad-second e n) = second-length body (subst (λ (k : ℕ). Whole s k body) e w) n
+
+body-bytes : (s : List ℕ) (kind : ℕ) (body : List ℕ) → Bytes s → Whole s kind body → Bytes body
+body-bytes s kind body h w =
+    let all : Bytes (recordOf kind body) = bytes-front (recordOf kind body) (w .more) (subst Bytes (w .is) h) in
+    subst Bytes (record-is kind body) all .1 .1 .1
+
+pub view : (choice : Choice) (s : List ℕ) → Bytes s → View choice s
+view choice s h = by-shape (shape s h) where
+  by-meaning : (kind : ℕ) (body : List ℕ) → Whole s kind body → Meaning choice kind body → View choice s
+  by-meaning kind body w (sent x fits k b) = spelled x (w .more) fits (w .is ∙ rw (k, b))
+  by-meaning kind body w (wrong cause) = fault (as-fault choice s kind body w cause)
+
+  by-shape : Shape s → View choice s
+  by-shape (nothing e) = none e
+  by-shape (S.broken b) = fault (broken b)
+  by-shape (whole kind body w) = by-meaning kind body w (meaning body (body-bytes s kind body h w) choice kind (w .sized))
+
+-- a record of what fits has a length of 2 bytes
+pub body-short : (choice : Choice) (x : Sent) → Fits choice x → length (bodyOf x) < 65535
+unfolding Fits bodyOf big
+body-short byName (names profile) h = omega arith
+body-short byName (brings terminal) h = absurd h
+body-short byName (first a b c d) h = omega arith
+body-short byName (second a b c d) h = omega arith
+body-short (byFile file entries) (names profile) h = absurd h
+body-short (byFile file entries) (brings terminal) h = h .0
+body-short (byFile file entries) (first a b c d) h = omega arith
+body-short (byFile file entries) (second a b c d) h = omega arith
+
+abbrev pub whole-spelled : (choice : Choice) (x : Sent) → Fits choice x → (s more : List ℕ) → s ≡ spell x ++ more → Whole s (kindOf x) (bodyOf x)
+whole-spelled choice x h s more e = record { more = more; is = e; sized = body-short choice x h }
+
+-- ---- a place of a paper
+
+pub commands-same : (selecting : Selecting) (s : List ℕ) → Lies selecting s → (kind : ℕ) (body : List ℕ)
+    → commandIn selecting s kind body ≡ readBy (choiceIn selecting s) kind body
+unfolding commandIn
+commands-same Off s h kind body = refl
+commands-same (On start end entries) s h kind body = rw (le-leb start end (h .0), le-leb end (length s) (h .1))
+
+-- a record stands at a place, is read as that, and the next place is its end
+pub record Stands (selecting : Selecting) (s : List ℕ) (at : ℕ) (read : ReadCommand) (end : ℕ) : Type 0 where
+  pub kind : ℕ
+  pub start : ℕ
+  pub next : nextAt s at ≡ Record kind start end
+  pub is : commandIn selecting s kind (part s start end) ≡ read
+
+module _ (selecting : Selecting) (s : List ℕ) (lies : Lies selecting s) (at : ℕ) where
+  abbrev choice : Choice
+  choice = choiceIn selecting s
+
+  stands : (kind : ℕ) (body : List ℕ) → Whole (drop at s) kind body
+      → Stands selecting s at (readBy choice kind body) (at + (3 + length body))
+  stands kind body w =
+      let there : nextAt (drop at s) 0 ≡ Record kind 3 (3 + length body) = rw (w .is) (next-whole kind body (w .more) (w .sized)) in
+      let inside : part (drop at s) 3 (3 + length body) ≡ body = rw (w .is) (body-there kind body (w .more)) in
+      record {
+        kind = kind;
+        start = at + 3;
+        next = next-drop s at ∙ ap (shift at) there;
+        is = ap (commandIn selecting s kind) (part-drop s at 3 (3 + length body) ∙ inside) ∙ commands-same selecting s lies kind body;
+      }
+
+  pub sent-stands : (x : Sent) → Fits choice x → (rest : List ℕ) → drop at s ≡ spell x ++ rest
+      → Stands selecting s at (Taken (standsFor choice x)) (at + length (spell x))
+  sent-stands x h rest e =
+      let st = stands (kindOf x) (bodyOf x) (whole-spelled choice x h (drop at s) rest e) in
+      rw (record-length (kindOf x) (bodyOf x), ← taken choice x h) st
+
+  -- no whole record stands there, or one that is refused
+  pub data Faulty : Type 0 where
+    at-next : nextAt s at ≡ Fault → Faulty
+    at-record : (end : ℕ) → Stands selecting s at (Refused Unreadable) end → Faulty
+
+  wrongly : (kind : ℕ) (body : List ℕ) → Whole (drop at s) kind body → Wrong choice kind body → Faulty
+  wrongly kind body w cause =
+      at-record (at + (3 + length body)) (rw (← refused-wrong choice kind body cause) (stands kind body w))
+
+  pub faulty : RestFault choice (drop at s) → Faulty
+  faulty (broken b) = at-next (next-drop s at ∙ ap (shift at) (next-broken (drop at s) b))
+  faulty (repeated body w) = wrongly 1 body w (a-setup refl)
+  faulty (unknown kind body w h) = wrongly kind body w (no-command h)
+  faulty (start-length body w c n) = wrongly 2 body w (bad-start refl c n)
+  faulty (first-length body w n) = wrongly 3 body w (bad-first refl n)
+  faulty (second-length body w n) = wrongly 4 body w (bad-second refl n)
+
+  -- what is read there
+  reads-stood : (read : ReadCommand) (end : ℕ) → Stands selecting s at read end → reading selecting s at ≡ readingOf end read
+  unfolding reading
+  reads-stood read end st = ap (readingIn selecting s) (st .next) ∙ ap (readingOf end) (st .is)
+
+  -- WHAT IS SPELLED AT A PLACE IS READ AS THAT COMMAND, AND THE READER GOES ON BEHIND IT
+  pub reads-spelled : (x : Sent) → Fits choice x → (rest : List ℕ) → drop at s ≡ spell x ++ rest
+      → (reading selecting s at ≡ command (standsFor choice x) (at + length (spell x))) × (drop (at + length (spell x)) s ≡ rest)
+  reads-spelled x h rest e =
+      (reads-stood _ _ (sent-stands x h rest e), sym (drop-drop (length (spell x)) at s) ∙ rw (e, drop-append-seam (spell x) rest))
+
+  -- THE END
+  pub reads-end : drop at s ≡ [] → reading selecting s at ≡ over
+  unfolding reading
+  reads-end e = rw (next-drop s at, next-nothing (drop at s) e)
+
+  refused-there : Faulty → reading selecting s at ≡ refused 9
+  unfolding reading
+  refused-there (at-next e) = rw e
+  refused-there (at-record end st) = reads-stood (Refused Unreadable) end st
+
+  pub reads-fault : RestFault choice (drop at s) → reading selecting s at ≡ refused 9
+  reads-fault f = refused-there (faulty f)
+
+  module _ (bytes : Bytes s) where
+    -- WHATEVER IS READ AS A COMMAND IS THE SPELLING OF WHAT FITS AND STANDS FOR IT
+    pub spelled-if-read : (c : Command) (end : ℕ) → reading selecting s at ≡ command c end → Spelled choice s at c end
+    spelled-if-read c end e = by (view choice (drop at s) (bytes-drop at s bytes)) where
+      by : View choice (drop at s) → Spelled choice s at c end
+      by (none n) = let z : _≡_ {A = ℕ} 0 1 = cc (reads-end n) in absurd (omega arith)
+      by (fault f) = let z : _≡_ {A = ℕ} 0 1 = cc (reads-fault f) in absurd (omega arith)
+      by (spelled x more fits is) =
+          let r = reads-spelled x fits more is in
+          let same : standsFor choice x ≡ c = cc in
+          let to : end ≡ at + length (spell x) = cc in
+          record { sent = x; fits = fits; stands = same; is = is ∙ rw (to, r .1); ends = to }
+
+    -- A REFUSAL IS 9, AND HAS ONE OF ITS CAUSES
+    pub fault-if-refused : (n : ℕ) → reading selecting s at ≡ refused n → (n ≡ 9) × RestFault choice (drop at s)
+    fault-if-refused n e = by (view choice (drop at s) (bytes-drop at s bytes)) where
+      by : View choice (drop at s) → (n ≡ 9) × RestFault choice (drop at s)
+      by (none n) = let z : _≡_ {A = ℕ} 0 1 = cc (reads-end n) in absurd (omega arith)
+      by (fault f) = (cc (reads-fault f), f)
+      by (spelled x more fits is) = let r = reads-spelled x fits more is in let z : _≡_ {A = ℕ} 0 1 = cc in absurd (omega arith)
+
+    pub end-if-over : reading selecting s at ≡ over → drop at s ≡ []
+    end-if-over e = by (view choice (drop at s) (bytes-drop at s bytes)) where
+      by : View choice (drop at s) → drop at s ≡ []
+      by (none n) = n
+      by (fault f) = let z : _≡_ {A = ℕ} 0 1 = cc (reads-fault f) in absurd (omega arith)
+      by (spelled x more fits is) = let r = reads-spelled x fits more is in let z : _≡_ {A = ℕ} 0 1 = cc in absurd (omega arith)

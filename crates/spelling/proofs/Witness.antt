@@ -1,0 +1,68 @@
+-- The premises are met: by the paper of the printed sitting, and each cause of refusal 9 by some bytes. Assumes nothing.
+use mathlib.Core.Path.{_≡_, refl, sym}
+use mathlib.Core.Bool.{Bool, true, false, _&&_}
+use mathlib.Core.List.{List, [], _∷_, append-nil}
+use Prim.Native.Nat.{ℕ, _^_, _<_}
+use native.Mathlib.Omega.{arith}
+use borrow.Author.Tests.{ltb-true}
+use lib.Dec.{ltb, lit<, lit≤}
+use lib.ListN.{length}
+use Rattle.wire.specs.Wire.{number}
+use Rattle.wire.proofs.Pairs.{both}
+use Rattle.ranges.specs.Ranges.{isSetup, hasLength, isHead, areAccumulators, isAccumulator, areProfiles, isProfileOrAbsent, isProfile, areMasks, isMaximumAmount, areAccumulatorRules, isAccumulatorRule, areCounterRules, areSent, areNumbersApart, profileNumber, areConversions, isConversionOrAbsent, isConversion, conversionPair, arePairsApart}
+use Rattle.setup.specs.Setup.{readSetup}
+use Rattle.tail.specs.declared.Selecting.the-variants.{Off}
+use Rattle.tail.specs.Tail.{baseEnd, readTail}
+use Rattle.turns.specs.Sitting.{sittingLines}
+use Rattle.spelling.specs.Spelling.{Bytes, big, recordOf, first, second, kindOf, bodyOf, spellAll, paperOf, byName, Fits, AllFit}
+use Rattle.spelling.specs.Faults.{Opens}
+use Rattle.spelling.specs.Sitting.{SetUp, Ends, ended, sittingOf}
+use Rattle.spelling.specs.Printed.{printed, body, sent}
+use Rattle.spelling.proofs.Papers.{lines-of}
+
+areBytes : List ℕ → Bool
+areBytes [] = true
+areBytes (b ∷ s) = ltb b 256 && areBytes s
+
+bytes-of : (s : List ℕ) → areBytes s ≡ true → Bytes s
+unfolding areBytes
+bytes-of [] e = tt
+bytes-of (b ∷ s) e = let t = both (ltb b 256) (areBytes s) e in (ltb-true b 256 (t .0), bytes-of s (t .1))
+
+-- what is sent, spelled behind version and set-up, is the paper
+pub spelled : paperOf 1 body (spellAll sent) ≡ printed
+unfolding printed sent spellAll kindOf bodyOf recordOf big
+spelled = refl
+
+pub long : length printed ≡ 242
+unfolding printed
+long = refl
+
+pub bytes : Bytes printed
+unfolding printed areBytes
+bytes = bytes-of printed refl
+
+pub opens : Opens printed 1 body (spellAll sent)
+unfolding printed sent spellAll kindOf bodyOf recordOf big
+opens = record { is = refl; least = lit≤ tt; most = lit≤ tt; short = lit≤ tt }
+
+pub set-up : SetUp 1 body Off
+unfolding printed readTail baseEnd readSetup isSetup hasLength isHead areAccumulators isAccumulator number areProfiles isProfileOrAbsent isProfile areMasks isMaximumAmount areAccumulatorRules isAccumulatorRule areCounterRules areSent areNumbersApart profileNumber areConversions isConversionOrAbsent isConversion conversionPair arePairsApart
+set-up = record { tail = refl; base = refl }
+
+pub fit : AllFit byName sent
+unfolding sent Fits
+fit = (one, (buys 5000 (lit< tt), (one, (buys 1 (lit< tt), (cannot, (one, (buys 5000 (lit< tt), (cannot, tt)))))))) where
+  one : 1 < 256
+  one = lit< tt
+
+  buys : (amount : ℕ) → amount < 256 ^ 8 → Fits byName (first 1 amount 0x0978 0x22)
+  buys amount h = (one, h, lit< tt, lit< tt)
+
+  cannot : Fits byName (second 1 0x5933 0 0)
+  cannot = (one, lit< tt, lit< tt, lit< tt)
+
+-- THE PRINTED SITTING: THE LINES OF THE 242 BYTES ARE THOSE OF THE EIGHT THAT WERE SENT, AND NO MORE
+pub printed-lines : (words : List ℕ) → length words ≡ 164 → sittingLines words printed ≡ sittingOf 1 body {choice = byName} sent {rest = []} (ended refl)
+printed-lines words lent =
+    lines-of words printed 1 body (spellAll sent) opens Off set-up bytes lent sent [] fit (ended refl) (sym (append-nil (spellAll sent)))
