@@ -44,10 +44,11 @@ static void start(uint8_t profile)
     draft_start(draft, profile);
 }
 
-static void begin(uint8_t required)
+static void begin(uint8_t required, uint16_t atc)
 {
     draft_printed_setup(&setup);
     setup.required = required;
+    setup.atc = atc;
     setup.profiles = 2;
     for (unsigned i = 0; i < 2; i++) {
         struct draft_profile *profile = &setup.profile[i];
@@ -99,7 +100,7 @@ static void all_refused(void)
  * that is refused. */
 static void closed_by_first(const struct first *command)
 {
-    begin(0);
+    begin(0, 0);
     for (unsigned round = 0; round < 2; round++) {
         start(1);
         for (unsigned i = 0; i < 3; i++)
@@ -117,7 +118,7 @@ static void closed_by_first(const struct first *command)
 static void closed_by_second(uint8_t required, uint64_t amount,
                              const struct second *command)
 {
-    begin(required);
+    begin(required, 0);
     for (unsigned round = 0; round < 2; round++) {
         open_online(round, amount);
         for (unsigned i = 0; i < 3; i++)
@@ -172,7 +173,7 @@ static void closings(void)
 /* A Start over an open Start (0) or an open ARQC (1, 2): of the same profile,
  * of another, of one that is not there, and at the end of the ATC, where the
  * open one stays. Then a Second before any First, or after. */
-static void start_over(unsigned open, uint8_t profile, unsigned left,
+static void start_over(unsigned open, uint8_t profile, uint16_t atc,
                        unsigned turned)
 {
     static const struct second seconds[] = {{TC, Y3, ABSENT, 0},
@@ -181,9 +182,7 @@ static void start_over(unsigned open, uint8_t profile, unsigned left,
                                             {TC, OTHER, ABSENT, 0}};
     const struct first approved = {TC, 1, ONLINE_TERMINAL};
 
-    begin(0);
-    draft->bytes[SETUP_BODY + 5] = (uint8_t)(left < 256 ? 0xFF : 0);
-    draft->bytes[SETUP_BODY + 6] = (uint8_t)(left < 256 ? 0xFF - left : 0);
+    begin(0, atc);
     if (open == 0)
         start(2);
     else
@@ -212,7 +211,7 @@ void listed_closing(struct draft *to, void (*then)(struct draft *draft))
     for (unsigned open = 0; open < 3; open++)
         for (unsigned turned = 0; turned < 2; turned++) {
             for (uint8_t profile = 1; profile <= 3; profile++)
-                start_over(open, profile, 256, turned);
-            start_over(open, 1, 1, turned);
+                start_over(open, profile, 0, turned);
+            start_over(open, 1, 65534, turned);
         }
 }
