@@ -58,7 +58,8 @@ static bool is_any(size_t i, const char *const *texts)
 
 static bool begins(size_t i, const char *text)
 {
-    return i < tokens && strncmp(source + token[i].begin, text, strlen(text)) == 0;
+    return i < tokens
+        && strncmp(source + token[i].begin, text, strlen(text)) == 0;
 }
 
 /* Tokens ---------------------------------------------------------------- */
@@ -172,29 +173,26 @@ static void mark_counting(void)
  * were. */
 static void add(size_t from, size_t to, const char *text)
 {
-    char was[400];
     const size_t begin = token[from].begin, end = token[to].end;
+    struct change *next = &change[changes];
+    char was[400];
 
     if (token[from].counts)
         return;
-    for (size_t i = 0; i < changes; i++)
-        if (change[i].begin == begin && change[i].end == end) {
-            snprintf(was, sizeof was, "%.*s", (int)(end - begin), source + begin);
-            char would[sizeof change[i].text];
-            snprintf(would, sizeof would, text, was);
-            if (strcmp(change[i].text, would) == 0)
-                return;
-        }
     if (changes == CHANGES_MAX)
         fail("too many changes");
     if (end - begin >= sizeof was)
         fail("too long a condition");
     snprintf(was, sizeof was, "%.*s", (int)(end - begin), source + begin);
-    struct change *next = &change[changes++];
     next->begin = begin;
     next->end = end;
     next->line = token[from].line;
     snprintf(next->text, sizeof next->text, text, was);
+    for (size_t i = 0; i < changes; i++) /* found before */
+        if (change[i].begin == begin && change[i].end == end
+            && strcmp(change[i].text, next->text) == 0)
+            return;
+    changes++;
 }
 
 static void add_condition(size_t from, size_t to)
@@ -348,7 +346,6 @@ static void change_statement(size_t i)
 static void change_body(size_t from, size_t to)
 {
     for (size_t i = from + 1; i < to; i++) {
-        /* Within the head of a for, a semicolon ends no statement. */
         change_conditions(i);
         change_operator(i);
         change_number(i);
@@ -356,7 +353,6 @@ static void change_body(size_t from, size_t to)
     }
 }
 
-/* A head of `for` holds no statements. */
 static bool in_for_head(size_t begin, size_t end)
 {
     for (size_t i = 0; i < tokens; i++)
