@@ -8,7 +8,7 @@
 #include "draft.h"
 
 enum { TC = 1, EUR = 0x0978, TERMINAL = 0x22, Y3 = 0x5933 };
-enum { TOO_LONG = 65537, LONGER_THAN_A_BUFFER = 300000 };
+enum { TOO_LONG = 65537, FAR_TOO_LONG = 0x2FFFF };
 
 static struct draft draft;
 static struct draft_setup setup;
@@ -66,15 +66,32 @@ static void put_too_long(void)
     put_paper(draft.length);
 }
 
-/* What is to be skipped looks like a stack itself. */
+/* Selection on, and behind a Start one byte that is no record. The length of
+ * the paper behind it would serve as the rest of a Start. */
+static void put_stray_byte(void)
+{
+    static const uint8_t always[] = {1, 1, 2, 0, 0, 0, 1, 1};
+
+    draft_printed_setup(&setup);
+    setup.version = 2;
+    draft_entry(&setup.file, always, sizeof always);
+    draft_begin(&draft);
+    draft_setup(&draft, &setup);
+    draft_start(&draft, 1);
+    draft_insert(&draft, draft.length, (const uint8_t[]){0x0A}, 1);
+    put_paper(draft.length);
+}
+
+/* What is to be skipped looks like a stack itself, and goes on beyond what a
+ * buffer of 262,144 bytes holds. */
 static void put_far_too_long(void)
 {
     uint8_t length[4];
 
     printed();
-    put32(length, LONGER_THAN_A_BUFFER);
+    put32(length, FAR_TOO_LONG);
     put(length, sizeof length);
-    for (size_t left = LONGER_THAN_A_BUFFER; left > 0;) {
+    for (size_t left = FAR_TOO_LONG; left > 0;) {
         const size_t size = 4 + draft.length;
         uint8_t bytes[4 + 1024];
         put32(bytes, (uint32_t)draft.length);
@@ -82,6 +99,16 @@ static void put_far_too_long(void)
         put(bytes, size < left ? size : left);
         left -= size < left ? size : left;
     }
+}
+
+/* An empty paper, and of a paper far too long no more than its beginning: its
+ * length, 0100A001, and what follows would serve as a paper themselves. */
+static void put_empty_and_cut(void)
+{
+    printed();
+    put((const uint8_t[]){0, 0, 0, 0}, 4);
+    put((const uint8_t[]){1, 0}, 2);
+    put(draft.bytes + 2, draft.length - 2);
 }
 
 int main(int argc, char **argv)
@@ -94,11 +121,10 @@ int main(int argc, char **argv)
     } else if (strcmp(which, "stack_long") == 0) {
         put_printed();
         put_too_long();
-        put_printed();
+        put_stray_byte();
         put_far_too_long();
         put_printed();
-        too_long(); /* not whole */
-        put_paper(draft.length - 1);
+        put_empty_and_cut();
     } else if (strcmp(which, "stack_cut") == 0) {
         put_printed();
         printed(); /* not whole */

@@ -420,6 +420,21 @@ static void beyond(void)
     past((const uint8_t[]){0x83, 0x81, 0x81}, 3);
 }
 
+/* A record without a kind before a Start that would serve as its body: the
+ * length of 0201 begins like a kind. */
+static void kindless(void)
+{
+    uint8_t long_data[0x0200] = {0};
+
+    fresh();
+    always(1);
+    begin();
+    start(0);
+    draft_data(draft, long_data, sizeof long_data);
+    draft_insert(draft, draft->start[2], (const uint8_t[]){0, 0}, 2);
+    emit();
+}
+
 /* From the first to the last of so many entries, by moves of so many at most;
  * all that are passed over are ill-formed. */
 static void ladder(unsigned entries, unsigned step)
@@ -586,6 +601,7 @@ void listed_selection(struct draft *to, void (*then)(struct draft *draft))
     tests();
     wide();
     beyond();
+    kindless();
     moves();
     tails();
 }
