@@ -202,6 +202,27 @@ static void start_over(unsigned open, uint8_t profile, uint16_t atc,
     emit_paper(draft);
 }
 
+/* A profile without an MTA after one that exceeds its own: the amount of then
+ * counts for nothing. */
+static void without_mta(void)
+{
+    const struct first small = {TC, 1, ONLINE_TERMINAL};
+    const struct first large = {TC, MTA + 1, ONLINE_TERMINAL};
+
+    begin(0, 0);
+    draft->bytes[SETUP_BODY + SETUP_HEAD + SETUP_PROFILE + 13] = 0;
+    for (unsigned round = 0; round < 2; round++) {
+        start(1);
+        first(round == 0 ? &large : &small);
+        start(2);
+        first(&small);
+        start(2);
+        first(&large);
+        second(&(struct second){TC, Z3, ABSENT, 0});
+    }
+    emit_paper(draft);
+}
+
 void listed_closing(struct draft *to, void (*then)(struct draft *draft))
 {
     draft = to;
@@ -214,4 +235,5 @@ void listed_closing(struct draft *to, void (*then)(struct draft *draft))
                 start_over(open, profile, 0, turned);
             start_over(open, 1, 65534, turned);
         }
+    without_mta();
 }
