@@ -1142,4 +1142,7 @@ void listed_papers(uint64_t seed, struct draft *to,
     mta();
     leftovers();
     listed_selection(to, then);
+    listed_blocks(to, then);
+    listed_closing(to, then);
+    listed_bounds(to, then);
 }

@@ -16,4 +16,14 @@ void listed_papers(uint64_t seed, struct draft *draft,
  * seed. */
 void listed_selection(struct draft *draft, void (*emit)(struct draft *draft));
 
+/* Its blocks of some bytes and its many values, each check. */
+void listed_blocks(struct draft *draft, void (*emit)(struct draft *draft));
+
+/* Every way a transaction closes, what closed it sent again, and Starts over
+ * what is open. */
+void listed_closing(struct draft *draft, void (*emit)(struct draft *draft));
+
+/* Every version and kind that is none, and the largest of everything. */
+void listed_bounds(struct draft *draft, void (*emit)(struct draft *draft));
+
 #endif

@@ -379,12 +379,28 @@ static void wide(void)
     emit();
 }
 
+/* So many entries, each with this action, and the last one moves past the end.
+ * The Start behind them would serve as an entry more: its length 0A01 and kind
+ * 2 read like E, P and L. */
+static void past(const uint8_t *moves, unsigned entries)
+{
+    uint8_t behind[0x0A00] = {2, 0, 0, 0, 0, 0, 1, 1};
+
+    fresh();
+    setup.file.on = 1;
+    for (unsigned i = 0; i < entries; i++)
+        always(moves[i]);
+    begin();
+    draft_data(draft, behind, sizeof behind);
+    first(TC, 1);
+    emit();
+}
+
 /* A file that ends too early for one who does not look: what stands behind an
  * entry, or behind the file, would serve as the rest or as the next entry. */
 static void beyond(void)
 {
     uint8_t filler[255] = {0};
-    uint8_t behind[0x0A00] = {2, 0, 0, 0, 0, 0, 1, 1};
 
     fresh(); /* nL + 6 is 262, which is not 6 */
     entry(&(const struct bytes){6, {1, 128, 2, 0, 0, 0}});
@@ -396,11 +412,26 @@ static void beyond(void)
     first(TC, 1);
     emit();
 
-    fresh(); /* length 0A01 and kind 2 read like E, P and L */
-    always(0x81);
+    past(NULL, 0);
+    past((const uint8_t[]){0x81}, 1);
+    past((const uint8_t[]){0x81, 0x81}, 2);
+    past((const uint8_t[]){0x81, 0x81, 0x81}, 3);
+    past((const uint8_t[]){0x82, 0x81, 0x81}, 3);
+    past((const uint8_t[]){0x83, 0x81, 0x81}, 3);
+}
+
+/* A record without a kind before a Start that would serve as its body: the
+ * length of 0201 begins like a kind. */
+static void kindless(void)
+{
+    uint8_t long_data[0x0200] = {0};
+
+    fresh();
+    always(1);
     begin();
-    draft_data(draft, behind, sizeof behind);
-    first(TC, 1);
+    start(0);
+    draft_data(draft, long_data, sizeof long_data);
+    draft_insert(draft, draft->start[2], (const uint8_t[]){0, 0}, 2);
     emit();
 }
 
@@ -570,6 +601,7 @@ void listed_selection(struct draft *to, void (*then)(struct draft *draft))
     tests();
     wide();
     beyond();
+    kindless();
     moves();
     tails();
 }

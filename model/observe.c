@@ -31,6 +31,19 @@ static unsigned terminal_place(uint8_t terminal)
     return i;
 }
 
+/* How the last transaction closed, in the order of CLOSED_WAYS. */
+enum {
+    BY_FIRST_TC,
+    BY_FIRST_AAC = 2,
+    BY_UNABLE = 5,
+    BY_VERIFIED = 11,
+    BY_FAILED = 19,
+    BY_ABSENT_REQUIRED,
+    BY_ABSENT,
+    NOT_CLOSED = 23
+};
+static unsigned closed_by;
+
 /* One limit of one accumulator; row counts from the lower ones on. */
 static void observe_limit(unsigned row, unsigned switches, uint64_t value,
                           struct converted added, uint64_t limit)
@@ -278,7 +291,15 @@ void observe_sent(const struct card *card)
 void observe_setup(const struct setup *setup, unsigned version)
 {
     const unsigned on = setup->selection.on;
+    const uint8_t *at = setup->selection.file;
+    unsigned long_entries = 0;
 
+    closed_by = NOT_CLOSED;
+    for (unsigned i = 0; on && i < setup->selection.entries; i++) {
+        long_entries += *at == 255;
+        at += 1 + *at;
+    }
+    reached_if(long_entries == 255, LARGEST + 2);
     if (version < VERSION_SELECTION) {
         reached(SETUP_TAKEN + 0);
     } else if (version < VERSION_SYLLABUS) {
@@ -294,6 +315,7 @@ void observe_file(const struct selection *selection,
 {
     if (selection->entries == 0)
         return;
+    reached_if(start->length > 64000, LARGEST + 3);
     if (start->length < 2)
         reached(DATA_LENGTH + (unsigned)start->length);
     else
@@ -308,6 +330,8 @@ void observe_test(unsigned type, unsigned values, size_t width,
     unsigned match = 0;
     bool bare = false, loose = false;
 
+    reached_if(values > 3 && width == 3, BLOCKS + 2 * type);
+    reached_if(values > 3 && width == 8, BLOCKS + 2 * type + 1);
     for (size_t i = 0; i < width; i++)
         masked[i] = data[i] & mask[i];
     if (type != 0) {
@@ -316,6 +340,13 @@ void observe_test(unsigned type, unsigned values, size_t width,
                 + (order < 0 ? 0 : 1 + (order > 0)));
         reached_if(masked[0] == value[0] && order != 0, LATER_BYTE);
         reached_if(values > 1, FURTHER_VALUE);
+        if (order != 0 && width > 2) {
+            size_t by = 0;
+            while (masked[by] == value[by])
+                by++;
+            reached(DECIDED_BY + (order < 0 ? 0 : 3)
+                    + (by == 0 ? 0 : 1 + (by == width - 1)));
+        }
         return;
     }
     while (match < values
@@ -395,6 +426,7 @@ void observe_start(const struct card *card, const struct profile *found,
         reached(START_DONE + (unsigned)card->due);
         reached(START_PROFILE + place);
         reached_if(card->atc == ATC_MAX - 1, START_LAST);
+        closed_by = NOT_CLOSED;
     }
 }
 
@@ -405,6 +437,7 @@ void observe_first_refusal(const struct card *card, const struct first *first)
     const bool currency = !is_currency(first->currency);
 
     if (card->due != FIRST_DUE) {
+        reached_if(closed_by < NOT_CLOSED, CLOSED_FIRST + closed_by);
         reached(FIRST_REFUSED_2 + (card->due == SECOND_DUE));
         reached_if(type, FIRST_REFUSED_2_OF + 0);
         reached_if(amount || currency, FIRST_REFUSED_2_OF + 1);
@@ -427,6 +460,12 @@ void observe_first(const struct card *card, const struct first *first,
     const bool by_default = adr & profile->default_mask;
     const unsigned offline = terminal_place(first->terminal);
 
+    if (given == TC)
+        closed_by = BY_FIRST_TC + (offline < 5);
+    else if (given == AAC && first->type == AAC)
+        closed_by = BY_FIRST_AAC;
+    else if (given == AAC)
+        closed_by = BY_FIRST_AAC + (adr & profile->decline_mask ? 1 : 2);
     for (unsigned i = 0; i < 22; i++)
         reached_if(adr >> i & 1, ADR_SET + i);
     if (given == AAC && counts_any_decline(profile)) {
@@ -466,6 +505,7 @@ void observe_second_refusal(const struct card *card,
     const bool data = second->issuer_data > ISSUER_FAILED;
 
     if (card->due != SECOND_DUE) {
+        reached_if(closed_by < NOT_CLOSED, CLOSED_SECOND + closed_by);
         reached(SECOND_REFUSED_2 + (card->due == FIRST_DUE));
         reached_if(type, SECOND_REFUSED_2_OF + 0);
         reached_if(data, SECOND_REFUSED_2_OF + 1);
@@ -516,12 +556,28 @@ void observe_second(const struct card *card, const struct second *second)
     }
 }
 
+static unsigned way_of(const struct card *card, const struct second *second,
+                       unsigned given)
+{
+    if (unable_code(second->code))
+        return BY_UNABLE + (second->code == 0x5A33 ? 3 : 0)
+            + (given == TC ? 0 : 1 + (second->type == TC));
+    if (second->issuer_data == ISSUER_VERIFIED)
+        return BY_VERIFIED + (given == TC ? 0 : 4) + (second->csu[1] & 3);
+    if (second->issuer_data == ISSUER_FAILED)
+        return BY_FAILED;
+    if (card->setup.authentication_required)
+        return BY_ABSENT_REQUIRED;
+    return BY_ABSENT + (given == TC);
+}
+
 void observe_second_answer(const struct card *card,
                            const struct second *second, unsigned given)
 {
     const struct profile *profile = card->open.profile;
     const uint32_t adr = card->open.adr;
 
+    closed_by = way_of(card, second, given);
     if (!unable_code(second->code)) {
         reached_if(given == AAC && counts_any_decline(profile),
                    DECLINE_ONLINE + second->issuer_data);

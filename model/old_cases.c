@@ -47,7 +47,10 @@ static void vectors(void)
         unsigned digits; /* 0: refused */
         int shift;
     } rates[] = {
-        {0x3FEB333333333333, 85, -2},   {0x3FFCCCCCCCCCCCCD, 18, -1},
+        {0x3FEB333333333333, 85, -2},   {0xBFEB333333333333, 0, 0},
+        {0x3FFCCCCCCCCCCCCD, 18, -1},   {0x0010000000000000, 0, 0},
+        {0x3ED0106E623350E6, 0, 0},     {0x3EB0C2AC1DBBE3D7, 0, 0},
+        {0x4360000000000000, 0, 0},     {0x518A2A31023557C8, 0, 0},
         {0x3F816872B020C49C, 85, -4},   {0x3F9CAC083126E979, 28, -3},
         {0x3FEA3D70A3D70A3D, 82, -2},   {0x3FE570A3D70A3D71, 67, -2},
         {0x3FD3333333333333, 3, -1},    {0x3FD3333333333334, 0, 0},
@@ -60,14 +63,16 @@ static void vectors(void)
         {0x3DDB7CDFD9D7BDBB, 0, 0},     {0x3FD5555555555555, 0, 0},
         {0x0000000000000000, 0, 0},     {0x8000000000000000, 0, 0},
         {0x7FF8000000000000, 0, 0},     {0x7FF0000000000000, 0, 0},
-        {0x0000000000000001, 0, 0},     {0xBFEB333333333333, 0, 0},
-        {0xFFF0000000000000, 0, 0},     {0x3FE0000000000000, 5, -1}};
+        {0x0000000000000001, 0, 0},     {0xFFF0000000000000, 0, 0},
+        {0x3FE0000000000000, 5, -1}};
     static const struct {
         uint64_t mta, whole;
         unsigned refusal;
     } mtas[] = {
         {0x0000000000000000, 0, 0},
         {0x40C81C8000000000, 12345, 0},
+        {0xC0C81C8000000000, 0, 11},
+        {0x0010000000000000, 0, 11},
         {0x426D1A94A1FFE000, UINT64_C(999999999999), 0},
         {0x426D1A94A2000000, 0, 11},
         {0x426D1A94A1FFF000, 0, 11},
@@ -93,7 +98,7 @@ static void vectors(void)
     }
 
     /* 9, 6, 10, 11 in this order. */
-    fill(old, rates[7].rate, mtas[3].mta);
+    fill(old, rates[1].rate, mtas[2].mta);
     expect(old, OLD_BYTES, 10, 0, 0, 0);
     put16(old, 0x0978);
     expect(old, OLD_BYTES, 6, 0, 0, 0);

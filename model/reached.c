@@ -140,6 +140,8 @@ int main(int argc, char **argv)
             line[count] = '\0';
             see_line(line, count);
         }
+        reached_count[LARGEST + 0] += length == PAPER_MAX;
+        reached_count[LARGEST + 1] += sitting.record > 21000;
     }
     if (next != BUNDLE_END) {
         fprintf(stderr, "reached: the stack is not whole\n");

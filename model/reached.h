@@ -12,6 +12,16 @@
 #include <stdbool.h>
 #include <stdint.h>
 
+/* The ways a transaction closes, as observe.c numbers them. */
+#define CLOSED_WAYS                                                            \
+    "First TC|First TC, offline-only|First AAC, requested|"                    \
+    "First AAC by Decline|First AAC by Default|"                               \
+    "Y3 TC|Y3 AAC, requested|Y3 AAC by Default|"                               \
+    "Z3 TC|Z3 AAC, requested|Z3 AAC by Default|"                               \
+    "verified TC 00|verified TC 01|verified TC 10|verified TC 11|"             \
+    "verified AAC 00|verified AAC 01|verified AAC 10|verified AAC 11|"         \
+    "failed|absent, required|absent AAC|absent TC"
+
 #define REACHED_LIST(X)                                                        \
     X(PAPER_EMPTY, 1, "refusal 9", "paper empty", "")                          \
     X(PAPER_LONG, 1, "refusal 9", "paper over 65,536 bytes", "")               \
@@ -92,6 +102,10 @@
       "01|02 off|02 on|03 off|03 on")                                          \
     X(SYLLABUS_TAKEN, 2, "set-up", "taken, of version 03, syllabus", "#0")     \
                                                                                \
+    X(LARGEST, 4, "paper", "the largest",                                      \
+      "65,536 bytes|21,000 records and more|255 entries of 255 bytes|"         \
+      "terminal's data over 64,000 bytes")                                     \
+                                                                               \
     X(FILE_EMPTY, 1, "refusal 12", "empty file", "")                           \
     X(ENTRY_SHORT, 2, "refusal 12", "E under 6", "0|1 to 5")                   \
     X(ENTRY_BLOCKS, 2, "refusal 12", "n under 2", "#0")                        \
@@ -117,6 +131,12 @@
     X(LESS_THAN, 3, "selection", "less than", "less|equal|greater")            \
     X(GREATER_THAN, 3, "selection", "greater than", "less|equal|greater")      \
     X(LATER_BYTE, 1, "selection", "decided after the first byte", "")          \
+    X(BLOCKS, 6, "selection",                                                  \
+      "four and more values, check and width",                                 \
+      "0 and 3|0 and 8|1 and 3|1 and 8|2 and 3|2 and 8")                       \
+    X(DECIDED_BY, 6, "selection", "three and more bytes, decided by",          \
+      "less: the first|less: a middle one|less: the last|"                     \
+      "greater: the first|greater: a middle one|greater: the last")            \
     X(FURTHER_VALUE, 1, "selection",                                           \
       "less or greater than, further values have no effect",                   \
       "")                                                                      \
@@ -350,6 +370,9 @@
     X(ABSENT_KEEPS, 5, "Second",                                               \
       "absent, keeps history bit (bit 0: required)",                           \
       "#0")                                                                    \
+                                                                               \
+    X(CLOSED_FIRST, 23, "closed", "then a First: refused 2", CLOSED_WAYS)      \
+    X(CLOSED_SECOND, 23, "closed", "then a Second: refused 2", CLOSED_WAYS)    \
                                                                                \
     X(IAD_SENT, 5, "IAD", "accumulator sent", "#0")                            \
     X(IAD_SENT_INACTIVE, 4, "IAD", "inactive, not 0 and sent, accumulator",    \

@@ -1,0 +1,8 @@
+// A stack with papers that are too long, one of them longer than the buffer: each is answered `0 9`
+// and skipped, and the paper behind it is answered. The last of them ends before its length says.
+fn main() {
+    let mut buffer = [0u8; 262_144];
+    let mut room = [0u8; 65_536];
+    let mut words = [0u64; 164];
+    desk::run_stack(&mut buffer, &mut words, &mut room);
+}
