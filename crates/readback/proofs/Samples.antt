@@ -2,16 +2,18 @@
 use mathlib.Core.Path.{_≡_, refl}
 use mathlib.Core.List.{List, [], _∷_}
 use Prim.Native.Nat.{ℕ}
+use native.Mathlib.Omega.{arith}
 use lib.ListN.{replicate}
 use Rattle.iad.specs.declared.Iad.{Iad}
 use Rattle.iad.specs.declared.ReadIad.the-variants.{Fields}
 use Rattle.iad.specs.Iad.{cvrOf, pairsValue, iadOf, hasFixedBytes, isCvr, arePairs, isIad, readIad, readNumber}
 use Rattle.iad.specs.Iad.{pairsOf, iadBytes, isWritable, writeIad, written, writtenNumber}
 use Rattle.wire.specs.Wire.{number}
-use Rattle.lines.specs.Lines.{digit, decimal, hex, refusalLine, startLine, selectedLine, cryptogramLine}
-use Rattle.readback.specs.WellFormed.{WellFormed, Writable, LaidOut}
-use Rattle.readback.specs.Fields.{wordsIn, areDigits, valueIn, isHex, bytesIn, Two, Three, Four, Five, fieldsIn}
+use Rattle.lines.specs.Lines.{digit, decimal, hex, startLine, cryptogramLine}
+use Rattle.readback.specs.WellFormed.{WellFormed, Writable, OfBytes, LaidOut}
+use Rattle.readback.specs.Fields.{wordsIn, areDigits, valueIn, isHex, bytesIn, Three, Five, fieldsIn}
 use Rattle.readback.proofs.Readable.{exactly-readable, exactly-read}
+use Rattle.readback.proofs.Told.{cryptogram-told}
 
 -- the bytes of line 2, with byte 1 and byte 5 of the CVR left open
 abbrev bytes : ℕ → ℕ → List ℕ
@@ -41,6 +43,13 @@ sample-formed = exactly-readable (bytes 0x90 0) .0 (rw sample-read)
 
 pub sample-held : Writable (fields 0x90 0) × LaidOut (fields 0x90 0) (bytes 0x90 0)
 sample-held = exactly-read (bytes 0x90 0) (fields 0x90 0) .0 sample-read
+
+pub sample-told : fieldsIn (cryptogramLine 2 0x40 1 (fields 0x90 0)) ≡ Five 2 0 (0x40 ∷ []) 1 (bytes 0x90 0)
+sample-told =
+    let (writable, laid) = sample-held in
+    let small : OfBytes (fields 0x90 0) =
+    record { key = omega arith; cvr1 = omega arith; cvr2 = omega arith; cvr3 = omega arith; cvr4 = omega arith; first = omega arith; second = omega arith } in
+    cryptogram-told 2 (omega arith) 0x40 1 (fields 0x90 0) (bytes 0x90 0) (omega arith) (omega arith) writable small laid
 
 pub sample-first-type : readNumber (readIad (bytes 0xB0 0)) ≡ 8
 unfolding readIad isIad hasFixedBytes number isCvr cvrOf arePairs iadOf pairsValue
