@@ -2,6 +2,9 @@ pub mod Places
 pub mod Writes
 pub mod Readable
 pub mod Leaves
+pub mod Octets
 pub mod Words
+pub mod Unique
 pub mod Told
+pub mod Only
 pub mod Samples

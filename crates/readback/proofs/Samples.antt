@@ -2,59 +2,83 @@
 use mathlib.Core.Path.{_≡_, refl}
 use mathlib.Core.List.{List, [], _∷_}
 use Prim.Native.Nat.{ℕ}
+use native.Mathlib.Omega.{arith}
 use lib.ListN.{replicate}
 use Rattle.iad.specs.declared.Iad.{Iad}
 use Rattle.iad.specs.declared.ReadIad.the-variants.{Fields}
 use Rattle.iad.specs.Iad.{cvrOf, pairsValue, iadOf, hasFixedBytes, isCvr, arePairs, isIad, readIad, readNumber}
 use Rattle.iad.specs.Iad.{pairsOf, iadBytes, isWritable, writeIad, written, writtenNumber}
 use Rattle.wire.specs.Wire.{number}
-use Rattle.lines.specs.Lines.{digit, decimal, hex, refusalLine, startLine, selectedLine, cryptogramLine}
-use Rattle.readback.specs.WellFormed.{WellFormed, Writable, LaidOut}
-use Rattle.readback.specs.Fields.{wordsIn, areDigits, valueIn, isHex, bytesIn, Two, Three, Four, Five, fieldsIn}
+use Rattle.lines.specs.Lines.{digit, decimal, hex, startLine, cryptogramLine}
+use Rattle.readback.specs.WellFormed.{WellFormed, Writable, OfBytes, LaidOut}
+use Rattle.readback.specs.Fields.{wordsIn, areDigits, valueIn, isHex, bytesIn, Three, Five, fieldsIn}
 use Rattle.readback.proofs.Readable.{exactly-readable, exactly-read}
+use Rattle.readback.proofs.Told.{cryptogram-told}
 
--- the bytes of line 2, with byte 1 and byte 5 of the CVR left open
-abbrev bytes : ℕ → ℕ → List ℕ
-bytes byte1 byte5 =
-    0x0F ∷ 0xA5 ∷ 0x01 ∷ byte1 ∷ 0x30 ∷ 0x00 ∷ 0x00 ∷ byte5 ∷ 0x00 ∷ 0x00 ∷ 0x00 ∷ 0x00 ∷ 0x50 ∷ 0x00 ∷ 0x01 ∷ 0x00 ∷ 0x0F ∷ 0x01
+-- the bytes of line 2, with byte 1 and byte 5 of the CVR, the pair of digits 50 and the profile left open
+abbrev like : ℕ → ℕ → ℕ → ℕ → List ℕ
+like byte1 byte5 pair profile =
+    0x0F ∷ 0xA5 ∷ 0x01 ∷ byte1 ∷ 0x30 ∷ 0x00 ∷ 0x00 ∷ byte5 ∷ 0x00 ∷ 0x00 ∷ 0x00 ∷ 0x00 ∷ pair ∷ 0x00 ∷ 0x01 ∷ 0x00 ∷ 0x0F ∷ profile
     ∷ replicate 14 0x00
 
--- their fields
-abbrev fields : ℕ → ℕ → Iad
-fields byte1 byte5 =
+abbrev bytes : List ℕ
+bytes = like 0x90 0x00 0x50 0x01
+
+-- the fields of line 2, with byte 1 of the CVR left open
+abbrev fields : ℕ → Iad
+fields byte1 =
     record {
       accumulator = record { 0 = 5000 };
       key = 0x01;
-      cvr = record { byte1 = byte1; byte2 = 0x30; byte3 = 0x00; byte4 = 0x00; byte5 = byte5 };
+      cvr = record { byte1 = byte1; byte2 = 0x30; byte3 = 0x00; byte4 = 0x00; byte5 = 0x00 };
       first = 1;
       second = 0;
       profile = 1;
     }
 
-pub sample-read : readIad (bytes 0x90 0) ≡ Fields (fields 0x90 0)
+pub sample-read : readIad bytes ≡ Fields (fields 0x90)
 unfolding readIad isIad hasFixedBytes number isCvr cvrOf arePairs iadOf pairsValue
 sample-read = refl
 
 -- so the premises of the statements can be met
-pub sample-formed : WellFormed (bytes 0x90 0)
-sample-formed = exactly-readable (bytes 0x90 0) .0 (rw sample-read)
+pub sample-formed : WellFormed bytes
+sample-formed = exactly-readable bytes .0 (rw sample-read)
 
-pub sample-held : Writable (fields 0x90 0) × LaidOut (fields 0x90 0) (bytes 0x90 0)
-sample-held = exactly-read (bytes 0x90 0) (fields 0x90 0) .0 sample-read
+pub sample-held : Writable (fields 0x90) × LaidOut (fields 0x90) bytes
+sample-held = exactly-read bytes (fields 0x90) .0 sample-read
 
-pub sample-first-type : readNumber (readIad (bytes 0xB0 0)) ≡ 8
+pub sample-told : fieldsIn (cryptogramLine 2 0x40 1 (fields 0x90)) ≡ Five 2 0 (0x40 ∷ []) 1 bytes
+sample-told =
+    let (writable, laid) = sample-held in
+    let small : OfBytes (fields 0x90) =
+    record { key = omega arith; cvr1 = omega arith; cvr2 = omega arith; cvr3 = omega arith; cvr4 = omega arith; first = omega arith; second = omega arith } in
+    cryptogram-told 2 (omega arith) 0x40 1 (fields 0x90) bytes (omega arith) (omega arith) writable small laid
+
+pub sample-first-type : readNumber (readIad (like 0xB0 0x00 0x50 0x01)) ≡ 8
 unfolding readIad isIad hasFixedBytes number isCvr cvrOf arePairs iadOf pairsValue
 sample-first-type = refl
 
-pub sample-second-type : readNumber (readIad (bytes 0xD0 0)) ≡ 8
+pub sample-second-type : readNumber (readIad (like 0xD0 0x00 0x50 0x01)) ≡ 8
 unfolding readIad isIad hasFixedBytes number isCvr cvrOf arePairs iadOf pairsValue
 sample-second-type = refl
 
-pub sample-byte-8 : readNumber (readIad (bytes 0x90 1)) ≡ 8
+pub sample-byte-8 : readNumber (readIad (like 0x90 0x01 0x50 0x01)) ≡ 8
 unfolding readIad isIad hasFixedBytes number isCvr cvrOf arePairs iadOf pairsValue
 sample-byte-8 = refl
 
-pub sample-unwritten : writtenNumber (writeIad (fields 0xB0 0) (replicate 32 0)) ≡ 6
+pub sample-digit : readNumber (readIad (like 0x90 0x00 0x5A 0x01)) ≡ 8
+unfolding readIad isIad hasFixedBytes number isCvr cvrOf arePairs iadOf pairsValue
+sample-digit = refl
+
+pub sample-profile : readNumber (readIad (like 0x90 0x00 0x50 125)) ≡ 8
+unfolding readIad isIad hasFixedBytes number isCvr cvrOf arePairs iadOf pairsValue
+sample-profile = refl
+
+pub sample-no-profile : readNumber (readIad (like 0x90 0x00 0x50 0)) ≡ 8
+unfolding readIad isIad hasFixedBytes number isCvr cvrOf arePairs iadOf pairsValue
+sample-no-profile = refl
+
+pub sample-unwritten : writtenNumber (writeIad (fields 0xB0) (replicate 32 0)) ≡ 6
 unfolding writeIad isWritable isCvr
 sample-unwritten = refl
 
@@ -62,6 +86,6 @@ pub sample-start : fieldsIn (startLine 12 65_535) ≡ Three 12 0 65_535
 unfolding startLine decimal digit fieldsIn wordsIn areDigits valueIn
 sample-start = refl
 
-pub sample-cryptogram : fieldsIn (cryptogramLine 2 0x40 1 (fields 0x90 0)) ≡ Five 2 0 (0x40 ∷ []) 1 (bytes 0x90 0)
+pub sample-cryptogram : fieldsIn (cryptogramLine 2 0x40 1 (fields 0x90)) ≡ Five 2 0 (0x40 ∷ []) 1 bytes
 unfolding cryptogramLine written writeIad isWritable isCvr iadBytes pairsOf decimal digit hex fieldsIn wordsIn areDigits valueIn isHex bytesIn
 sample-cryptogram = refl

@@ -10,8 +10,9 @@ use Rattle.iad.specs.Iad.{iadBytes, writeIad, written}
 use Rattle.lines.specs.Lines.{decimal, hexByte, hex, refusalLine, startLine, selectedLine, cryptogramLine}
 use Rattle.lines.proofs.Each.{none, more}
 use Rattle.lines.proofs.Fields.{decimal-plain, hex-plain}
-use Rattle.readback.specs.WellFormed.{octet, Octets, Writable, LaidOut}
+use Rattle.readback.specs.WellFormed.{Octets, Writable, OfBytes, LaidOut}
 use Rattle.readback.specs.Fields.{Two, Three, Four, Five, fieldsIn}
+use Rattle.readback.proofs.Octets.{octets}
 use Rattle.readback.proofs.Words.{reads-words, says, spells}
 use Rattle.readback.proofs.Leaves.{zeros, filled}
 
@@ -49,15 +50,15 @@ module _ (number : ℕ) (n : number < 100_000) where
       rw (words, a .good, z .good, b .good, c .good, a .value, z .value, b .value, c .value)
 
   -- the IAD's word holds the bytes of the fields
-  pub cryptogram-told : (cid atc : ℕ) (iad : Iad) (s : List ℕ) → cid < 256 → atc < 100_000 → Writable iad → LaidOut iad s → Octets s
+  pub cryptogram-told : (cid atc : ℕ) (iad : Iad) (s : List ℕ) → cid < 256 → atc < 100_000 → Writable iad → OfBytes iad → LaidOut iad s
       → fieldsIn (cryptogramLine number cid atc iad) ≡ Five number 0 (cid ∷ []) atc s
   unfolding fieldsIn cryptogramLine hex
-  cryptogram-told cid atc iad s c t w l o =
+  cryptogram-told cid atc iad s c t w o l =
       let a = says number n in
       let z = says 0 (omega arith) in
       let k = spells (cid ∷ []) (one-octet cid c) in
       let b = says atc t in
-      let i = spells s o in
+      let i = spells s (octets iad s w o l) in
       let plain =
       more (decimal-plain number) (more (decimal-plain 0) (more (hex-plain (cid ∷ [])) (more (decimal-plain atc) (more (hex-plain s) none)))) in
       let words = reads-words (decimal number) (decimal 0 ∷ hexByte cid ∷ decimal atc ∷ hex s ∷ []) plain in

@@ -49,6 +49,16 @@ pub record Writable (iad : Iad) : Type 0 where
   pub fifth : iad .cvr .byte5 ≡ 0
   pub profile : Profile (iad .profile)
 
+-- fields that are bytes; of CVR byte 5 and the profile `Writable` says more
+pub record OfBytes (iad : Iad) : Type 0 where
+  pub key : iad .key < 256
+  pub cvr1 : iad .cvr .byte1 < 256
+  pub cvr2 : iad .cvr .byte2 < 256
+  pub cvr3 : iad .cvr .byte3 < 256
+  pub cvr4 : iad .cvr .byte4 < 256
+  pub first : iad .first < 256
+  pub second : iad .second < 256
+
 -- the fields that writing refuses, one by one
 pub data Unwritable (iad : Iad) : Type 0 where
   above : 999_999_999_999 < iad .accumulator .0 → Unwritable iad
