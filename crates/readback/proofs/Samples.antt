@@ -82,6 +82,11 @@ pub sample-unwritten : writtenNumber (writeIad (fields 0xB0) (replicate 32 0)) �
 unfolding writeIad isWritable isCvr
 sample-unwritten = refl
 
+-- 6 before 7
+pub sample-no-room : writtenNumber (writeIad (fields 0xB0) []) ≡ 6
+unfolding writeIad isWritable isCvr
+sample-no-room = refl
+
 pub sample-start : fieldsIn (startLine 12 65_535) ≡ Three 12 0 65_535
 unfolding startLine decimal digit fieldsIn wordsIn areDigits valueIn
 sample-start = refl
