@@ -12,6 +12,7 @@ use Rattle.ranges.specs.Ranges.{isSetup}
 use Rattle.ranges.proofs.Accepted.{accepted}
 use Rattle.setup.proofs.Faithful.{Bytes}
 use Rattle.rows.specs.Rows.{Field, _of_, spelled, Fits, widths, Four, Limits, Accumulator, Profile, Conversion, Setup, listed, each, accumulatorRow, counterRow, firstRow, headRow, profileHead, limitsRow, sentRow, profileRow, conversionRow, setupRow, body}
+use Rattle.rows.proofs.Placed.{profile-width, conversion-width}
 use Rattle.rows.proofs.Spelling.{Stands, joins, widths-append, widths-each, stands-fit, whole-spelled}
 
 -- so many of a width, one after the other
@@ -92,14 +93,6 @@ module _ (s : List ℕ) where
   limits-stand : (w at : ℕ) → Stands s at (limitsRow w (limitsFrom w at))
   unfolding Stands limitsFrom
   limits-stand w at = (refl, (refl, (refl, tt)))
-
-  profile-width : (p : Profile) → widths (profileRow p) ≡ 107
-  unfolding profileRow
-  profile-width p = refl
-
-  conversion-width : (c : Conversion) → widths (conversionRow c) ≡ 7
-  unfolding conversionRow
-  conversion-width c = refl
 
   conversion-stands : (at : ℕ) → Stands s at (conversionRow (conversionFrom at))
   unfolding Stands conversionRow conversionFrom
