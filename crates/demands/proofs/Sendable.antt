@@ -99,18 +99,20 @@ module _ (s : List ℕ) (syllabus : ℕ) (bytes : Bytes s) (good : isSetup s ≡
       let given = gives s syllabus bytes good words size commands (FirstCommand first) kind atc iad e in
       let cvr = given .verifies in
       let sent = given .sends in
-      let fits = accepted s good in
-      (sendable s fits _ (given .known) iad (sent .profile-number) (sent-within s syllabus _ _ _ iad sent)
-      (types-fine _ (omega (arith, cvr .byte1-b87)) (omega (arith, cvr .byte1-b65, type-below kind))) (cvr .byte5-all),
-      sent-bytes s syllabus _ _ _ _ _ _ _ _ _ _ iad bytes (fits .pin) (omega arith) cvr sent)
+      let fits = accepted s good in (
+        sendable s fits _ (given .known) iad (sent .profile-number) (sent-within s syllabus _ _ _ iad sent)
+            (types-fine _ (omega (arith, cvr .byte1-b87)) (omega (arith, cvr .byte1-b65, type-below kind))) (cvr .byte5-all),
+        sent-bytes s syllabus _ _ _ _ _ _ _ _ _ _ iad bytes (fits .pin) (omega arith) cvr sent,
+      )
   sent-fine (SecondCommand second) kind atc iad e =
       let given = gives s syllabus bytes good words size commands (SecondCommand second) kind atc iad e in
       let cvr = given .verifies in
       let sent = given .sends in
-      let fits = accepted s good in
-      (sendable s fits _ (given .known) iad (sent .profile-number) (sent-within s syllabus _ _ _ iad sent)
-      (types-fine _ (omega (arith, cvr .byte1-b87, type-below kind)) (omega (arith, cvr .byte1-b65))) (cvr .byte5-all),
-      sent-bytes s syllabus _ _ _ _ _ _ _ _ _ _ iad bytes (fits .pin) (type-below kind) cvr sent)
+      let fits = accepted s good in (
+        sendable s fits _ (given .known) iad (sent .profile-number) (sent-within s syllabus _ _ _ iad sent)
+            (types-fine _ (omega (arith, cvr .byte1-b87, type-below kind)) (omega (arith, cvr .byte1-b65))) (cvr .byte5-all),
+        sent-bytes s syllabus _ _ _ _ _ _ _ _ _ _ iad bytes (fits .pin) (type-below kind) cvr sent,
+      )
 
   -- THE IAD OF EVERY ANSWER CAN BE WRITTEN, its fields are bytes, and the 32 bytes that go out hold them and are well formed
   pub written-out : (command : Command) (kind : Kind) (atc : ℕ) (iad : Iad)
