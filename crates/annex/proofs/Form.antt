@@ -77,8 +77,8 @@ module _ (file : List ℕ) (at : ℕ) where
 
 -- the tests of `isWellFormed`, as facts
 parts : (e : List ℕ) → Decides (isWellFormed e)
-    (((((((length e ≡ entryLength e + 1) × (6 ≤ entryLength e)) × (2 ≤ blocks e)) × (entryLength e ≡ blocks e * blockLength e + 6)) × (checkType e ≤ 2))
-    × (0 < blockLength e)) × (0 < position e))
+    (((((((length e ≡ entryLength e + 1) × (6 ≤ entryLength e)) × (2 ≤ blocks e)) × (entryLength e ≡ blocks e * blockLength e + 6))
+    × (checkType e ≤ 2)) × (0 < blockLength e)) × (0 < position e))
 unfolding isWellFormed
 parts e =
     equals (length e) (entryLength e + 1) and at-most 6 (entryLength e) and at-most 2 (blocks e) and equals (entryLength e) (blocks e * blockLength e + 6)

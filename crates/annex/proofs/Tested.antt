@@ -117,7 +117,9 @@ module _ (file : List ℕ) (at : ℕ) (w : Whole file at) (d : List ℕ) (fs : B
       (λ z. simp (eq-eqb (checkType e) 0 (check-now ∙ z)) (f z))
       (λ n. given (ℕ-discrete (check file at) 1)
       (λ o. simp (eq-eqb (checkType e) 1 (check-now ∙ o), ne-eqb (checkType e) 0 (λ z. n (sym check-now ∙ z))) (g o))
-      (λ m. simp (ne-eqb (checkType e) 0 (λ z. n (sym check-now ∙ z)), ne-eqb (checkType e) 1 (λ z. m (sym check-now ∙ z))) (h (omega (arith, w .known)))))
+      (λ m.
+      let two : check file at ≡ 2 = omega (arith, w .known) in
+      simp (ne-eqb (checkType e) 0 (λ z. n (sym check-now ∙ z)), ne-eqb (checkType e) 1 (λ z. m (sym check-now ∙ z))) (h two)))
 
   -- an entry that passes by the file's bytes passes the test
   pub holds : Passes file at d → passes e d ≡ true
