@@ -7,3 +7,4 @@ pub mod Lines
 pub mod Parsed
 pub mod Papers
 pub mod Witness
+pub mod Samples
