@@ -8,3 +8,4 @@ pub mod Parsed
 pub mod Papers
 pub mod Witness
 pub mod Samples
+pub mod Text

@@ -18,7 +18,7 @@ use Rattle.spelling.specs.Sitting.{refused, command, reading}
 
 -- a paper over 65,536 bytes, whatever stands behind its set-up's record
 pub over-long : (more : List ℕ) → length more ≡ 65533 → openedNumber (openPaper (1 ∷ 0 ∷ 1 ∷ 1 ∷ more)) ≡ 9
-unfolding openPaper
+unfolding openPaper nextAt number
 over-long more e = rw e
 
 pub over-long-zeros : openedNumber (openPaper (1 ∷ 0 ∷ 1 ∷ 1 ∷ replicate 65533 0)) ≡ 9
