@@ -1,7 +1,7 @@
 -- One record: what is sent is read as that, whatever is read was sent, and refusal 9 has one of its causes. Assumes nothing.
 use mathlib.Core.Path.{_≡_, refl, sym, ap, subst, _∙_}
 use mathlib.Core.Bool.{Bool, true, false, cond, _&&_}
-use mathlib.Core.Logic.{_⊎_, inl, inr}
+use mathlib.Core.Logic.{_↔_}
 use mathlib.Core.List.{List, [], _∷_, _++_}
 use Prim.Native.Nat.{ℕ, _+_, _<_, _≤_}
 use native.Mathlib.Omega.{arith}
@@ -171,6 +171,9 @@ module _ (selecting : Selecting) (s : List ℕ) (lies : Lies selecting s) (at : 
       by (none n) = let z : _≡_ {A = ℕ} 0 1 = cc (reads-end n) in absurd (omega arith)
       by (fault f) = (cc (reads-fault f), f)
       by (spelled x more fits is) = let r = reads-spelled x fits more is in let z : _≡_ {A = ℕ} 0 1 = cc in absurd (omega arith)
+
+    pub refused-exactly : (reading selecting s at ≡ refused 9) ↔ RestFault choice (drop at s)
+    refused-exactly = (λ e. fault-if-refused 9 e .1, reads-fault)
 
     pub end-if-over : reading selecting s at ≡ over → drop at s ≡ []
     end-if-over e = by (view choice (drop at s) (bytes-drop at s bytes)) where
