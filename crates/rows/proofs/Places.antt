@@ -43,6 +43,7 @@ module _ {A : Type 0} where
     pub no-two-at : (Alike : A → A → Type 0) (xs : List A)
         → ((i j : ℕ) → i < j → j < length xs → Alike (getD xs i d) (getD xs j d) → ⊥) → NoTwo Alike xs
     no-two-at Alike [] f = tt
-    no-two-at Alike (x ∷ xs) f =
-        (each-at (λ y. Alike x y → ⊥) xs (λ j m. f 0 (suc j) (omega arith) (omega arith)),
-        no-two-at Alike xs (λ i j l m. f (suc i) (suc j) (omega arith) (omega arith)))
+    no-two-at Alike (x ∷ xs) f = (
+      each-at (λ y. Alike x y → ⊥) xs (λ j m. f 0 (suc j) (omega arith) (omega arith)),
+      no-two-at Alike xs (λ i j l m. f (suc i) (suc j) (omega arith) (omega arith)),
+    )

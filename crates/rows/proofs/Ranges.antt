@@ -1,18 +1,19 @@
 -- A spelled set-up is accepted exactly if its fields are in their ranges; its number is then 0, and else 1. Assumes nothing.
-use mathlib.Core.Path.{_≡_, refl, sym, subst, _∙_}
+use mathlib.Core.Path.{_≡_, refl, sym, _∙_}
 use mathlib.Core.Bool.{Bool, true, false, cond}
-use mathlib.Core.List.{List, [], _∷_}
+use mathlib.Core.List.{List}
 use mathlib.Core.Logic.{_↔_}
-use Prim.Native.Nat.{ℕ, _+_, _*_, _≤_, _<_}
+use Prim.Native.Nat.{ℕ, _+_, _*_, _<_}
 use native.Mathlib.Omega.{arith}
 use lib.ListN.{length, getD}
 use Rattle.wire.specs.Wire.{byte, number}
 use Rattle.ranges.specs.Ranges.{isSetup}
 use Rattle.ranges.proofs.Accepted.{Currency, AccumulatorRanges, AccumulatorRuleRanges, ProfileRanges, ConversionRanges, Accepted, accepted, complete}
 use Rattle.setup.specs.Setup.{readSetup, setupNumber}
-use Rattle.rows.specs.Rows.{Fits, Four, Accumulator, Limits, Profile, Conversion, Setup, listed, setupRow, body}
-use Rattle.rows.specs.InRange.{ThreeDigits, AccumulatorRange, AccumulatorLimits, CounterLimits, ProfileRange, ConversionRange, SameNumber, SamePair, InRange}
-use Rattle.rows.specs.Offsets.{nth, AccumulatorOffsets, CounterOffsets, ProfileOffsets, ConversionOffsets, Offsets}
+use Rattle.rows.specs.Rows.{Fits, Four, Limits, Profile, Conversion, Setup, listed, setupRow, body}
+use Rattle.rows.specs.InRange.{ThreeDigits, AccumulatorRange, AccumulatorLimits, CounterLimits, ProfileRange, ConversionRange, SameNumber, SamePair}
+use Rattle.rows.specs.InRange.{InRange}
+use Rattle.rows.specs.Offsets.{nth, AccumulatorOffsets, ProfileOffsets, ConversionOffsets, Offsets}
 use Rattle.rows.proofs.Places.{at-each, each-at, at-no-two, no-two-at}
 use Rattle.rows.proofs.Placed.{body-size, in-place}
 
@@ -70,69 +71,72 @@ noConversion = record { from = 0; to = 0; digits = 0; shift = 0 }
 
 module _ (s : List ℕ) where
   limits-range : (at : ℕ) (l : Limits) → AccumulatorOffsets s at l → AccumulatorLimits l ↔ AccumulatorRuleRanges s at
-  limits-range at l o =
-      (λ r. record { switches = rw (o .switches) (r .switches); lower = rw (o .lower) (r .lower); upper = rw (o .upper) (r .upper) },
-      λ r. record { switches = rw (o .switches) at (r .switches); lower = rw (o .lower) at (r .lower); upper = rw (o .upper) at (r .upper) })
+  limits-range at l o = (
+    λ r. record { switches = rw (o .switches) (r .switches); lower = rw (o .lower) (r .lower); upper = rw (o .upper) (r .upper) },
+    λ r. record { switches = rw (o .switches) at (r .switches); lower = rw (o .lower) at (r .lower); upper = rw (o .upper) at (r .upper) },
+  )
 
   conversion-range : (at : ℕ) (c : Conversion) → ConversionOffsets s at c → ConversionRange c ↔ ConversionRanges s at
-  conversion-range at c o =
-      (λ r.
-      record {
-        from = digits-there (o .from) (r .from);
-        to = digits-there (o .to) (r .to);
-        other = λ e. r .other (sym (o .from) ∙ e ∙ o .to);
-        digits-least = rw (o .digits) (r .digits-least);
-        digits-most = rw (o .digits) (r .digits-most);
-        shift = rw (o .shift) (r .shift);
-      },
-      λ r.
-      record {
-        from = digits-back (o .from) (r .from);
-        to = digits-back (o .to) (r .to);
-        other = λ e. r .other (o .from ∙ e ∙ sym (o .to));
-        digits-least = rw (o .digits) at (r .digits-least);
-        digits-most = rw (o .digits) at (r .digits-most);
-        shift = rw (o .shift) at (r .shift);
-      })
+  conversion-range at c o = (
+    λ r.
+        record {
+          from = digits-there (o .from) (r .from);
+          to = digits-there (o .to) (r .to);
+          other = λ e. r .other (sym (o .from) ∙ e ∙ o .to);
+          digits-least = rw (o .digits) (r .digits-least);
+          digits-most = rw (o .digits) (r .digits-most);
+          shift = rw (o .shift) (r .shift);
+        },
+    λ r.
+        record {
+          from = digits-back (o .from) (r .from);
+          to = digits-back (o .to) (r .to);
+          other = λ e. r .other (o .from ∙ e ∙ sym (o .to));
+          digits-least = rw (o .digits) at (r .digits-least);
+          digits-most = rw (o .digits) at (r .digits-most);
+          shift = rw (o .shift) at (r .shift);
+        },
+  )
 
   profile-range : (at : ℕ) (p : Profile) → ProfileOffsets s at p → ProfileRange p ↔ ProfileRanges s at
   profile-range at p o =
       let rule : (j : ℕ) → j < 4 → AccumulatorLimits (nth (p .accumulators) j) ↔ AccumulatorRuleRanges s (at + (24 + 17 * j)) =
-          λ j l. limits-range (at + (24 + 17 * j)) (nth (p .accumulators) j) (o .accumulators j l) in
+      λ j l. limits-range (at + (24 + 17 * j)) (nth (p .accumulators) j) (o .accumulators j l) in
       let rs = listed (p .accumulators) in
-      let cs = listed (p .counters) in
-      (λ r.
-      record {
-        number-least = rw (o .number-is) (r .number-least);
-        number-most = rw (o .number-is) (r .number-most);
-        online = rw (o .online) (r .online);
-        decline = rw (o .decline) (r .decline);
-        default = rw (o .default) (r .default);
-        maximum-on = rw (o .maximum-on) (r .maximum-on);
-        maximum-currency = digits-there (o .maximum-currency) (r .maximum-currency);
-        maximum = rw (o .maximum) (r .maximum);
-        accumulators = λ j l. rule j l .0 (at-each (p .accumulators .one) AccumulatorLimits rs (r .accumulators) j l);
-        counters = λ j l. rw (o .counters j l .switches) (at-each (p .counters .one) CounterLimits cs (r .counters) j l);
-        accumulator-sent = rw (o .accumulator-sent) (r .accumulator-sent);
-        first-sent = rw (o .first-sent) (r .first-sent);
-        second-sent = rw (o .second-sent) (r .second-sent);
-      },
-      λ r.
-      record {
-        number-least = rw (o .number-is) at (r .number-least);
-        number-most = rw (o .number-is) at (r .number-most);
-        online = rw (o .online) at (r .online);
-        decline = rw (o .decline) at (r .decline);
-        default = rw (o .default) at (r .default);
-        maximum-on = rw (o .maximum-on) at (r .maximum-on);
-        maximum-currency = digits-back (o .maximum-currency) (r .maximum-currency);
-        maximum = rw (o .maximum) at (r .maximum);
-        accumulators = each-at (p .accumulators .one) AccumulatorLimits rs (λ j l. rule j l .1 (r .accumulators j l));
-        counters = each-at (p .counters .one) CounterLimits cs (λ j l. rw (o .counters j l .switches) at (r .counters j l));
-        accumulator-sent = rw (o .accumulator-sent) at (r .accumulator-sent);
-        first-sent = rw (o .first-sent) at (r .first-sent);
-        second-sent = rw (o .second-sent) at (r .second-sent);
-      })
+      let cs = listed (p .counters) in (
+        λ r.
+            record {
+              number-least = rw (o .number-is) (r .number-least);
+              number-most = rw (o .number-is) (r .number-most);
+              online = rw (o .online) (r .online);
+              decline = rw (o .decline) (r .decline);
+              default = rw (o .default) (r .default);
+              maximum-on = rw (o .maximum-on) (r .maximum-on);
+              maximum-currency = digits-there (o .maximum-currency) (r .maximum-currency);
+              maximum = rw (o .maximum) (r .maximum);
+              accumulators = λ j l. rule j l .0 (at-each (p .accumulators .one) AccumulatorLimits rs (r .accumulators) j l);
+              counters = λ j l. rw (o .counters j l .switches) (at-each (p .counters .one) CounterLimits cs (r .counters) j l);
+              accumulator-sent = rw (o .accumulator-sent) (r .accumulator-sent);
+              first-sent = rw (o .first-sent) (r .first-sent);
+              second-sent = rw (o .second-sent) (r .second-sent);
+            },
+        λ r.
+            record {
+              number-least = rw (o .number-is) at (r .number-least);
+              number-most = rw (o .number-is) at (r .number-most);
+              online = rw (o .online) at (r .online);
+              decline = rw (o .decline) at (r .decline);
+              default = rw (o .default) at (r .default);
+              maximum-on = rw (o .maximum-on) at (r .maximum-on);
+              maximum-currency = digits-back (o .maximum-currency) (r .maximum-currency);
+              maximum = rw (o .maximum) at (r .maximum);
+              accumulators = each-at (p .accumulators .one) AccumulatorLimits rs (λ j l. rule j l .1 (r .accumulators j l));
+              counters = each-at (p .counters .one) CounterLimits cs (λ j l. rw (o .counters j l .switches) at (r .counters j l));
+              accumulator-sent = rw (o .accumulator-sent) at (r .accumulator-sent);
+              first-sent = rw (o .first-sent) at (r .first-sent);
+              second-sent = rw (o .second-sent) at (r .second-sent);
+            },
+      )
 
   module _ (x : Setup) (o : Offsets s x) where
     abbrev profile : ℕ → Profile
@@ -145,9 +149,10 @@ module _ (s : List ℕ) where
     after = 52 + 107 * length (x .profiles)
 
     accumulator-range : (i : ℕ) → i < 4 → AccumulatorRange (nth (x .accumulators) i) ↔ AccumulatorRanges s (8 + 10 * i)
-    accumulator-range i l =
-        (λ r. record { currency = digits-there (o .currencies i l) (r .currency); value = rw (o .values i l) (r .value) },
-        λ r. record { currency = digits-back (o .currencies i l) (r .currency); value = rw (o .values i l) at (r .value) })
+    accumulator-range i l = (
+      λ r. record { currency = digits-there (o .currencies i l) (r .currency); value = rw (o .values i l) (r .value) },
+      λ r. record { currency = digits-back (o .currencies i l) (r .currency); value = rw (o .values i l) at (r .value) },
+    )
 
     profile-there : (i : ℕ) → i < length (x .profiles) → ProfileOffsets s (52 + 107 * i) (profile i)
     profile-there i l = o .profiles i l noProfile

@@ -1,17 +1,18 @@
 -- The statements evaluated at set-ups written out, each false by computation of a card that is wrong in its way. Assumes nothing.
 use mathlib.Core.Path.{_≡_, refl}
-use mathlib.Core.Bool.{true, false}
+use mathlib.Core.Bool.{false}
 use mathlib.Core.List.{List, [], _∷_, _++_}
 use Prim.Native.Nat.{ℕ, _+_}
-use lib.ListN.{length}
 use Rattle.wire.specs.Wire.{byte, number}
-use Rattle.ranges.specs.Ranges.{isSetup, hasLength, isHead, areAccumulators, isAccumulator, areProfiles, isProfileOrAbsent, isProfile, areMasks, isMaximumAmount, areAccumulatorRules, isAccumulatorRule, areCounterRules, areSent, areNumbersApart, profileNumber, areConversions, isConversionOrAbsent, isConversion, conversionPair, arePairsApart}
+use Rattle.ranges.specs.Ranges.{isSetup, hasLength, isHead, areAccumulators, isAccumulator, areProfiles, isProfileOrAbsent, isProfile, areMasks}
+use Rattle.ranges.specs.Ranges.{isMaximumAmount, areAccumulatorRules, isAccumulatorRule, areCounterRules, areSent, areNumbersApart, profileNumber}
+use Rattle.ranges.specs.Ranges.{areConversions, isConversionOrAbsent, isConversion, conversionPair, arePairsApart}
 use Rattle.setup.specs.Setup.{rateIn, accumulatorIn, counterIn, profileIn, rulesIn, freshIn, readSetup, setupNumber}
 use Rattle.tail.specs.Tail.{baseEnd, syllabusIn, selectionTail, readTail, tailNumber}
 use Rattle.selection.specs.Selection.{isFile}
 use Rattle.rows.specs.Rows.{Four, Accumulator, Limits, Profile, Conversion, Setup, written, spelled, headRow, profileRow, conversionRow, setupRow, body}
 use Rattle.rows.specs.Said.{profileSaid, conversionSaid, rulesSaid, freshSaid}
-use Rattle.rows.specs.Tails.{off, first, second, third, tailBytes}
+use Rattle.rows.specs.Tails.{off, third, tailBytes}
 use Rattle.rows.proofs.Witness.{printed, printedBytes}
 
 -- ---- a set-up in which each field has a value of its own
