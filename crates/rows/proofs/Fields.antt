@@ -1,12 +1,11 @@
 -- What is read of a spelled set-up is what its fields say. Assumes nothing.
-use mathlib.Core.Path.{_≡_, refl, ap, _∙_}
-use mathlib.Core.Bool.{true, cond}
-use mathlib.Core.List.{List, [], _∷_}
-use Prim.Native.Nat.{ℕ, _+_, _*_, _/_, _<_}
+use mathlib.Core.Path.{_≡_, ap, _∙_}
+use mathlib.Core.Bool.{cond}
+use mathlib.Core.List.{List}
+use Prim.Native.Nat.{ℕ, _+_, _*_, _/_}
 use native.Mathlib.Omega.{arith}
 use lib.Dec.{ltb}
 use lib.ListN.{length, getD}
-use Rattle.wire.specs.Wire.{byte, number}
 use Rattle.money.specs.Money.{blank}
 use Rattle.rules.specs.Rules.{blankProfile}
 use Rattle.setup.specs.declared.Fresh.{Fresh}

@@ -7,5 +7,6 @@ pub mod Ranges
 pub mod Entries
 pub mod Behind
 pub mod Causes
+pub mod Whole
 pub mod Witness
 pub mod Samples

@@ -1,13 +1,13 @@
 -- In a spelled set-up each field stands at the offset that docs/PAPERS.md gives. Assumes nothing.
 use mathlib.Core.Path.{_≡_, refl, sym, ap, subst, _∙_}
-use mathlib.Core.List.{List, [], _∷_, _++_}
-use Prim.Native.Nat.{ℕ, zero, suc, _+_, _*_, _<_}
+use mathlib.Core.List.{List, _++_}
+use Prim.Native.Nat.{ℕ, _+_, _*_}
 use native.Mathlib.Nat.{add-zero, zero-add, add-assoc}
 use native.Mathlib.Omega.{arith}
 use lib.ListN.{length, getD}
 use Rattle.wire.specs.Wire.{byte, number}
 use Rattle.wire.proofs.Numbers.{one}
-use Rattle.rows.specs.Rows.{Fits, widths, fieldAt, offset, Limits, Profile, Conversion, Setup, listed, each, accumulatorRow, counterRow}
+use Rattle.rows.specs.Rows.{Fits, widths, offset, Limits, Profile, Conversion, Setup, listed, each, accumulatorRow, counterRow}
 use Rattle.rows.specs.Rows.{firstRow, headRow, profileHead, limitsRow, sentRow, profileRow, conversionRow, setupRow, body}
 use Rattle.rows.specs.Offsets.{nth, AccumulatorOffsets, CounterOffsets, ProfileOffsets, ConversionOffsets, Offsets}
 use Rattle.rows.proofs.Spelling.{Stands, stands-whole, stands-at, parts, each-stands, widths-append, widths-each, spelled-size}

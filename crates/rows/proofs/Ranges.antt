@@ -1,18 +1,19 @@
 -- A spelled set-up is accepted exactly if its fields are in their ranges; its number is then 0, and else 1. Assumes nothing.
-use mathlib.Core.Path.{_≡_, refl, sym, subst, _∙_}
+use mathlib.Core.Path.{_≡_, refl, sym, _∙_}
 use mathlib.Core.Bool.{Bool, true, false, cond}
-use mathlib.Core.List.{List, [], _∷_}
+use mathlib.Core.List.{List}
 use mathlib.Core.Logic.{_↔_}
-use Prim.Native.Nat.{ℕ, _+_, _*_, _≤_, _<_}
+use Prim.Native.Nat.{ℕ, _+_, _*_, _<_}
 use native.Mathlib.Omega.{arith}
 use lib.ListN.{length, getD}
 use Rattle.wire.specs.Wire.{byte, number}
 use Rattle.ranges.specs.Ranges.{isSetup}
 use Rattle.ranges.proofs.Accepted.{Currency, AccumulatorRanges, AccumulatorRuleRanges, ProfileRanges, ConversionRanges, Accepted, accepted, complete}
 use Rattle.setup.specs.Setup.{readSetup, setupNumber}
-use Rattle.rows.specs.Rows.{Fits, Four, Accumulator, Limits, Profile, Conversion, Setup, listed, setupRow, body}
-use Rattle.rows.specs.InRange.{ThreeDigits, AccumulatorRange, AccumulatorLimits, CounterLimits, ProfileRange, ConversionRange, SameNumber, SamePair, InRange}
-use Rattle.rows.specs.Offsets.{nth, AccumulatorOffsets, CounterOffsets, ProfileOffsets, ConversionOffsets, Offsets}
+use Rattle.rows.specs.Rows.{Fits, Four, Limits, Profile, Conversion, Setup, listed, setupRow, body}
+use Rattle.rows.specs.InRange.{ThreeDigits, AccumulatorRange, AccumulatorLimits, CounterLimits, ProfileRange, ConversionRange, SameNumber, SamePair}
+use Rattle.rows.specs.InRange.{InRange}
+use Rattle.rows.specs.Offsets.{nth, AccumulatorOffsets, ProfileOffsets, ConversionOffsets, Offsets}
 use Rattle.rows.proofs.Places.{at-each, each-at, at-no-two, no-two-at}
 use Rattle.rows.proofs.Placed.{body-size, in-place}
 

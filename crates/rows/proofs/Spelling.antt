@@ -48,7 +48,7 @@ spelled-stands [] before after h = tt
 spelled-stands (f ∷ fs) before after h =
     let w = written (f .width) (f .value) in
     let r = spelled-stands fs (before ++ w) after (h .1) in
-    let size : length (before ++ w) ≡ length before + f .width = length-append before w ∙ ap (λ n. length before + n) (written-size (f .width) (f .value)) in
+    let size : length (before ++ w) ≡ length before + f .width = omega (arith, length-append before w, written-size (f .width) (f .value)) in
     let same : (before ++ w) ++ (spelled fs ++ after) ≡ before ++ ((w ++ spelled fs) ++ after) = simp append-assoc in
     let here : number (before ++ ((w ++ spelled fs) ++ after)) (length before) (f .width) ≡ f .value =
     ap (λ n. number (before ++ ((w ++ spelled fs) ++ after)) n (f .width)) (sym (add-zero (length before)))
