@@ -7,13 +7,16 @@ use Prim.Native.Nat.{ℕ, _≤_}
 use lib.ListN.{length}
 use Rattle.ranges.specs.Ranges.{isSetup}
 use Rattle.ranges.proofs.Accepted.{accepted, complete}
-use Rattle.setup.specs.Setup.{readSetup, setupNumber}
+use Rattle.rules.specs.Rules.{rulesOf}
+use Rattle.setup.specs.Setup.{readSetup, wordsAfter, setupNumber}
 use Rattle.setup.proofs.Faithful.{Bytes}
 use Rattle.tail.specs.Tail.{baseEnd, basePart, readTail, tailNumber}
 use Rattle.rows.specs.Rows.{Setup, Fits, setupRow, body}
-use Rattle.rows.specs.Tails.{Tail, first, second, third, versionOf, tailBytes, Base, Fine, baseLength, TailSays, IsSpelled}
-use Rattle.rows.specs.Whole.{wholeBody, IsSetup}
+use Rattle.rows.specs.InRange.{InRange}
+use Rattle.rows.specs.Tails.{Tail, syllabusOf, first, second, third, versionOf, tailBytes, Base, Fine, baseLength, TailSays, IsSpelled}
+use Rattle.rows.specs.Whole.{wholeBody, IsSetup, WholeSays}
 use Rattle.rows.proofs.Placed.{body-size, in-place}
+use Rattle.rows.proofs.Fields.{reads-fields}
 use Rattle.rows.proofs.Unspelled.{spelled-if-accepted}
 use Rattle.rows.proofs.Ranges.{accepted-in-range, setup-taken}
 use Rattle.rows.proofs.Entries.{small-take}
@@ -33,6 +36,20 @@ is-base x fits tail = by tail where
 
 pub reads-whole : (x : Setup) (tail : Tail) → Fits (setupRow x) → Fine tail → TailSays (body x) tail (wholeBody x tail)
 reads-whole x tail fits fine = reads-tails (body x) tail (is-base x fits tail) fine
+
+-- THE STATEMENT: a whole body spelled from fields in their ranges is taken, and says what was spelled
+pub whole-says : (x : Setup) (tail : Tail) → Fits (setupRow x) → InRange x → Fine tail → WholeSays x tail (versionOf tail) (wholeBody x tail)
+whole-says x tail fits range fine =
+    let tails = reads-whole x tail fits fine in
+    let says = reads-fields x fits in
+    let good = accepted-in-range x fits .1 range in
+    record {
+      selecting-is = tails .read;
+      answered = ap readSetup (tails .base-is) ∙ says .read good;
+      loaded =
+          λ words size.
+          ap₂ (λ (b : List ℕ) y. rulesOf (wordsAfter words b y)) (tails .base-is) (tails .syllabus) ∙ says .loaded (syllabusOf tail) words size good;
+    }
 
 base-kept : (version : ℕ) (s : List ℕ) (t : IsSpelled version s) → basePart version s ≡ t .base
 base-kept version s t =
