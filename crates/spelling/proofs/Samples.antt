@@ -8,7 +8,7 @@ use Rattle.rules.specs.Rules.{Rules}
 use Rattle.tail.specs.declared.Selecting.the-variants.{Off}
 use Rattle.paper.specs.Paper.{nextAt, openPaper, openedNumber}
 use Rattle.command.specs.declared.Command.the-variants.{First as FirstCommand, Second as SecondCommand}
-use Rattle.command.specs.Command.{startOf, firstOf, secondOf, commandOf}
+use Rattle.command.specs.Command.{firstOf, secondOf, commandOf}
 use Rattle.state.specs.declared.State.{State}
 use Rattle.lines.specs.Lines.{digit, decimal, refusalLine}
 use Rattle.turns.specs.Turns.{commandIn, turnTold}
@@ -23,6 +23,11 @@ over-long more e = rw e
 
 pub over-long-zeros : openedNumber (openPaper (1 ∷ 0 ∷ 1 ∷ 1 ∷ replicate 65533 0)) ≡ 9
 over-long-zeros = over-long (replicate 65533 0) (length-replicate {A = ℕ} 65533 0)
+
+-- versions 0 and 4
+pub version-unknown : (openedNumber (openPaper (0 ∷ 0 ∷ 1 ∷ 1 ∷ [])) ≡ 9) × (openedNumber (openPaper (4 ∷ 0 ∷ 1 ∷ 1 ∷ [])) ≡ 9)
+unfolding openPaper nextAt number
+version-unknown = (refl, refl)
 
 -- a First of 50.00 in 0978, and what was sent of a Second
 pub first-fields : reading Off (spell (first 1 5000 0x0978 0x22)) 0

@@ -19,7 +19,7 @@ use Rattle.lines.specs.Lines.{digit, decimal, hex, refusalLine, startLine, cryp
 use Rattle.turns.specs.Turns.{answerLine}
 use Rattle.turns.specs.Sitting.{sittingLines}
 use Rattle.spelling.specs.Spelling.{byName, standsFor, allStandFor}
-use Rattle.spelling.specs.Sitting.{answers, Ends, ended, sittingOf}
+use Rattle.spelling.specs.Sitting.{answers, ended, sittingOf}
 use Rattle.spelling.specs.Printed.{printed, body, sent, printedLines}
 use Rattle.spelling.proofs.Witness.{printed-lines}
 

@@ -1,9 +1,8 @@
--- The premises are met: by the paper of the printed sitting, and each cause of refusal 9 by some bytes. Assumes nothing.
+-- The premises are met: by the paper of the printed sitting, and by one whose Starts bring the terminal's data. Assumes nothing.
 use mathlib.Core.Path.{_≡_, refl, sym}
-use mathlib.Core.Bool.{Bool, true, false, _&&_}
+use mathlib.Core.Bool.{Bool, true, _&&_}
 use mathlib.Core.List.{List, [], _∷_, append-nil}
 use Prim.Native.Nat.{ℕ, _^_, _<_}
-use native.Mathlib.Omega.{arith}
 use borrow.Author.Tests.{ltb-true}
 use lib.Dec.{T, ltb, lit<, lit≤}
 use lib.ListN.{length}
@@ -15,9 +14,10 @@ use Rattle.selection.specs.Selection.{isFile}
 use Rattle.tail.specs.declared.Selecting.the-variants.{Off, On}
 use Rattle.tail.specs.Tail.{baseEnd, selectionTail, readTail}
 use Rattle.turns.specs.Sitting.{sittingLines}
-use Rattle.spelling.specs.Spelling.{Bytes, big, recordOf, brings, first, second, kindOf, bodyOf, spellAll, paperOf, Choice, byName, byFile, choiceIn, Fits, AllFit}
+use Rattle.spelling.specs.Spelling.{Bytes, big, recordOf, brings, first, second, kindOf, bodyOf, spellAll, paperOf}
+use Rattle.spelling.specs.Spelling.{Choice, byName, byFile, choiceIn, Fits, AllFit}
 use Rattle.spelling.specs.Faults.{Opens}
-use Rattle.spelling.specs.Sitting.{SetUp, Ends, ended, sittingOf}
+use Rattle.spelling.specs.Sitting.{SetUp, ended, sittingOf}
 use Rattle.spelling.specs.Printed.{printed, body, sent, selection, selectionBody, file, brought}
 use Rattle.spelling.proofs.Papers.{lines-of}
 
@@ -110,5 +110,5 @@ pub brought-lines : (words : List ℕ) → length words ≡ 164
     → sittingLines words selection ≡ sittingOf 2 selectionBody {choice = chosen} brought {rest = []} (ended refl)
 unfolding selection
 brought-lines words lent =
-    lines-of words selection 2 selectionBody (spellAll brought) brought-opens (On 268 279 1) brought-set-up brought-bytes lent brought [] brought-fit (ended refl)
-    (sym (append-nil (spellAll brought)))
+    lines-of words selection 2 selectionBody (spellAll brought) brought-opens (On 268 279 1) brought-set-up brought-bytes lent brought []
+    brought-fit (ended refl) (sym (append-nil (spellAll brought)))
