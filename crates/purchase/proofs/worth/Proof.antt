@@ -1,7 +1,7 @@
 use borrow.Author.Needs.{needs}
-use Rattle.meters.specs.Meters.{worth}
-use Rattle.meters.proofs.worth.Statement.{statement}
-use Rattle.meters.proofs.worth.Tie as tie
+use Rattle.purchase.specs.Meter.{worth}
+use Rattle.purchase.proofs.worth.Statement.{statement}
+use Rattle.purchase.proofs.worth.Tie as tie
 
 returns : tie.Need-returns
 unfolding worth

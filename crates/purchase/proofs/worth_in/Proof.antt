@@ -1,8 +1,8 @@
 use borrow.Author.Needs.{needs}
 use borrow.Author.Tests.{eq-eqb}
 use Rattle.money.specs.Money.{convertOf}
-use Rattle.meters.proofs.worth_in.Statement.{statement}
-use Rattle.meters.proofs.worth_in.Tie as tie
+use Rattle.purchase.proofs.worth_in.Statement.{statement}
+use Rattle.purchase.proofs.worth_in.Tie as tie
 
 returns : tie.Need-returns
 unfolding convertOf
