@@ -21,16 +21,17 @@ use Rattle.state.specs.declared.Outcome.{Outcome}
 use Rattle.cryptogram.specs.Cryptogram.{verification, sentIad}
 use Rattle.first.specs.First.{decision, limitsByte, concluded, firstPerformed}
 use Rattle.card.specs.Card.{freshState, startStep, firstStep, stepOf}
+use Rattle.demands.specs.Setup.{Setup}
 use Rattle.demands.specs.Ledger.{counter}
-use Rattle.demands.specs.Conversation.{run, begin, valueOf}
+use Rattle.demands.specs.Conversation.{run, next, valueOf}
 
 abbrev zeros : ℕ → List ℕ
 zeros n = replicate n 0
 
 -- a set-up of zeros but for profile 1 and its counter 1, which is sent
-abbrev body : (value switches lower : ℕ) → List ℕ
+abbrev body : (value switches lower : ℕ) → Setup
 body value switches lower =
-    zeros 3 ++ 1 ∷ zeros 44 ++ value ∷ zeros 3 ++ 1 ∷ zeros 91 ++ switches ∷ lower ∷ 255 ∷ zeros 9 ++ 0 ∷ 1 ∷ 0 ∷ []
+    record { bytes = zeros 3 ++ 1 ∷ zeros 44 ++ value ∷ zeros 3 ++ 1 ∷ zeros 91 ++ switches ∷ lower ∷ 255 ∷ zeros 9 ++ 0 ∷ 1 ∷ 0 ∷ []; syllabus = 0 }
 
 abbrev start : Command
 start = StartCommand (record { chosen = Selected 1 0 })
@@ -39,8 +40,8 @@ start = StartCommand (record { chosen = Selected 1 0 })
 abbrev first : Command
 first = FirstCommand (record { amount = record { 0 = 1 }; currency = 0x0978; requested = 0; terminal = 0x22 })
 
-abbrev outcome : List ℕ → Outcome
-outcome s = stepOf (rulesIn s 0) (run (rulesIn s 0) (begin s) (start ∷ []) .state) first
+abbrev outcome : Setup → Outcome
+outcome setup = next setup (start ∷ []) first
 
 -- an AAC, the IAD's counter and CVR byte 3
 abbrev shows : Answer → (count limits : ℕ) → Bool
