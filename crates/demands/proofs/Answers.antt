@@ -1,6 +1,6 @@
 -- What First and Second answer, over every list of commands: the kind, the CVR and the rest of the IAD, by the conversation and the
 -- set-up's bytes. Assumes nothing.
-use mathlib.Core.Path.{_≡_, refl, sym, ap, ap₂, _∙_, subst, subst₂}
+use mathlib.Core.Path.{_≡_, refl, sym, ap, ap₂, _∙_, subst, subst₂, subst₃}
 use mathlib.Core.Bool.{Bool, true, false, cond, not, _&&_, _||_}
 use mathlib.Core.List.{List, [], _∷_}
 use Prim.Native.Nat.{ℕ, zero, suc, _+_, _/_, _%_, _≤_}
@@ -49,7 +49,7 @@ use Rattle.demands.specs.Rows.{InSetup}
 use Rattle.demands.specs.Decision.{flags, meets}
 use Rattle.demands.specs.Verification.{Issuing, Verifies, typeOf, notRequested, issuingAtFirst, issuingAtSecond, secondApproves, withUnable, FirstGives, SecondGives, Gives}
 use Rattle.demands.proofs.Step.{Did, refused-it, started-it, took-first, took-second}
-use Rattle.demands.proofs.Run.{run-keeps, Ruled, begin-ruled, told-ruled, did-by}
+use Rattle.demands.proofs.Run.{run-keeps, Ruled, begin-ruled, told-ruled, did-by, pin-stays}
 use Rattle.demands.proofs.Ends.{second-closes}
 use Rattle.demands.proofs.Refusal.{in-rules, in-bytes}
 use Rattle.demands.proofs.Bytes.{fits, Stands, profile-is, number-there}
@@ -57,7 +57,7 @@ use Rattle.demands.proofs.Total.{Remembers, Agrees, Holding, did-holds,
 use Rattle.demands.proofs.Past.{Recalls, did-keeps, begin-recalls}
 use Rattle.demands.proofs.Decision.{met-is}
 use Rattle.demands.proofs.First.{flags-same, kind-answers}
-use Rattle.demands.proofs.Verification.{limits-are, limitsBy, limits-audited, verifies, sends-audited}
+use Rattle.demands.proofs.Verification.{limits-are, limitsBy, limits-audited, verifies, same-cvr, sends-audited}
 
 -- what the card keeps of First for Second's CVR
 pub record Keeps (setup : Setup) (before : List Exchange) (at : ℕ) (purchase : Purchase) (pending : Pending) : Type 0 where
@@ -137,7 +137,7 @@ module _ (setup : Setup) (sitting : Sitting) (knows : Knows setup sitting) where
     concluded-iad Arqc = refl
 
     concluded-knows : (kind : Kind) → Keeping setup (after sitting (FirstCommand first) (outcome-of kind))
-    unfolding concluded beforeFirst named bought
+    unfolding concluded beforeFirst named bought inForce
     concluded-knows Aac = tt
     concluded-knows Tc = tt
     concluded-knows Arqc = record { history-is = knows .recalls .history-is; limits-is = limits-now }
@@ -197,13 +197,17 @@ module _ (setup : Setup) (sitting : Sitting) (knows : Knows setup sitting) where
     later-is true = refl
     later-is false = refl
 
+    same-pin : rulesBy first-setup .pin ≡ rules .pin
+    unfolding rulesIn
+    same-pin = pin-stays setup (beforeFirst log) ∙ sym (pin-stays setup log)
+
     cvr-closed : (approves : Bool) (issuer : Issuer)
         → Verifies first-setup at (bought log) first-values first-past (typeOf (closingKind approves)) (typeOf Arqc) (issuing-of issuer)
         (verification rules (pending .history) (pending .limits) Arqc (laterKind approves) issuer)
     cvr-closed approves issuer =
-        subst₂ (λ history second. Verifies first-setup at (bought log) first-values history second (typeOf Arqc) (issuing-of issuer)
-        (verification rules (pending .history) (pending .limits) Arqc (laterKind approves) issuer))
+        subst₃ (λ history second cvr. Verifies first-setup at (bought log) first-values history second (typeOf Arqc) (issuing-of issuer) cvr)
         (kept .history-is) (later-is approves)
+        (same-cvr (rulesBy first-setup) rules same-pin (pending .history) (pending .limits) Arqc (laterKind approves) issuer)
         (verifies first-setup at (bought log) first-values (pending .history) (pending .limits) (kept .limits-is) Arqc (laterKind approves) issuer)
 
     closed-gives : (approves : Bool) (values : Values) (history : History) (issuer : Issuer) → approves ≡ secondApproves now at fs second
@@ -335,7 +339,7 @@ module _ (setup : Setup) (sitting : Sitting) (knows : Knows setup sitting) where
   selected NotSelected some = absurd (omega arith)
 
   refused-kept : (command : Command) (r : Refusal) → Keeping setup (after sitting command (refused state r))
-  unfolding beforeFirst named bought
+  unfolding beforeFirst named bought inForce
   refused-kept (StartCommand start) r = knows .keeps
   refused-kept (FirstCommand first) r = knows .keeps
   refused-kept (SecondCommand second) r = knows .keeps

@@ -99,19 +99,19 @@ module _ (setup : Setup) (sitting : Sitting) (ruled : Ruled setup sitting) (hold
       e ∙ ap (λ v. moved (capOf meter) v more) (holding .values meter l) ∙ grows (capOf meter) (startOf setup meter) (ledger setup meter log) fair
 
   refused-holds : (command : Command) (r : Refusal) → Holding setup (after sitting command (refusal state r))
-  unfolding named bought ledger
+  unfolding named bought inForce ledger
   refused-holds (StartCommand start) r = record { agrees = holding .agrees; values = holding .values }
   refused-holds (FirstCommand first) r = record { agrees = holding .agrees; values = holding .values }
   refused-holds (SecondCommand second) r = record { agrees = holding .agrees; values = holding .values }
 
   start-taken : (start : Start) (place : Place) → Stands now place (placeOf now (profileOf (start .chosen)))
       → Holding setup (after sitting (StartCommand start) (startPerformed state (visitsOf (start .chosen)) place))
-  unfolding named bought ledger
+  unfolding named bought inForce ledger
   start-taken start place stands = record { agrees = stands; values = holding .values }
 
   concluded-holds : (first : First) (place : Place) → Stands now place at → first .amount .0 ≤ max → (limits : ℕ) (cvr : Cvr) (kind : Kind)
       → Holding setup (after sitting (FirstCommand first) (concluded rules state place (purchaseOf first) limits cvr kind))
-  unfolding concluded named bought ledger
+  unfolding concluded named bought inForce ledger
   concluded-holds first place stands small limits cvr Tc =
       record {
         agrees = tt;
@@ -145,7 +145,7 @@ module _ (setup : Setup) (sitting : Sitting) (ruled : Ruled setup sitting) (hold
       → ((meter : Meter) → more meter ≡ entered now at (bought log) meter (SecondCommand second)
       (closed rules (state .atc) pending approves values history issuer .answer))
       → Holding setup (after sitting (SecondCommand second) (closed rules (state .atc) pending approves values history issuer))
-  unfolding closed named bought ledger
+  unfolding closed named bought inForce ledger
   closed-holds second pending approves values history issuer more moves fair is =
       record {
         agrees = tt;

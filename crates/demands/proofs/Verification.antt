@@ -126,6 +126,12 @@ module _ (setup : Setup) (profile : ℕ) (purchase : Purchase) (value : Meter �
         byte5-all = refl;
       }
 
+-- a CVR shows of the rules the PIN's digit alone
+pub same-cvr : (a b : Rules) → a .pin ≡ b .pin → (history : History) (limits : ℕ) (first : Kind) (later : Later) (issuer : Issuer)
+    → verification a history limits first later issuer ≡ verification b history limits first later issuer
+unfolding verification
+same-cvr a b e history limits first later issuer = rw e
+
 -- ---- what is sent
 
 sent-amount : (values : Values) (n : ℕ) → n ≤ 4 → cardSent (values .accumulators) (record { 0 = 0 }) n .0 ≡ sentOf (valueOf values) accumulator n

@@ -64,9 +64,9 @@ pub record Approval (before : List Command) (command : Command) (value : ℕ) : 
 
 -- APPROVALS UNDER A GUARDING PROFILE, at First and at Second after Y3
 pub at-first : Approval (start ∷ []) (first 5000) 5000
-unfolding body commands lines run freshState readSetup freshIn isSetup hasLength isHead areAccumulators isAccumulator number areProfiles isProfileOrAbsent isProfile areMasks isMaximumAmount areAccumulatorRules isAccumulatorRule areCounterRules areSent areNumbersApart profileNumber areConversions isConversionOrAbsent isConversion conversionPair arePairsApart rulesIn rateIn profileIn accumulatorIn counterIn stepOf startStep firstStep secondStep findProfile firstPerformed decision limitsByte concluded testsOf decisionBits accumulatorsLower accumulatorsUpper countersLower countersUpper maximumExceeded worth convertOf rateFor scaled approved declined verification sentIad pairsOf iadBytes secondPerformed unablePerformed closed placeOf named
+unfolding body commands lines run freshState readSetup freshIn isSetup hasLength isHead areAccumulators isAccumulator number areProfiles isProfileOrAbsent isProfile areMasks isMaximumAmount areAccumulatorRules isAccumulatorRule areCounterRules areSent areNumbersApart profileNumber areConversions isConversionOrAbsent isConversion conversionPair arePairsApart rulesIn rateIn profileIn accumulatorIn counterIn stepOf startStep firstStep secondStep findProfile firstPerformed decision limitsByte concluded testsOf decisionBits accumulatorsLower accumulatorsUpper countersLower countersUpper maximumExceeded worth convertOf rateFor scaled approved declined verification sentIad pairsOf iadBytes secondPerformed unablePerformed closed placeOf named inForce
 at-first = record { guards = record { active = refl; included = refl; decline = refl; default = refl }; approves-it = refl; value-is = refl; upper-is = refl }
 
 pub at-second : Approval (start ∷ first 5000 ∷ start ∷ first 1 ∷ []) second 5001
-unfolding body commands lines run freshState readSetup freshIn isSetup hasLength isHead areAccumulators isAccumulator number areProfiles isProfileOrAbsent isProfile areMasks isMaximumAmount areAccumulatorRules isAccumulatorRule areCounterRules areSent areNumbersApart profileNumber areConversions isConversionOrAbsent isConversion conversionPair arePairsApart rulesIn rateIn profileIn accumulatorIn counterIn stepOf startStep firstStep secondStep findProfile firstPerformed decision limitsByte concluded testsOf decisionBits accumulatorsLower accumulatorsUpper countersLower countersUpper maximumExceeded worth convertOf rateFor scaled approved declined verification sentIad pairsOf iadBytes secondPerformed unablePerformed closed placeOf named
+unfolding body commands lines run freshState readSetup freshIn isSetup hasLength isHead areAccumulators isAccumulator number areProfiles isProfileOrAbsent isProfile areMasks isMaximumAmount areAccumulatorRules isAccumulatorRule areCounterRules areSent areNumbersApart profileNumber areConversions isConversionOrAbsent isConversion conversionPair arePairsApart rulesIn rateIn profileIn accumulatorIn counterIn stepOf startStep firstStep secondStep findProfile firstPerformed decision limitsByte concluded testsOf decisionBits accumulatorsLower accumulatorsUpper countersLower countersUpper maximumExceeded worth convertOf rateFor scaled approved declined verification sentIad pairsOf iadBytes secondPerformed unablePerformed closed placeOf named inForce
 at-second = record { guards = record { active = refl; included = refl; decline = refl; default = refl }; approves-it = refl; value-is = refl; upper-is = refl }

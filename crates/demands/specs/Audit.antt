@@ -137,9 +137,15 @@ unfoldable pub bought : List Exchange → Purchase
 bought [] = record { amount = record { 0 = 0 }; currency = 0 }
 bought (exchange ∷ older) = boughtBy (exchange .command) (exchange .answer) (bought older)
 
--- the set-up in force after a conversation: no command changes it
-abbrev pub inForce : Setup → List Exchange → Setup
-inForce setup log = setup
+-- the set-up in force: no command writes it
+abbrev pub writtenBy : Command → Answer → Setup → Setup
+writtenBy (StartCommand start) answer before = before
+writtenBy (FirstCommand first) answer before = before
+writtenBy (SecondCommand second) answer before = before
+
+unfoldable pub inForce : Setup → List Exchange → Setup
+inForce setup [] = setup
+inForce setup (exchange ∷ older) = writtenBy (exchange .command) (exchange .answer) (inForce setup older)
 
 -- where the profile of the last accepted Start stands in it
 abbrev pub placeBy : Setup → List Exchange → ℕ

@@ -27,7 +27,7 @@ pub record Sitting : Type 0 where
 abbrev pub outcomeOf : Sitting → Command → Outcome
 outcomeOf sitting command = stepOf (sitting .rules) (sitting .state) command
 
--- the sitting then: no command changes the rules
+-- the sitting then: no command writes the rules
 abbrev pub after : Sitting → Command → Outcome → Sitting
 after sitting command outcome =
     record {
