@@ -38,7 +38,8 @@ use Rattle.state.specs.declared.State.{State}
 use Rattle.state.specs.declared.Outcome.{Outcome}
 use Rattle.cryptogram.specs.Cryptogram.{laterCode, verification, issuerBefore, sentIad}
 use Rattle.first.specs.First.{limitsByte, purchaseOf, firstTests, firstKind, firstPerformed, concluded}
-use Rattle.second.specs.Second.{isUnable, unableIn, unableBits, issuerUnable, closingKind, laterKind, unablePerformed, verifiedPerformed, failedPerformed, absentPerformed, secondPerformed, closed, updateByte}
+use Rattle.second.specs.Second.{isUnable, unableIn, unableBits, issuerUnable, closingKind, laterKind, unablePerformed, verifiedPerformed}
+use Rattle.second.specs.Second.{failedPerformed, absentPerformed, secondPerformed, closed, updateByte}
 use Rattle.card.specs.Card.{refused, freshState}
 use Rattle.demands.specs.Setup.{Setup, byteAt, numberAt, AcceptedSetup}
 use Rattle.demands.specs.Ledger.{Meter}
@@ -47,7 +48,8 @@ use Rattle.demands.specs.Audit.{isOn, named, brought, bought, inForce, p
 use Rattle.demands.specs.Past.{past, beforeFirst}
 use Rattle.demands.specs.Rows.{InSetup}
 use Rattle.demands.specs.Decision.{flags, meets}
-use Rattle.demands.specs.Verification.{Issuing, Verifies, typeOf, notRequested, issuingAtFirst, issuingAtSecond, secondApproves, withUnable, FirstGives, SecondGives, Gives}
+use Rattle.demands.specs.Verification.{Issuing, Verifies, typeOf, notRequested, issuingAtFirst, issuingAtSecond, secondApproves, withUnable}
+use Rattle.demands.specs.Verification.{FirstGives, SecondGives, Gives}
 use Rattle.demands.proofs.Step.{Did, refused-it, started-it, took-first, took-second}
 use Rattle.demands.proofs.Run.{run-keeps, Ruled, begin-ruled, told-ruled, did-by, pin-stays}
 use Rattle.demands.proofs.Ends.{second-closes}

@@ -15,7 +15,7 @@ use Rattle.money.specs.declared.Converted.the-variants.{Amount, Over, NoEntry}
 use Rattle.money.specs.Money.{max, stopped, blank, isFor, isRate, rateFor, rounded, scaled, amountOf, amountOrOver, convertOf}
 use Rattle.rules.specs.declared.Place.{Place}
 use Rattle.rules.specs.declared.Place.the-variants.{One, Two, Three, Four}
-use Rattle.rules.specs.Rules.{blankProfile, blankAccumulator, blankCounter, indexOf, profileAt, currencyAt, accumulatorRule, counterRule}
+use Rattle.rules.specs.Rules.{Profile, blankProfile, blankAccumulator, blankCounter, indexOf, profileAt, currencyAt, accumulatorRule, counterRule}
 use Rattle.rules.proofs.Places.{four-at}
 use Rattle.ranges.proofs.Accepted.{Accepted, accepted}
 use Rattle.setup.specs.Setup.{rateIn, accumulatorIn, counterIn, profileIn, rulesIn}
@@ -24,7 +24,7 @@ use Rattle.meters.specs.Meters.{addition, worth}
 use Rattle.demands.specs.Setup.{Setup, byteAt, numberAt, AcceptedSetup}
 use Rattle.demands.specs.Conversation.{rulesBy}
 use Rattle.demands.specs.Audit.{placeFrom, placeOf, Conversion, comesTo, over, none, whole, upToMax, byEntry, converted, adds}
-use Rattle.demands.proofs.Found.{Holds}
+use Rattle.demands.proofs.Found.{Holds, below-four}
 
 -- every field of an accepted set-up is in its range
 pub fits : {setup : Setup} → AcceptedSetup setup → Accepted (setup .bytes)
@@ -102,23 +102,38 @@ module _ (setup : Setup) (good : AcceptedSetup setup) where
         let q : i ≡ j = omega (arith, ltb-false i j e) in
         rw (q, eq-eqb (byteAt setup (52 + 107 * j)) (byteAt setup (52 + 107 * j)) refl)
 
-  number-in : (place : Place) (number : ℕ) → Holds (rulesBy setup) number place → (b : Bool) → ltb (indexOf place) (byteAt setup 3) ≡ b
-      → (indexOf place < byteAt setup 3) × (byteAt setup (52 + 107 * indexOf place) ≡ number)
-  unfolding profileIn
-  number-in place number h true e =
-      (ltb-true _ _ e, sym (ap (λ p. p .number) (at-index setup place ∙ ap (λ b. cond b (profileIn (setup .bytes) (52 + 107 * indexOf place)) blankProfile) e)) ∙ h .its)
-  number-in place number h false e =
-      let z : 0 ≡ number = sym (ap (λ p. p .number) (at-index setup place ∙ ap (λ b. cond b (profileIn (setup .bytes) (52 + 107 * indexOf place)) blankProfile) e)) ∙ h .its in
-      absurd (omega (arith, h .some))
+  numbered-at : (i : ℕ) → i < 4
+      → getD (rulesBy setup .profiles) i blankProfile .number ≡ cond (ltb i (byteAt setup 3)) (byteAt setup (52 + 107 * i)) 0
+  unfolding rulesIn profileIn
+  numbered-at i l =
+      ap (λ (p : Profile). p .number) (four-at (λ j. cond (ltb j (byteAt setup 3)) (profileIn (setup .bytes) (52 + 107 * j)) blankProfile) blankProfile i l)
+      ∙ by (ltb i (byteAt setup 3)) where
+        by : (b : Bool) → cond b (profileIn (setup .bytes) (52 + 107 * i)) blankProfile .number ≡ cond b (byteAt setup (52 + 107 * i)) 0
+        by true = refl
+        by false = refl
+
+  -- a profile of the rules with a number stands in the bytes with it, and the other way round
+  pub number-in : (i number : ℕ) → i < 4 → 1 ≤ number → getD (rulesBy setup .profiles) i blankProfile .number ≡ number
+      → (i < byteAt setup 3) × (byteAt setup (52 + 107 * i) ≡ number)
+  number-in i number l some its = by (ltb i (byteAt setup 3)) refl (sym (numbered-at i l) ∙ its) where
+    by : (b : Bool) → ltb i (byteAt setup 3) ≡ b → cond b (byteAt setup (52 + 107 * i)) 0 ≡ number
+        → (i < byteAt setup 3) × (byteAt setup (52 + 107 * i) ≡ number)
+    by true e n = (ltb-true _ _ e, n)
+    by false e n = absurd (omega arith)
+
+  pub number-out : (i number : ℕ) → i < 4 → i < byteAt setup 3 → byteAt setup (52 + 107 * i) ≡ number
+      → getD (rulesBy setup .profiles) i blankProfile .number ≡ number
+  number-out i number l there its = numbered-at i l ∙ ap (λ b. cond b (byteAt setup (52 + 107 * i)) 0) (lt-ltb _ _ there) ∙ its
 
   -- the profile that a Start opens stands where the auditor looks for it
   pub stands-at : (place : Place) (number : ℕ) → Holds (rulesBy setup) number place → Stands setup place (placeOf setup number)
   unfolding placeOf
   stands-at place number h =
-      let n = number-in place number h (ltb (indexOf place) (byteAt setup 3)) refl in
+      let p = byteAt setup 3 in
+      let n = number-in (indexOf place) number (below-four place) (h .some) (h .its) in
       record {
         there = n .0;
-        offset = ap (λ k. placeFrom setup k 0 (byteAt setup 3)) (sym (n .1)) ∙ reach (indexOf place) 0 (byteAt setup 3) (n .0) (omega arith) (omega (arith, n .0));
+        offset = ap (λ k. placeFrom setup k 0 p) (sym (n .1)) ∙ reach (indexOf place) 0 p (n .0) (omega arith) (omega (arith, n .0));
       }
 
   -- ---- conversion

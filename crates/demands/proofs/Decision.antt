@@ -21,7 +21,8 @@ use Rattle.setup.specs.Setup.{accumulatorIn, counterIn, profileIn}
 use Rattle.meters.specs.declared.Purchase.{Purchase}
 use Rattle.meters.specs.Meters.{amountAt, countAt, worth}
 use Rattle.checks.specs.declared.History.{History}
-use Rattle.checks.specs.Checks.{bit, packed, sumExceeds, spentExceeds, accumulatorExceeds, counterExceeds, accumulatorsLower, accumulatorsUpper, countersLower, countersUpper, maximumExceeded, testsOf, decisionBits, decisionFlags, meetsMask}
+use Rattle.checks.specs.Checks.{bit, packed, sumExceeds, spentExceeds, accumulatorExceeds, counterExceeds, accumulatorsLower, accumulatorsUpper}
+use Rattle.checks.specs.Checks.{countersLower, countersUpper, maximumExceeded, testsOf, decisionBits, decisionFlags, meetsMask}
 use Rattle.checks.proofs.Bits.{decision-packed}
 use Rattle.state.specs.declared.Kind.{Kind}
 use Rattle.state.specs.declared.Kind.the-variants.{Aac, Tc, Arqc}
@@ -30,7 +31,8 @@ use Rattle.demands.specs.Setup.{Setup, byteAt, numberAt, AcceptedSetup}
 use Rattle.demands.specs.Ledger.{Meter, accumulator, counter}
 use Rattle.demands.specs.Conversation.{rulesBy, valueOf}
 use Rattle.demands.specs.Audit.{isIncluded, upperOf}
-use Rattle.demands.specs.Decision.{lowerOf, exceedsWith, exceeds, exceedsMta, eachOf, aboveLower, aboveUpper, flags, meets, Decides, aac-requested, meets-decline, arqc-requested, meets-default, offline-approves, meets-online, online-approves}
+use Rattle.demands.specs.Decision.{lowerOf, exceedsWith, exceeds, exceedsMta, eachOf, aboveLower, aboveUpper, flags, meets, Decides}
+use Rattle.demands.specs.Decision.{aac-requested, meets-decline, arqc-requested, meets-default, offline-approves, meets-online, online-approves}
 use Rattle.demands.proofs.Bytes.{Stands, profile-is, accumulator-is, counter-is, asRead, converts-to, converts}
 
 -- ---- a mask that is met
@@ -106,10 +108,10 @@ module _ (setup : Setup) (good : AcceptedSetup setup) (place : Place) (at : ℕ)
   mta-flag : maximumExceeded rules place purchase ≡ exceedsMta setup at purchase
   unfolding maximumExceeded profileIn
   mta-flag =
-      ap (λ (p : Profile). p .maximum .on && spentExceeds (p .maximum .amount .0) (convertOf (purchase .amount) (purchase .currency) (p .maximum .currency) (rules .rates)))
-      (profile-is setup place at stands)
+      let in-currency : ℕ → Converted = λ currency. convertOf (purchase .amount) (purchase .currency) currency (rules .rates) in
+      ap (λ (p : Profile). p .maximum .on && spentExceeds (p .maximum .amount .0) (in-currency (p .maximum .currency))) (profile-is setup place at stands)
       ∙ ap (λ b. eqb (byteAt setup (at + 13)) 1 && b)
-      (spent-is (numberAt setup (at + 16) 8) (convertOf (purchase .amount) (purchase .currency) (numberAt setup (at + 14) 2) (rules .rates))
+      (spent-is (numberAt setup (at + 16) 8) (in-currency (numberAt setup (at + 14) 2))
       ∙ ap (exceedsWith (numberAt setup (at + 16) 8) 0) (converts-to setup good purchase (numberAt setup (at + 14) 2) small))
 
   abbrev value : Meter → ℕ

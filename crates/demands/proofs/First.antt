@@ -40,7 +40,8 @@ use Rattle.demands.proofs.Past.{history}
 use Rattle.demands.proofs.Decision.{met-is, decided}
 
 -- flags look at the eight values alone
-pub flags-same : (setup : Setup) (profile : ℕ) (purchase : Purchase) (f g : Meter → ℕ) (history : History) → ((meter : Meter) → IsMeter meter → f meter ≡ g meter)
+pub flags-same : (setup : Setup) (profile : ℕ) (purchase : Purchase) (f g : Meter → ℕ) (history : History)
+    → ((meter : Meter) → IsMeter meter → f meter ≡ g meter)
     → flags setup profile purchase f history ≡ flags setup profile purchase g history
 unfolding flags
 flags-same setup profile purchase f g history h =

@@ -9,6 +9,7 @@ pub mod Total
 pub mod Past
 pub mod Refusal
 pub mod Limit
+pub mod Computed
 pub mod Witness
 pub mod Only
 pub mod Decision

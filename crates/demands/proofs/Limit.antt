@@ -149,7 +149,8 @@ module _ (setup : Setup) (sitting : Sitting) (holding : Holding setup sitting) (
       let mask : profileAt card-rules place .masks .decline ≡ numberAt now (at + 5) 4 =
       ap (λ (p : Profile). p .masks .decline) (profile-is now place at stands) in
       approved-within now place at stands (state .values) (state .history) (purchaseOf first) meter l (guards .active) (guards .included)
-      (profileAt card-rules place .masks .decline) (rw mask (guards .decline)) (tc-unmet (first .requested) _ (profileAt card-rules place .masks) (first .terminal) is)
+      (profileAt card-rules place .masks .decline) (rw mask (guards .decline))
+      (tc-unmet (first .requested) _ (profileAt card-rules place .masks) (first .terminal) is)
   concluded-within first place stands limits cvr Aac is e = absurd (never e)
   concluded-within first place stands limits cvr Arqc is e = absurd (never e)
 
@@ -175,7 +176,8 @@ module _ (setup : Setup) (sitting : Sitting) (holding : Holding setup sitting) (
       neither true b e = absurd (never (sym e))
       neither false b e = e
 
-  second-within : (second : Second) (pending : Pending) → Stands now (pending .place) at → Within (SecondCommand second) (secondPerformed card-rules state second pending)
+  second-within : (second : Second) (pending : Pending) → Stands now (pending .place) at
+      → Within (SecondCommand second) (secondPerformed card-rules state second pending)
   unfolding secondPerformed unablePerformed
   second-within second pending stands = by (isUnable (second .code)) refl _ where
     by : (u : Bool) → isUnable (second .code) ≡ u → (rest : Outcome)

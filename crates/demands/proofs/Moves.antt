@@ -13,14 +13,16 @@ use Rattle.rules.specs.declared.Values.{Values}
 use Rattle.rules.specs.Rules.{Rules, accumulatorRule, counterRule}
 use Rattle.setup.specs.Setup.{accumulatorIn, counterIn}
 use Rattle.meters.specs.declared.Purchase.{Purchase}
-use Rattle.meters.specs.Meters.{Entry, put, add, moved, counterCap, approval, counting, declining, putting, amountAt, countAt, worth, approved, limited, cleared}
+use Rattle.meters.specs.Meters.{Entry, put, add, moved, counterCap, approval, counting, declining, putting, amountAt, countAt, worth, approved}
+use Rattle.meters.specs.Meters.{limited, cleared}
 use Rattle.meters.specs.Meters.{declined as declinedValues}
 use Rattle.meters.proofs.Ledger.{approved-amount, approved-count, declined-amount, declined-count, limited-amount, limited-count, cleared-amount, cleared-count}
 use Rattle.second.specs.Second.{updateByte, ordered as orderedValues}
 use Rattle.demands.specs.Setup.{Setup, byteAt, numberAt, AcceptedSetup}
 use Rattle.demands.specs.Ledger.{Meter, accumulator, counter, IsMeter}
 use Rattle.demands.specs.Conversation.{rulesBy, valueOf}
-use Rattle.demands.specs.Audit.{isActive, isAllowed, countsDeclines, upperOf, capOf, Conversion, comesTo, over, none, worthTo, adds, counted, declined, ordered}
+use Rattle.demands.specs.Audit.{isActive, isAllowed, countsDeclines, upperOf, capOf, Conversion, comesTo, over, none, worthTo, adds, counted}
+use Rattle.demands.specs.Audit.{declined, ordered}
 use Rattle.demands.proofs.Owed.{Fair, nothing, putting as fair-put, adding, fair-or}
 use Rattle.demands.proofs.Bytes.{Stands, accumulator-is, counter-is, converts-adds}
 

@@ -25,9 +25,10 @@ use Rattle.state.specs.declared.Pending.{Pending}
 use Rattle.state.specs.declared.State.{State}
 use Rattle.state.specs.declared.Outcome.{Outcome}
 use Rattle.first.specs.First.{firstKind, firstPerformed, concluded, uncompleted}
-use Rattle.second.specs.Second.{isUnable, unableIn, unableBits, unablePerformed, verifiedPerformed, failedPerformed, absentPerformed, secondPerformed, closed, updateByte}
+use Rattle.second.specs.Second.{isUnable, unableIn, unableBits, unablePerformed, verifiedPerformed, failedPerformed, absentPerformed, secondPerformed}
+use Rattle.second.specs.Second.{closed, updateByte}
 use Rattle.card.specs.Card.{freshState, refused}
-use Rattle.demands.specs.Setup.{Setup, byteAt, AcceptedSetup}
+use Rattle.demands.specs.Setup.{Setup, AcceptedSetup}
 use Rattle.demands.specs.Conversation.{Sitting, after, told, run, rulesBy, sat, next}
 use Rattle.demands.specs.Audit.{inForce}
 use Rattle.demands.specs.Past.{past, atcBy, Says}
@@ -86,37 +87,35 @@ module _ (setup : Setup) (sitting : Sitting) (recalls : Recalls setup sitting) w
     abbrev closing : History → Outcome
     closing history = closed rules (state .atc) pending approves values history issuer
 
-    abbrev before : History
-    before = state .history
+    abbrev whenVerified : Bool → History
+    whenVerified online = record { uncompleted = false; online = online; failed = false; unable = false; missing = false }
 
-    verified-keeps : eqb (second .issuer) 1 ≡ true → Keeps setup sitting (SecondCommand second)
-        (closing (record { uncompleted = false; online = eqb (updateByte (second .csu) / 8 % 2) 1; failed = false; unable = false; missing = false }))
+    abbrev whenFailed : History → History
+    whenFailed h = record { uncompleted = h .uncompleted; online = h .online; failed = true; unable = h .unable; missing = h .missing }
+
+    abbrev whenAbsent : Bool → History → History
+    whenAbsent required h =
+        record { uncompleted = h .uncompleted && required; online = h .online; failed = h .failed; unable = h .unable; missing = true }
+
+    verified-keeps : eqb (second .issuer) 1 ≡ true
+        → Keeps setup sitting (SecondCommand second) (closing (whenVerified (eqb (updateByte (second .csu) / 8 % 2) 1)))
     unfolding past closed
     verified-keeps v =
         let b4 : second .csu / 65536 % 256 / 8 % 2 ≡ second .csu / 65536 / 8 % 2 = omega arith in
-        closed-keeps second pending approves values
-        (record { uncompleted = false; online = eqb (updateByte (second .csu) / 8 % 2) 1; failed = false; unable = false; missing = false }) issuer (rw (u, v, b4))
+        closed-keeps second pending approves values (whenVerified (eqb (updateByte (second .csu) / 8 % 2) 1)) issuer (rw (u, v, b4))
 
-    failed-keeps : eqb (second .issuer) 1 ≡ false → eqb (second .issuer) 2 ≡ true → Keeps setup sitting (SecondCommand second)
-        (closing (record { uncompleted = before .uncompleted; online = before .online; failed = true; unable = before .unable; missing = before .missing }))
+    failed-keeps : eqb (second .issuer) 1 ≡ false → eqb (second .issuer) 2 ≡ true
+        → Keeps setup sitting (SecondCommand second) (closing (whenFailed (state .history)))
     unfolding past closed
     failed-keeps v f =
-        closed-keeps second pending approves values
-        (record { uncompleted = before .uncompleted; online = before .online; failed = true; unable = before .unable; missing = before .missing }) issuer
-        (rw (u, v, f)
-        (ap (λ (h : History). record { uncompleted = h .uncompleted; online = h .online; failed = true; unable = h .unable; missing = h .missing })
-        (recalls .history-is)))
+        closed-keeps second pending approves values (whenFailed (state .history)) issuer (rw (u, v, f) (ap whenFailed (recalls .history-is)))
 
-    absent-keeps : eqb (second .issuer) 1 ≡ false → eqb (second .issuer) 2 ≡ false → Keeps setup sitting (SecondCommand second)
-        (closing (record { uncompleted = before .uncompleted && rules .required; online = before .online; failed = before .failed; unable = before .unable; missing = true }))
+    absent-keeps : eqb (second .issuer) 1 ≡ false → eqb (second .issuer) 2 ≡ false
+        → Keeps setup sitting (SecondCommand second) (closing (whenAbsent (rules .required) (state .history)))
     unfolding past closed rulesIn
     absent-keeps v f =
-        closed-keeps second pending approves values
-        (record { uncompleted = before .uncompleted && rules .required; online = before .online; failed = before .failed; unable = before .unable; missing = true })
-        issuer
-        (rw (u, v, f)
-        (ap (λ (h : History). record { uncompleted = h .uncompleted && eqb (byteAt (inForce setup (sitting .log)) 2) 1; online = h .online; failed = h .failed; unable = h .unable; missing = true })
-        (recalls .history-is)))
+        closed-keeps second pending approves values (whenAbsent (rules .required) (state .history)) issuer
+        (rw (u, v, f) (ap (whenAbsent (rules .required)) (recalls .history-is)))
 
   second-keeps : (second : Second) (pending : Pending) → Keeps setup sitting (SecondCommand second) (secondPerformed rules state second pending)
   unfolding secondPerformed unablePerformed verifiedPerformed failedPerformed absentPerformed

@@ -6,31 +6,23 @@ use mathlib.Core.List.{List, [], _∷_, _++_}
 use Prim.Native.Nat.{ℕ, _*_}
 use lib.Dec.{T, eqb}
 use lib.ListN.{replicate}
-use Rattle.wire.specs.Wire.{number}
-use Rattle.ranges.specs.Ranges.{isSetup, hasLength, isHead, areAccumulators, isAccumulator, areProfiles, isProfileOrAbsent, isProfile, areMasks, isMaximumAmount, areAccumulatorRules, isAccumulatorRule, areCounterRules, areSent, areNumbersApart, profileNumber, areConversions, isConversionOrAbsent, isConversion, conversionPair, arePairsApart}
-use Rattle.rules.specs.Rules.{findProfile}
-use Rattle.setup.specs.Setup.{rateIn, accumulatorIn, counterIn, profileIn, rulesIn, freshIn, readSetup}
-use Rattle.money.specs.Money.{rateFor, rounded, scaled, convertOf}
-use Rattle.meters.specs.Meters.{worth, approved, declined, limited, cleared}
+use Rattle.ranges.specs.Ranges.{isSetup}
 use Rattle.checks.specs.declared.History.{History}
-use Rattle.checks.specs.Checks.{accumulatorsLower, accumulatorsUpper, countersLower, countersUpper, maximumExceeded, testsOf, decisionBits}
 use Rattle.state.specs.declared.Answer.{Answer}
 use Rattle.state.specs.declared.Answer.the-variants.{Refused, Started, Given}
 use Rattle.state.specs.declared.Kind.{Kind}
-use Rattle.state.specs.declared.Kind.the-variants.{Aac, Tc, Arqc}
-use Rattle.cryptogram.specs.Cryptogram.{kindCode, verification, sentIad}
-use Rattle.first.specs.First.{decision, limitsByte, concluded, firstPerformed}
-use Rattle.second.specs.Second.{closed, ordered, unablePerformed, verifiedPerformed, failedPerformed, absentPerformed, secondPerformed}
-use Rattle.card.specs.Card.{freshState, startStep, firstStep, secondStep, stepOf}
+use Rattle.state.specs.declared.Kind.the-variants.{Aac, Arqc}
+use Rattle.cryptogram.specs.Cryptogram.{kindCode}
 use Rattle.selection.specs.declared.Selection.the-variants.{Selected}
 use Rattle.command.specs.declared.Command.{Command}
 use Rattle.command.specs.declared.Command.the-variants.{Start as StartCommand, First as FirstCommand, Second as SecondCommand}
 use Rattle.demands.specs.Setup.{Setup}
-use Rattle.demands.specs.Ledger.{Meter, accumulator, counter, owed}
-use Rattle.demands.specs.Conversation.{Exchange, Sitting, run, sat, next, valueOf}
-use Rattle.demands.specs.Audit.{placeOf, converted, named, bought, inForce, ledger, audited}
+use Rattle.demands.specs.Ledger.{Meter, accumulator, counter}
+use Rattle.demands.specs.Conversation.{Exchange, Sitting, sat, next, valueOf}
+use Rattle.demands.specs.Audit.{audited}
 use Rattle.demands.specs.Past.{past, atcBy}
 use Rattle.demands.specs.Due.{Due, nothing, aFirst, aSecond, due, dueIn}
+use Rattle.demands.proofs.Computed.{computed}
 
 abbrev zeros : ℕ → List ℕ
 zeros n = replicate n 0
@@ -195,7 +187,7 @@ pub record Samples : Type 0 where
   pub upper-declined : T (answers 0x17 0x70 0x0840 Aac)
 
 pub samples : Samples
-unfolding counting limiting approvals limits resets answered online agrees duly kindly answers due run freshState readSetup freshIn isSetup hasLength isHead areAccumulators isAccumulator number areProfiles isProfileOrAbsent isProfile areMasks isMaximumAmount areAccumulatorRules isAccumulatorRule areCounterRules areSent areNumbersApart profileNumber areConversions isConversionOrAbsent isConversion conversionPair arePairsApart rulesIn rateIn profileIn accumulatorIn counterIn stepOf startStep firstStep secondStep findProfile firstPerformed decision limitsByte concluded testsOf decisionBits accumulatorsLower accumulatorsUpper countersLower countersUpper maximumExceeded worth convertOf rateFor rounded scaled approved declined limited cleared verification sentIad secondPerformed unablePerformed verifiedPerformed failedPerformed absentPerformed closed ordered placeOf converted named bought inForce ledger owed past atcBy
+unfolding counting limiting approvals limits resets answered online agrees duly kindly answers computed
 samples =
     record {
       accepted = tt;

@@ -59,7 +59,8 @@ module _ (file : List ℕ) (entries : ℕ) where
   unfolding stepOf startStep visitsIn isStart
   start-selected rules state terminal atc visits = by (selectionOf file entries terminal) where
     opened : (profile seen : ℕ) (found : Found) (b : Bool) → eqb (state .atc) 65535 ≡ b
-        → carried state (startPerformed state seen) (ruleOpening (state .atc) found) .answer ≡ Started atc visits → Selected profile seen ≡ Selected profile visits
+        → carried state (startPerformed state seen) (ruleOpening (state .atc) found) .answer ≡ Started atc visits
+        → Selected profile seen ≡ Selected profile visits
     opened profile seen Nothing b h e = let z = ap isStart e in absurd (omega arith)
     opened profile seen (At place) true h e = let z = ap isStart (rw h at e) in absurd (omega arith)
     opened profile seen (At place) false h e = ap (Selected profile) (ap visitsIn (rw h at e))

@@ -34,14 +34,16 @@ use Rattle.state.specs.declared.Phase.the-variants.{Idle, Opened, Asked}
 use Rattle.state.specs.declared.State.{State}
 use Rattle.state.specs.declared.Outcome.{Outcome}
 use Rattle.first.specs.First.{purchaseOf, firstKind, firstPerformed, concluded}
-use Rattle.second.specs.Second.{isUnable, unableBits, unablePerformed, verifiedPerformed, failedPerformed, absentPerformed, secondPerformed, closed, ordered as orderedValues, updateByte}
+use Rattle.second.specs.Second.{isUnable, unableBits, unablePerformed, verifiedPerformed, failedPerformed, absentPerformed, secondPerformed, closed}
+use Rattle.second.specs.Second.{ordered as orderedValues, updateByte}
 use Rattle.card.specs.Card.{startPerformed, freshState}
 use Rattle.card.specs.Card.{refused as refusal}
 use Rattle.meters.specs.declared.Purchase.{Purchase}
 use Rattle.demands.specs.Setup.{Setup, byteAt, numberAt, AcceptedSetup}
 use Rattle.demands.specs.Ledger.{Meter, accumulator, counter, IsMeter, owed}
 use Rattle.demands.specs.Conversation.{Exchange, Sitting, after, told, run, rulesBy, sat, valueOf}
-use Rattle.demands.specs.Audit.{placeOf, upperOf, startOf, capOf, counted, declined, ordered, entered, named, brought, bought, inForce, placeBy, ledger, audited}
+use Rattle.demands.specs.Audit.{placeOf, upperOf, startOf, capOf, counted, declined, ordered, entered, named, brought, bought, inForce, placeBy}
+use Rattle.demands.specs.Audit.{ledger, audited}
 use Rattle.demands.proofs.Step.{Did, refused-it, started-it, took-first, took-second}
 use Rattle.demands.proofs.Run.{run-keeps, Ruled, begin-ruled, told-ruled, did-by}
 use Rattle.demands.proofs.Owed.{Fair, nothing, starts, grows}
@@ -186,7 +188,8 @@ module _ (setup : Setup) (sitting : Sitting) (ruled : Ruled setup sitting) (hold
         closed-holds second pending approves (orderedValues rules place (state .values) (pending .purchase) (updateByte (second .csu))) history issuer
         (ordered now at (pending .purchase) (second .csu))
         (ordered-moves now (ruled .good) place at (remembers .stands) (state .values) (pending .purchase) (remembers .small) (second .csu))
-        (λ meter l. ordered-fair now at (pending .purchase) (capOf meter) meter (second .csu) (upper-within now (ruled .good) place at (remembers .stands) meter l))
+        (λ meter l.
+        ordered-fair now at (pending .purchase) (capOf meter) meter (second .csu) (upper-within now (ruled .good) place at (remembers .stands) meter l))
         (λ meter. rw (u, e) (ap (λ purchase. ordered now at purchase (second .csu) meter) (remembers .purchase-is)))
 
     kept-holds : (approves : Bool) → isUnable (second .code) ≡ false → eqb (second .issuer) 1 ≡ false → (history : History) (issuer : Issuer)

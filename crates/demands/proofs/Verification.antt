@@ -91,7 +91,8 @@ module _ (setup : Setup) (profile : ℕ) (purchase : Purchase) (value : Meter �
   pub verifies : (limits : ℕ) → limits ≡ limitsOf (anyOf counter below) (anyOf counter over) (anyOf accumulator below) (anyOf accumulator over)
       → (first : Kind) (later : Later) (issuer : Issuer)
       → Verifies setup profile purchase value history (laterCode later) (kindCode first)
-      (record { unperformed = issuer .unperformed; failed = issuer .failed; unable = issuer .unable }) (verification (rulesBy setup) history limits first later issuer)
+      (record { unperformed = issuer .unperformed; failed = issuer .failed; unable = issuer .unable })
+      (verification (rulesBy setup) history limits first later issuer)
   unfolding verification rulesIn
   verifies limits is first later issuer =
       let a = bit-small (issuer .unperformed) in
@@ -134,60 +135,51 @@ same-cvr a b e history limits first later issuer = rw e
 
 -- ---- what is sent
 
-sent-amount : (values : Values) (n : ℕ) → n ≤ 4 → cardSent (values .accumulators) (record { 0 = 0 }) n .0 ≡ sentOf (valueOf values) accumulator n
-sent-amount values zero l = refl
-sent-amount values (suc zero) l = refl
-sent-amount values (suc (suc zero)) l = refl
-sent-amount values (suc (suc (suc zero))) l = refl
-sent-amount values (suc (suc (suc (suc zero)))) l = refl
-sent-amount values (suc (suc (suc (suc (suc n))))) l = absurd (omega arith)
+module _ (values : Values) (value : Meter → ℕ) (same : (meter : Meter) → IsMeter meter → valueOf values meter ≡ value meter) where
+  sent-amount : (n : ℕ) → n ≤ 4 → cardSent (values .accumulators) (record { 0 = 0 }) n .0 ≡ sentOf value accumulator n
+  sent-amount zero l = refl
+  sent-amount (suc zero) l = same (accumulator 0) (omega arith)
+  sent-amount (suc (suc zero)) l = same (accumulator 1) (omega arith)
+  sent-amount (suc (suc (suc zero))) l = same (accumulator 2) (omega arith)
+  sent-amount (suc (suc (suc (suc zero)))) l = same (accumulator 3) (omega arith)
+  sent-amount (suc (suc (suc (suc (suc n))))) l = absurd (omega arith)
 
-sent-count : (values : Values) (n : ℕ) → n ≤ 4 → cardSent (values .counters) 0 n ≡ sentOf (valueOf values) counter n
-sent-count values zero l = refl
-sent-count values (suc zero) l = refl
-sent-count values (suc (suc zero)) l = refl
-sent-count values (suc (suc (suc zero))) l = refl
-sent-count values (suc (suc (suc (suc zero)))) l = refl
-sent-count values (suc (suc (suc (suc (suc n))))) l = absurd (omega arith)
+  sent-count : (n : ℕ) → n ≤ 4 → cardSent (values .counters) 0 n ≡ sentOf value counter n
+  sent-count zero l = refl
+  sent-count (suc zero) l = same (counter 0) (omega arith)
+  sent-count (suc (suc zero)) l = same (counter 1) (omega arith)
+  sent-count (suc (suc (suc zero))) l = same (counter 2) (omega arith)
+  sent-count (suc (suc (suc (suc zero)))) l = same (counter 3) (omega arith)
+  sent-count (suc (suc (suc (suc (suc n))))) l = absurd (omega arith)
 
-module _ (setup : Setup) (good : AcceptedSetup setup) (place : Place) (at : ℕ) (stands : Stands setup place at) (values : Values) (cvr : Cvr) where
-  pub sends : Sends setup at (byteAt setup at) (valueOf values) (sentIad (rulesBy setup) place values cvr)
+module _ (setup : Setup) (good : AcceptedSetup setup) (wanted : ℕ) (place : Place) (stands : Stands setup place (placeOf setup wanted)) where
+  abbrev profile-at : ℕ
+  profile-at = placeOf setup wanted
+
+  -- a number of what is sent is 0 to 4
+  few : (k : ℕ) → byteAt setup (52 + 107 * indexOf place + k) ≤ 4 → byteAt setup (profile-at + k) ≤ 4
+  few k l = subst (λ a. byteAt setup (a + k) ≤ 4) (sym (stands .offset)) l
+
+  -- what is sent of the values that the auditor finds
+  pub sends-audited : (values : Values) (cvr : Cvr) (value : Meter → ℕ) → ((meter : Meter) → IsMeter meter → valueOf values meter ≡ value meter)
+      → Sends setup profile-at wanted value (sentIad (rulesBy setup) place values cvr)
   unfolding sentIad rulesIn profileIn
-  sends =
+  sends-audited values cvr value same =
       let ranges = fits good .profiles (indexOf place) (stands .there) in
-      let profile = profile-is setup place at stands in
-      let few : (k : ℕ) → byteAt setup (52 + 107 * indexOf place + k) ≤ 4 → byteAt setup (at + k) ≤ 4 = λ k l. subst (λ a. byteAt setup (a + k) ≤ 4) (sym (stands .offset)) l in
+      let profile = profile-is setup place profile-at stands in
+      let count : ℕ → ℕ = cardSent (values .counters) 0 in
       record {
         key = refl;
-        profile-number = ap (λ (p : Profile). p .number) profile;
+        profile-number = ap (λ (p : Profile). p .number) profile ∙ number-there setup good wanted place stands;
         accumulator-sent =
             ap (λ (p : Profile). cardSent (values .accumulators) (record { 0 = 0 }) (p .sent .accumulator) .0) profile
-            ∙ sent-amount values (byteAt setup (at + 104)) (few 104 (ranges .accumulator-sent));
-        first-sent = ap (λ (p : Profile). cardSent (values .counters) 0 (p .sent .first)) profile ∙ sent-count values (byteAt setup (at + 105)) (few 105 (ranges .first-sent));
-        second-sent = ap (λ (p : Profile). cardSent (values .counters) 0 (p .sent .second)) profile ∙ sent-count values (byteAt setup (at + 106)) (few 106 (ranges .second-sent));
-      }
-
--- what is sent of values that are equal
-sent-same : (f g : Meter → ℕ) → ((meter : Meter) → IsMeter meter → f meter ≡ g meter) → (n : ℕ) → n ≤ 4
-    → (sentOf f accumulator n ≡ sentOf g accumulator n) × (sentOf f counter n ≡ sentOf g counter n)
-sent-same f g h zero l = (refl, refl)
-sent-same f g h (suc i) l = (h (accumulator i) (omega arith), h (counter i) (omega arith))
-
-module _ (setup : Setup) (good : AcceptedSetup setup) (wanted : ℕ) (place : Place) (stands : Stands setup place (placeOf setup wanted)) (values : Values) (cvr : Cvr) where
-  -- of the values that the auditor finds
-  pub sends-audited : (value : Meter → ℕ) → ((meter : Meter) → IsMeter meter → valueOf values meter ≡ value meter)
-      → Sends setup (placeOf setup wanted) wanted value (sentIad (rulesBy setup) place values cvr)
-  sends-audited value same =
-      let at = placeOf setup wanted in
-      let sent = sends setup good place at stands values cvr in
-      let ranges = fits good .profiles (indexOf place) (stands .there) in
-      let few : (k : ℕ) → byteAt setup (52 + 107 * indexOf place + k) ≤ 4 → byteAt setup (at + k) ≤ 4 = λ k l. subst (λ a. byteAt setup (a + k) ≤ 4) (sym (stands .offset)) l in
-      record {
-        key = sent .key;
-        profile-number = sent .profile-number ∙ number-there setup good wanted place stands;
-        accumulator-sent = sent .accumulator-sent ∙ sent-same (valueOf values) value same (byteAt setup (at + 104)) (few 104 (ranges .accumulator-sent)) .0;
-        first-sent = sent .first-sent ∙ sent-same (valueOf values) value same (byteAt setup (at + 105)) (few 105 (ranges .first-sent)) .1;
-        second-sent = sent .second-sent ∙ sent-same (valueOf values) value same (byteAt setup (at + 106)) (few 106 (ranges .second-sent)) .1;
+            ∙ sent-amount values value same (byteAt setup (profile-at + 104)) (few 104 (ranges .accumulator-sent));
+        first-sent =
+            ap (λ (p : Profile). count (p .sent .first)) profile
+            ∙ sent-count values value same (byteAt setup (profile-at + 105)) (few 105 (ranges .first-sent));
+        second-sent =
+            ap (λ (p : Profile). count (p .sent .second)) profile
+            ∙ sent-count values value same (byteAt setup (profile-at + 106)) (few 106 (ranges .second-sent));
       }
 
 -- CVR byte 3 of the values that the auditor finds

@@ -7,25 +7,15 @@ use Prim.Native.Nat.{ℕ, zero, suc, _<_}
 use native.Mathlib.Omega.{arith}
 use borrow.Author.Tests.{ltb-true}
 use lib.Dec.{ltb}
-use Rattle.wire.specs.Wire.{byte, number}
-use Rattle.ranges.specs.Ranges.{isSetup, hasLength, isHead, areAccumulators, isAccumulator, areProfiles, isProfileOrAbsent, isProfile, areMasks, isMaximumAmount, areAccumulatorRules, isAccumulatorRule, areCounterRules, areSent, areNumbersApart, profileNumber, areConversions, isConversionOrAbsent, isConversion, conversionPair, arePairsApart}
-use Rattle.rules.specs.Rules.{findProfile}
-use Rattle.setup.specs.Setup.{rateIn, accumulatorIn, counterIn, profileIn, rulesIn, freshIn, readSetup}
-use Rattle.money.specs.Money.{rateFor, scaled, convertOf}
-use Rattle.iad.specs.Iad.{pairsOf, iadBytes}
-use Rattle.meters.specs.Meters.{worth, approved, declined}
-use Rattle.checks.specs.Checks.{accumulatorsLower, accumulatorsUpper, countersLower, countersUpper, maximumExceeded, testsOf, decisionBits}
-use Rattle.cryptogram.specs.Cryptogram.{verification, sentIad}
-use Rattle.first.specs.First.{decision, limitsByte, concluded, firstPerformed}
-use Rattle.second.specs.Second.{closed, unablePerformed, secondPerformed}
-use Rattle.card.specs.Card.{freshState, startStep, firstStep, secondStep, stepOf}
+use Rattle.wire.specs.Wire.{byte}
 use Rattle.command.specs.declared.Command.{Command}
 use Rattle.demands.specs.Setup.{Setup, AcceptedSetup}
 use Rattle.demands.specs.Ledger.{accumulator}
-use Rattle.demands.specs.Conversation.{run, sat, next, valueOf}
-use Rattle.demands.specs.Audit.{placeOf, upperOf, named, inForce, placeBy, approves}
+use Rattle.demands.specs.Conversation.{sat, next, valueOf}
+use Rattle.demands.specs.Audit.{upperOf, inForce, placeBy, approves}
 use Rattle.demands.specs.Guards.{Guards}
 use Rattle.demands.specs.Printed.{body, start, first, second, commands, linesOf, lines}
+use Rattle.demands.proofs.Computed.{computed}
 
 abbrev areBytes : List ℕ → Bool
 areBytes [] = true
@@ -47,12 +37,12 @@ abbrev pub setup : Setup
 setup = record { bytes = body; syllabus = 0 }
 
 pub good : AcceptedSetup setup
-unfolding body isSetup hasLength isHead areAccumulators isAccumulator number areProfiles isProfileOrAbsent isProfile areMasks isMaximumAmount areAccumulatorRules isAccumulatorRule areCounterRules areSent areNumbersApart profileNumber areConversions isConversionOrAbsent isConversion conversionPair arePairsApart
+unfolding body computed
 good = record { bytes = record { below = bytes-of body refl }; taken = refl }
 
 -- THE PRINTED SITTING
 pub printed : linesOf (sat setup commands .log) ≡ lines
-unfolding body commands lines run freshState readSetup freshIn isSetup hasLength isHead areAccumulators isAccumulator number areProfiles isProfileOrAbsent isProfile areMasks isMaximumAmount areAccumulatorRules isAccumulatorRule areCounterRules areSent areNumbersApart profileNumber areConversions isConversionOrAbsent isConversion conversionPair arePairsApart rulesIn rateIn profileIn accumulatorIn counterIn stepOf startStep firstStep secondStep findProfile firstPerformed decision limitsByte concluded testsOf decisionBits accumulatorsLower accumulatorsUpper countersLower countersUpper maximumExceeded worth convertOf rateFor scaled approved declined verification sentIad pairsOf iadBytes secondPerformed unablePerformed closed
+unfolding body commands lines computed
 printed = refl
 
 -- an approval happens: the answer approves, the value is what it is after it, and the profile guards accumulator 1 against 10000
@@ -64,9 +54,9 @@ pub record Approval (before : List Command) (command : Command) (value : ℕ) : 
 
 -- APPROVALS UNDER A GUARDING PROFILE, at First and at Second after Y3
 pub at-first : Approval (start ∷ []) (first 5000) 5000
-unfolding body commands lines run freshState readSetup freshIn isSetup hasLength isHead areAccumulators isAccumulator number areProfiles isProfileOrAbsent isProfile areMasks isMaximumAmount areAccumulatorRules isAccumulatorRule areCounterRules areSent areNumbersApart profileNumber areConversions isConversionOrAbsent isConversion conversionPair arePairsApart rulesIn rateIn profileIn accumulatorIn counterIn stepOf startStep firstStep secondStep findProfile firstPerformed decision limitsByte concluded testsOf decisionBits accumulatorsLower accumulatorsUpper countersLower countersUpper maximumExceeded worth convertOf rateFor scaled approved declined verification sentIad pairsOf iadBytes secondPerformed unablePerformed closed placeOf named inForce
+unfolding body computed
 at-first = record { guards = record { active = refl; included = refl; decline = refl; default = refl }; approves-it = refl; value-is = refl; upper-is = refl }
 
 pub at-second : Approval (start ∷ first 5000 ∷ start ∷ first 1 ∷ []) second 5001
-unfolding body commands lines run freshState readSetup freshIn isSetup hasLength isHead areAccumulators isAccumulator number areProfiles isProfileOrAbsent isProfile areMasks isMaximumAmount areAccumulatorRules isAccumulatorRule areCounterRules areSent areNumbersApart profileNumber areConversions isConversionOrAbsent isConversion conversionPair arePairsApart rulesIn rateIn profileIn accumulatorIn counterIn stepOf startStep firstStep secondStep findProfile firstPerformed decision limitsByte concluded testsOf decisionBits accumulatorsLower accumulatorsUpper countersLower countersUpper maximumExceeded worth convertOf rateFor scaled approved declined verification sentIad pairsOf iadBytes secondPerformed unablePerformed closed placeOf named inForce
+unfolding body computed
 at-second = record { guards = record { active = refl; included = refl; decline = refl; default = refl }; approves-it = refl; value-is = refl; upper-is = refl }

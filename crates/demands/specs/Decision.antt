@@ -75,5 +75,5 @@ pub data Decides (requested : ℕ) (online decline default offline : Bool) : Kin
 -- the table over flags and the masks that stand in the bytes behind the profile's number: Online, Decline, Default
 abbrev pub FirstAnswers : Setup → (profile : ℕ) → First → List Bool → Kind → Type 0
 FirstAnswers setup profile first fs kind =
-    Decides (first .requested) (meets fs (numberAt setup (profile + 1) 4)) (meets fs (numberAt setup (profile + 5) 4)) (meets fs (numberAt setup (profile + 9) 4))
-    (isOfflineOnly (first .terminal)) kind
+    Decides (first .requested) (meets fs (numberAt setup (profile + 1) 4)) (meets fs (numberAt setup (profile + 5) 4))
+    (meets fs (numberAt setup (profile + 9) 4)) (isOfflineOnly (first .terminal)) kind

@@ -52,8 +52,8 @@ pub record Issuing : Type 0 where
   pub unable : Bool
 
 -- the history and the limits are those at First: purchase and values
-pub record Verifies (setup : Setup) (profile : ℕ) (purchase : Purchase) (value : Meter → ℕ) (history : History) (second first : ℕ) (issuing : Issuing) (cvr : Cvr)
-    : Type 0 where
+pub record Verifies (setup : Setup) (profile : ℕ) (purchase : Purchase) (value : Meter → ℕ) (history : History)
+    (second first : ℕ) (issuing : Issuing) (cvr : Cvr) : Type 0 where
   pub byte1-b87 : cvr .byte1 / 64 ≡ second
   pub byte1-b65 : cvr .byte1 / 16 % 4 ≡ first
   pub byte1-b43 : cvr .byte1 / 4 % 4 ≡ 0
