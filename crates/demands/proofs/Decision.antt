@@ -8,7 +8,6 @@ use native.Mathlib.Omega.{arith}
 use borrow.Author.Tests.{eqb-true, eqb-false, eq-eqb, ne-eqb}
 use lib.Bits.{bitAnd, and-step}
 use lib.Dec.{ltb, eqb}
-use Rattle.wire.specs.Wire.{byte, number}
 use Rattle.money.specs.declared.Converted.{Converted}
 use Rattle.money.specs.declared.Converted.the-variants.{Amount, Over, NoEntry}
 use Rattle.money.specs.Money.{max, convertOf}
@@ -18,20 +17,22 @@ use Rattle.rules.specs.declared.Masks.{Masks}
 use Rattle.rules.specs.declared.AccumulatorRule.{AccumulatorRule}
 use Rattle.rules.specs.declared.CounterRule.{CounterRule}
 use Rattle.rules.specs.Rules.{Rules, Profile, four}
-use Rattle.ranges.proofs.Accepted.{Accepted}
-use Rattle.setup.specs.Setup.{accumulatorIn, counterIn, profileIn, rulesIn}
+use Rattle.setup.specs.Setup.{accumulatorIn, counterIn, profileIn}
 use Rattle.meters.specs.declared.Purchase.{Purchase}
 use Rattle.meters.specs.Meters.{amountAt, countAt, worth}
 use Rattle.checks.specs.declared.History.{History}
-use Rattle.checks.specs.Checks.{bit, packed, sumExceeds, spentExceeds, accumulatorExceeds, counterExceeds, accumulatorsLower, accumulatorsUpper, countersLower, countersUpper, maximumExceeded, testsOf, decisionBits, decisionFlags, meetsMask}
+use Rattle.checks.specs.Checks.{bit, packed, sumExceeds, spentExceeds, accumulatorExceeds, counterExceeds, accumulatorsLower, accumulatorsUpper}
+use Rattle.checks.specs.Checks.{countersLower, countersUpper, maximumExceeded, testsOf, decisionBits, decisionFlags, meetsMask}
 use Rattle.checks.proofs.Bits.{decision-packed}
 use Rattle.state.specs.declared.Kind.{Kind}
 use Rattle.state.specs.declared.Kind.the-variants.{Aac, Tc, Arqc}
 use Rattle.first.specs.First.{decision, isOfflineOnly}
+use Rattle.demands.specs.Setup.{Setup, byteAt, numberAt, AcceptedSetup}
 use Rattle.demands.specs.Ledger.{Meter, accumulator, counter}
-use Rattle.demands.specs.Conversation.{valueOf}
+use Rattle.demands.specs.Conversation.{rulesBy, valueOf}
 use Rattle.demands.specs.Audit.{isIncluded, upperOf}
-use Rattle.demands.specs.Decision.{lowerOf, exceedsWith, exceeds, exceedsMta, eachOf, aboveLower, aboveUpper, flags, meets, Decides, aac-requested, meets-decline, arqc-requested, meets-default, offline-approves, meets-online, online-approves}
+use Rattle.demands.specs.Decision.{lowerOf, exceedsWith, exceeds, exceedsMta, eachOf, aboveLower, aboveUpper, flags, meets, Decides}
+use Rattle.demands.specs.Decision.{aac-requested, meets-decline, arqc-requested, meets-default, offline-approves, meets-online, online-approves}
 use Rattle.demands.proofs.Bytes.{Stands, profile-is, accumulator-is, counter-is, asRead, converts-to, converts}
 
 -- ---- a mask that is met
@@ -79,45 +80,39 @@ spent-is limit NoEntry = refl
 
 -- ---- the flags
 
-module _ (s : List ℕ) (syllabus : ℕ) (fits : Accepted s) (place : Place) (at : ℕ) (stands : Stands s place at) (values : Values) (purchase : Purchase)
+module _ (setup : Setup) (good : AcceptedSetup setup) (place : Place) (at : ℕ) (stands : Stands setup place at) (values : Values) (purchase : Purchase)
     (small : purchase .amount .0 ≤ max) where
   abbrev rules : Rules
-  rules = rulesIn s syllabus
-
-  abbrev amount : ℕ
-  amount = purchase .amount .0
-
-  abbrev currency : ℕ
-  currency = purchase .currency
+  rules = rulesBy setup
 
   accumulator-flag : (i : ℕ) → i < 4 → (limit : ℕ)
-      → accumulatorExceeds rules place values purchase limit i ≡ exceeds s syllabus at amount currency (valueOf values (accumulator i)) limit (accumulator i)
+      → accumulatorExceeds rules place values purchase limit i ≡ exceeds setup at purchase (valueOf values (accumulator i)) limit (accumulator i)
   unfolding accumulatorIn
   accumulator-flag i l limit =
       let value = amountAt values i .0 in
       ap (λ (rule : AccumulatorRule). rule .active && (ltb limit value || (rule .include && sumExceeds limit value (worth rules purchase i))))
-      (accumulator-is s syllabus place at stands i l)
-      ∙ ap (λ b. eqb (byte s (at + (24 + 17 * i)) % 2) 1 && b)
-      (ap (λ b. ltb limit value || (isIncluded s at (accumulator i) && b))
-      (sum-is limit value (worth rules purchase i) ∙ ap (exceedsWith limit value) (converts s syllabus fits purchase i l small)))
+      (accumulator-is setup place at stands i l)
+      ∙ ap (λ b. eqb (byteAt setup (at + (24 + 17 * i)) % 2) 1 && b)
+      (ap (λ b. ltb limit value || (isIncluded setup at (accumulator i) && b))
+      (sum-is limit value (worth rules purchase i) ∙ ap (exceedsWith limit value) (converts setup good purchase i l small)))
       ∙ rw div-one
 
   counter-flag : (i : ℕ) → i < 4 → (limit : ℕ)
-      → counterExceeds rules place values limit i ≡ exceeds s syllabus at amount currency (valueOf values (counter i)) limit (counter i)
+      → counterExceeds rules place values limit i ≡ exceeds setup at purchase (valueOf values (counter i)) limit (counter i)
   unfolding counterIn
   counter-flag i l limit =
       let value = countAt values i in
-      ap (λ (rule : CounterRule). rule .active && (ltb limit value || (rule .include && ltb limit (value + 1)))) (counter-is s syllabus place at stands i l)
+      ap (λ (rule : CounterRule). rule .active && (ltb limit value || (rule .include && ltb limit (value + 1)))) (counter-is setup place at stands i l)
       ∙ rw div-one
 
-  mta-flag : maximumExceeded rules place purchase ≡ exceedsMta s syllabus at amount currency
+  mta-flag : maximumExceeded rules place purchase ≡ exceedsMta setup at purchase
   unfolding maximumExceeded profileIn
   mta-flag =
-      ap (λ (p : Profile). p .maximum .on && spentExceeds (p .maximum .amount .0) (convertOf (purchase .amount) currency (p .maximum .currency) (rules .rates)))
-      (profile-is s syllabus place at stands)
-      ∙ ap (λ b. eqb (byte s (at + 13)) 1 && b)
-      (spent-is (number s (at + 16) 8) (convertOf (purchase .amount) currency (number s (at + 14) 2) (rules .rates))
-      ∙ ap (exceedsWith (number s (at + 16) 8) 0) (converts-to s syllabus fits purchase (number s (at + 14) 2) small))
+      let in-currency : ℕ → Converted = λ currency. convertOf (purchase .amount) (purchase .currency) currency (rules .rates) in
+      ap (λ (p : Profile). p .maximum .on && spentExceeds (p .maximum .amount .0) (in-currency (p .maximum .currency))) (profile-is setup place at stands)
+      ∙ ap (λ b. eqb (byteAt setup (at + 13)) 1 && b)
+      (spent-is (numberAt setup (at + 16) 8) (in-currency (numberAt setup (at + 14) 2))
+      ∙ ap (exceedsWith (numberAt setup (at + 16) 8) 0) (converts-to setup good purchase (numberAt setup (at + 14) 2) small))
 
   abbrev value : Meter → ℕ
   value = valueOf values
@@ -125,50 +120,50 @@ module _ (s : List ℕ) (syllabus : ℕ) (fits : Accepted s) (place : Place) (at
   four-same : (f g : ℕ → Bool) → ((i : ℕ) → i < 4 → f i ≡ g i) → four f ≡ four g
   four-same f g h = simp (h 0 (omega arith), h 1 (omega arith), h 2 (omega arith), h 3 (omega arith))
 
-  pub accumulators-lower : accumulatorsLower rules place values purchase ≡ eachOf accumulator (aboveLower s syllabus at amount currency value)
+  pub accumulators-lower : accumulatorsLower rules place values purchase ≡ eachOf accumulator (aboveLower setup at purchase value)
   unfolding accumulatorsLower accumulatorIn
   accumulators-lower =
-      four-same _ (λ i. aboveLower s syllabus at amount currency value (accumulator i))
+      four-same _ (λ i. aboveLower setup at purchase value (accumulator i))
       (λ i l.
-      ap (λ (r : AccumulatorRule). accumulatorExceeds rules place values purchase (r .lower .0) i) (accumulator-is s syllabus place at stands i l)
-      ∙ accumulator-flag i l (lowerOf s at (accumulator i)))
+      ap (λ (r : AccumulatorRule). accumulatorExceeds rules place values purchase (r .lower .0) i) (accumulator-is setup place at stands i l)
+      ∙ accumulator-flag i l (lowerOf setup at (accumulator i)))
 
-  pub accumulators-upper : accumulatorsUpper rules place values purchase ≡ eachOf accumulator (aboveUpper s syllabus at amount currency value)
+  pub accumulators-upper : accumulatorsUpper rules place values purchase ≡ eachOf accumulator (aboveUpper setup at purchase value)
   unfolding accumulatorsUpper accumulatorIn
   accumulators-upper =
-      four-same _ (λ i. aboveUpper s syllabus at amount currency value (accumulator i))
+      four-same _ (λ i. aboveUpper setup at purchase value (accumulator i))
       (λ i l.
-      ap (λ (r : AccumulatorRule). accumulatorExceeds rules place values purchase (r .upper .0) i) (accumulator-is s syllabus place at stands i l)
-      ∙ accumulator-flag i l (upperOf s at (accumulator i)))
+      ap (λ (r : AccumulatorRule). accumulatorExceeds rules place values purchase (r .upper .0) i) (accumulator-is setup place at stands i l)
+      ∙ accumulator-flag i l (upperOf setup at (accumulator i)))
 
-  pub counters-lower : countersLower rules place values ≡ eachOf counter (aboveLower s syllabus at amount currency value)
+  pub counters-lower : countersLower rules place values ≡ eachOf counter (aboveLower setup at purchase value)
   unfolding countersLower counterIn
   counters-lower =
-      four-same _ (λ i. aboveLower s syllabus at amount currency value (counter i))
+      four-same _ (λ i. aboveLower setup at purchase value (counter i))
       (λ i l.
-      ap (λ (r : CounterRule). counterExceeds rules place values (r .lower) i) (counter-is s syllabus place at stands i l)
-      ∙ counter-flag i l (lowerOf s at (counter i)))
+      ap (λ (r : CounterRule). counterExceeds rules place values (r .lower) i) (counter-is setup place at stands i l)
+      ∙ counter-flag i l (lowerOf setup at (counter i)))
 
-  pub counters-upper : countersUpper rules place values ≡ eachOf counter (aboveUpper s syllabus at amount currency value)
+  pub counters-upper : countersUpper rules place values ≡ eachOf counter (aboveUpper setup at purchase value)
   unfolding countersUpper counterIn
   counters-upper =
-      four-same _ (λ i. aboveUpper s syllabus at amount currency value (counter i))
+      four-same _ (λ i. aboveUpper setup at purchase value (counter i))
       (λ i l.
-      ap (λ (r : CounterRule). counterExceeds rules place values (r .upper) i) (counter-is s syllabus place at stands i l)
-      ∙ counter-flag i l (upperOf s at (counter i)))
+      ap (λ (r : CounterRule). counterExceeds rules place values (r .upper) i) (counter-is setup place at stands i l)
+      ∙ counter-flag i l (upperOf setup at (counter i)))
 
-  flags-are : (history : History) → decisionFlags history rules place values purchase ≡ flags s syllabus at amount currency value history
+  flags-are : (history : History) → decisionFlags history rules place values purchase ≡ flags setup at purchase value history
   unfolding flags
   flags-are history = simp (mta-flag, accumulators-lower, accumulators-upper, counters-lower, counters-upper)
 
   pub adr-is : (history : History)
-      → decisionBits history (testsOf rules place values purchase) ≡ packed (flags s syllabus at amount currency value history)
+      → decisionBits history (testsOf rules place values purchase) ≡ packed (flags setup at purchase value history)
   adr-is history = decision-packed history rules place values purchase ∙ ap packed (flags-are history)
 
   -- a mask is met by the card's bits as by the flags
   pub met-is : (history : History) (mask : ℕ)
-      → meetsMask (decisionBits history (testsOf rules place values purchase)) mask ≡ meets (flags s syllabus at amount currency value history) mask
-  met-is history mask = ap (λ adr. meetsMask adr mask) (adr-is history) ∙ meets-is (flags s syllabus at amount currency value history) mask
+      → meetsMask (decisionBits history (testsOf rules place values purchase)) mask ≡ meets (flags setup at purchase value history) mask
+  met-is history mask = ap (λ adr. meetsMask adr mask) (adr-is history) ∙ meets-is (flags setup at purchase value history) mask
 
 -- ---- the table
 

@@ -6,19 +6,20 @@ use lib.Dec.{T, eqb}
 use Rattle.money.specs.declared.Converted.{Converted}
 use Rattle.money.specs.declared.Converted.the-variants.{Amount, Over, NoEntry}
 use Rattle.money.specs.declared.Rates.{Rates}
-use Rattle.money.specs.Money.{max, blank, rateFor, rounded, scaled, convertOf}
+use Rattle.money.specs.Money.{max, blank, convertOf}
 use Rattle.rules.specs.declared.Place.the-variants.{One}
 use Rattle.rules.specs.declared.Values.{Values}
 use Rattle.rules.specs.Rules.{Rules, four, blankAccumulator, blankCounter, blankProfile}
 use Rattle.meters.specs.declared.Purchase.{Purchase}
-use Rattle.meters.specs.Meters.{worth, approved, amountAt, countAt}
+use Rattle.meters.specs.Meters.{approved, amountAt, countAt}
 use Rattle.checks.specs.declared.History.{History}
-use Rattle.checks.specs.Checks.{accumulatorsLower, accumulatorsUpper, countersLower, countersUpper, maximumExceeded, testsOf}
+use Rattle.checks.specs.Checks.{testsOf}
 use Rattle.state.specs.declared.Kind.{Kind}
 use Rattle.state.specs.declared.Kind.the-variants.{Aac, Tc}
 use Rattle.cryptogram.specs.declared.Later.the-variants.{NotRequested}
 use Rattle.cryptogram.specs.Cryptogram.{kindCode, verification, issuerBefore}
 use Rattle.first.specs.First.{decision}
+use Rattle.demands.proofs.Computed.{computed}
 
 -- one conversion, from currency 1 to currency 2
 abbrev rates : Bool → ℕ → ℕ → Rates
@@ -122,5 +123,5 @@ all (row ∷ rows) = holds row && all rows
 
 -- a) to l), in document 01's order; c), d) and e) by both rules
 pub edges : T (all table)
-unfolding all table holds testsOf accumulatorsLower accumulatorsUpper countersLower countersUpper maximumExceeded worth convertOf rateFor scaled rounded approved decision verification
+unfolding all table holds computed
 edges = tt

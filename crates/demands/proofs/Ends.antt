@@ -1,7 +1,7 @@
 -- A command that is taken is answered in its kind, and leaves due what the conversation says. Assumes nothing.
 use mathlib.Core.Path.{_≡_, refl, sym, ap, _∙_}
 use mathlib.Core.Bool.{Bool, true, false, cond, _||_}
-use mathlib.Core.List.{List, [], _∷_}
+use mathlib.Core.List.{List}
 use Prim.Native.Nat.{ℕ}
 use lib.Dec.{eqb}
 use Rattle.refusal.specs.declared.Refusal.{Refusal}
@@ -29,9 +29,11 @@ use Rattle.first.specs.First.{firstPerformed, firstKind, concluded}
 use Rattle.second.specs.Second.{secondPerformed, isUnable, unableBits, unablePerformed, verifiedPerformed, failedPerformed, absentPerformed, closed}
 use Rattle.card.specs.Card.{refused, freshState}
 use Rattle.demands.specs.Audit.{isAccepted}
-use Rattle.demands.specs.Conversation.{Sitting, told, run, sat}
+use Rattle.demands.specs.Setup.{Setup}
+use Rattle.demands.specs.Conversation.{Sitting, told, satBy}
 use Rattle.demands.specs.Due.{Due, nothing, dueBy, due, dueIn, InKind}
 use Rattle.demands.proofs.Step.{Did, refused-it, started-it, took-first, took-second, did}
+use Rattle.demands.proofs.Run.{run-keeps}
 
 pub accepted-in-kind : (command : Command) (answer : Answer) → InKind command answer → isAccepted answer ≡ true
 accepted-in-kind (StartCommand start) (Started atc visits) k = refl
@@ -103,16 +105,15 @@ module _ (rules : Rules) (state : State) where
 
 -- ---- over a list of commands
 
-run-due : (rules : Rules) (sitting : Sitting) → dueIn (sitting .state .phase) ≡ due (sitting .log) → (commands : List Command)
-    → dueIn (run rules sitting commands .state .phase) ≡ due (run rules sitting commands .log)
-unfolding run due
-run-due rules sitting h [] = h
-run-due rules sitting h (command ∷ commands) =
-    run-due rules (told rules sitting command)
-    (did-leaves rules (sitting .state) (did rules (sitting .state) command) ∙ ap (dueBy command _) h) commands
+abbrev AsSaid : Sitting → Type 0
+AsSaid sitting = dueIn (sitting .state .phase) ≡ due (sitting .log)
 
--- WHAT IS DUE, by the card's phase, is what the conversation says
-pub due-is : (words s : List ℕ) (syllabus : ℕ) (commands : List Command)
-    → dueIn (sat words s syllabus commands .state .phase) ≡ due (sat words s syllabus commands .log)
+told-due : (sitting : Sitting) → AsSaid sitting → (command : Command) → AsSaid (told sitting command)
+unfolding due
+told-due sitting h command = did-leaves (sitting .rules) (sitting .state) (did (sitting .rules) (sitting .state) command) ∙ ap (dueBy command _) h
+
+-- WHAT IS DUE, by the card's phase, is what the conversation says: by any rules
+pub due-is : (rules : Rules) (setup : Setup) (commands : List Command)
+    → dueIn (satBy rules setup commands .state .phase) ≡ due (satBy rules setup commands .log)
 unfolding freshState due
-due-is words s syllabus commands = run-due _ _ refl commands
+due-is rules setup commands = run-keeps AsSaid told-due _ refl commands

@@ -8,8 +8,6 @@ use native.Mathlib.Nat.{div-one}
 use native.Mathlib.Omega.{arith}
 use borrow.Author.Tests.{ltb-true, eqb-true}
 use lib.Dec.{ltb, eqb}
-use lib.ListN.{length}
-use Rattle.wire.specs.Wire.{number}
 use Rattle.money.specs.declared.AccumulatorAmount.{AccumulatorAmount}
 use Rattle.money.specs.declared.Converted.{Converted}
 use Rattle.money.specs.declared.Converted.the-variants.{Amount, Over, NoEntry}
@@ -21,9 +19,7 @@ use Rattle.rules.specs.declared.AccumulatorRule.{AccumulatorRule}
 use Rattle.rules.specs.declared.CounterRule.{CounterRule}
 use Rattle.rules.specs.declared.Masks.{Masks}
 use Rattle.rules.specs.Rules.{Rules, Profile, profileAt, accumulatorRule, counterRule}
-use Rattle.ranges.specs.Ranges.{isSetup}
-use Rattle.setup.specs.Setup.{accumulatorIn, counterIn, profileIn, rulesIn}
-use Rattle.setup.proofs.Faithful.{Bytes, faithful}
+use Rattle.setup.specs.Setup.{accumulatorIn, counterIn, profileIn}
 use Rattle.command.specs.declared.First.{First}
 use Rattle.command.specs.declared.Second.{Second}
 use Rattle.command.specs.declared.Command.{Command}
@@ -44,13 +40,14 @@ use Rattle.state.specs.declared.State.{State}
 use Rattle.state.specs.declared.Outcome.{Outcome}
 use Rattle.first.specs.First.{decision, purchaseOf, firstKind, firstPerformed, concluded}
 use Rattle.second.specs.Second.{isUnable, unableIn, unableBits, unablePerformed, secondPerformed, closed}
-use Rattle.card.specs.Card.{stepOf}
+use Rattle.demands.specs.Setup.{Setup, numberAt, AcceptedSetup}
 use Rattle.demands.specs.Ledger.{Meter, accumulator, counter, IsMeter}
-use Rattle.demands.specs.Conversation.{Sitting, sat, next, valueOf}
-use Rattle.demands.specs.Audit.{isOn, isActive, isIncluded, placeOf, upperOf, approves, named, spent, spentIn}
+use Rattle.demands.specs.Conversation.{Sitting, rulesBy, sat, next, valueOf}
+use Rattle.demands.specs.Audit.{isOn, isActive, isIncluded, upperOf, approves, named, bought, inForce, placeBy}
 use Rattle.demands.specs.Guards.{upperBit, Guards}
 use Rattle.demands.proofs.Refusal.{never}
-use Rattle.demands.proofs.Step.{Did, refused-it, started-it, took-first, took-second, did}
+use Rattle.demands.proofs.Step.{Did, refused-it, started-it, took-first, took-second}
+use Rattle.demands.proofs.Run.{did-by}
 use Rattle.demands.proofs.Bytes.{Stands, profile-is, accumulator-is, counter-is}
 use Rattle.demands.proofs.Total.{Agrees, Holding, always}
 
@@ -80,33 +77,33 @@ unmet : (k adr mask : ℕ) (flag : Bool) → bitOf k adr ≡ bit flag → isOn m
 unmet k adr mask false e m q = refl
 unmet k adr mask true e m q = absurd (never (sym q ∙ meets-at k adr mask e (eqb-true _ _ m)))
 
-module _ (s : List ℕ) (syllabus : ℕ) (place : Place) (at : ℕ) (stands : Stands s place at) (values : Values) (history : History) (purchase : Purchase) where
+module _ (setup : Setup) (place : Place) (at : ℕ) (stands : Stands setup place at) (values : Values) (history : History) (purchase : Purchase) where
   abbrev rules : Rules
-  rules = rulesIn s syllabus
+  rules = rulesBy setup
 
   abbrev adr : ℕ
   adr = decisionBits history (testsOf rules place values purchase)
 
   -- an approval while a mask that holds the upper limit's bit isn't met
-  pub approved-within : (meter : Meter) → IsMeter meter → isActive s at meter ≡ true → isIncluded s at meter ≡ true
+  pub approved-within : (meter : Meter) → IsMeter meter → isActive setup at meter ≡ true → isIncluded setup at meter ≡ true
       → (mask : ℕ) → isOn mask (2 ^ upperBit meter) ≡ true → meetsMask adr mask ≡ false
-      → valueOf (approved rules place values purchase) meter ≤ upperOf s at meter
+      → valueOf (approved rules place values purchase) meter ≤ upperOf setup at meter
   unfolding accumulatorIn counterIn
   approved-within (accumulator i) l active included mask on q =
-      let is = accumulator-is s syllabus place at stands i l in
+      let is = accumulator-is setup place at stands i l in
       let active' : accumulatorRule rules place i .active ≡ true = ap (λ (r : AccumulatorRule). r .active) is ∙ (rw div-one at active) in
       let included' : accumulatorRule rules place i .include ≡ true = ap (λ (r : AccumulatorRule). r .include) is ∙ included in
-      let upper : accumulatorRule rules place i .upper .0 ≡ upperOf s at (accumulator i) = ap (λ (r : AccumulatorRule). r .upper .0) is in
+      let upper : accumulatorRule rules place i .upper .0 ≡ upperOf setup at (accumulator i) = ap (λ (r : AccumulatorRule). r .upper .0) is in
       let flag = house-order history rules place values purchase .accumulatorUpper i l in
       let kept = accumulator-kept rules place values purchase i l active' included' (unmet (10 + i) adr mask _ flag on q) in
       rw (approved-amount rules place values purchase i l, ← upper)
       (approval-within max (accumulatorRule rules place i .upper .0) (amountAt values i .0)
       (accumulatorRule rules place i .active && accumulatorRule rules place i .allow) (worth rules purchase i) (kept .0) (kept .1) (kept .2))
   approved-within (counter i) l active included mask on q =
-      let is = counter-is s syllabus place at stands i l in
+      let is = counter-is setup place at stands i l in
       let active' : counterRule rules place i .active ≡ true = ap (λ (r : CounterRule). r .active) is ∙ (rw div-one at active) in
       let included' : counterRule rules place i .include ≡ true = ap (λ (r : CounterRule). r .include) is ∙ included in
-      let upper : counterRule rules place i .upper ≡ upperOf s at (counter i) = ap (λ (r : CounterRule). r .upper) is in
+      let upper : counterRule rules place i .upper ≡ upperOf setup at (counter i) = ap (λ (r : CounterRule). r .upper) is in
       let flag = house-order history rules place values purchase .counterUpper i l in
       let kept = counter-kept rules place values i l active' included' (unmet (18 + i) adr mask _ flag on q) in
       rw (approved-count rules place values purchase i l, ← upper)
@@ -126,37 +123,42 @@ tc-unmet requested bits masks terminal e = by (eqb requested 0) (meetsMask bits 
   by false true rest e = cc
   by false false rest e = refl
 
-module _ (s : List ℕ) (syllabus : ℕ) (sitting : Sitting) (holding : Holding s syllabus sitting) (meter : Meter) (l : IsMeter meter)
-    (guards : Guards s (placeOf s (named (sitting .log))) meter) where
+module _ (setup : Setup) (sitting : Sitting) (holding : Holding setup sitting) (meter : Meter) (l : IsMeter meter)
+    (guards : Guards (inForce setup (sitting .log)) (placeBy setup (sitting .log)) meter) where
+  abbrev now : Setup
+  now = inForce setup (sitting .log)
+
   abbrev card-rules : Rules
-  card-rules = rulesIn s syllabus
+  card-rules = rulesBy now
 
   abbrev state : State
   state = sitting .state
 
   abbrev at : ℕ
-  at = placeOf s (named (sitting .log))
+  at = placeBy setup (sitting .log)
 
   -- if an answer approves, the value is within
   abbrev Within : Command → Outcome → Type 0
-  Within command outcome = approves command (outcome .answer) ≡ true → valueOf (outcome .state .values) meter ≤ upperOf s at meter
+  Within command outcome = approves command (outcome .answer) ≡ true → valueOf (outcome .state .values) meter ≤ upperOf now at meter
 
-  concluded-within : (first : First) (place : Place) → Stands s place at → (limits : ℕ) (cvr : Cvr) (kind : Kind)
+  concluded-within : (first : First) (place : Place) → Stands now place at → (limits : ℕ) (cvr : Cvr) (kind : Kind)
       → kind ≡ firstKind card-rules state place first
       → Within (FirstCommand first) (concluded card-rules state place (purchaseOf first) limits cvr kind)
   unfolding concluded profileIn
   concluded-within first place stands limits cvr Tc is e =
-      let mask : profileAt card-rules place .masks .decline ≡ number s (at + 5) 4 = ap (λ (p : Profile). p .masks .decline) (profile-is s syllabus place at stands) in
-      approved-within s syllabus place at stands (state .values) (state .history) (purchaseOf first) meter l (guards .active) (guards .included)
-      (profileAt card-rules place .masks .decline) (rw mask (guards .decline)) (tc-unmet (first .requested) _ (profileAt card-rules place .masks) (first .terminal) is)
+      let mask : profileAt card-rules place .masks .decline ≡ numberAt now (at + 5) 4 =
+      ap (λ (p : Profile). p .masks .decline) (profile-is now place at stands) in
+      approved-within now place at stands (state .values) (state .history) (purchaseOf first) meter l (guards .active) (guards .included)
+      (profileAt card-rules place .masks .decline) (rw mask (guards .decline))
+      (tc-unmet (first .requested) _ (profileAt card-rules place .masks) (first .terminal) is)
   concluded-within first place stands limits cvr Aac is e = absurd (never e)
   concluded-within first place stands limits cvr Arqc is e = absurd (never e)
 
-  first-within : (first : First) (place : Place) → Stands s place at → Within (FirstCommand first) (firstPerformed card-rules state first place)
+  first-within : (first : First) (place : Place) → Stands now place at → Within (FirstCommand first) (firstPerformed card-rules state first place)
   unfolding firstPerformed
   first-within first place stands = concluded-within first place stands _ _ (firstKind card-rules state place first) refl
 
-  unable-within : (second : Second) (pending : Pending) → Stands s (pending .place) at → (b : Bool)
+  unable-within : (second : Second) (pending : Pending) → Stands now (pending .place) at → (b : Bool)
       → (eqb (second .requested) 0 || meetsMask (unableBits card-rules state pending) (profileAt card-rules (pending .place) .masks .default)) ≡ b
       → (values : Values) (history : History) (issuer : Issuer)
       → Within (SecondCommand second) (cond b (closed card-rules (state .atc) pending false values history issuer)
@@ -165,15 +167,17 @@ module _ (s : List ℕ) (syllabus : ℕ) (sitting : Sitting) (holding : Holding 
   unable-within second pending stands true q values history issuer e = absurd (never (both-false (isUnable (second .code)) e))
   unable-within second pending stands false q values history issuer e =
       let place = pending .place in
-      let mask : profileAt card-rules place .masks .default ≡ number s (at + 9) 4 = ap (λ (p : Profile). p .masks .default) (profile-is s syllabus place at stands) in
-      approved-within s syllabus place at stands (state .values) (unableIn (pending .history)) (pending .purchase) meter l (guards .active) (guards .included)
+      let mask : profileAt card-rules place .masks .default ≡ numberAt now (at + 9) 4 =
+      ap (λ (p : Profile). p .masks .default) (profile-is now place at stands) in
+      approved-within now place at stands (state .values) (unableIn (pending .history)) (pending .purchase) meter l (guards .active) (guards .included)
       (profileAt card-rules place .masks .default) (rw mask (guards .default)) (neither (eqb (second .requested) 0) _ q)
     where
       neither : (a b : Bool) → (a || b) ≡ false → b ≡ false
       neither true b e = absurd (never (sym e))
       neither false b e = e
 
-  second-within : (second : Second) (pending : Pending) → Stands s (pending .place) at → Within (SecondCommand second) (secondPerformed card-rules state second pending)
+  second-within : (second : Second) (pending : Pending) → Stands now (pending .place) at
+      → Within (SecondCommand second) (secondPerformed card-rules state second pending)
   unfolding secondPerformed unablePerformed
   second-within second pending stands = by (isUnable (second .code)) refl _ where
     by : (u : Bool) → isUnable (second .code) ≡ u → (rest : Outcome)
@@ -189,18 +193,16 @@ module _ (s : List ℕ) (syllabus : ℕ) (sitting : Sitting) (holding : Holding 
     not-refused (SecondCommand second) e = both-false (isUnable (second .code)) e
   did-within (started-it start place holds) = λ e. absurd (never e)
   did-within (took-first first place is type small) =
-      first-within first place (subst (Agrees s (named (sitting .log)) (spent (sitting .log)) (spentIn (sitting .log))) is (holding .agrees))
+      first-within first place (subst (Agrees now (named (sitting .log)) (bought (sitting .log))) is (holding .agrees))
   did-within (took-second second pending is type issuer) =
-      second-within second pending (subst (Agrees s (named (sitting .log)) (spent (sitting .log)) (spentIn (sitting .log))) is (holding .agrees) .stands)
+      second-within second pending (subst (Agrees now (named (sitting .log)) (bought (sitting .log))) is (holding .agrees) .stands)
 
--- DEMAND 3, THE UPPER LIMIT
-pub limit : (s : List ℕ) (syllabus : ℕ) → Bytes s → isSetup s ≡ true → (words : List ℕ) → length words ≡ 164
-    → (commands : List Command) (command : Command) (meter : Meter) → IsMeter meter
-    → Guards s (placeOf s (named (sat words s syllabus commands .log))) meter
-    → approves command (next words s syllabus commands command .answer) ≡ true
-    → valueOf (next words s syllabus commands command .state .values) meter ≤ upperOf s (placeOf s (named (sat words s syllabus commands .log))) meter
-limit s syllabus bytes good words size commands command meter l guards =
-    subst (λ rules. approves command (stepOf rules (sat words s syllabus commands .state) command .answer) ≡ true
-    → valueOf (stepOf rules (sat words s syllabus commands .state) command .state .values) meter ≤ upperOf s (placeOf s (named (sat words s syllabus commands .log))) meter)
-    (sym (faithful s bytes syllabus words size good))
-    (did-within s syllabus (sat words s syllabus commands) (always s syllabus bytes good words size commands) meter l guards (did (rulesIn s syllabus) (sat words s syllabus commands .state) command))
+-- DEMAND 3, THE UPPER LIMIT, which is the one in force
+pub limit : (setup : Setup) → AcceptedSetup setup → (commands : List Command) (command : Command) (meter : Meter) → IsMeter meter
+    → Guards (inForce setup (sat setup commands .log)) (placeBy setup (sat setup commands .log)) meter
+    → approves command (next setup commands command .answer) ≡ true
+    → valueOf (next setup commands command .state .values) meter
+    ≤ upperOf (inForce setup (sat setup commands .log)) (placeBy setup (sat setup commands .log)) meter
+limit setup good commands command meter l guards =
+    let held = always setup good commands in
+    did-within setup (sat setup commands) (held .holding) meter l guards (did-by setup (sat setup commands) (held .ruled) command)

@@ -6,30 +6,23 @@ use mathlib.Core.List.{List, [], _∷_, _++_}
 use Prim.Native.Nat.{ℕ, _*_}
 use lib.Dec.{T, eqb}
 use lib.ListN.{replicate}
-use Rattle.wire.specs.Wire.{number}
-use Rattle.ranges.specs.Ranges.{isSetup, hasLength, isHead, areAccumulators, isAccumulator, areProfiles, isProfileOrAbsent, isProfile, areMasks, isMaximumAmount, areAccumulatorRules, isAccumulatorRule, areCounterRules, areSent, areNumbersApart, profileNumber, areConversions, isConversionOrAbsent, isConversion, conversionPair, arePairsApart}
-use Rattle.rules.specs.Rules.{findProfile}
-use Rattle.setup.specs.Setup.{rateIn, accumulatorIn, counterIn, profileIn, rulesIn, freshIn, readSetup}
-use Rattle.money.specs.Money.{rateFor, rounded, scaled, convertOf}
-use Rattle.meters.specs.Meters.{worth, approved, declined, limited, cleared}
+use Rattle.ranges.specs.Ranges.{isSetup}
 use Rattle.checks.specs.declared.History.{History}
-use Rattle.checks.specs.Checks.{accumulatorsLower, accumulatorsUpper, countersLower, countersUpper, maximumExceeded, testsOf, decisionBits}
 use Rattle.state.specs.declared.Answer.{Answer}
 use Rattle.state.specs.declared.Answer.the-variants.{Refused, Started, Given}
 use Rattle.state.specs.declared.Kind.{Kind}
-use Rattle.state.specs.declared.Kind.the-variants.{Aac, Tc, Arqc}
-use Rattle.cryptogram.specs.Cryptogram.{kindCode, verification, sentIad}
-use Rattle.first.specs.First.{decision, limitsByte, concluded, firstPerformed}
-use Rattle.second.specs.Second.{closed, ordered, unablePerformed, verifiedPerformed, failedPerformed, absentPerformed, secondPerformed}
-use Rattle.card.specs.Card.{freshState, startStep, firstStep, secondStep, stepOf}
+use Rattle.state.specs.declared.Kind.the-variants.{Aac, Arqc}
+use Rattle.cryptogram.specs.Cryptogram.{kindCode}
 use Rattle.selection.specs.declared.Selection.the-variants.{Selected}
 use Rattle.command.specs.declared.Command.{Command}
 use Rattle.command.specs.declared.Command.the-variants.{Start as StartCommand, First as FirstCommand, Second as SecondCommand}
-use Rattle.demands.specs.Ledger.{Meter, accumulator, counter, owed}
-use Rattle.demands.specs.Conversation.{Exchange, Sitting, run, begin, valueOf}
-use Rattle.demands.specs.Audit.{placeOf, converted, named, spent, spentIn, ledger, audited}
+use Rattle.demands.specs.Setup.{Setup}
+use Rattle.demands.specs.Ledger.{Meter, accumulator, counter}
+use Rattle.demands.specs.Conversation.{Exchange, Sitting, sat, next, valueOf}
+use Rattle.demands.specs.Audit.{audited}
 use Rattle.demands.specs.Past.{past, atcBy}
 use Rattle.demands.specs.Due.{Due, nothing, aFirst, aSecond, due, dueIn}
+use Rattle.demands.proofs.Computed.{computed}
 
 abbrev zeros : ℕ → List ℕ
 zeros n = replicate n 0
@@ -51,13 +44,14 @@ profile n switches =
     n ∷ zeros 23 ++ rule switches 0 100 0x13 0x88 ++ rule 3 0 100 0x13 0x88 ++ rule 5 0 8 0 9 ++ zeros 17 ++ 3 ∷ 255 ∷ 255 ∷ zeros 12
 
 -- profile 2 leaves accumulator 1 out; 0978 to 0840 by 2
-unfoldable pub counting : List ℕ
-counting = head 2 1 0 0 ++ profile 1 3 ++ profile 2 0 ++ 0x09 ∷ 0x78 ∷ 0x08 ∷ 0x40 ∷ 0 ∷ 2 ∷ 9 ∷ []
+unfoldable pub counting : Setup
+counting = record { bytes = head 2 1 0 0 ++ profile 1 3 ++ profile 2 0 ++ 0x09 ∷ 0x78 ∷ 0x08 ∷ 0x40 ∷ 0 ∷ 2 ∷ 9 ∷ []; syllabus = 0 }
 
 -- Online accumulator 1's lower limit, 1000; Decline MTA, 0 in 0978 and off, and accumulator 1's upper limit, 5000; no conversion
-unfoldable pub limiting : (high low : ℕ) → List ℕ
+unfoldable pub limiting : (high low : ℕ) → Setup
 limiting high low =
-    head 1 0 high low ++ 1 ∷ zeros 3 ++ 0x40 ∷ 0 ∷ 0 ∷ 0x04 ∷ 0x20 ∷ zeros 5 ++ 0x09 ∷ 0x78 ∷ zeros 8 ++ rule 1 0x03 0xE8 0x13 0x88 ++ zeros 66
+    let masks = zeros 3 ++ 0x40 ∷ 0 ∷ 0 ∷ 0x04 ∷ 0x20 ∷ zeros 5 in
+    record { bytes = head 1 0 high low ++ 1 ∷ masks ++ 0x09 ∷ 0x78 ∷ zeros 8 ++ rule 1 0x03 0xE8 0x13 0x88 ++ zeros 66; syllabus = 0 }
 
 -- ---- sittings
 
@@ -115,16 +109,17 @@ sameHistory a b =
     && same (a .unable) (b .unable)
     && same (a .missing) (b .missing)
 
-abbrev holds : List ℕ → Sitting → Meter → Bool
-holds s sitting meter = eqb (valueOf (sitting .state .values) meter) (audited s 0 (sitting .log) meter)
+abbrev holds : Setup → Sitting → Meter → Bool
+holds setup sitting meter = eqb (valueOf (sitting .state .values) meter) (audited setup (sitting .log) meter)
 
 -- `total`, `history` and `atc` of a card after a list of commands
-unfoldable pub agrees : List ℕ → List Command → Bool
-agrees s commands =
-    let sitting = run (rulesIn s 0) (begin s) commands in
-    holds s sitting (accumulator 0) && holds s sitting (accumulator 1) && holds s sitting (accumulator 2) && holds s sitting (counter 0)
-    && sameHistory (sitting .state .history) (past s (sitting .log))
-    && eqb (sitting .state .atc) (atcBy s (sitting .log))
+unfoldable pub agrees : Setup → List Command → Bool
+agrees setup commands =
+    let sitting = sat setup commands in
+    holds setup sitting (accumulator 0) && holds setup sitting (accumulator 1) && holds setup sitting (accumulator 2)
+    && holds setup sitting (counter 0)
+    && sameHistory (sitting .state .history) (past setup (sitting .log))
+    && eqb (sitting .state .atc) (atcBy setup (sitting .log))
 
 -- `due-is`: what the card's phase says is due, and what the conversation says
 abbrev sameDue : Due → Due → Bool
@@ -140,7 +135,7 @@ sameDue aSecond aSecond = true
 
 unfoldable pub duly : List Command → Bool
 duly commands =
-    let sitting = run (rulesIn counting 0) (begin counting) commands in
+    let sitting = sat counting commands in
     sameDue (dueIn (sitting .state .phase)) (due (sitting .log))
 
 -- `in-kind`: Start starts, First and Second give
@@ -158,7 +153,7 @@ areInKind [] = true
 areInKind (exchange ∷ older) = isInKind (exchange .command) (exchange .answer) && areInKind older
 
 unfoldable pub kindly : List Command → Bool
-kindly commands = areInKind (run (rulesIn counting 0) (begin counting) commands .log)
+kindly commands = areInKind (sat counting commands .log)
 
 abbrev isOf : Answer → Kind → Bool
 isOf (Refused refusal) kind = false
@@ -167,12 +162,10 @@ isOf (Given given atc iad) kind = eqb (kindCode given) (kindCode kind)
 
 -- what First answers, requested a TC of 1 in a currency, with accumulator 1 from a number
 unfoldable pub answers : (high low currency : ℕ) → Kind → Bool
-answers high low currency kind =
-    let s = limiting high low in
-    isOf (stepOf (rulesIn s 0) (run (rulesIn s 0) (begin s) (start 1 ∷ []) .state) (first 1 currency 1) .answer) kind
+answers high low currency kind = isOf (next (limiting high low) (start 1 ∷ []) (first 1 currency 1) .answer) kind
 
 pub record Samples : Type 0 where
-  pub accepted : T (isSetup counting && isSetup (limiting 0x07 0xD0) && isSetup (limiting 0x17 0x70))
+  pub accepted : T (isSetup (counting .bytes) && isSetup (limiting 0x07 0xD0 .bytes) && isSetup (limiting 0x17 0x70 .bytes))
   pub approvals-agree : T (agrees counting approvals)
   pub limits-agree : T (agrees counting limits)
   pub resets-agree : T (agrees counting resets)
@@ -194,7 +187,7 @@ pub record Samples : Type 0 where
   pub upper-declined : T (answers 0x17 0x70 0x0840 Aac)
 
 pub samples : Samples
-unfolding counting limiting approvals limits resets answered online agrees duly kindly answers due run freshState readSetup freshIn isSetup hasLength isHead areAccumulators isAccumulator number areProfiles isProfileOrAbsent isProfile areMasks isMaximumAmount areAccumulatorRules isAccumulatorRule areCounterRules areSent areNumbersApart profileNumber areConversions isConversionOrAbsent isConversion conversionPair arePairsApart rulesIn rateIn profileIn accumulatorIn counterIn stepOf startStep firstStep secondStep findProfile firstPerformed decision limitsByte concluded testsOf decisionBits accumulatorsLower accumulatorsUpper countersLower countersUpper maximumExceeded worth convertOf rateFor rounded scaled approved declined limited cleared verification sentIad secondPerformed unablePerformed verifiedPerformed failedPerformed absentPerformed closed ordered placeOf converted named spent spentIn ledger owed past atcBy
+unfolding counting limiting approvals limits resets answered online agrees duly kindly answers computed
 samples =
     record {
       accepted = tt;
