@@ -22,8 +22,8 @@ use Rattle.command.specs.declared.First.{First}
 use Rattle.command.specs.declared.Second.{Second}
 use Rattle.command.specs.declared.Command.{Command}
 use Rattle.command.specs.declared.Command.the-variants.{Start as StartCommand, First as FirstCommand, Second as SecondCommand}
-use Rattle.meters.specs.declared.Purchase.{Purchase}
-use Rattle.checks.specs.declared.History.{History}
+use Rattle.purchase.specs.declared.Purchase.{Purchase}
+use Rattle.state.specs.declared.History.{History}
 use Rattle.checks.specs.Checks.{meetsMask}
 use Rattle.state.specs.declared.Answer.{Answer}
 use Rattle.state.specs.declared.Answer.the-variants.{Refused, Started, Given}
@@ -36,14 +36,15 @@ use Rattle.state.specs.declared.Phase.{Phase}
 use Rattle.state.specs.declared.Phase.the-variants.{Idle, Opened, Asked}
 use Rattle.state.specs.declared.State.{State}
 use Rattle.state.specs.declared.Outcome.{Outcome}
-use Rattle.cryptogram.specs.Cryptogram.{laterCode, verification, issuerBefore, sentIad}
-use Rattle.first.specs.First.{limitsByte, purchaseOf, firstTests, firstKind, firstPerformed, concluded}
-use Rattle.second.specs.Second.{isUnable, unableIn, unableBits, issuerUnable, closingKind, laterKind, unablePerformed, verifiedPerformed}
+use Rattle.cryptogram.specs.Cryptogram.{limitsByte, laterCode, verification, issuerBefore, sentIad}
+use Rattle.first.specs.First.{purchaseOf, firstBits, firstKind, firstPerformed, settled, asked, concluded}
+use Rattle.state.specs.State.{unableIn}
+use Rattle.second.specs.Second.{isUnable, unableBits, issuerUnable, closingKind, laterKind, unablePerformed, verifiedPerformed}
 use Rattle.second.specs.Second.{failedPerformed, absentPerformed, secondPerformed, closed, updateByte}
 use Rattle.card.specs.Card.{refused, freshState}
 use Rattle.demands.specs.Setup.{Setup, byteAt, numberAt, AcceptedSetup}
-use Rattle.demands.specs.Ledger.{Meter}
-use Rattle.demands.specs.Conversation.{Exchange, Sitting, after, told, run, rulesBy, sat, next, valueOf}
+use Rattle.purchase.specs.Meter.{Meter, valueOf}
+use Rattle.demands.specs.Conversation.{Exchange, Sitting, after, told, run, rulesBy, sat, next}
 use Rattle.demands.specs.Audit.{isOn, named, brought, bought, inForce, placeBy, audited}
 use Rattle.demands.specs.Past.{past, beforeFirst}
 use Rattle.demands.specs.Rows.{InSetup}
@@ -112,11 +113,11 @@ module _ (setup : Setup) (sitting : Sitting) (knows : Knows setup sitting) where
 
   module _ (first : First) (place : Place) (stands : Stands now place at) (type : first .requested ≤ 2) (small : first .amount .0 ≤ max) where
     abbrev limits : ℕ
-    limits = limitsByte (firstTests rules state place first)
+    limits = limitsByte (firstBits rules state place first)
 
     limits-now : limits ≡ limitsBy now at (brought first) (audited setup log)
     limits-now =
-        limits-are now good place at stands (state .values) (purchaseOf first) small
+        limits-are now good place at stands (state .values) (purchaseOf first) small (state .history)
         ∙ limits-audited now at (brought first) (valueOf (state .values)) (audited setup log) (knows .holding .values)
 
     abbrev cvr-of : Kind → Cvr
@@ -133,13 +134,13 @@ module _ (setup : Setup) (sitting : Sitting) (knows : Knows setup sitting) where
     outcome-of kind = concluded rules state place (purchaseOf first) limits (cvr-of kind) kind
 
     concluded-iad : (kind : Kind) → outcome-of kind .answer ≡ Given kind (state .atc) (sentIad rules place (outcome-of kind .state .values) (cvr-of kind))
-    unfolding concluded
+    unfolding settled asked concluded
     concluded-iad Aac = refl
     concluded-iad Tc = refl
     concluded-iad Arqc = refl
 
     concluded-knows : (kind : Kind) → Keeping setup (after sitting (FirstCommand first) (outcome-of kind))
-    unfolding concluded beforeFirst named bought inForce
+    unfolding settled asked concluded beforeFirst named bought inForce
     concluded-knows Aac = tt
     concluded-knows Tc = tt
     concluded-knows Arqc = record { history-is = knows .recalls .history-is; limits-is = limits-now }
@@ -254,23 +255,14 @@ module _ (setup : Setup) (sitting : Sitting) (knows : Knows setup sitting) where
     unable-right (suc zero) l m = refl
     unable-right (suc (suc r)) l m = absurd (omega arith)
 
-    unable-gives : isUnable (second .code) ≡ true → (b : Bool)
-        → (eqb (second .requested) 0 || meets-default) ≡ b
-        → (declined approved : Values) (history : History)
-        → Given-by (cond b (closed rules (state .atc) pending false declined history (issuerUnable (pending .history)))
-        (closed rules (state .atc) pending true approved history (issuerUnable (pending .history))))
-    unable-gives u b q declined approved history = by b q where
+    unable-gives : isUnable (second .code) ≡ true → (values : Values) (history : History)
+        → Given-by (closed rules (state .atc) pending (not (eqb (second .requested) 0 || meets-default)) values history (issuerUnable (pending .history)))
+    unable-gives u values history = closed-gives _ values history (issuerUnable (pending .history)) right issuing where
       issuing : issuing-of (issuerUnable (pending .history)) ≡ issuingAtSecond second first-past
       issuing = rw u (ap (λ (h : History). record { unperformed = true; failed = h .failed; unable = true }) (kept .history-is))
 
       right : not (eqb (second .requested) 0 || meets-default) ≡ secondApproves now at fs second
       right = rw u (ap (λ m. not (eqb (second .requested) 0 || m)) default-met ∙ unable-right (second .requested) type (meets fs (numberAt now (at + 9) 4)))
-
-      by : (b : Bool) → (eqb (second .requested) 0 || meets-default) ≡ b
-          → Given-by (cond b (closed rules (state .atc) pending false declined history (issuerUnable (pending .history)))
-          (closed rules (state .atc) pending true approved history (issuerUnable (pending .history))))
-      by true q = closed-gives false declined history (issuerUnable (pending .history)) (ap not (sym q) ∙ right) issuing
-      by false q = closed-gives true approved history (issuerUnable (pending .history)) (ap not (sym q) ∙ right) issuing
 
     b8 : (n : ℕ) → leb 128 (n % 256) ≡ isOn n 128
     b8 n = by (leb 128 (n % 256)) refl where
@@ -317,8 +309,7 @@ module _ (setup : Setup) (sitting : Sitting) (knows : Knows setup sitting) where
           → Given-by (cond u (unablePerformed rules state (second .requested) pending)
           (cond v (verifiedPerformed rules state second pending)
           (cond f (failedPerformed rules state pending) (absentPerformed rules state (second .requested) pending))))
-      by true u v p f q =
-          unable-gives u (eqb (second .requested) 0 || meets-default) refl _ _ _
+      by true u v p f q = unable-gives u _ _
       by false u true p f q = verified-gives u _ _ p
       by false u false p true q = failed-gives u _ _ p q
       by false u false p false q = absent-gives u _ _ p q

@@ -4,7 +4,7 @@ use mathlib.Core.Path.{_≡_, refl, sym, ap, ap₂, _∙_}
 use mathlib.Core.Bool.{Bool, true, false, cond, _&&_}
 use mathlib.Core.List.{List, [], _∷_}
 use Prim.Native.Nat.{ℕ, zero, suc, _+_, _-_, _*_, _/_, _%_, _^_, _≤_, _<_}
-use native.Mathlib.Nat.{add-zero}
+use native.Mathlib.Nat.{add-zero, div-one}
 use native.Mathlib.Omega.{arith}
 use borrow.Author.Tests.{ltb-true, ltb-false, lt-ltb, le-ltb, le-leb, eqb-true, eq-eqb, ne-eqb}
 use lib.Dec.{ltb, eqb}
@@ -19,11 +19,14 @@ use Rattle.rules.specs.Rules.{Profile, blankProfile, blankAccumulator, blankCou
 use Rattle.rules.proofs.Places.{four-at}
 use Rattle.ranges.proofs.Accepted.{Accepted, accepted}
 use Rattle.setup.specs.Setup.{rateIn, accumulatorIn, counterIn, profileIn, rulesIn}
-use Rattle.meters.specs.declared.Purchase.{Purchase}
-use Rattle.meters.specs.Meters.{addition, worth}
+use Rattle.purchase.specs.declared.Purchase.{Purchase}
+use Rattle.purchase.specs.Meter.{Meter, accumulator, counter, IsMeter, MeterRule, accumulating, counting, ruleOf, worth}
+use Rattle.purchase.specs.Meter.{worthTo as cardWorth}
+use Rattle.meters.specs.Meters.{addition}
 use Rattle.demands.specs.Setup.{Setup, byteAt, numberAt, AcceptedSetup}
 use Rattle.demands.specs.Conversation.{rulesBy}
-use Rattle.demands.specs.Audit.{placeFrom, placeOf, Conversion, comesTo, over, none, whole, upToMax, byEntry, converted, adds}
+use Rattle.demands.specs.Audit.{placeFrom, placeOf, Conversion, comesTo, over, none, whole, upToMax, byEntry, converted, adds, isActive, isAllowed, isIncluded, countsDeclines, upperOf, worthTo}
+use Rattle.demands.specs.Decision.{lowerOf}
 use Rattle.demands.proofs.Found.{Holds, below-four}
 
 -- every field of an accepted set-up is in its range
@@ -61,6 +64,24 @@ module _ (setup : Setup) (place : Place) (at : ℕ) (stands : Stands setup place
   counter-is i l =
       ap (λ profile. getD (profile .counters) i blankCounter) profile-is
       ∙ four-at (λ j. counterIn (setup .bytes) (at + (92 + 3 * j))) blankCounter i l
+
+-- the rule of a meter as the auditor reads it
+abbrev pub ruleRead : Setup → ℕ → Meter → MeterRule
+ruleRead setup at meter =
+    record {
+      active = isActive setup at meter;
+      allow = isAllowed setup at meter;
+      include = isIncluded setup at meter;
+      declines = countsDeclines setup at meter;
+      lower = lowerOf setup at meter;
+      upper = upperOf setup at meter;
+    }
+
+pub rule-read : (setup : Setup) (place : Place) (at : ℕ) → Stands setup place at → (meter : Meter) → IsMeter meter
+    → ruleOf (rulesBy setup) place meter ≡ ruleRead setup at meter
+unfolding accumulatorIn counterIn
+rule-read setup place at stands (accumulator i) l = ap accumulating (accumulator-is setup place at stands i l) ∙ rw div-one
+rule-read setup place at stands (counter i) l = ap counting (counter-is setup place at stands i l) ∙ rw div-one
 
 -- the card's answer as the auditor reads it
 abbrev pub asRead : Converted → Conversion
@@ -236,10 +257,15 @@ module _ (setup : Setup) (good : AcceptedSetup setup) where
       ap (λ to. asRead (convertOf (purchase .amount) (purchase .currency) to (rulesBy setup .rates))) (currency-at i l)
       ∙ converts-to purchase (numberAt setup (8 + 10 * i) 2) small
 
-  -- what it adds to it
-  pub converts-adds : (purchase : Purchase) (i : ℕ) → i < 4 → purchase .amount .0 ≤ max
-      → addition (worth (rulesBy setup) purchase i) ≡ adds (converted setup purchase (numberAt setup (8 + 10 * i) 2))
-  converts-adds purchase i l small = adds-read (worth (rulesBy setup) purchase i) ∙ ap adds (converts purchase i l small)
+  -- and to a meter, with what it adds to it
+  pub worth-read : (purchase : Purchase) → purchase .amount .0 ≤ max → (meter : Meter) → IsMeter meter
+      → asRead (cardWorth (rulesBy setup) purchase meter) ≡ worthTo setup purchase meter
+  worth-read purchase small (accumulator i) l = converts purchase i l small
+  worth-read purchase small (counter i) l = refl
+
+  pub worth-adds : (purchase : Purchase) → purchase .amount .0 ≤ max → (meter : Meter) → IsMeter meter
+      → addition (cardWorth (rulesBy setup) purchase meter) ≡ adds (worthTo setup purchase meter)
+  worth-adds purchase small meter l = adds-read (cardWorth (rulesBy setup) purchase meter) ∙ ap adds (worth-read purchase small meter l)
 
 module _ (setup : Setup) (good : AcceptedSetup setup) where
   -- and the number that stands there is the one looked for

@@ -14,18 +14,19 @@ use Rattle.rules.specs.declared.Values.{Values}
 use Rattle.rules.specs.Rules.{Rules, findProfile}
 use Rattle.setup.specs.Setup.{rateIn, accumulatorIn, counterIn, profileIn, rulesIn, freshIn, readSetup}
 use Rattle.command.specs.declared.Command.{Command}
-use Rattle.meters.specs.declared.Purchase.{Purchase}
-use Rattle.meters.specs.Meters.{worth, approved, declined, limited, cleared}
-use Rattle.checks.specs.declared.History.{History}
-use Rattle.checks.specs.Checks.{accumulatorsLower, accumulatorsUpper, countersLower, countersUpper, maximumExceeded, testsOf, decisionBits}
+use Rattle.purchase.specs.declared.Purchase.{Purchase}
+use Rattle.purchase.specs.Meter.{worth, Meter}
+use Rattle.meters.specs.Meters.{applied}
+use Rattle.state.specs.declared.History.{History}
+use Rattle.checks.specs.Checks.{accumulatorsLower, accumulatorsUpper, countersLower, countersUpper, maximumExceeded, decisionBits}
 use Rattle.state.specs.declared.State.{State}
 use Rattle.state.specs.declared.Outcome.{Outcome}
-use Rattle.cryptogram.specs.Cryptogram.{verification, sentIad}
-use Rattle.first.specs.First.{decision, limitsByte, concluded, firstPerformed}
+use Rattle.cryptogram.specs.Cryptogram.{limitsByte, verification, sentIad}
+use Rattle.first.specs.First.{decision, settled, asked, concluded, firstPerformed}
 use Rattle.second.specs.Second.{closed, ordered, unablePerformed, verifiedPerformed, failedPerformed, absentPerformed, secondPerformed}
 use Rattle.card.specs.Card.{freshState, startStep, firstStep, secondStep, stepOf}
 use Rattle.demands.specs.Setup.{Setup}
-use Rattle.demands.specs.Ledger.{Meter, owed}
+use Rattle.demands.specs.Ledger.{owed}
 use Rattle.demands.specs.Conversation.{Exchange, Sitting, run, rulesBy, sat}
 use Rattle.demands.specs.Audit.{placeOf, converted, named, bought, inForce, ledger, audited}
 use Rattle.demands.specs.Past.{past, atcBy}
@@ -47,17 +48,17 @@ decoded setup = rulesBy setup
 
 -- what a purchase is worth, and what the values become
 unfoldable pub worthIn : Rules → Purchase → ℕ → Converted
-unfolding worth convertOf rateFor rounded scaled approved declined limited cleared ordered
+unfolding worth convertOf rateFor rounded scaled applied ordered
 worthIn rules purchase i = worth rules purchase i
 
 -- the tests, the decision and what goes out
 unfoldable pub testedBits : Rules → Place → Values → Purchase → History → ℕ
-unfolding worthIn testsOf decisionBits accumulatorsLower accumulatorsUpper countersLower countersUpper maximumExceeded decision limitsByte verification
-testedBits rules place values purchase history = decisionBits history (testsOf rules place values purchase)
+unfolding worthIn decisionBits accumulatorsLower accumulatorsUpper countersLower countersUpper maximumExceeded decision limitsByte verification
+testedBits rules place values purchase history = decisionBits rules place values purchase history
 
 -- one command
 unfoldable pub stepped : Rules → State → Command → Outcome
-unfolding testedBits stepOf startStep firstStep findProfile firstPerformed concluded secondStep secondPerformed unablePerformed verifiedPerformed
+unfolding testedBits stepOf startStep firstStep findProfile firstPerformed settled asked concluded secondStep secondPerformed unablePerformed verifiedPerformed
 stepped rules state command = stepOf rules state command
 
 unfoldable pub sent : Rules → State → Command → Outcome

@@ -12,8 +12,8 @@ use Rattle.state.specs.declared.Answer.the-variants.{Refused, Started, Given}
 use Rattle.state.specs.declared.Kind.the-variants.{Aac, Tc, Arqc}
 use Rattle.state.specs.declared.Outcome.{Outcome}
 use Rattle.demands.specs.Setup.{Setup}
-use Rattle.demands.specs.Ledger.{counter}
-use Rattle.demands.specs.Conversation.{next, valueOf}
+use Rattle.purchase.specs.Meter.{counter, valueOf}
+use Rattle.demands.specs.Conversation.{next}
 use Rattle.demands.proofs.Computed.{computed}
 
 abbrev zeros : ℕ → List ℕ

@@ -6,12 +6,12 @@ use Prim.Native.Nat.{ℕ}
 use lib.Dec.{eqb}
 use Rattle.refusal.specs.declared.Refusal.{Refusal}
 use Rattle.iad.specs.declared.Cvr.{Cvr}
-use Rattle.checks.specs.declared.History.{History}
+use Rattle.state.specs.declared.History.{History}
 use Rattle.checks.specs.Checks.{meetsMask}
 use Rattle.rules.specs.declared.Place.{Place}
 use Rattle.rules.specs.declared.Values.{Values}
 use Rattle.rules.specs.Rules.{Rules, profileAt}
-use Rattle.meters.specs.declared.Purchase.{Purchase}
+use Rattle.purchase.specs.declared.Purchase.{Purchase}
 use Rattle.cryptogram.specs.declared.Issuer.{Issuer}
 use Rattle.command.specs.declared.First.{First}
 use Rattle.command.specs.declared.Second.{Second}
@@ -25,7 +25,7 @@ use Rattle.state.specs.declared.Pending.{Pending}
 use Rattle.state.specs.declared.Phase.the-variants.{Idle}
 use Rattle.state.specs.declared.State.{State}
 use Rattle.state.specs.declared.Outcome.{Outcome}
-use Rattle.first.specs.First.{firstPerformed, firstKind, concluded}
+use Rattle.first.specs.First.{firstPerformed, firstKind, settled, asked, concluded}
 use Rattle.second.specs.Second.{secondPerformed, isUnable, unableBits, unablePerformed, verifiedPerformed, failedPerformed, absentPerformed, closed}
 use Rattle.card.specs.Card.{refused, freshState}
 use Rattle.demands.specs.Audit.{isAccepted}
@@ -59,7 +59,7 @@ pub record Closes (second : Second) (outcome : Outcome) : Type 0 where
 module _ (rules : Rules) (state : State) where
   concluded-ends : (first : First) (place : Place) (purchase : Purchase) (limits : ℕ) (cvr : Cvr) (kind : Kind)
       → Concludes first (concluded rules state place purchase limits cvr kind)
-  unfolding concluded
+  unfolding settled asked concluded
   concluded-ends first place purchase limits cvr Tc = record { in-kind = tt; leaves = λ before. refl }
   concluded-ends first place purchase limits cvr Aac = record { in-kind = tt; leaves = λ before. refl }
   concluded-ends first place purchase limits cvr Arqc = record { in-kind = tt; leaves = λ before. refl }
@@ -83,8 +83,7 @@ module _ (rules : Rules) (state : State) where
   second-closes second pending =
       let closes = closed-ends second pending in
       chosen (isUnable (second .code))
-      (chosen (eqb (second .requested) 0 || meetsMask (unableBits rules state pending) (profileAt rules (pending .place) .masks .default))
-      (closes _ _ _ _) (closes _ _ _ _))
+      (closes _ _ _ _)
       (chosen (eqb (second .issuer) 1) (closes _ _ _ _) (chosen (eqb (second .issuer) 2) (closes _ _ _ _) (closes _ _ _ _)))
 
   refused-leaves : (command : Command) (refusal : Refusal) (before : Due) → before ≡ dueBy command (Refused refusal) before

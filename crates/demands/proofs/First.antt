@@ -15,20 +15,20 @@ use Rattle.setup.specs.Setup.{profileIn}
 use Rattle.command.specs.declared.First.{First}
 use Rattle.command.specs.declared.Command.{Command}
 use Rattle.command.specs.declared.Command.the-variants.{Start as StartCommand, First as FirstCommand, Second as SecondCommand}
-use Rattle.meters.specs.declared.Purchase.{Purchase}
-use Rattle.checks.specs.declared.History.{History}
-use Rattle.checks.specs.Checks.{decisionBits, meetsMask}
+use Rattle.purchase.specs.declared.Purchase.{Purchase}
+use Rattle.state.specs.declared.History.{History}
+use Rattle.checks.specs.Checks.{meetsMask}
 use Rattle.state.specs.declared.Answer.the-variants.{Given}
 use Rattle.state.specs.declared.Kind.{Kind}
 use Rattle.state.specs.declared.Kind.the-variants.{Aac, Tc, Arqc}
 use Rattle.state.specs.declared.State.{State}
 use Rattle.state.specs.declared.Outcome.{Outcome}
-use Rattle.first.specs.First.{purchaseOf, firstTests, firstKind, firstPerformed, concluded}
+use Rattle.first.specs.First.{purchaseOf, firstBits, firstKind, firstPerformed, settled, asked, concluded}
 use Rattle.card.specs.Card.{refused}
 use Rattle.refusal.specs.declared.Refusal.{Refusal}
 use Rattle.demands.specs.Setup.{Setup, AcceptedSetup}
-use Rattle.demands.specs.Ledger.{Meter, accumulator, counter, IsMeter}
-use Rattle.demands.specs.Conversation.{Exchange, Sitting, rulesBy, sat, next, valueOf}
+use Rattle.purchase.specs.Meter.{Meter, accumulator, counter, IsMeter, valueOf}
+use Rattle.demands.specs.Conversation.{Exchange, Sitting, rulesBy, sat, next}
 use Rattle.demands.specs.Audit.{named, brought, bought, inForce, placeBy, audited}
 use Rattle.demands.specs.Past.{past}
 use Rattle.demands.specs.Decision.{flags, meets, isOfflineOnly, Decides, FirstAnswers}
@@ -59,7 +59,7 @@ flags-same setup profile purchase f g history h =
 -- a concluded First answers with the kind that was decided
 pub concluded-kind : (rules : Rules) (state : State) (place : Place) (purchase : Purchase) (limits : ℕ) (cvr : Cvr) (decided kind : Kind) (atc : ℕ) (iad : Iad)
     → concluded rules state place purchase limits cvr decided .answer ≡ Given kind atc iad → decided ≡ kind
-unfolding concluded
+unfolding settled asked concluded
 concluded-kind rules state place purchase limits cvr Aac kind atc iad e = cc
 concluded-kind rules state place purchase limits cvr Tc kind atc iad e = cc
 concluded-kind rules state place purchase limits cvr Arqc kind atc iad e = cc
@@ -88,7 +88,7 @@ module _ (setup : Setup) (sitting : Sitting) (ruled : Ruled setup sitting) (hold
       let masks = profileAt rules place .masks in
       let values = sitting .state .values in
       let history = sitting .state .history in
-      let adr = decisionBits history (firstTests rules (sitting .state) place first) in
+      let adr = firstBits rules (sitting .state) place first in
       let fs = by-the-log first in
       let same : flags now at (brought first) (valueOf values) history ≡ fs =
       flags-same now at (brought first) (valueOf values) (audited setup log) history (holding .values)

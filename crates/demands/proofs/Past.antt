@@ -15,8 +15,8 @@ use Rattle.command.specs.declared.First.{First}
 use Rattle.command.specs.declared.Second.{Second}
 use Rattle.command.specs.declared.Command.{Command}
 use Rattle.command.specs.declared.Command.the-variants.{Start as StartCommand, First as FirstCommand, Second as SecondCommand}
-use Rattle.meters.specs.declared.Purchase.{Purchase}
-use Rattle.checks.specs.declared.History.{History}
+use Rattle.purchase.specs.declared.Purchase.{Purchase}
+use Rattle.state.specs.declared.History.{History}
 use Rattle.checks.specs.Checks.{meetsMask}
 use Rattle.cryptogram.specs.declared.Issuer.{Issuer}
 use Rattle.state.specs.declared.Kind.{Kind}
@@ -24,8 +24,9 @@ use Rattle.state.specs.declared.Kind.the-variants.{Aac, Tc, Arqc}
 use Rattle.state.specs.declared.Pending.{Pending}
 use Rattle.state.specs.declared.State.{State}
 use Rattle.state.specs.declared.Outcome.{Outcome}
-use Rattle.first.specs.First.{firstKind, firstPerformed, concluded, uncompleted}
-use Rattle.second.specs.Second.{isUnable, unableIn, unableBits, unablePerformed, verifiedPerformed, failedPerformed, absentPerformed, secondPerformed}
+use Rattle.first.specs.First.{firstKind, firstPerformed, settled, asked, concluded}
+use Rattle.state.specs.State.{uncompletedIn, unableIn}
+use Rattle.second.specs.Second.{isUnable, unableBits, unablePerformed, verifiedPerformed, failedPerformed, absentPerformed, secondPerformed}
 use Rattle.second.specs.Second.{closed, updateByte}
 use Rattle.card.specs.Card.{freshState, refused}
 use Rattle.demands.specs.Setup.{Setup, AcceptedSetup}
@@ -59,13 +60,13 @@ module _ (setup : Setup) (sitting : Sitting) (recalls : Recalls setup sitting) w
 
   concluded-keeps : (first : First) (place : Place) (purchase : Purchase) (limits : ℕ) (cvr : Cvr) (kind : Kind)
       → Keeps setup sitting (FirstCommand first) (concluded rules state place purchase limits cvr kind)
-  unfolding concluded past atcBy
+  unfolding settled asked concluded past atcBy
   concluded-keeps first place purchase limits cvr Tc =
       record { recalls = record { history-is = recalls .history-is; atc-is = recalls .atc-is }; says = recalls .atc-is }
   concluded-keeps first place purchase limits cvr Aac =
       record { recalls = record { history-is = recalls .history-is; atc-is = recalls .atc-is }; says = recalls .atc-is }
   concluded-keeps first place purchase limits cvr Arqc =
-      record { recalls = record { history-is = ap uncompleted (recalls .history-is); atc-is = recalls .atc-is }; says = recalls .atc-is }
+      record { recalls = record { history-is = ap uncompletedIn (recalls .history-is); atc-is = recalls .atc-is }; says = recalls .atc-is }
 
   closed-keeps : (second : Second) (pending : Pending) (approves : Bool) (values : Values) (history : History) (issuer : Issuer)
       → history ≡ past setup (after sitting (SecondCommand second) (closed rules (state .atc) pending approves values history issuer) .log)
@@ -74,14 +75,11 @@ module _ (setup : Setup) (sitting : Sitting) (recalls : Recalls setup sitting) w
   closed-keeps second pending approves values history issuer is =
       record { recalls = record { history-is = is; atc-is = recalls .atc-is }; says = recalls .atc-is }
 
-  unable-keeps : (second : Second) (pending : Pending) → isUnable (second .code) ≡ true → (b : Bool) (declined approved : Values) (issuer : Issuer)
-      → Keeps setup sitting (SecondCommand second) (cond b (closed rules (state .atc) pending false declined (unableIn (state .history)) issuer)
-      (closed rules (state .atc) pending true approved (unableIn (state .history)) issuer))
+  unable-keeps : (second : Second) (pending : Pending) → isUnable (second .code) ≡ true → (approves : Bool) (values : Values) (issuer : Issuer)
+      → Keeps setup sitting (SecondCommand second) (closed rules (state .atc) pending approves values (unableIn (state .history)) issuer)
   unfolding past closed
-  unable-keeps second pending u true declined approved issuer =
-      closed-keeps second pending false declined (unableIn (state .history)) issuer (rw u (ap unableIn (recalls .history-is)))
-  unable-keeps second pending u false declined approved issuer =
-      closed-keeps second pending true approved (unableIn (state .history)) issuer (rw u (ap unableIn (recalls .history-is)))
+  unable-keeps second pending u approves values issuer =
+      closed-keeps second pending approves values (unableIn (state .history)) issuer (rw u (ap unableIn (recalls .history-is)))
 
   module _ (second : Second) (pending : Pending) (u : isUnable (second .code) ≡ false) (approves : Bool) (values : Values) (issuer : Issuer) where
     abbrev closing : History → Outcome
@@ -124,9 +122,7 @@ module _ (setup : Setup) (sitting : Sitting) (recalls : Recalls setup sitting) w
         → Keeps setup sitting (SecondCommand second) (cond u (unablePerformed rules state (second .requested) pending)
         (cond v (verifiedPerformed rules state second pending)
         (cond f (failedPerformed rules state pending) (absentPerformed rules state (second .requested) pending))))
-    by true u v p f q =
-        unable-keeps second pending u
-        (eqb (second .requested) 0 || meetsMask (unableBits rules state pending) (profileAt rules (pending .place) .masks .default)) _ _ _
+    by true u v p f q = unable-keeps second pending u _ _ _
     by false u true p f q = verified-keeps second pending u _ _ _ p
     by false u false p true q = failed-keeps second pending u _ _ _ p q
     by false u false p false q = absent-keeps second pending u _ _ _ p q

@@ -7,7 +7,7 @@ use Prim.Native.Nat.{ℕ, _*_}
 use lib.Dec.{T, eqb}
 use lib.ListN.{replicate}
 use Rattle.ranges.specs.Ranges.{isSetup}
-use Rattle.checks.specs.declared.History.{History}
+use Rattle.state.specs.declared.History.{History}
 use Rattle.state.specs.declared.Answer.{Answer}
 use Rattle.state.specs.declared.Answer.the-variants.{Refused, Started, Given}
 use Rattle.state.specs.declared.Kind.{Kind}
@@ -17,8 +17,8 @@ use Rattle.selection.specs.declared.Selection.the-variants.{Selected}
 use Rattle.command.specs.declared.Command.{Command}
 use Rattle.command.specs.declared.Command.the-variants.{Start as StartCommand, First as FirstCommand, Second as SecondCommand}
 use Rattle.demands.specs.Setup.{Setup}
-use Rattle.demands.specs.Ledger.{Meter, accumulator, counter}
-use Rattle.demands.specs.Conversation.{Exchange, Sitting, sat, next, valueOf}
+use Rattle.purchase.specs.Meter.{Meter, accumulator, counter, valueOf}
+use Rattle.demands.specs.Conversation.{Exchange, Sitting, sat, next}
 use Rattle.demands.specs.Audit.{audited}
 use Rattle.demands.specs.Past.{past, atcBy}
 use Rattle.demands.specs.Due.{Due, nothing, aFirst, aSecond, due, dueIn}

@@ -22,8 +22,9 @@ use Rattle.iad.specs.declared.Iad.{Iad}
 use Rattle.card.specs.Card.{refuse, take, ruleStart, ruleOpening, carried, startPerformed, startStep, stepOf}
 use Rattle.state.specs.declared.Outcome.{Outcome}
 use Rattle.demands.specs.Setup.{Setup, AcceptedSetup}
-use Rattle.demands.specs.Ledger.{Meter, IsMeter, owed}
-use Rattle.demands.specs.Conversation.{Sitting, outcomeOf, sat, valueOf}
+use Rattle.purchase.specs.Meter.{Meter, IsMeter, valueOf}
+use Rattle.demands.specs.Ledger.{owed}
+use Rattle.demands.specs.Conversation.{Sitting, outcomeOf, sat}
 use Rattle.demands.specs.Audit.{capOf, startOf, approves, upperOf, brought, inForce, placeBy, ledger, audited}
 use Rattle.demands.specs.Guards.{Guards}
 use Rattle.demands.specs.Past.{past}

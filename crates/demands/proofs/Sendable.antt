@@ -16,7 +16,8 @@ use Rattle.state.specs.declared.Kind.{Kind}
 use Rattle.state.specs.declared.Kind.the-variants.{Aac, Tc, Arqc}
 use Rattle.card.specs.Card.{answerNumber}
 use Rattle.demands.specs.Setup.{Setup, byteAt, AcceptedSetup}
-use Rattle.demands.specs.Ledger.{accumulator, owed}
+use Rattle.purchase.specs.Meter.{accumulator}
+use Rattle.demands.specs.Ledger.{owed}
 use Rattle.demands.specs.Conversation.{Exchange, sat, next}
 use Rattle.demands.specs.Audit.{max, inForce, audited}
 use Rattle.demands.specs.Due.{InKind}

@@ -1,7 +1,7 @@
 -- Demand 3, the total: over every list of commands each accumulator and each counter holds what the conversation and the set-up's
 -- bytes say that it owes. Assumes nothing.
 use mathlib.Core.Path.{_≡_, refl, sym, ap, _∙_, subst}
-use mathlib.Core.Bool.{Bool, true, false, cond, _||_}
+use mathlib.Core.Bool.{Bool, true, false, cond, _||_, not}
 use mathlib.Core.List.{List, [], _∷_, _++_}
 use Prim.Native.Nat.{ℕ, _+_, _*_, _≤_}
 use native.Mathlib.Omega.{arith}
@@ -21,9 +21,9 @@ use Rattle.command.specs.declared.First.{First}
 use Rattle.command.specs.declared.Second.{Second}
 use Rattle.command.specs.declared.Command.{Command}
 use Rattle.command.specs.declared.Command.the-variants.{Start as StartCommand, First as FirstCommand, Second as SecondCommand}
-use Rattle.meters.specs.Meters.{Entry, moved, approved}
-use Rattle.meters.specs.Meters.{declined as declinedValues}
-use Rattle.checks.specs.declared.History.{History}
+use Rattle.meters.specs.declared.Change.the-variants.{Approve, Decline}
+use Rattle.meters.specs.Meters.{Entry, moved, offline, applied}
+use Rattle.state.specs.declared.History.{History}
 use Rattle.checks.specs.Checks.{meetsMask}
 use Rattle.cryptogram.specs.declared.Issuer.{Issuer}
 use Rattle.state.specs.declared.Kind.{Kind}
@@ -33,15 +33,16 @@ use Rattle.state.specs.declared.Phase.{Phase}
 use Rattle.state.specs.declared.Phase.the-variants.{Idle, Opened, Asked}
 use Rattle.state.specs.declared.State.{State}
 use Rattle.state.specs.declared.Outcome.{Outcome}
-use Rattle.first.specs.First.{purchaseOf, firstKind, firstPerformed, concluded}
+use Rattle.first.specs.First.{purchaseOf, firstKind, firstPerformed, settled, asked, concluded}
 use Rattle.second.specs.Second.{isUnable, unableBits, unablePerformed, verifiedPerformed, failedPerformed, absentPerformed, secondPerformed, closed}
 use Rattle.second.specs.Second.{ordered as orderedValues, updateByte}
 use Rattle.card.specs.Card.{startPerformed, freshState}
 use Rattle.card.specs.Card.{refused as refusal}
-use Rattle.meters.specs.declared.Purchase.{Purchase}
+use Rattle.purchase.specs.declared.Purchase.{Purchase}
 use Rattle.demands.specs.Setup.{Setup, byteAt, numberAt, AcceptedSetup}
-use Rattle.demands.specs.Ledger.{Meter, accumulator, counter, IsMeter, owed}
-use Rattle.demands.specs.Conversation.{Exchange, Sitting, after, told, run, rulesBy, sat, valueOf}
+use Rattle.purchase.specs.Meter.{Meter, accumulator, counter, IsMeter, valueOf}
+use Rattle.demands.specs.Ledger.{owed}
+use Rattle.demands.specs.Conversation.{Exchange, Sitting, after, told, run, rulesBy, sat}
 use Rattle.demands.specs.Audit.{placeOf, upperOf, startOf, capOf, counted, declined, ordered, entered, named, brought, bought, inForce, placeBy}
 use Rattle.demands.specs.Audit.{ledger, audited}
 use Rattle.demands.proofs.Step.{Did, refused-it, started-it, took-first, took-second}
@@ -113,14 +114,14 @@ module _ (setup : Setup) (sitting : Sitting) (ruled : Ruled setup sitting) (hold
 
   concluded-holds : (first : First) (place : Place) → Stands now place at → first .amount .0 ≤ max → (limits : ℕ) (cvr : Cvr) (kind : Kind)
       → Holding setup (after sitting (FirstCommand first) (concluded rules state place (purchaseOf first) limits cvr kind))
-  unfolding concluded named bought inForce ledger
+  unfolding settled asked concluded named bought inForce ledger
   concluded-holds first place stands small limits cvr Tc =
       record {
         agrees = tt;
         values =
             λ meter l.
-            carry (approved rules place (state .values) (purchaseOf first)) meter (counted now at (brought first) meter) l
-            (approved-moves now (ruled .good) place at stands (state .values) (purchaseOf first) small meter l)
+            carry (applied rules place (state .values) (Approve (purchaseOf first))) meter (counted now at (brought first) meter) l
+            (approved-moves now (ruled .good) place at stands (state .values) meter l (purchaseOf first) small)
             (counted-fair now at (brought first) (capOf meter) meter);
       }
   concluded-holds first place stands small limits cvr Aac =
@@ -128,7 +129,7 @@ module _ (setup : Setup) (sitting : Sitting) (ruled : Ruled setup sitting) (hold
         agrees = tt;
         values =
             λ meter l.
-            carry (declinedValues rules place (state .values)) meter (declined now at meter) l
+            carry (applied rules place (state .values) Decline) meter (declined now at meter) l
             (declined-moves now (ruled .good) place at stands (state .values) meter l)
             (declined-fair now at (brought first) (capOf meter) meter);
       }
@@ -166,17 +167,17 @@ module _ (setup : Setup) (sitting : Sitting) (ruled : Ruled setup sitting) (hold
     Closes outcome = Holding setup (after sitting (SecondCommand second) outcome)
 
     unable-holds : (b : Bool) → isUnable (second .code) ≡ true → (history : History) (issuer : Issuer)
-        → Closes (cond b (closed rules (state .atc) pending false (declinedValues rules place (state .values)) history issuer)
-        (closed rules (state .atc) pending true (approved rules place (state .values) (pending .purchase)) history issuer))
+        → Closes (closed rules (state .atc) pending b (applied rules place (state .values) (offline b (pending .purchase))) history issuer)
     unfolding closed
-    unable-holds true e history issuer =
-        closed-holds second pending false (declinedValues rules place (state .values)) history issuer (declined now at)
+    unable-holds false e history issuer =
+        closed-holds second pending false (applied rules place (state .values) Decline) history issuer (declined now at)
         (declined-moves now (ruled .good) place at (remembers .stands) (state .values))
         (λ meter l. declined-fair now at (bought log) (capOf meter) meter)
         (λ meter. rw e)
-    unable-holds false e history issuer =
-        closed-holds second pending true (approved rules place (state .values) (pending .purchase)) history issuer (counted now at (pending .purchase))
-        (approved-moves now (ruled .good) place at (remembers .stands) (state .values) (pending .purchase) (remembers .small))
+    unable-holds true e history issuer =
+        closed-holds second pending true (applied rules place (state .values) (Approve (pending .purchase))) history issuer
+        (counted now at (pending .purchase))
+        (λ meter l. approved-moves now (ruled .good) place at (remembers .stands) (state .values) meter l (pending .purchase) (remembers .small))
         (λ meter l. counted-fair now at (pending .purchase) (capOf meter) meter)
         (λ meter. rw e (ap (λ purchase. counted now at purchase meter) (remembers .purchase-is)))
 
@@ -187,7 +188,8 @@ module _ (setup : Setup) (sitting : Sitting) (ruled : Ruled setup sitting) (hold
     verified-holds approves u e history issuer =
         closed-holds second pending approves (orderedValues rules place (state .values) (pending .purchase) (updateByte (second .csu))) history issuer
         (ordered now at (pending .purchase) (second .csu))
-        (ordered-moves now (ruled .good) place at (remembers .stands) (state .values) (pending .purchase) (remembers .small) (second .csu))
+        (λ meter l.
+        ordered-moves now (ruled .good) place at (remembers .stands) (state .values) meter l (pending .purchase) (remembers .small) (second .csu))
         (λ meter l.
         ordered-fair now at (pending .purchase) (capOf meter) meter (second .csu) (upper-within now (ruled .good) place at (remembers .stands) meter l))
         (λ meter. rw (u, e) (ap (λ purchase. ordered now at purchase (second .csu) meter) (remembers .purchase-is)))
@@ -205,7 +207,8 @@ module _ (setup : Setup) (sitting : Sitting) (ruled : Ruled setup sitting) (hold
           → Closes (cond u (unablePerformed rules state (second .requested) pending)
           (cond v (verifiedPerformed rules state second pending)
           (cond f (failedPerformed rules state pending) (absentPerformed rules state (second .requested) pending))))
-      by true u v e f = unable-holds (eqb (second .requested) 0 || meetsMask (unableBits rules state pending) (profileAt rules place .masks .default)) u _ _
+      by true u v e f =
+          unable-holds (not (eqb (second .requested) 0 || meetsMask (unableBits rules state pending) (profileAt rules place .masks .default))) u _ _
       by false u true e f = verified-holds _ u e _ _
       by false u false e true = kept-holds _ u e _ _
       by false u false e false = kept-holds _ u e _ _

@@ -1,6 +1,6 @@
 -- The CVR's bits and the IAD's fields are those that document 01 names. Assumes nothing.
 use mathlib.Core.Path.{_≡_, refl, sym, ap, _∙_, subst}
-use mathlib.Core.Bool.{Bool, true, false}
+use mathlib.Core.Bool.{Bool, true, false, and-true, and-false}
 use mathlib.Core.List.{List}
 use Prim.Native.Nat.{ℕ, zero, suc, _+_, _*_, _≤_, _<_}
 use native.Mathlib.Omega.{arith}
@@ -9,27 +9,25 @@ use Rattle.money.specs.Money.{max}
 use Rattle.iad.specs.declared.Cvr.{Cvr}
 use Rattle.rules.specs.declared.Place.{Place}
 use Rattle.rules.specs.declared.Values.{Values}
-use Rattle.rules.specs.Rules.{Rules, Profile, accumulatorRule, counterRule, indexOf}
+use Rattle.rules.specs.Rules.{Rules, Profile, indexOf}
 use Rattle.setup.specs.Setup.{profileIn, rulesIn}
-use Rattle.meters.specs.declared.Purchase.{Purchase}
-use Rattle.checks.specs.declared.History.{History}
-use Rattle.checks.specs.Checks.{bit, any, accumulatorExceeds, counterExceeds, accumulatorsLower, accumulatorsUpper, countersLower, countersUpper, testsOf}
-use Rattle.checks.proofs.Bits.{any-lower, any-upper}
+use Rattle.purchase.specs.declared.Purchase.{Purchase}
+use Rattle.state.specs.declared.History.{History}
+use Rattle.checks.specs.Checks.{bit, decisionBits, accumulatorsLowerGroup, accumulatorsUpperGroup, countersLowerGroup, countersUpperGroup}
 use Rattle.cryptogram.specs.declared.Issuer.{Issuer}
 use Rattle.state.specs.declared.Kind.{Kind}
 use Rattle.state.specs.declared.Kind.the-variants.{Aac, Tc, Arqc}
 use Rattle.cryptogram.specs.declared.Later.{Later}
-use Rattle.cryptogram.specs.Cryptogram.{kindCode, laterCode, verification, sentIad}
+use Rattle.cryptogram.specs.Cryptogram.{kindCode, laterCode, limitsByte, verification, sentIad}
 use Rattle.cryptogram.specs.Cryptogram.{sentOf as cardSent}
-use Rattle.first.specs.First.{limitsByte}
 use Rattle.demands.specs.Setup.{Setup, byteAt, AcceptedSetup}
-use Rattle.demands.specs.Ledger.{Meter, accumulator, counter, IsMeter}
-use Rattle.demands.specs.Conversation.{rulesBy, valueOf}
-use Rattle.demands.specs.Decision.{aboveLower, aboveUpper}
+use Rattle.purchase.specs.Meter.{Meter, accumulator, counter, IsMeter, valueOf}
+use Rattle.demands.specs.Conversation.{rulesBy}
+use Rattle.demands.specs.Decision.{aboveLower, aboveUpper, flags, meets}
 use Rattle.demands.specs.Verification.{anyOf, Verifies, sentOf, Sends}
 use Rattle.demands.specs.Audit.{placeOf}
 use Rattle.demands.proofs.Bytes.{fits, Stands, profile-is, number-there}
-use Rattle.demands.proofs.Decision.{accumulators-lower, accumulators-upper, counters-lower, counters-upper}
+use Rattle.demands.proofs.Decision.{met-is}
 
 bit-small : (b : Bool) → bit b < 2
 bit-small true = omega arith
@@ -44,9 +42,6 @@ kind-small Arqc = omega arith
 abbrev pub limitsOf : (countersLower countersUpper accumulatorsLower accumulatorsUpper : Bool) → ℕ
 limitsOf a b c d = bit a * 128 + bit b * 64 + bit c * 32 + bit d * 16
 
-limits-same : {a b c d a' b' c' d' : Bool} → a ≡ a' → b ≡ b' → c ≡ c' → d ≡ d' → limitsOf a b c d ≡ limitsOf a' b' c' d'
-limits-same p q r t = λ i. limitsOf (p i) (q i) (r i) (t i)
-
 module _ (setup : Setup) (good : AcceptedSetup setup) (place : Place) (at : ℕ) (stands : Stands setup place at) (values : Values) (purchase : Purchase)
     (small : purchase .amount .0 ≤ max) where
   abbrev rules : Rules
@@ -58,27 +53,34 @@ module _ (setup : Setup) (good : AcceptedSetup setup) (place : Place) (at : ℕ)
   abbrev upper : Meter → Bool
   upper = aboveUpper setup at purchase (valueOf values)
 
-  causes : limitsByte (testsOf rules place values purchase)
-      ≡ limitsOf (any (countersLower rules place values)) (any (countersUpper rules place values))
-      (any (accumulatorsLower rules place values purchase)) (any (accumulatorsUpper rules place values purchase))
-  unfolding limitsByte testsOf accumulatorsLower accumulatorsUpper countersLower countersUpper
-  causes =
-      let cl : ℕ → Bool = λ i. counterExceeds rules place values (counterRule rules place i .lower) i in
-      let cu : ℕ → Bool = λ i. counterExceeds rules place values (counterRule rules place i .upper) i in
-      let al : ℕ → Bool = λ i. accumulatorExceeds rules place values purchase (accumulatorRule rules place i .lower .0) i in
-      let au : ℕ → Bool = λ i. accumulatorExceeds rules place values purchase (accumulatorRule rules place i .upper .0) i in
-      sym (limits-same (any-lower cl cu) (any-upper cl cu) (any-lower al au) (any-upper al au))
+  -- a group of the decision bits is met where one of its four flags is set
+  module _ (history : History) where
+    abbrev met : ℕ → Bool
+    met mask = meets (flags setup at purchase (valueOf values) history) mask
 
-  pub limits-are : limitsByte (testsOf rules place values purchase)
-      ≡ limitsOf (anyOf counter lower) (anyOf counter upper) (anyOf accumulator lower) (anyOf accumulator upper)
-  limits-are =
-      causes
-      ∙ simp (
-        counters-lower setup good place at stands values purchase small,
-        counters-upper setup good place at stands values purchase small,
-        accumulators-lower setup good place at stands values purchase small,
-        accumulators-upper setup good place at stands values purchase small,
-      )
+    counters-lower : met countersLowerGroup ≡ anyOf counter lower
+    unfolding flags
+    counters-lower = simp (and-true, and-false)
+
+    counters-upper : met countersUpperGroup ≡ anyOf counter upper
+    unfolding flags
+    counters-upper = simp (and-true, and-false)
+
+    accumulators-lower : met accumulatorsLowerGroup ≡ anyOf accumulator lower
+    unfolding flags
+    accumulators-lower = simp (and-true, and-false)
+
+    accumulators-upper : met accumulatorsUpperGroup ≡ anyOf accumulator upper
+    unfolding flags
+    accumulators-upper = simp (and-true, and-false)
+
+    pub limits-are : limitsByte (decisionBits rules place values purchase history)
+        ≡ limitsOf (anyOf counter lower) (anyOf counter upper) (anyOf accumulator lower) (anyOf accumulator upper)
+    unfolding limitsByte
+    limits-are =
+        let is = met-is setup good place at stands values purchase small history in
+        λ i. limitsOf ((is countersLowerGroup ∙ counters-lower) i) ((is countersUpperGroup ∙ counters-upper) i)
+        ((is accumulatorsLowerGroup ∙ accumulators-lower) i) ((is accumulatorsUpperGroup ∙ accumulators-upper) i)
 
 -- a CVR whose byte 3 has its four causes
 module _ (setup : Setup) (profile : ℕ) (purchase : Purchase) (value : Meter → ℕ) (history : History) where

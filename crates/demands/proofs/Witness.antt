@@ -10,8 +10,8 @@ use lib.Dec.{ltb}
 use Rattle.wire.specs.Wire.{byte}
 use Rattle.command.specs.declared.Command.{Command}
 use Rattle.demands.specs.Setup.{Setup, AcceptedSetup}
-use Rattle.demands.specs.Ledger.{accumulator}
-use Rattle.demands.specs.Conversation.{sat, next, valueOf}
+use Rattle.purchase.specs.Meter.{accumulator, valueOf}
+use Rattle.demands.specs.Conversation.{sat, next}
 use Rattle.demands.specs.Audit.{upperOf, inForce, placeBy, approves}
 use Rattle.demands.specs.Guards.{Guards}
 use Rattle.demands.specs.Printed.{body, start, first, second, commands, linesOf, lines}

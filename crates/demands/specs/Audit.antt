@@ -13,10 +13,11 @@ use Rattle.command.specs.declared.Command.the-variants.{Start as StartCommand, 
 use Rattle.state.specs.declared.Answer.{Answer}
 use Rattle.state.specs.declared.Answer.the-variants.{Refused, Started, Given}
 use Rattle.state.specs.declared.Kind.the-variants.{Aac, Tc, Arqc}
-use Rattle.meters.specs.declared.Purchase.{Purchase}
+use Rattle.purchase.specs.declared.Purchase.{Purchase}
 use Rattle.meters.specs.Meters.{Entry, put, add}
 use Rattle.demands.specs.Setup.{Setup, byteAt, numberAt}
-use Rattle.demands.specs.Ledger.{Meter, accumulator, counter, owed}
+use Rattle.purchase.specs.Meter.{Meter, accumulator, counter}
+use Rattle.demands.specs.Ledger.{owed}
 use Rattle.demands.specs.Conversation.{Exchange}
 
 -- ---- the bytes

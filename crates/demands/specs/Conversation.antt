@@ -1,17 +1,14 @@
 -- A card and what was said to it and by it: over a list of commands, each command and its answer.
 use Prim.Native.Nat.{ℕ}
 use mathlib.Core.List.{List, [], _∷_}
-use Rattle.rules.specs.declared.Values.{Values}
 use Rattle.rules.specs.Rules.{Rules, rulesOf}
 use Rattle.setup.specs.Setup.{rulesIn, readSetup, wordsAfter}
-use Rattle.meters.specs.Meters.{amountAt, countAt}
 use Rattle.command.specs.declared.Command.{Command}
 use Rattle.state.specs.declared.Answer.{Answer}
 use Rattle.state.specs.declared.State.{State}
 use Rattle.state.specs.declared.Outcome.{Outcome}
 use Rattle.card.specs.Card.{stepOf, freshState}
 use Rattle.demands.specs.Setup.{Setup}
-use Rattle.demands.specs.Ledger.{Meter, accumulator, counter}
 
 pub record Exchange : Type 0 where
   pub command : Command
@@ -61,8 +58,3 @@ satOver words setup commands = satBy (rulesOf (wordsAfter words (setup .bytes) (
 -- what one command more comes to
 abbrev pub next : Setup → List Command → Command → Outcome
 next setup commands command = outcomeOf (sat setup commands) command
-
--- what an accumulator or a counter of a card holds
-abbrev pub valueOf : Values → Meter → ℕ
-valueOf values (accumulator i) = amountAt values i .0
-valueOf values (counter i) = countAt values i

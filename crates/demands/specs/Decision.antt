@@ -5,13 +5,13 @@ use Prim.Native.Nat.{ℕ, _+_, _/_, _≤_}
 use mathlib.Core.Bool.{Bool, true, false, _&&_, _||_}
 use mathlib.Core.List.{List, [], _∷_, _++_}
 use lib.Dec.{ltb, eqb}
-use Rattle.checks.specs.declared.History.{History}
+use Rattle.state.specs.declared.History.{History}
 use Rattle.command.specs.declared.First.{First}
-use Rattle.meters.specs.declared.Purchase.{Purchase}
+use Rattle.purchase.specs.declared.Purchase.{Purchase}
 use Rattle.state.specs.declared.Kind.{Kind}
 use Rattle.state.specs.declared.Kind.the-variants.{Aac, Tc, Arqc}
 use Rattle.demands.specs.Setup.{Setup, byteAt, numberAt}
-use Rattle.demands.specs.Ledger.{Meter, accumulator, counter}
+use Rattle.purchase.specs.Meter.{Meter, accumulator, counter}
 use Rattle.demands.specs.Audit.{isOn, ruleAt, isActive, isIncluded, upperOf, Conversion, comesTo, over, none, converted, worthTo}
 
 abbrev pub lowerOf : Setup → (profile : ℕ) → Meter → ℕ

@@ -3,7 +3,7 @@ use mathlib.Core.Path.{_≡_}
 use mathlib.Core.Bool.{true}
 use Prim.Native.Nat.{ℕ, _+_, _^_}
 use Rattle.demands.specs.Setup.{Setup, numberAt}
-use Rattle.demands.specs.Ledger.{Meter, accumulator, counter}
+use Rattle.purchase.specs.Meter.{Meter, accumulator, counter}
 use Rattle.demands.specs.Audit.{isOn, isActive, isIncluded}
 
 -- house order: 10 to 13 the accumulators' upper limits, 18 to 21 the counters'

@@ -13,14 +13,14 @@ use Rattle.command.specs.declared.First.{First}
 use Rattle.command.specs.declared.Second.{Second}
 use Rattle.command.specs.declared.Command.{Command}
 use Rattle.command.specs.declared.Command.the-variants.{Start as StartCommand, First as FirstCommand, Second as SecondCommand}
-use Rattle.meters.specs.declared.Purchase.{Purchase}
-use Rattle.checks.specs.declared.History.{History}
+use Rattle.purchase.specs.declared.Purchase.{Purchase}
+use Rattle.state.specs.declared.History.{History}
 use Rattle.state.specs.declared.Answer.the-variants.{Started, Given}
 use Rattle.state.specs.declared.Outcome.{Outcome}
 use Rattle.state.specs.declared.Kind.{Kind}
 use Rattle.state.specs.declared.Kind.the-variants.{Aac, Tc, Arqc}
 use Rattle.demands.specs.Setup.{Setup, byteAt, numberAt}
-use Rattle.demands.specs.Ledger.{Meter, accumulator, counter}
+use Rattle.purchase.specs.Meter.{Meter, accumulator, counter}
 use Rattle.demands.specs.Conversation.{Exchange}
 use Rattle.demands.specs.Audit.{isOn, named, brought, bought, inForce, placeBy, audited}
 use Rattle.demands.specs.Past.{byOutcome, past, atcBy, beforeFirst}
