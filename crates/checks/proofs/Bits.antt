@@ -15,7 +15,8 @@ use Rattle.rules.proofs.Places.{each}
 use Rattle.purchase.specs.declared.Purchase.{Purchase}
 use Rattle.purchase.specs.Meter.{Meter, accumulator, counter, IsMeter}
 use Rattle.state.specs.declared.History.{History}
-use Rattle.checks.specs.Checks.{bit, packed, meetsMask, lowerBit, upperBit, exceedsLower, exceedsUpper, accumulatorsLower, accumulatorsUpper, countersLower, countersUpper, maximumExceeded, decisionFlags, decisionBits}
+use Rattle.checks.specs.Checks.{bit, packed, meetsMask, lowerBit, upperBit, exceedsLower, exceedsUpper, maximumExceeded}
+use Rattle.checks.specs.Checks.{accumulatorsLower, accumulatorsUpper, countersLower, countersUpper, decisionFlags, decisionBits}
 
 -- bit k of a number
 abbrev pub bitOf : ℕ → ℕ → ℕ

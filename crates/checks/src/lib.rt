@@ -76,7 +76,8 @@ fn test_accumulator(
     value: AccumulatorAmount,
     purchase: Purchase,
 ) -> u8
-    ensures { λ r. ⌜ (r ≡ limitBits (ruleOf (rulesOf (now (words .entry))) place (accumulator i)) (worth (rulesOf (now (words .entry))) purchase i) (value .0)) × (r ≤ 17) ⌝ }
+    ensures { λ r. ⌜ (r ≡ limitBits (ruleOf (rulesOf (now (words .entry))) place (accumulator i))
+        (worth (rulesOf (now (words .entry))) purchase i) (value .0)) × (r ≤ 17) ⌝ }
 {
     let rule = rules::accumulator_rule(words, place, i);
     if !rule.active {

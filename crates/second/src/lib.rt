@@ -1,7 +1,8 @@
 // Second GENERATE AC.
 ghost use mathlib.Core.Path.{_≡_};
 ghost use Rattle.rules.specs.Rules.{rulesOf};
-ghost use Rattle.second.specs.Second.{isUnable, closingKind, laterKind, closed, orderedChange, ordered, unablePerformed, verifiedPerformed, failedPerformed, absentPerformed, secondPerformed};
+ghost use Rattle.second.specs.Second.{isUnable, closingKind, laterKind, closed, orderedChange, ordered};
+ghost use Rattle.second.specs.Second.{unablePerformed, verifiedPerformed, failedPerformed, absentPerformed, secondPerformed};
 use command::Second;
 use cryptogram::Issuer;
 use cryptogram::Later;

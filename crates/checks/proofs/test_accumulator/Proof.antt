@@ -15,10 +15,11 @@ returns c =
 returns-2 : tie.Need-returns-2
 unfolding rulesOf
 returns-2 c =
-    let tested = c .before .before .before .before in
+    let told = c .before .before in
+    let tested = told .before .before in
     let active = tested .before in
     let rule = active .before .before .accumulator-rule in (
-      simp (← rule .ensures, not-false (rule .result .active) (active .if1 .left), exceeds-sum, ← tested .included .ensures, c .before .before .more .given .1)
+      simp (← rule .ensures, not-false (rule .result .active) (active .if1 .left), exceeds-sum, ← tested .included .ensures, told .more .given .1)
           (c .limits-exceeded .ensures .0),
       c .limits-exceeded .ensures .1,
     )

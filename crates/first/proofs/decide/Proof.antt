@@ -15,7 +15,9 @@ returns-2 c = simp (ne-eqb _ _ (c .before .before .if1 .left), sym (c .before .m
 
 returns-3 : tie.Need-returns-3
 unfolding decision
-returns-3 c = simp (ne-eqb _ _ (c .before .before .before .if1 .left), sym (c .before .before .meets .ensures) ∙ c .before .if2 .left, eq-eqb _ _ (c .if3 .taken))
+returns-3 c =
+    let decline = c .before .before in
+    simp (ne-eqb _ _ (decline .before .if1 .left), sym (decline .meets .ensures) ∙ c .before .if2 .left, eq-eqb _ _ (c .if3 .taken))
 
 returns-4 : tie.Need-returns-4
 unfolding decision

@@ -7,17 +7,19 @@ use Rattle.meters.proofs.apply.Tie as tie
 returns : tie.Need-returns
 unfolding applied
 returns c =
-    let amounts = c .before .before .before .before in
-    let first = amounts .before .before .before .before in
+    let count = c .before .before .before in
+    let fourth = count .before in
+    let third = fourth .before .before in
+    let second = third .before .before in
     simp (
       c .change-count4 .ensures,
       c .before .change-count3 .ensures,
       c .before .before .change-count2 .ensures,
-      c .before .before .before .change-count .ensures,
-      amounts .change-amount4 .ensures,
-      amounts .before .before .change-amount3 .ensures,
-      first .change-amount2 .ensures,
-      first .before .before .change-amount .ensures,
+      count .change-count .ensures,
+      fourth .change-amount4 .ensures,
+      third .change-amount3 .ensures,
+      second .change-amount2 .ensures,
+      second .before .before .change-amount .ensures,
     )
 
 pub apply-spec : {M : Type 1} → statement M

@@ -9,9 +9,9 @@ use Rattle.meters.proofs.grow.Tie as tie
 
 returns : tie.Need-returns
 returns c =
-    let worth = c .before .before .before .before .worth in
+    let told = c .before .before in
     let amount : ℕ → AccumulatorAmount = λ n. record { 0 = n } in
-    simp (← worth .ensures, c .before .before .more .given .1) (ap amount (c .plus .ensures))
+    simp (← told .before .before .worth .ensures, told .more .given .1) (ap amount (c .plus .ensures))
 
 returns-2 : tie.Need-returns-2
 returns-2 c =
