@@ -122,21 +122,15 @@ agrees setup commands =
     && eqb (sitting .state .atc) (atcBy setup (sitting .log))
 
 -- `due-is`: what the card's phase says is due, and what the conversation says
-abbrev sameDue : Due → Due → Bool
-sameDue nothing nothing = true
-sameDue nothing aFirst = false
-sameDue nothing aSecond = false
-sameDue aFirst nothing = false
-sameDue aFirst aFirst = true
-sameDue aFirst aSecond = false
-sameDue aSecond nothing = false
-sameDue aSecond aFirst = false
-sameDue aSecond aSecond = true
+abbrev dueCode : Due → ℕ
+dueCode nothing = 0
+dueCode aFirst = 1
+dueCode aSecond = 2
 
 unfoldable pub duly : List Command → Bool
 duly commands =
     let sitting = sat counting commands in
-    sameDue (dueIn (sitting .state .phase)) (due (sitting .log))
+    eqb (dueCode (dueIn (sitting .state .phase))) (dueCode (due (sitting .log)))
 
 -- `in-kind`: Start starts, First and Second give
 abbrev isInKind : Command → Answer → Bool
