@@ -52,7 +52,7 @@ use Rattle.demands.specs.Decision.{flags, meets}
 use Rattle.demands.specs.Verification.{Issuing, Verifies, typeOf, notRequested, issuingAtFirst, issuingAtSecond, secondApproves, withUnable}
 use Rattle.demands.specs.Verification.{FirstGives, SecondGives, Gives}
 use Rattle.demands.proofs.Step.{Did, refused-it, started-it, took-first, took-second}
-use Rattle.demands.proofs.Run.{run-keeps, Ruled, begin-ruled, told-ruled, did-by, pin-stays}
+use Rattle.demands.proofs.Run.{Ruled, ruled-keeps, always-ruled, did-by, pin-stays}
 use Rattle.demands.proofs.Ends.{second-closes}
 use Rattle.demands.proofs.Refusal.{in-rules, in-bytes}
 use Rattle.demands.proofs.Bytes.{fits, Stands, profile-is, number-there}
@@ -76,12 +76,11 @@ abbrev pub Keeping : Setup → Sitting → Type 0
 Keeping setup sitting = KeepsIn setup (beforeFirst (sitting .log)) (placeBy setup (sitting .log)) (bought (sitting .log)) (sitting .state .phase)
 
 pub record Knows (setup : Setup) (sitting : Sitting) : Type 0 where
-  pub ruled : Ruled setup sitting
   pub holding : Holding setup sitting
   pub recalls : Recalls setup sitting
   pub keeps : Keeping setup sitting
 
-module _ (setup : Setup) (sitting : Sitting) (knows : Knows setup sitting) where
+module _ (setup : Setup) (sitting : Sitting) (ruled : Ruled setup sitting) (knows : Knows setup sitting) where
   abbrev state : State
   state = sitting .state
 
@@ -98,7 +97,7 @@ module _ (setup : Setup) (sitting : Sitting) (knows : Knows setup sitting) where
   at = placeBy setup log
 
   good : AcceptedSetup now
-  good = knows .ruled .good
+  good = ruled .good
 
   -- the profile of an open transaction is in the set-up
   standing : (place : Place) → Stands now place at → InSetup now (named log)
@@ -158,7 +157,7 @@ module _ (setup : Setup) (sitting : Sitting) (knows : Knows setup sitting) where
         let parts : FirstGives setup log (exchange ∷ log) first decided (sentIad rules place (outcome-of decided .state .values) (cvr-of decided)) =
         record {
           known = standing place stands;
-          decides = kind-answers setup sitting (knows .ruled) (knows .holding) (knows .recalls .history-is) first place stands type small;
+          decides = kind-answers setup sitting ruled (knows .holding) (knows .recalls .history-is) first place stands type small;
           verifies = cvr-verifies decided;
           sends = sends-audited now good (named log) place stands (outcome-of decided .state .values) (cvr-of decided) _ (held .values);
         } in
@@ -367,27 +366,25 @@ module _ (setup : Setup) (sitting : Sitting) (knows : Knows setup sitting) where
   did-gives (took-second second pending is type issuer) held = second-gives second pending is type held
 
 module _ (setup : Setup) where
-  told-knows : (sitting : Sitting) → Knows setup sitting → (command : Command) → Knows setup (told sitting command)
-  told-knows sitting knows command =
-      let step = did-by setup sitting (knows .ruled) command in
+  told-knows : (sitting : Sitting) → Ruled setup sitting → Knows setup sitting → (command : Command) → Knows setup (told sitting command)
+  told-knows sitting ruled knows command =
+      let step = did-by setup sitting ruled command in
       record {
-        ruled = told-ruled setup sitting (knows .ruled) command;
-        holding = did-holds setup sitting (knows .ruled) (knows .holding) step;
+        holding = did-holds setup sitting ruled (knows .holding) step;
         recalls = did-keeps setup sitting (knows .recalls) step .recalls;
-        keeps = did-kept setup sitting knows step;
+        keeps = did-kept setup sitting ruled knows step;
       }
 
   begin-knows : AcceptedSetup setup → Knows setup (sat setup [])
   unfolding run freshState
-  begin-knows good =
-      record { ruled = begin-ruled setup good; holding = begin-holds setup good; recalls = begin-recalls setup good; keeps = tt }
+  begin-knows good = record { holding = begin-holds setup good; recalls = begin-recalls setup good; keeps = tt }
 
   -- WHAT FIRST AND SECOND ANSWER
   pub gives : AcceptedSetup setup → (commands : List Command) (command : Command)
       → Gives setup (sat setup commands .log) command (next setup commands command)
-  unfolding run
   gives good commands command =
       let sitting = sat setup commands in
-      let knows = run-keeps (Knows setup) told-knows _ (begin-knows good) commands in
-      let step = did-by setup sitting (knows .ruled) command in
-      did-gives setup sitting knows step (did-holds setup sitting (knows .ruled) (knows .holding) step)
+      let ruled = always-ruled setup good commands in
+      let knows = ruled-keeps setup good (Knows setup) told-knows (begin-knows good) commands in
+      let step = did-by setup sitting ruled command in
+      did-gives setup sitting ruled knows step (did-holds setup sitting ruled (knows .holding) step)

@@ -26,8 +26,7 @@ use Rattle.state.specs.declared.Kind.the-variants.{Aac, Tc, Arqc}
 use Rattle.first.specs.First.{decision, isOfflineOnly}
 use Rattle.demands.specs.Setup.{Setup, byteAt, numberAt, AcceptedSetup}
 use Rattle.demands.specs.Conversation.{rulesBy}
-use Rattle.demands.specs.Audit.{isIncluded, upperOf}
-use Rattle.demands.specs.Decision.{lowerOf, exceedsWith, exceeds, exceedsMta, eachOf, aboveLower, aboveUpper, flags, meets, Decides}
+use Rattle.demands.specs.Decision.{exceedsWith, exceeds, exceedsMta, eachOf, aboveLower, aboveUpper, flags, meets, Decides}
 use Rattle.demands.specs.Decision.{aac-requested, meets-decline, arqc-requested, meets-default, offline-approves, meets-online, online-approves}
 use Rattle.demands.proofs.Bytes.{Stands, profile-is, ruleRead, rule-read, asRead, converts-to, worth-read}
 

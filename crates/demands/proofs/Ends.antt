@@ -1,16 +1,15 @@
 -- A command that is taken is answered in its kind, and leaves due what the conversation says. Assumes nothing.
 use mathlib.Core.Path.{_≡_, refl, sym, ap, _∙_}
-use mathlib.Core.Bool.{Bool, true, false, cond, _||_}
+use mathlib.Core.Bool.{Bool, true, false, cond}
 use mathlib.Core.List.{List}
 use Prim.Native.Nat.{ℕ}
 use lib.Dec.{eqb}
 use Rattle.refusal.specs.declared.Refusal.{Refusal}
 use Rattle.iad.specs.declared.Cvr.{Cvr}
 use Rattle.state.specs.declared.History.{History}
-use Rattle.checks.specs.Checks.{meetsMask}
 use Rattle.rules.specs.declared.Place.{Place}
 use Rattle.rules.specs.declared.Values.{Values}
-use Rattle.rules.specs.Rules.{Rules, profileAt}
+use Rattle.rules.specs.Rules.{Rules}
 use Rattle.purchase.specs.declared.Purchase.{Purchase}
 use Rattle.cryptogram.specs.declared.Issuer.{Issuer}
 use Rattle.command.specs.declared.First.{First}
@@ -26,7 +25,7 @@ use Rattle.state.specs.declared.Phase.the-variants.{Idle}
 use Rattle.state.specs.declared.State.{State}
 use Rattle.state.specs.declared.Outcome.{Outcome}
 use Rattle.first.specs.First.{firstPerformed, firstKind, settled, asked, concluded}
-use Rattle.second.specs.Second.{secondPerformed, isUnable, unableBits, unablePerformed, verifiedPerformed, failedPerformed, absentPerformed, closed}
+use Rattle.second.specs.Second.{secondPerformed, isUnable, unablePerformed, verifiedPerformed, failedPerformed, absentPerformed, closed}
 use Rattle.card.specs.Card.{refused, freshState}
 use Rattle.demands.specs.Audit.{isAccepted}
 use Rattle.demands.specs.Setup.{Setup}

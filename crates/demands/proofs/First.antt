@@ -33,7 +33,7 @@ use Rattle.demands.specs.Audit.{named, brought, bought, inForce, placeBy
 use Rattle.demands.specs.Past.{past}
 use Rattle.demands.specs.Decision.{flags, meets, isOfflineOnly, Decides, FirstAnswers}
 use Rattle.demands.proofs.Step.{Did, refused-it, started-it, took-first, took-second}
-use Rattle.demands.proofs.Run.{Ruled, did-by}
+use Rattle.demands.proofs.Run.{Ruled, always-ruled, did-by}
 use Rattle.demands.proofs.Bytes.{Stands, profile-is}
 use Rattle.demands.proofs.Total.{Agrees, Holding, always}
 use Rattle.demands.proofs.Past.{history}
@@ -130,5 +130,5 @@ pub first-answers : (setup : Setup) → AcceptedSetup setup → (commands : List
     (audited setup (sat setup commands .log)) (past setup (sat setup commands .log))) kind
 first-answers setup good commands first =
     let sitting = sat setup commands in
-    let held = always setup good commands in
-    did-answers setup sitting (held .ruled) (held .holding) (history setup good commands) (did-by setup sitting (held .ruled) (FirstCommand first))
+    let ruled = always-ruled setup good commands in
+    did-answers setup sitting ruled (always setup good commands) (history setup good commands) (did-by setup sitting ruled (FirstCommand first))

@@ -45,7 +45,7 @@ use Rattle.demands.specs.Audit.{isOn, isActive, isIncluded, upperOf, app
 use Rattle.demands.specs.Guards.{upperBit, Guards}
 use Rattle.demands.proofs.Refusal.{never}
 use Rattle.demands.proofs.Step.{Did, refused-it, started-it, took-first, took-second}
-use Rattle.demands.proofs.Run.{did-by}
+use Rattle.demands.proofs.Run.{always-ruled, did-by}
 use Rattle.demands.proofs.Bytes.{Stands, profile-is, ruleRead, rule-read}
 use Rattle.demands.proofs.Total.{Agrees, Holding, always}
 
@@ -204,5 +204,5 @@ pub limit : (setup : Setup) → AcceptedSetup setup → (commands : List Command
     → valueOf (next setup commands command .state .values) meter
     ≤ upperOf (inForce setup (sat setup commands .log)) (placeBy setup (sat setup commands .log)) meter
 limit setup good commands command meter l guards =
-    let held = always setup good commands in
-    did-within setup (sat setup commands) (held .holding) meter l guards (did-by setup (sat setup commands) (held .ruled) command)
+    let ruled = always-ruled setup good commands in
+    did-within setup (sat setup commands) (always setup good commands) meter l guards (did-by setup (sat setup commands) ruled command)

@@ -1,6 +1,6 @@
 -- The card's history and its ATC are those that the conversation and the set-up's bytes say. Assumes nothing.
 use mathlib.Core.Path.{_≡_, refl, sym, ap, subst}
-use mathlib.Core.Bool.{Bool, true, false, cond, _&&_, _||_}
+use mathlib.Core.Bool.{Bool, true, false, cond, _&&_}
 use mathlib.Core.List.{List, [], _∷_}
 use Prim.Native.Nat.{ℕ, _+_, _/_, _%_}
 use native.Mathlib.Omega.{arith}
@@ -9,7 +9,7 @@ use Rattle.refusal.specs.declared.Refusal.{Refusal}
 use Rattle.iad.specs.declared.Cvr.{Cvr}
 use Rattle.rules.specs.declared.Place.{Place}
 use Rattle.rules.specs.declared.Values.{Values}
-use Rattle.rules.specs.Rules.{Rules, profileAt}
+use Rattle.rules.specs.Rules.{Rules}
 use Rattle.setup.specs.Setup.{rulesIn, freshIn, readSetup}
 use Rattle.command.specs.declared.First.{First}
 use Rattle.command.specs.declared.Second.{Second}
@@ -17,7 +17,6 @@ use Rattle.command.specs.declared.Command.{Command}
 use Rattle.command.specs.declared.Command.the-variants.{Start as StartCommand, First as FirstCommand, Second as SecondCommand}
 use Rattle.purchase.specs.declared.Purchase.{Purchase}
 use Rattle.state.specs.declared.History.{History}
-use Rattle.checks.specs.Checks.{meetsMask}
 use Rattle.cryptogram.specs.declared.Issuer.{Issuer}
 use Rattle.state.specs.declared.Kind.{Kind}
 use Rattle.state.specs.declared.Kind.the-variants.{Aac, Tc, Arqc}
@@ -26,7 +25,7 @@ use Rattle.state.specs.declared.State.{State}
 use Rattle.state.specs.declared.Outcome.{Outcome}
 use Rattle.first.specs.First.{firstKind, firstPerformed, settled, asked, concluded}
 use Rattle.state.specs.State.{uncompletedIn, unableIn}
-use Rattle.second.specs.Second.{isUnable, unableBits, unablePerformed, verifiedPerformed, failedPerformed, absentPerformed, secondPerformed}
+use Rattle.second.specs.Second.{isUnable, unablePerformed, verifiedPerformed, failedPerformed, absentPerformed, secondPerformed}
 use Rattle.second.specs.Second.{closed, updateByte}
 use Rattle.card.specs.Card.{freshState, refused}
 use Rattle.demands.specs.Setup.{Setup, AcceptedSetup}
@@ -34,7 +33,7 @@ use Rattle.demands.specs.Conversation.{Sitting, after, told, run, rulesB
 use Rattle.demands.specs.Audit.{inForce}
 use Rattle.demands.specs.Past.{past, atcBy, Says}
 use Rattle.demands.proofs.Step.{Did, refused-it, started-it, took-first, took-second}
-use Rattle.demands.proofs.Run.{run-keeps, Ruled, begin-ruled, told-ruled, did-by}
+use Rattle.demands.proofs.Run.{ruled-keeps, always-ruled, did-by}
 
 pub record Recalls (setup : Setup) (sitting : Sitting) : Type 0 where
   pub history-is : sitting .state .history ≡ past setup (sitting .log)
@@ -143,30 +142,20 @@ module _ (setup : Setup) where
   unfolding run freshState freshIn readSetup past atcBy
   begin-recalls good = rw (good .taken) (record { history-is = refl; atc-is = refl })
 
-  -- the rules in force, and what is recalled under them
-  record Recalled (sitting : Sitting) : Type 0 where
-    ruled : Ruled setup sitting
-    recalls : Recalls setup sitting
-
-  told-recalled : (sitting : Sitting) → Recalled sitting → (command : Command) → Recalled (told sitting command)
-  told-recalled sitting h command =
-      record {
-        ruled = told-ruled setup sitting (h .ruled) command;
-        recalls = did-keeps setup sitting (h .recalls) (did-by setup sitting (h .ruled) command) .recalls;
-      }
-
   module _ (good : AcceptedSetup setup) (commands : List Command) where
-    recalled : Recalled (sat setup commands)
-    unfolding run
-    recalled = run-keeps Recalled told-recalled _ (record { ruled = begin-ruled setup good; recalls = begin-recalls good }) commands
+    recalled : Recalls setup (sat setup commands)
+    recalled =
+        ruled-keeps setup good (Recalls setup) (λ sitting ruled h command. did-keeps setup sitting h (did-by setup sitting ruled command) .recalls)
+        (begin-recalls good) commands
 
     -- THE HISTORY
     pub history : sat setup commands .state .history ≡ past setup (sat setup commands .log)
-    history = recalled .recalls .history-is
+    history = recalled .history-is
 
     -- THE ATC, of the card and of each answer
     pub atc : sat setup commands .state .atc ≡ atcBy setup (sat setup commands .log)
-    atc = recalled .recalls .atc-is
+    atc = recalled .atc-is
 
     pub said : (command : Command) → Says (next setup commands command .answer) (atcBy setup (told (sat setup commands) command .log))
-    said command = did-keeps setup (sat setup commands) (recalled .recalls) (did-by setup (sat setup commands) (recalled .ruled) command) .says
+    said command =
+        did-keeps setup (sat setup commands) recalled (did-by setup (sat setup commands) (always-ruled setup good commands) command) .says

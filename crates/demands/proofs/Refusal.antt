@@ -49,7 +49,7 @@ use Rattle.demands.proofs.Run.{always-ruled}
 use Rattle.demands.proofs.Bytes.{fits, number-in, number-out}
 use Rattle.demands.proofs.Ends.{accepted-in-kind, first-concludes, second-closes, due-is}
 use Rattle.demands.proofs.Past.{atc}
-use Rattle.demands.specs.Rows.{InSetup, InRules, Unselected, StartRow, not-selected, not-in-setup, used-up, FirstRow, no-start, type-three}
+use Rattle.demands.specs.Rows.{InSetup, InRules, NoStart, NoArqc, Unselected, StartRow, not-selected, not-in-setup, used-up, FirstRow, no-start, type-three}
 use Rattle.demands.specs.Rows.{above-max, not-digits, SecondRow, no-arqc, type-two, issuer-data, Applies, rank, Numbered, done, refused}
 
 -- what is taken is answered, and no answer to it is a refusal
@@ -99,75 +99,56 @@ start-ruled rules atc start = by (start .chosen) refl where
       subst (λ c. Ruled (StartRow (InRules rules) atc start) (ruleOpening atc (findProfile rules (profileOf c)))) is
       (opening-ruled rules atc start (λ h. subst Unselected is h) (findProfile rules (profileOf (start .chosen))) (known rules (profileOf (start .chosen))))
 
--- no row of First or of Second is numbered below 2, and none below 5 where it is due
-first-from-2 : {due : Due} {first : First} {m : ℕ} → FirstRow due first m → 2 ≤ rank m
-first-from-2 (no-start n h) = omega (arith, ap rank n)
-first-from-2 (type-three n h) = omega (arith, ap rank n)
-first-from-2 (above-max n h) = omega (arith, ap rank n)
-first-from-2 (not-digits n h) = omega (arith, ap rank n)
-
-first-from-5 : {first : First} {m : ℕ} → FirstRow aFirst first m → 5 ≤ rank m
-first-from-5 (no-start n h) = absurd h
-first-from-5 (type-three n h) = omega (arith, ap rank n)
-first-from-5 (above-max n h) = omega (arith, ap rank n)
-first-from-5 (not-digits n h) = omega (arith, ap rank n)
-
-first-from-6 : {first : First} {m : ℕ} → first .requested ≤ 2 → FirstRow aFirst first m → 6 ≤ rank m
-first-from-6 t (no-start n h) = absurd h
-first-from-6 t (type-three n h) = omega arith
-first-from-6 t (above-max n h) = omega (arith, ap rank n)
-first-from-6 t (not-digits n h) = omega (arith, ap rank n)
+-- of First no row is numbered below 2; below 5 none where a Start is open, and below 6 none where its type is in range too
+first-least : {due : Due} {first : First} {m : ℕ} → FirstRow due first m
+    → (2 ≤ rank m) × ((NoStart due → ⊥) → 5 ≤ rank m) × ((NoStart due → ⊥) → first .requested ≤ 2 → 6 ≤ rank m)
+first-least (no-start n h) = (omega (arith, ap rank n), λ begun. absurd (begun h), λ begun t. absurd (begun h))
+first-least (type-three n h) = (omega (arith, ap rank n), λ begun. omega (arith, ap rank n), λ begun t. omega arith)
+first-least (above-max n h) = (omega (arith, ap rank n), λ begun. omega (arith, ap rank n), λ begun t. omega (arith, ap rank n))
+first-least (not-digits n h) = (omega (arith, ap rank n), λ begun. omega (arith, ap rank n), λ begun t. omega (arith, ap rank n))
 
 first-ruled : (phase : Phase) (first : First) → Ruled (FirstRow (dueIn phase) first) (ruleFirst phase first)
-first-ruled Idle first = (no-start refl tt, λ m l row. omega (arith, first-from-2 row))
-first-ruled (Asked pending) first = (no-start refl tt, λ m l row. omega (arith, first-from-2 row))
+first-ruled Idle first = (no-start refl tt, λ m l row. omega (arith, first-least row .0))
+first-ruled (Asked pending) first = (no-start refl tt, λ m l row. omega (arith, first-least row .0))
 first-ruled (Opened place) first = by-type (ltb 2 (first .requested)) refl where
   by-currency : first .requested ≤ 2 → first .amount .0 ≤ max → (c : Bool) → isCurrency (first .currency) ≡ c
       → Ruled (FirstRow aFirst first) (cond c (take place) (refuse OutOfRange))
   by-currency t a true e =
       λ m. elim [ no-start n h ↦ h | type-three n h ↦ omega arith | above-max n h ↦ omega arith | not-digits n h ↦ h (currency (first .currency) .0 e) ]
   by-currency t a false e =
-      (not-digits refl (λ c. never (sym e ∙ currency (first .currency) .1 c)), λ m l row. omega (arith, first-from-6 t row))
+      (not-digits refl (λ c. never (sym e ∙ currency (first .currency) .1 c)), λ m l row. omega (arith, first-least row .2 (λ none. none) t))
 
   by-amount : first .requested ≤ 2 → (a : Bool) → leb (first .amount .0) max ≡ a
       → Ruled (FirstRow aFirst first) (cond (a && isCurrency (first .currency)) (take place) (refuse OutOfRange))
   by-amount t true e = by-currency t (leb-true _ _ e) (isCurrency (first .currency)) refl
-  by-amount t false e = (above-max refl (leb-false _ _ e), λ m l row. omega (arith, first-from-6 t row))
+  by-amount t false e = (above-max refl (leb-false _ _ e), λ m l row. omega (arith, first-least row .2 (λ none. none) t))
 
   by-type : (b : Bool) → ltb 2 (first .requested) ≡ b → Ruled (FirstRow aFirst first)
       (cond b (refuse BadType) (cond (leb (first .amount .0) max && isCurrency (first .currency)) (take place) (refuse OutOfRange)))
-  by-type true e = (type-three refl (ltb-true _ _ e), λ m l row. omega (arith, first-from-5 row))
+  by-type true e = (type-three refl (ltb-true _ _ e), λ m l row. omega (arith, first-least row .1 (λ none. none)))
   by-type false e = by-amount (ltb-false _ _ e) (leb (first .amount .0) max) refl
 
-second-from-2 : {due : Due} {second : Second} {m : ℕ} → SecondRow due second m → 2 ≤ rank m
-second-from-2 (no-arqc n h) = omega (arith, ap rank n)
-second-from-2 (type-two n h) = omega (arith, ap rank n)
-second-from-2 (issuer-data n h) = omega (arith, ap rank n)
-
-second-from-5 : {second : Second} {m : ℕ} → SecondRow aSecond second m → 5 ≤ rank m
-second-from-5 (no-arqc n h) = absurd h
-second-from-5 (type-two n h) = omega (arith, ap rank n)
-second-from-5 (issuer-data n h) = omega (arith, ap rank n)
-
-second-from-6 : {second : Second} {m : ℕ} → second .requested ≤ 1 → SecondRow aSecond second m → 6 ≤ rank m
-second-from-6 t (no-arqc n h) = absurd h
-second-from-6 t (type-two n h) = omega arith
-second-from-6 t (issuer-data n h) = omega (arith, ap rank n)
+-- of Second likewise
+second-least : {due : Due} {second : Second} {m : ℕ} → SecondRow due second m
+    → (2 ≤ rank m) × ((NoArqc due → ⊥) → 5 ≤ rank m) × ((NoArqc due → ⊥) → second .requested ≤ 1 → 6 ≤ rank m)
+second-least (no-arqc n h) = (omega (arith, ap rank n), λ begun. absurd (begun h), λ begun t. absurd (begun h))
+second-least (type-two n h) = (omega (arith, ap rank n), λ begun. omega (arith, ap rank n), λ begun t. omega arith)
+second-least (issuer-data n h) = (omega (arith, ap rank n), λ begun. omega (arith, ap rank n), λ begun t. omega (arith, ap rank n))
 
 second-ruled : (phase : Phase) (second : Second) → Ruled (SecondRow (dueIn phase) second) (ruleSecond phase second)
-second-ruled Idle second = (no-arqc refl tt, λ m l row. omega (arith, second-from-2 row))
-second-ruled (Opened place) second = (no-arqc refl tt, λ m l row. omega (arith, second-from-2 row))
+second-ruled Idle second = (no-arqc refl tt, λ m l row. omega (arith, second-least row .0))
+second-ruled (Opened place) second = (no-arqc refl tt, λ m l row. omega (arith, second-least row .0))
 second-ruled (Asked pending) second = by-type (ltb 1 (second .requested)) refl where
   by-issuer : second .requested ≤ 1 → (b : Bool) → ltb 2 (second .issuer) ≡ b
       → Ruled (SecondRow aSecond second) (cond b (refuse OutOfRange) (take pending))
-  by-issuer t true e = (issuer-data refl (ltb-true _ _ e), λ m l row. omega (arith, second-from-6 t row))
+  by-issuer t true e = (issuer-data refl (ltb-true _ _ e), λ m l row. omega (arith, second-least row .2 (λ none. none) t))
   by-issuer t false e =
       let i = ltb-false 2 (second .issuer) e in
       λ m. elim [ no-arqc n h ↦ h | type-two n h ↦ omega arith | issuer-data n h ↦ omega arith ]
 
   by-type : (b : Bool) → ltb 1 (second .requested) ≡ b
       → Ruled (SecondRow aSecond second) (cond b (refuse BadType) (cond (ltb 2 (second .issuer)) (refuse OutOfRange) (take pending)))
-  by-type true e = (type-two refl (ltb-true _ _ e), λ m l row. omega (arith, second-from-5 row))
+  by-type true e = (type-two refl (ltb-true _ _ e), λ m l row. omega (arith, second-least row .1 (λ none. none)))
   by-type false e = by-issuer (ltb-false _ _ e) (ltb 2 (second .issuer)) refl
 
 -- ---- what a ruling carries

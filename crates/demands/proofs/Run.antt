@@ -25,15 +25,25 @@ pub record Ruled (setup : Setup) (sitting : Sitting) : Type 0 where
   pub rules-are : sitting .rules ≡ rulesBy (inForce setup (sitting .log))
   pub good : AcceptedSetup (inForce setup (sitting .log))
 
-pub begin-ruled : (setup : Setup) → AcceptedSetup setup → Ruled setup (sat setup [])
+begin-ruled : (setup : Setup) → AcceptedSetup setup → Ruled setup (sat setup [])
 unfolding run inForce
 begin-ruled setup good = record { rules-are = refl; good = good }
 
-pub told-ruled : (setup : Setup) (sitting : Sitting) → Ruled setup sitting → (command : Command) → Ruled setup (told sitting command)
+told-ruled : (setup : Setup) (sitting : Sitting) → Ruled setup sitting → (command : Command) → Ruled setup (told sitting command)
 unfolding inForce
 told-ruled setup sitting ruled (StartCommand start) = record { rules-are = ruled .rules-are; good = ruled .good }
 told-ruled setup sitting ruled (FirstCommand first) = record { rules-are = ruled .rules-are; good = ruled .good }
 told-ruled setup sitting ruled (SecondCommand second) = record { rules-are = ruled .rules-are; good = ruled .good }
+
+-- what each command keeps under the rules in force is kept
+pub ruled-keeps : (setup : Setup) → AcceptedSetup setup → (P : Sitting → Type 0)
+    → ((sitting : Sitting) → Ruled setup sitting → P sitting → (command : Command) → P (told sitting command))
+    → P (sat setup []) → (commands : List Command) → P (sat setup commands)
+unfolding run
+ruled-keeps setup good P keeps h commands =
+    run-keeps (λ sitting. Ruled setup sitting × P sitting)
+    (λ sitting both command. (told-ruled setup sitting (both .0) command, keeps sitting (both .0) (both .1) command))
+    _ (begin-ruled setup good, h) commands .1
 
 pub always-ruled : (setup : Setup) → AcceptedSetup setup → (commands : List Command) → Ruled setup (sat setup commands)
 unfolding run

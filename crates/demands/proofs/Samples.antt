@@ -11,7 +11,7 @@ use Rattle.state.specs.declared.History.{History}
 use Rattle.state.specs.declared.Answer.{Answer}
 use Rattle.state.specs.declared.Answer.the-variants.{Refused, Started, Given}
 use Rattle.state.specs.declared.Kind.{Kind}
-use Rattle.state.specs.declared.Kind.the-variants.{Aac, Arqc}
+use Rattle.state.specs.declared.Kind.the-variants.{Aac, Tc, Arqc}
 use Rattle.cryptogram.specs.Cryptogram.{kindCode}
 use Rattle.selection.specs.declared.Selection.the-variants.{Selected}
 use Rattle.command.specs.declared.Command.{Command}
@@ -29,6 +29,10 @@ zeros n = replicate n 0
 
 -- ---- set-ups
 
+-- of syllabus 0
+abbrev setupOf : List ℕ → Setup
+setupOf body = record { bytes = body; syllabus = 0 }
+
 -- p profiles, c conversions, ATC 0; accumulators in 0978 from a number below 65536, in 0840 from 0, in 0978 from 7
 abbrev head : (p c high low : ℕ) → List ℕ
 head p c high low =
@@ -45,13 +49,26 @@ profile n switches =
 
 -- profile 2 leaves accumulator 1 out; 0978 to 0840 by 2
 unfoldable pub counting : Setup
-counting = record { bytes = head 2 1 0 0 ++ profile 1 3 ++ profile 2 0 ++ 0x09 ∷ 0x78 ∷ 0x08 ∷ 0x40 ∷ 0 ∷ 2 ∷ 9 ∷ []; syllabus = 0 }
+counting = setupOf (head 2 1 0 0 ++ profile 1 3 ++ profile 2 0 ++ 0x09 ∷ 0x78 ∷ 0x08 ∷ 0x40 ∷ 0 ∷ 2 ∷ 9 ∷ [])
 
 -- Online accumulator 1's lower limit, 1000; Decline MTA, 0 in 0978 and off, and accumulator 1's upper limit, 5000; no conversion
-unfoldable pub limiting : (high low : ℕ) → Setup
-limiting high low =
+unfoldable pub limiting : (switches high low : ℕ) → Setup
+limiting switches high low =
     let masks = zeros 3 ++ 0x40 ∷ 0 ∷ 0 ∷ 0x04 ∷ 0x20 ∷ zeros 5 in
-    record { bytes = head 1 0 high low ++ 1 ∷ masks ++ 0x09 ∷ 0x78 ∷ zeros 8 ++ rule 1 0x03 0xE8 0x13 0x88 ++ zeros 66; syllabus = 0 }
+    setupOf (head 1 0 high low ++ 1 ∷ masks ++ 0x09 ∷ 0x78 ∷ zeros 8 ++ rule switches 0x03 0xE8 0x13 0x88 ++ zeros 66)
+
+-- Default accumulator 1's lower limit, 1000, and no other mask; from 2000
+unfoldable pub defaulting : Setup
+defaulting = setupOf (head 1 0 0x07 0xD0 ++ 1 ∷ zeros 11 ++ 0x40 ∷ zeros 11 ++ rule 1 0x03 0xE8 0x13 0x88 ++ zeros 66)
+
+-- Decline accumulator 1's upper limit, MAX, which the purchase is tested with; from MAX
+abbrev most : List ℕ
+most = 0 ∷ 0 ∷ 0 ∷ 0xE8 ∷ 0xD4 ∷ 0xA5 ∷ 0x0F ∷ 0xFF ∷ []
+
+unfoldable pub full : Setup
+full =
+    let masks = zeros 6 ++ 0x04 ∷ zeros 16 in
+    setupOf (1 ∷ 3 ∷ 0 ∷ 1 ∷ 0 ∷ zeros 3 ++ 0x09 ∷ 0x78 ∷ most ++ zeros 34 ++ 1 ∷ masks ++ 5 ∷ zeros 8 ++ most ++ zeros 66)
 
 -- ---- sittings
 
@@ -122,21 +139,15 @@ agrees setup commands =
     && eqb (sitting .state .atc) (atcBy setup (sitting .log))
 
 -- `due-is`: what the card's phase says is due, and what the conversation says
-abbrev sameDue : Due → Due → Bool
-sameDue nothing nothing = true
-sameDue nothing aFirst = false
-sameDue nothing aSecond = false
-sameDue aFirst nothing = false
-sameDue aFirst aFirst = true
-sameDue aFirst aSecond = false
-sameDue aSecond nothing = false
-sameDue aSecond aFirst = false
-sameDue aSecond aSecond = true
+abbrev dueCode : Due → ℕ
+dueCode nothing = 0
+dueCode aFirst = 1
+dueCode aSecond = 2
 
 unfoldable pub duly : List Command → Bool
 duly commands =
     let sitting = sat counting commands in
-    sameDue (dueIn (sitting .state .phase)) (due (sitting .log))
+    eqb (dueCode (dueIn (sitting .state .phase))) (dueCode (due (sitting .log)))
 
 -- `in-kind`: Start starts, First and Second give
 abbrev isInKind : Command → Answer → Bool
@@ -160,12 +171,20 @@ isOf (Refused refusal) kind = false
 isOf (Started atc visits) kind = false
 isOf (Given given atc iad) kind = eqb (kindCode given) (kindCode kind)
 
--- what First answers, requested a TC of 1 in a currency, with accumulator 1 from a number
-unfoldable pub answers : (high low currency : ℕ) → Kind → Bool
-answers high low currency kind = isOf (next (limiting high low) (start 1 ∷ []) (first 1 currency 1) .answer) kind
+-- what First answers, requested a TC of 1 in a currency
+unfoldable pub answersTo : Setup → (currency : ℕ) → Kind → Bool
+answersTo setup currency kind = isOf (next setup (start 1 ∷ []) (first 1 currency 1) .answer) kind
+
+-- with accumulator 1 by its switches from a number
+abbrev answers : (switches high low currency : ℕ) → Kind → Bool
+answers switches high low currency kind = answersTo (limiting switches high low) currency kind
+
+abbrev areSetups : List Setup → Bool
+areSetups [] = true
+areSetups (setup ∷ setups) = isSetup (setup .bytes) && areSetups setups
 
 pub record Samples : Type 0 where
-  pub accepted : T (isSetup (counting .bytes) && isSetup (limiting 0x07 0xD0 .bytes) && isSetup (limiting 0x17 0x70 .bytes))
+  pub accepted : T (areSetups (counting ∷ limiting 1 0x07 0xD0 ∷ limiting 1 0x17 0x70 ∷ limiting 5 0x17 0x70 ∷ defaulting ∷ full ∷ []))
   pub approvals-agree : T (agrees counting approvals)
   pub limits-agree : T (agrees counting limits)
   pub resets-agree : T (agrees counting resets)
@@ -182,12 +201,17 @@ pub record Samples : Type 0 where
   pub firsts-in-kind : T (kindly (answered 0) && kindly (answered 1) && kindly (answered 2))
   pub seconds-in-kind : T (kindly (online unable) && kindly (online (second 0x80)) && kindly (online (after 2)) && kindly (online (after 0)))
   -- accumulator 1 at 2000 is above its lower limit: online
-  pub lower-online : T (answers 0x07 0xD0 0x0978 Arqc)
+  pub lower-online : T (answers 1 0x07 0xD0 0x0978 Arqc)
   -- at 6000 above its upper: declined, in a currency without a conversion too
-  pub upper-declined : T (answers 0x17 0x70 0x0840 Aac)
+  pub upper-declined : T (answers 1 0x17 0x70 0x0840 Aac)
+  pub upper-included-declined : T (answers 5 0x17 0x70 0x0840 Aac)
+  -- Default isn't asked on a terminal that can go online
+  pub default-unasked : T (answersTo defaulting 0x0978 Tc)
+  -- the sum that is tested isn't stopped at MAX
+  pub sum-unstopped : T (answersTo full 0x0978 Aac)
 
 pub samples : Samples
-unfolding counting limiting approvals limits resets answered online agrees duly kindly answers computed
+unfolding counting limiting defaulting full approvals limits resets answered online agrees duly kindly answersTo computed
 samples =
     record {
       accepted = tt;
@@ -207,4 +231,7 @@ samples =
       seconds-in-kind = tt;
       lower-online = tt;
       upper-declined = tt;
+      upper-included-declined = tt;
+      default-unasked = tt;
+      sum-unstopped = tt;
     }

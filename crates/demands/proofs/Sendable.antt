@@ -1,12 +1,13 @@
 -- The IAD of every answer is one that writing takes, so that what goes out is never left blank. Assumes nothing.
 use mathlib.Core.Path.{_≡_, sym, ap, subst}
+use mathlib.Core.Bool.{Bool, true, false}
 use mathlib.Core.List.{List}
 use Prim.Native.Nat.{ℕ, zero, suc, _+_, _/_, _%_, _≤_, _<_}
 use native.Mathlib.Omega.{arith}
 use lib.ListN.{replicate}
 use Rattle.iad.specs.declared.Iad.{Iad}
 use Rattle.iad.specs.Iad.{written}
-use Rattle.readback.specs.WellFormed.{Types, WellFormed, Writable, LaidOut}
+use Rattle.readback.specs.WellFormed.{Types, WellFormed, Writable, OfBytes, LaidOut}
 use Rattle.readback.proofs.Readable.{spoken}
 use Rattle.readback.proofs.Leaves.{laid-out, filled}
 use Rattle.command.specs.declared.Command.{Command}
@@ -16,14 +17,17 @@ use Rattle.state.specs.declared.Kind.{Kind}
 use Rattle.state.specs.declared.Kind.the-variants.{Aac, Tc, Arqc}
 use Rattle.card.specs.Card.{answerNumber}
 use Rattle.demands.specs.Setup.{Setup, byteAt, AcceptedSetup}
-use Rattle.purchase.specs.Meter.{accumulator}
+use Rattle.purchase.specs.Meter.{Meter, accumulator, counter}
 use Rattle.demands.specs.Ledger.{owed}
 use Rattle.demands.specs.Conversation.{Exchange, sat, next}
 use Rattle.demands.specs.Audit.{max, inForce, audited}
 use Rattle.demands.specs.Due.{InKind}
 use Rattle.demands.specs.Rows.{InSetup}
-use Rattle.demands.specs.Verification.{typeOf, sentOf, Sends}
-use Rattle.demands.proofs.Run.{always-ruled}
+use Rattle.demands.specs.Verification.{typeOf, sentOf, bit, anyOf, Issuing, Verifies, Sends}
+use Rattle.demands.specs.Decision.{aboveLower}
+use Rattle.purchase.specs.declared.Purchase.{Purchase}
+use Rattle.state.specs.declared.History.{History}
+use Rattle.demands.proofs.Run.{always-ruled, pin-stays}
 use Rattle.demands.proofs.Bytes.{fits}
 use Rattle.demands.proofs.Refusal.{in-kind}
 use Rattle.demands.proofs.Answers.{gives}
@@ -42,6 +46,30 @@ sent-within : (setup now : Setup) (profile number : ℕ) (log : List Exchange) (
     → iad .accumulator .0 ≤ max
 sent-within setup now profile number log iad sent =
     subst (λ n. n ≤ max) (sym (sent .accumulator-sent)) (sent-small setup log (byteAt now (profile + 104)))
+
+count-small : (setup : Setup) (log : List Exchange) (n : ℕ) → sentOf (audited setup log) counter n < 256
+unfolding owed
+count-small setup log zero = omega arith
+count-small setup log (suc i) = omega arith
+
+bit-small : (b : Bool) → bit b ≤ 1
+bit-small true = omega arith
+bit-small false = omega arith
+
+-- what is sent of bytes are bytes
+sent-bytes : (setup then now : Setup) (profile : ℕ) (purchase : Purchase) (value : Meter → ℕ) (history : History) (second first : ℕ)
+    (issuing : Issuing) (number : ℕ) (log : List Exchange) (iad : Iad) → AcceptedSetup now → byteAt then 1 ≤ 15 → second ≤ 2
+    → Verifies then profile purchase value history second first issuing (iad .cvr) → Sends now profile number (audited setup log) iad → OfBytes iad
+sent-bytes setup then now profile purchase value history second first issuing number log iad good pin small cvr sent =
+    record {
+      key = subst (λ n. n < 256) (sym (sent .key)) (good .bytes .below 0);
+      cvr1 = omega (arith, cvr .byte1-b87);
+      cvr2 = omega (arith, cvr .byte2-high);
+      cvr3 = omega (arith, cvr .byte3-b8, bit-small (anyOf counter (aboveLower then profile purchase value)));
+      cvr4 = omega (arith, cvr .byte4-high);
+      first = subst (λ n. n < 256) (sym (sent .first-sent)) (count-small setup log (byteAt now (profile + 105)));
+      second = subst (λ n. n < 256) (sym (sent .second-sent)) (count-small setup log (byteAt now (profile + 106)));
+    }
 
 -- no type field above 10 is 11
 types-fine : (byte : ℕ) → byte / 64 ≤ 2 → byte / 16 % 4 ≤ 2 → Types byte
@@ -63,29 +91,37 @@ module _ (setup : Setup) (good : AcceptedSetup setup) (commands : List Command) 
   in-range : AcceptedSetup (inForce setup (sat setup commands .log))
   in-range = always-ruled setup good commands .good
 
-  sent-writable : (command : Command) (kind : Kind) (atc : ℕ) (iad : Iad) → next setup commands command .answer ≡ Given kind atc iad → Writable iad
-  sent-writable (StartCommand start) kind atc iad e =
+  pin-in-range : (log : List Exchange) → byteAt (inForce setup log) 1 ≤ 15
+  pin-in-range log = subst (λ pin. pin ≤ 15) (sym (pin-stays setup log)) (fits good .pin)
+
+  sent-fine : (command : Command) (kind : Kind) (atc : ℕ) (iad : Iad) → next setup commands command .answer ≡ Given kind atc iad
+      → Writable iad × OfBytes iad
+  sent-fine (StartCommand start) kind atc iad e =
       let sitting = sat setup commands in
       absurd (subst (InKind (StartCommand start)) e (in-kind (sitting .rules) (sitting .state) (StartCommand start) (ap answerNumber e)))
-  sent-writable (FirstCommand first) kind atc iad e =
+  sent-fine (FirstCommand first) kind atc iad e =
       let given = gives setup good commands (FirstCommand first) kind atc iad e in
       let cvr = given .verifies in
-      let sent = given .sends in
-      sendable _ in-range _ (given .known) iad (sent .profile-number) (sent-within setup _ _ _ _ iad sent)
-      (types-fine _ (omega (arith, cvr .byte1-b87)) (omega (arith, cvr .byte1-b65, type-below kind))) (cvr .byte5-all)
-  sent-writable (SecondCommand second) kind atc iad e =
+      let sent = given .sends in (
+        sendable _ in-range _ (given .known) iad (sent .profile-number) (sent-within setup _ _ _ _ iad sent)
+            (types-fine _ (omega (arith, cvr .byte1-b87)) (omega (arith, cvr .byte1-b65, type-below kind))) (cvr .byte5-all),
+        sent-bytes setup _ _ _ _ _ _ _ _ _ _ _ iad in-range (pin-in-range _) (omega arith) cvr sent,
+      )
+  sent-fine (SecondCommand second) kind atc iad e =
       let given = gives setup good commands (SecondCommand second) kind atc iad e in
       let cvr = given .verifies in
-      let sent = given .sends in
-      sendable _ in-range _ (given .known) iad (sent .profile-number) (sent-within setup _ _ _ _ iad sent)
-      (types-fine _ (omega (arith, cvr .byte1-b87, type-below kind)) (omega (arith, cvr .byte1-b65))) (cvr .byte5-all)
+      let sent = given .sends in (
+        sendable _ in-range _ (given .known) iad (sent .profile-number) (sent-within setup _ _ _ _ iad sent)
+            (types-fine _ (omega (arith, cvr .byte1-b87, type-below kind)) (omega (arith, cvr .byte1-b65))) (cvr .byte5-all),
+        sent-bytes setup _ _ _ _ _ _ _ _ _ _ _ iad in-range (pin-in-range _) (type-below kind) cvr sent,
+      )
 
-  -- THE IAD OF EVERY ANSWER CAN BE WRITTEN, and the 32 bytes that go out hold its fields and are well formed
+  -- THE IAD OF EVERY ANSWER CAN BE WRITTEN, its fields are bytes, and the 32 bytes that go out hold them and are well formed
   pub written-out : (command : Command) (kind : Kind) (atc : ℕ) (iad : Iad) → next setup commands command .answer ≡ Given kind atc iad
-      → Writable iad × LaidOut iad (written iad (replicate 32 0)) × WellFormed (written iad (replicate 32 0))
+      → Writable iad × OfBytes iad × LaidOut iad (written iad (replicate 32 0)) × WellFormed (written iad (replicate 32 0))
   written-out command kind atc iad e =
-      let can = sent-writable command kind atc iad e in
+      let (can, small) = sent-fine command kind atc iad e in
       let front = laid-out iad (replicate 32 0) can (omega arith) .front in
       let whole = filled iad _ can front in
       let lies = subst (LaidOut iad) (sym whole) front in
-      (can, lies, spoken _ iad can lies)
+      (can, small, lies, spoken _ iad can lies)

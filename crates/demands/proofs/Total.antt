@@ -42,11 +42,11 @@ use Rattle.purchase.specs.declared.Purchase.{Purchase}
 use Rattle.demands.specs.Setup.{Setup, byteAt, numberAt, AcceptedSetup}
 use Rattle.purchase.specs.Meter.{Meter, accumulator, counter, IsMeter, valueOf}
 use Rattle.demands.specs.Ledger.{owed}
-use Rattle.demands.specs.Conversation.{Exchange, Sitting, after, told, run, rulesBy, sat}
+use Rattle.demands.specs.Conversation.{Exchange, Sitting, after, run, rulesBy, sat}
 use Rattle.demands.specs.Audit.{placeOf, upperOf, startOf, capOf, counted, declined, ordered, entered, named, brought, bought, inForce, placeBy}
 use Rattle.demands.specs.Audit.{ledger, audited}
 use Rattle.demands.proofs.Step.{Did, refused-it, started-it, took-first, took-second}
-use Rattle.demands.proofs.Run.{run-keeps, Ruled, begin-ruled, told-ruled, did-by}
+use Rattle.demands.proofs.Run.{Ruled, ruled-keeps, did-by}
 use Rattle.demands.proofs.Owed.{Fair, nothing, starts, grows}
 use Rattle.demands.proofs.Bytes.{fits, Stands, stands-at}
 use Rattle.demands.proofs.Moves.{approved-moves, declined-moves, ordered-moves, counted-fair, declined-fair, ordered-fair}
@@ -234,26 +234,12 @@ module _ (setup : Setup) where
       rw (good .taken)
       (record { agrees = tt; values = λ meter l. fresh meter l ∙ starts (capOf meter) (startOf setup meter) (start-within setup good meter l) })
 
-  -- the rules in force, and what is held under them
-  pub record Held (sitting : Sitting) : Type 0 where
-    pub ruled : Ruled setup sitting
-    pub holding : Holding setup sitting
-
-  pub told-held : (sitting : Sitting) → Held sitting → (command : Command) → Held (told sitting command)
-  told-held sitting held command =
-      record {
-        ruled = told-ruled setup sitting (held .ruled) command;
-        holding = did-holds setup sitting (held .ruled) (held .holding) (did-by setup sitting (held .ruled) command);
-      }
-
-  pub begin-held : AcceptedSetup setup → Held (sat setup [])
-  begin-held good = record { ruled = begin-ruled setup good; holding = begin-holds good }
-
-  pub always : AcceptedSetup setup → (commands : List Command) → Held (sat setup commands)
-  unfolding run
-  always good commands = run-keeps Held told-held _ (begin-held good) commands
+  pub always : AcceptedSetup setup → (commands : List Command) → Holding setup (sat setup commands)
+  always good commands =
+      ruled-keeps setup good (Holding setup) (λ sitting ruled h command. did-holds setup sitting ruled h (did-by setup sitting ruled command))
+      (begin-holds good) commands
 
   -- DEMAND 3, THE TOTAL
   pub total : AcceptedSetup setup → (commands : List Command) (meter : Meter) → IsMeter meter
       → valueOf (sat setup commands .state .values) meter ≡ owed (capOf meter) (startOf setup meter) (ledger setup meter (sat setup commands .log))
-  total good commands meter l = always good commands .holding .values meter l
+  total good commands meter l = always good commands .values meter l

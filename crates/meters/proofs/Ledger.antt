@@ -2,7 +2,7 @@
 use mathlib.Core.Path.{_≡_, refl}
 use mathlib.Core.Bool.{Bool, true, false, cond}
 use mathlib.Core.List.{List, [], _∷_, _++_}
-use Prim.Native.Nat.{ℕ, _+_, _≤_, _<_}
+use Prim.Native.Nat.{ℕ, _+_, _≤_}
 use native.Mathlib.Omega.{arith}
 use borrow.Author.Tests.{ltb-false}
 use lib.Dec.{ltb}
@@ -13,7 +13,7 @@ use Rattle.rules.specs.declared.Place.{Place}
 use Rattle.rules.specs.declared.Values.{Values}
 use Rattle.rules.specs.Rules.{Rules}
 use Rattle.rules.proofs.Places.{each}
-use Rattle.purchase.specs.Meter.{Meter, accumulator, counter, IsMeter, MeterRule, ruleOf, valueOf, capOf, worthTo}
+use Rattle.purchase.specs.Meter.{Meter, accumulator, counter, IsMeter, MeterRule, valueOf, capOf, worthTo}
 use Rattle.meters.specs.declared.Change.{Change}
 use Rattle.meters.specs.declared.Change.the-variants.{Approve, Decline, SetToLimits, Clear}
 use Rattle.meters.specs.Meters.{Entry, put, add, move, moved, addition, counts, countsDecline, based, added, entered, applied}

@@ -1,24 +1,20 @@
 -- What follows the base, read as it was spelled; what is read is so spelled; what is refused has one of the causes. Assumes nothing.
-use mathlib.Core.Path.{_≡_, refl, sym, ap, ap₂, subst, _∙_}
-use mathlib.Core.Bool.{Bool, true, false, cond, not, _&&_, _||_}
+use mathlib.Core.Path.{_≡_, refl, sym, ap, subst, _∙_}
+use mathlib.Core.Bool.{false}
 use mathlib.Core.List.{List, [], _∷_, _++_, append-assoc, append-nil}
-use mathlib.Core.Logic.{_⊎_, inl, inr}
-use Prim.Native.Nat.{ℕ, zero, suc, _+_, _-_, _*_, _≤_, _<_, min}
-use native.Mathlib.Nat.{add-zero}
+use Prim.Native.Nat.{ℕ, suc, _+_, _-_, _≤_, _<_, min}
 use native.Mathlib.Omega.{arith}
-use borrow.Author.Tests.{lt-ltb, le-ltb, ltb-true, ltb-false, lt-leb, le-leb, leb-true, leb-false, eqb-true, eqb-false, eq-eqb, ne-eqb}
-use lib.Dec.{leb, ltb, eqb}
-use lib.ListN.{length, getD, take, drop, length-append, length-take, length-drop, take-append-drop, drop-of-length-le, List·getD-append}
-use lib.Seq.{take-at, drop-at, getD-at, take-length, take-all, take-suc, drop-append-add, length-take-le, getD-take, getD-drop}
+use borrow.Author.Tests.{le-ltb, lt-leb}
+use lib.Dec.{leb, ltb}
+use lib.ListN.{length, drop, length-append, List·getD-append}
+use lib.Seq.{take-at, drop-at, getD-at, take-length, drop-append-add}
 use Rattle.wire.specs.Wire.{byte}
-use Rattle.refusal.specs.declared.Refusal.the-variants.{BadSetup}
-use Rattle.selection.specs.Selection.{isFile}
-use Rattle.tail.specs.declared.Selecting.the-variants.{Off, On}
-use Rattle.tail.specs.declared.ReadTail.{ReadTail}
-use Rattle.tail.specs.declared.ReadTail.the-variants.{Taken, Refused}
-use Rattle.tail.specs.Tail.{baseEnd, basePart, syllabusIn, selectionTail, readTail, tailNumber}
-use Rattle.rows.specs.Tails.{Choosing, off, on, fileBytes, choosingBytes, Tail, first, second, third, versionOf, tailBytes, choosingOf, syllabusOf, FineChoosing, Fine, baseLength, Base, selecting, fileIn, fileOf, TailSays, IsSpelled, BadChoosing, missing, above, behind-off, no-number, entries, butLast, BadTail, choosing, no-syllabus, syllabus-above, between}
-use Rattle.rows.proofs.Entries.{file-read, Small, small-drop, small-take, Entries, file-spelled, file-bad, bad-file}
+use Rattle.tail.specs.declared.Selecting.the-variants.{On}
+use Rattle.tail.specs.declared.ReadTail.the-variants.{Taken}
+use Rattle.tail.specs.Tail.{baseEnd, syllabusIn, selectionTail, readTail}
+use Rattle.rows.specs.Tails.{Choosing, off, on, fileBytes, choosingBytes, Tail, first, second, third, tailBytes, Fine, baseLength, Base, selecting}
+use Rattle.rows.specs.Tails.{fileIn, fileOf, TailSays}
+use Rattle.rows.proofs.Entries.{file-read}
 
 -- ---- spelled, then read
 
@@ -34,7 +30,8 @@ file-there : (base : List ℕ) (c : Choosing) (rest : List ℕ) → fileIn (sele
 file-there base off rest = refl
 file-there base (on es) rest =
     let size : length base + 2 + length (fileBytes es) - (length base + 2) ≡ length (fileBytes es) = omega arith in
-    let there : drop (length base + 2) (base ++ (1 ∷ length es ∷ fileBytes es ++ rest)) ≡ fileBytes es ++ rest = drop-append-add base (1 ∷ length es ∷ fileBytes es ++ rest) 2 in
+    let there : drop (length base + 2) (base ++ (1 ∷ length es ∷ fileBytes es ++ rest)) ≡ fileBytes es ++ rest =
+    drop-append-add base (1 ∷ length es ∷ fileBytes es ++ rest) 2 in
     rw (size, there) (take-at (fileBytes es) rest (length (fileBytes es)) refl)
 
 module _ (base : List ℕ) (sized : length base ≡ baseLength base) (tail : List ℕ) where

@@ -1,20 +1,22 @@
 -- Of any body: either it is a base and the tail of its version, and its number is 0, or one of the causes holds of it, and its number is 1. Assumes nothing.
 use mathlib.Core.Path.{_≡_, refl, sym, ap, ap₂, subst, _∙_}
-use mathlib.Core.Bool.{Bool, true, false, cond, not, _&&_, _||_}
-use mathlib.Core.List.{List, [], _∷_, _++_, append-assoc, append-nil}
+use mathlib.Core.Bool.{Bool, true, false}
+use mathlib.Core.List.{List, [], _∷_, _++_, append-nil}
 use mathlib.Core.Logic.{_⊎_, inl, inr, _↔_}
-use Prim.Native.Nat.{ℕ, zero, suc, _+_, _-_, _*_, _≤_, _<_, min}
+use Prim.Native.Nat.{ℕ, zero, suc, _+_, _-_, _≤_, _<_, min}
 use native.Mathlib.Omega.{arith}
-use borrow.Author.Tests.{lt-ltb, le-ltb, ltb-true, ltb-false, lt-leb, le-leb, leb-true, leb-false, eqb-true, eqb-false, ne-eqb}
+use borrow.Author.Tests.{le-ltb, ltb-true, ltb-false, lt-leb, le-leb, leb-true, leb-false, eqb-true, eqb-false, ne-eqb}
 use lib.Dec.{leb, ltb, eqb}
-use lib.ListN.{length, getD, take, drop, length-append, length-take, length-drop, take-append-drop, drop-of-length-le}
+use lib.ListN.{length, getD, take, drop, length-append, length-drop, take-append-drop, drop-of-length-le}
 use lib.Seq.{drop-at, take-at, take-all, take-suc, length-take-le, getD-take, getD-drop}
 use Rattle.wire.specs.Wire.{byte}
 use Rattle.selection.specs.Selection.{isFile}
 use Rattle.setup.proofs.Faithful.{Bytes}
 use Rattle.tail.specs.Tail.{baseEnd, syllabusIn, selectionTail, readTail, tailNumber}
-use Rattle.rows.specs.Tails.{Choosing, off, on, fileBytes, choosingBytes, Tail, first, second, third, versionOf, tailBytes, FineChoosing, Fine, baseLength, Base, IsSpelled, BadChoosing, missing, above, behind-off, no-number, entries, butLast, BadTail, choosing, no-syllabus, syllabus-above, between}
-use Rattle.rows.proofs.Entries.{file-read, Small, small-drop, small-take, Entries, file-spelled, file-bad, bad-file}
+use Rattle.rows.specs.Tails.{Choosing, off, on, choosingBytes, Tail, first, second, third, versionOf, tailBytes, FineChoosing, Fine, baseLength, Base}
+use Rattle.rows.specs.Tails.{IsSpelled, BadChoosing, missing, above, behind-off, no-number, entries, butLast, BadTail, choosing, no-syllabus}
+use Rattle.rows.specs.Tails.{syllabus-above, between}
+use Rattle.rows.proofs.Entries.{file-read, Small, small-drop, small-take, file-spelled, file-bad, bad-file}
 use Rattle.rows.proofs.Behind.{length-kept, third-size, third-last, reads-tails}
 
 -- a number is 0 where P holds, and 1 where Q does
@@ -147,12 +149,14 @@ module _ (body : List ℕ) (bytes : Bytes body) where
   last-joins : baseLength body < length body → butLast behind ++ last ∷ [] ≡ behind
   last-joins more =
       let size = length-drop (baseLength body) body in
+      let place : baseLength body + (length behind - 1) ≡ length body - 1 = omega arith in
       let there : getD behind (length behind - 1) 0 ≡ last =
-      getD-drop (baseLength body) body (length behind - 1) 0 ∙ ap (byte body) (let e : baseLength body + (length behind - 1) ≡ length body - 1 = omega arith in e) in
+      getD-drop (baseLength body) body (length behind - 1) 0 ∙ ap (byte body) place in
       let all : take (suc (length behind - 1)) behind ≡ behind = take-all (suc (length behind - 1)) behind (omega arith) in
       ap (λ n. butLast behind ++ n ∷ []) (sym there) ∙ sym (take-suc behind (length behind - 1) 0 (omega arith)) ∙ all
 
-  third-is : baseLength body < length body → ltb 1 last ≡ false → tailNumber (readTail 3 body) ≡ tailNumber (selectionTail (butLast behind) (baseEnd 3 body))
+  third-is : baseLength body < length body → ltb 1 last ≡ false
+      → tailNumber (readTail 3 body) ≡ tailNumber (selectionTail (butLast behind) (baseEnd 3 body))
   unfolding readTail baseEnd syllabusIn
   third-is more low =
       let end : min (length body) (baseLength body) ≡ baseLength body = omega arith in
@@ -205,7 +209,8 @@ module _ (body : List ℕ) (bytes : Bytes body) where
   unfolding readTail
   first-settled = inl (record { base = body; tail = first; version-is = refl; sized = tt; fine = tt; joined = append-nil body }, refl)
 
-  tail-settled : (version : ℕ) → 1 ≤ version → version ≤ 3 → Settled (IsSpelled version body) (BadTail version body) (tailNumber (readTail version body))
+  tail-settled : (version : ℕ) → 1 ≤ version → version ≤ 3
+      → Settled (IsSpelled version body) (BadTail version body) (tailNumber (readTail version body))
   tail-settled zero l m = absurd (omega arith)
   tail-settled (suc zero) l m = first-settled
   tail-settled (suc (suc zero)) l m = second-settled
@@ -219,7 +224,8 @@ excluded base first sized fine (no-syllabus v l) = omega arith
 excluded base first sized fine (syllabus-above v l) = omega arith
 excluded base first sized fine (between v b) = omega arith
 excluded base (second c) sized fine (choosing v b) =
-    no-cause c (subst (λ (t : List ℕ). BadChoosing t) (drop-at base (choosingBytes c) (baseLength (base ++ choosingBytes c)) (sym (length-kept base sized (choosingBytes c)))) b)
+    let size = sym (length-kept base sized (choosingBytes c)) in
+    no-cause c (subst (λ (t : List ℕ). BadChoosing t) (drop-at base (choosingBytes c) (baseLength (base ++ choosingBytes c)) size) b)
 excluded base (second c) sized fine (no-syllabus v l) = omega arith
 excluded base (second c) sized fine (syllabus-above v l) = omega arith
 excluded base (second c) sized fine (between v b) = omega arith

@@ -1,5 +1,5 @@
 -- What follows the base of a set-up's body, spelled (docs/PAPERS.md, "Tail of version 02", "Tail of version 03"; document 02, Three and Nine).
-use Prim.Native.Nat.{ℕ, zero, suc, _+_, _-_, _*_, _≤_, _<_}
+use Prim.Native.Nat.{ℕ, suc, _+_, _-_, _*_, _≤_, _<_}
 use mathlib.Core.Path.{_≡_}
 use mathlib.Core.List.{List, [], _∷_, _++_}
 use lib.ListN.{length, take, drop}
@@ -7,7 +7,7 @@ use Rattle.wire.specs.Wire.{byte}
 use Rattle.tail.specs.declared.Selecting.{Selecting}
 use Rattle.tail.specs.declared.Selecting.the-variants.{Off, On}
 use Rattle.tail.specs.declared.ReadTail.the-variants.{Taken}
-use Rattle.tail.specs.Tail.{baseEnd, basePart, syllabusIn, readTail, tailNumber}
+use Rattle.tail.specs.Tail.{baseEnd, basePart, syllabusIn, readTail}
 
 -- selection off, or on with the bytes of each entry
 pub data Choosing : Type 0 where

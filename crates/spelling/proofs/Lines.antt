@@ -5,22 +5,18 @@ use Prim.Native.Nat.{ℕ, zero, suc, _+_, _<_, _≤_}
 use native.Mathlib.Nat.{add-zero}
 use native.Mathlib.Omega.{arith}
 use lib.ListN.{length, drop, length-append}
-use Rattle.refusal.specs.declared.Refusal.the-variants.{Unreadable}
 use Rattle.rules.specs.Rules.{Rules}
 use Rattle.tail.specs.declared.Selecting.{Selecting}
-use Rattle.paper.specs.Paper.{nextAt}
-use Rattle.command.specs.declared.ReadCommand.the-variants.{Taken, Refused}
 use Rattle.state.specs.declared.State.{State}
 use Rattle.card.specs.Card.{stepOf}
-use Rattle.lines.specs.Lines.{decimal, refusalLine}
+use Rattle.lines.specs.Lines.{refusalLine}
 use Rattle.turns.specs.declared.Pace.the-variants.{On, Over}
-use Rattle.turns.specs.Turns.{Told, answerLine, nextTold, turnTold}
-use Rattle.turns.specs.Sitting.{lastly, followed, linesFrom}
+use Rattle.turns.specs.Turns.{answerLine, turnTold}
+use Rattle.turns.specs.Sitting.{lastly, linesFrom}
 use Rattle.spelling.specs.Spelling.{Sent, kindOf, bodyOf, spell, spellAll, Choice, choiceIn, Fits, AllFit, standsFor, allStandFor}
-use Rattle.spelling.specs.Faults.{RestFault}
-use Rattle.spelling.specs.Sitting.{Reading, over, refused, reading, Lies, answers, Ends, ended, faulty, lastLines}
+use Rattle.spelling.specs.Sitting.{over, Lies, answers, Ends, ended, faulty, lastLines}
 use Rattle.spelling.proofs.Shapes.{record-length, shift, next-drop, next-nothing}
-use Rattle.spelling.proofs.Records.{Stands, sent-stands, Faulty, at-next, at-record, reads-end, reads-fault, reads-spelled}
+use Rattle.spelling.proofs.Records.{sent-stands, Faulty, at-next, at-record, reads-end, reads-fault, reads-spelled}
 use Rattle.spelling.proofs.Records as R
 
 no-bytes : (s : List ℕ) → length s ≤ 0 → s ≡ []

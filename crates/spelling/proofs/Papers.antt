@@ -10,7 +10,7 @@ use lib.ListN.{length, take, drop, length-drop}
 use lib.Seq.{drop-append-le, take-append-le}
 use Rattle.wire.specs.Wire.{byte}
 use Rattle.refusal.specs.declared.Refusal.the-variants.{BadSetup}
-use Rattle.rules.specs.Rules.{Rules, rulesOf}
+use Rattle.rules.specs.Rules.{rulesOf}
 use Rattle.ranges.specs.Ranges.{isSetup}
 use Rattle.setup.specs.declared.SetupAnswer.{SetupAnswer}
 use Rattle.setup.specs.declared.SetupAnswer.the-variants.{Done, Refused as SetupRefused}
@@ -27,14 +27,14 @@ use Rattle.tail.proofs.Inside as I
 use Rattle.paper.specs.declared.Opened.the-variants.{Setup}
 use Rattle.paper.specs.Paper.{openPaper}
 use Rattle.paper.specs.Walk.{part}
-use Rattle.card.specs.Card.{freshState}
 use Rattle.lines.specs.Lines.{refusalLine}
 use Rattle.turns.specs.declared.Pace.the-variants.{Over}
 use Rattle.turns.specs.Turns.{paceOf, inPaper, tailTold, begunTold, baseTold, setupTold, wordsSetUp, selectingIn}
 use Rattle.turns.specs.Sitting.{sittingLines}
-use Rattle.spelling.specs.Spelling.{Bytes, recordOf, paperOf, Sent, spellAll, Choice, choiceIn, AllFit, allStandFor}
+use Rattle.spelling.specs.Spelling.{Bytes, Sent, spellAll, Choice, choiceIn, AllFit}
 use Rattle.spelling.specs.Faults.{OpenFault, Opens}
-use Rattle.spelling.specs.Sitting.{Lies, SetUp, NotSetUp, no-tail, no-base, answers, Ends, lastLines, rulesFrom, cardFrom, sittingOf, Sat, unread, not-set-up, sat}
+use Rattle.spelling.specs.Sitting.{Lies, SetUp, NotSetUp, no-tail, no-base, Ends, rulesFrom, cardFrom, sittingOf}
+use Rattle.spelling.specs.Sitting.{Sat, unread, not-set-up, sat}
 use Rattle.spelling.proofs.Numbers.{byte-small, bytes-take, bytes-drop, bytes-front}
 use Rattle.spelling.proofs.Shapes.{record-is, here-length, part-drop}
 use Rattle.spelling.proofs.Opening.{opens, faults, Opening, opens-or-faults}
@@ -60,13 +60,16 @@ pub data TailWays (t : ReadTail) : Type 0 where
 
 selection-ways : (tail : List ℕ) (at : ℕ) → TailWays (selectionTail tail at)
 unfolding selectionTail
-selection-ways tail at = by (eqb (byte tail 0) 0 && eqb (length tail) 1) (not (eqb (byte tail 0) 1) || ltb (length tail) 2) (isFile (drop 2 tail) (byte tail 1)) where
-  by : (off bad file : Bool)
-      → TailWays (cond off (Taken Off) (cond bad (TailRefused BadSetup) (cond file (Taken (On (at + 2) (at + length tail) (byte tail 1))) (TailRefused BadSetup))))
-  by true bad file = tail-taken Off refl
-  by false true file = tail-one refl
-  by false false true = tail-taken (On (at + 2) (at + length tail) (byte tail 1)) refl
-  by false false false = tail-one refl
+selection-ways tail at =
+    by (eqb (byte tail 0) 0 && eqb (length tail) 1) (not (eqb (byte tail 0) 1) || ltb (length tail) 2) (isFile (drop 2 tail) (byte tail 1))
+  where
+    by : (off bad file : Bool)
+        → TailWays (cond off (Taken Off)
+        (cond bad (TailRefused BadSetup) (cond file (Taken (On (at + 2) (at + length tail) (byte tail 1))) (TailRefused BadSetup))))
+    by true bad file = tail-taken Off refl
+    by false true file = tail-one refl
+    by false false true = tail-taken (On (at + 2) (at + length tail) (byte tail 1)) refl
+    by false false false = tail-one refl
 
 tail-ways : (version : ℕ) (body : List ℕ) → TailWays (readTail version body)
 unfolding readTail

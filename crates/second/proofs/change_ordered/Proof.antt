@@ -1,4 +1,3 @@
-use borrow.Author.Needs.{needs}
 use borrow.Author.Tests.{eq-eqb, ne-eqb}
 use Rattle.second.proofs.change_ordered.Statement.{statement}
 use Rattle.second.proofs.change_ordered.Tie as tie

@@ -1,4 +1,3 @@
-use borrow.Author.Needs.{needs}
 use Rattle.meters.proofs.Change.offline.Statement.{statement}
 use Rattle.meters.proofs.Change.offline.Tie as tie
 
