@@ -2,7 +2,6 @@
 ghost use mathlib.Core.Path.{_≡_};
 ghost use Rattle.rules.specs.Rules.{rulesOf};
 ghost use Rattle.card.specs.Card.{freshState, refused, openingStep, startStep, firstTaken, firstStep, secondTaken, secondStep, stepOf};
-use checks::History;
 use command::Command;
 use command::First;
 use command::Second;
@@ -14,6 +13,7 @@ use rules::Words;
 use selection::Selection;
 use setup::Fresh;
 use state::Answer;
+use state::History;
 use state::Outcome;
 use state::Pending;
 use state::Phase;

@@ -1,21 +1,22 @@
--- Flags packed into a number: its bits, its size, its parts; what it is to meet a mask. Assumes nothing.
-use mathlib.Core.Path.{_≡_, refl, sym, ap, _∙_}
+-- Flags packed into a number: its bits and its size; what it is to meet a mask. Assumes nothing.
+use mathlib.Core.Path.{_≡_, sym, ap, _∙_}
 use mathlib.Core.Bool.{Bool, true, false, not}
-use mathlib.Core.List.{List, [], _∷_, _++_}
+use mathlib.Core.List.{List, [], _∷_}
 use Prim.Native.Nat.{ℕ, zero, suc, _+_, _*_, _/_, _%_, _^_, _<_, min}
 use native.Mathlib.Nat.{div-div-eq-div-mul, div-one, zero-div, pow-succ'}
 use native.Mathlib.Omega.{arith}
 use borrow.Author.Tests.{ne-eqb}
 use lib.Bits.{bitAnd, and-shr, and-step}
-use lib.Dec.{eqb}
 use lib.ListN.{length, getD}
 use Rattle.rules.specs.declared.Place.{Place}
 use Rattle.rules.specs.declared.Values.{Values}
-use Rattle.rules.specs.Rules.{Rules, four}
+use Rattle.rules.specs.Rules.{Rules}
 use Rattle.rules.proofs.Places.{each}
-use Rattle.meters.specs.declared.Purchase.{Purchase}
-use Rattle.checks.specs.declared.History.{History}
-use Rattle.checks.specs.Checks.{bit, packed, any, meetsMask, accumulatorsLower, accumulatorsUpper, countersLower, countersUpper, maximumExceeded, testsOf, decisionBits, decisionFlags}
+use Rattle.purchase.specs.declared.Purchase.{Purchase}
+use Rattle.purchase.specs.Meter.{Meter, accumulator, counter, IsMeter}
+use Rattle.state.specs.declared.History.{History}
+use Rattle.checks.specs.Checks.{bit, packed, meetsMask, lowerBit, upperBit, exceedsLower, exceedsUpper, maximumExceeded}
+use Rattle.checks.specs.Checks.{accumulatorsLower, accumulatorsUpper, countersLower, countersUpper, decisionFlags, decisionBits}
 
 -- bit k of a number
 abbrev pub bitOf : ℕ → ℕ → ℕ
@@ -62,37 +63,14 @@ packed-small (flag ∷ flags) =
     let t = packed-small flags in
     rw (pow-succ' 2 (length flags)) (omega arith)
 
--- some flag is set if the number isn't 0
-pub any-packed : (flags : List Bool) → any flags ≡ not (eqb (packed flags) 0)
-any-packed [] = refl
-any-packed (true ∷ flags) = ap not (sym (ne-eqb (1 + 2 * packed flags) 0 (λ e. omega arith)))
-any-packed (false ∷ flags) = any-packed flags ∙ ap not (doubled (packed flags)) where
-  doubled : (n : ℕ) → eqb n 0 ≡ eqb (0 + 2 * n) 0
-  doubled zero = refl
-  doubled (suc n) = ne-eqb (suc n) 0 (λ e. omega arith) ∙ sym (ne-eqb (0 + 2 * suc n) 0 (λ e. omega arith))
+module _ (rules : Rules) (place : Place) (values : Values) (purchase : Purchase) (history : History) where
+  abbrev Lower : ℕ → Meter → Type 0
+  Lower adr meter = bitOf (lowerBit meter) adr ≡ bit (exceedsLower rules place values purchase meter)
 
--- four flags, and four more above them
-module _ (f g : ℕ → Bool) where
-  pub eight-small : packed (four f ++ four g) < 256
-  eight-small = packed-small (four f ++ four g)
+  abbrev Upper : ℕ → Meter → Type 0
+  Upper adr meter = bitOf (upperBit meter) adr ≡ bit (exceedsUpper rules place values purchase meter)
 
-  parts : packed (four f ++ four g) ≡ packed (four f) + 16 * packed (four g)
-  parts = omega arith
-
-  pub any-lower : any (four f) ≡ not (eqb (packed (four f ++ four g) % 16) 0)
-  any-lower =
-      let h = packed-small (four f) in
-      let e : packed (four f ++ four g) % 16 ≡ packed (four f) = omega (arith, parts) in
-      rw e (any-packed (four f))
-
-  pub any-upper : any (four g) ≡ not (eqb (packed (four f ++ four g) / 16) 0)
-  any-upper =
-      let h = packed-small (four f) in
-      let e : packed (four f ++ four g) / 16 ≡ packed (four g) = omega (arith, parts) in
-      rw e (any-packed (four g))
-
-module _ (history : History) (rules : Rules) (place : Place) (values : Values) (purchase : Purchase) where
-  -- document 01's list of the decision bits, with accumulator or counter i + 1; no bit stands above 21
+  -- document 01's list of the decision bits; no bit stands above 21
   pub record HouseOrder (adr : ℕ) : Type 0 where
     pub uncompleted : bitOf 0 adr ≡ bit (history .uncompleted)
     pub online : bitOf 1 adr ≡ bit (history .online)
@@ -100,24 +78,29 @@ module _ (history : History) (rules : Rules) (place : Place) (values : Values) (
     pub unable : bitOf 3 adr ≡ bit (history .unable)
     pub missing : bitOf 4 adr ≡ bit (history .missing)
     pub maximum : bitOf 5 adr ≡ bit (maximumExceeded rules place purchase)
-    pub accumulatorLower : (i : ℕ) → i < 4 → bitOf (6 + i) adr ≡ bit (getD (accumulatorsLower rules place values purchase) i false)
-    pub accumulatorUpper : (i : ℕ) → i < 4 → bitOf (10 + i) adr ≡ bit (getD (accumulatorsUpper rules place values purchase) i false)
-    pub counterLower : (i : ℕ) → i < 4 → bitOf (14 + i) adr ≡ bit (getD (countersLower rules place values) i false)
-    pub counterUpper : (i : ℕ) → i < 4 → bitOf (18 + i) adr ≡ bit (getD (countersUpper rules place values) i false)
+    pub lower : (meter : Meter) → IsMeter meter → bitOf (lowerBit meter) adr ≡ bit (exceedsLower rules place values purchase meter)
+    pub upper : (meter : Meter) → IsMeter meter → bitOf (upperBit meter) adr ≡ bit (exceedsUpper rules place values purchase meter)
     pub rest : adr < 2 ^ 22
 
-  -- the decision bits of the tests are the flags in house order
-  pub decision-packed :
-      decisionBits history (testsOf rules place values purchase) ≡ packed (decisionFlags history rules place values purchase)
-  unfolding decisionBits testsOf accumulatorsLower accumulatorsUpper countersLower countersUpper
-  decision-packed = omega arith
+  abbrev Adr : ℕ
+  Adr = packed (decisionFlags rules place values purchase history)
 
-  pub house-order : HouseOrder (decisionBits history (testsOf rules place values purchase))
+  flag : (k : ℕ) → bitOf k Adr ≡ bit (getD (decisionFlags rules place values purchase history) k false)
+  flag = packed-bit (decisionFlags rules place values purchase history)
+
+  lower-bits : (meter : Meter) → IsMeter meter → Lower Adr meter
   unfolding accumulatorsLower accumulatorsUpper countersLower countersUpper
+  lower-bits (accumulator i) l = each (λ i. Lower Adr (accumulator i)) (flag 6) (flag 7) (flag 8) (flag 9) i l
+  lower-bits (counter i) l = each (λ i. Lower Adr (counter i)) (flag 14) (flag 15) (flag 16) (flag 17) i l
+
+  upper-bits : (meter : Meter) → IsMeter meter → Upper Adr meter
+  unfolding accumulatorsLower accumulatorsUpper countersLower countersUpper
+  upper-bits (accumulator i) l = each (λ i. Upper Adr (accumulator i)) (flag 10) (flag 11) (flag 12) (flag 13) i l
+  upper-bits (counter i) l = each (λ i. Upper Adr (counter i)) (flag 18) (flag 19) (flag 20) (flag 21) i l
+
+  pub house-order : HouseOrder (decisionBits rules place values purchase history)
+  unfolding decisionBits accumulatorsLower accumulatorsUpper countersLower countersUpper
   house-order =
-      let flags = decisionFlags history rules place values purchase in
-      let flag = packed-bit flags in
-      rw decision-packed
       record {
         uncompleted = flag 0;
         online = flag 1;
@@ -125,9 +108,7 @@ module _ (history : History) (rules : Rules) (place : Place) (values : Values) (
         unable = flag 3;
         missing = flag 4;
         maximum = flag 5;
-        accumulatorLower = each _ (flag 6) (flag 7) (flag 8) (flag 9);
-        accumulatorUpper = each _ (flag 10) (flag 11) (flag 12) (flag 13);
-        counterLower = each _ (flag 14) (flag 15) (flag 16) (flag 17);
-        counterUpper = each _ (flag 18) (flag 19) (flag 20) (flag 21);
-        rest = packed-small flags;
+        lower = lower-bits;
+        upper = upper-bits;
+        rest = packed-small (decisionFlags rules place values purchase history);
       }

@@ -1,59 +1,58 @@
 // The tests of document 01, "Start and the checks", and the decision bits (ADR).
 ghost use mathlib.Core.Path.{_≡_};
-ghost use mathlib.Core.Bool.{true, cond};
-ghost use Prim.Native.Nat.{_+_, _≤_};
+ghost use mathlib.Core.Bool.{cond};
+ghost use Prim.Native.Nat.{_+_, _*_, _≤_};
 ghost use lib.Dec.{ltb};
 ghost use Rattle.money.specs.declared.Converted.the-variants.{NoEntry};
 ghost use Rattle.rules.specs.Rules.{rulesOf};
-ghost use Rattle.meters.specs.Meters.{worth};
-ghost use Rattle.checks.specs.Checks.{bit, packed, countExceeds, limitBits, accumulatorLimits, accumulatorBits, counterBits, maximumExceeded, historyFlags, testsOf, decisionBits, meetsMask};
-use meters::Purchase;
+ghost use Rattle.purchase.specs.Meter.{accumulator, counter, ruleOf, worth, once};
+ghost use Rattle.checks.specs.Checks.{bit, packed, limitBits, accumulatorBits, counterBits, maximumExceeded, historyFlags, decisionBits, meetsMask};
 use money::AccumulatorAmount;
 use money::Converted;
-use rules::AccumulatorRule;
-use rules::CounterRule;
+use purchase::Purchase;
 use rules::Place;
 use rules::Values;
 use rules::Words;
+use state::History;
 
-// The previous transactions: last online not completed, go online next, issuer authentication
-// failed, unable to go online, issuer data not received.
-pub struct History {
-    pub uncompleted: bool,
-    pub online: bool,
-    pub failed: bool,
-    pub unable: bool,
-    pub missing: bool,
-}
+// Of the decision bits, from bit 0 upward: 0 to 4 copy the history, 5 is the MTA, and from 6 and
+// from 14 on stand the limits that the four accumulators and the four counters exceed.
+const MAXIMUM: u32 = 32;
 
-// What the tests found. Of accumulators and of counters: bits 0 to 3 lower exceeded, 4 to 7 upper.
-pub struct Tests {
-    pub accumulators: u16,
-    pub counters: u16,
-    pub maximum: bool,
-}
+const ACCUMULATORS: u32 = 64;
 
-fn bit(flag: bool) -> u8
+const COUNTERS: u32 = 16_384;
+
+// Their groups of four.
+pub const ACCUMULATORS_LOWER: u32 = 0x3C0;
+
+pub const ACCUMULATORS_UPPER: u32 = 0x3C00;
+
+pub const COUNTERS_LOWER: u32 = 0x3C000;
+
+pub const COUNTERS_UPPER: u32 = 0x3C0000;
+
+pub fn bit(flag: bool) -> u8
     ensures { λ r. ⌜ (r ≡ bit flag) × (r ≤ 1) ⌝ }
 {
     if flag { 1 } else { 0 }
 }
 
-// The sum of two amounts exceeds a limit. It isn't stopped at MAX.
-fn sum_exceeds(limit: AccumulatorAmount, value: AccumulatorAmount, more: AccumulatorAmount) -> bool
-    ensures { λ r. ⌜ r ≡ ltb (limit .0) (value .0 + more .0) ⌝ }
+// A value and what is added to it exceed a limit. The sum isn't stopped at MAX.
+fn sum_exceeds(limit: u64, value: u64, more: u64) -> bool
+    ensures { λ r. ⌜ r ≡ ltb limit (value + more) ⌝ }
 {
-    if limit.0 < value.0 {
+    if limit < value {
         return true;
     }
-    limit.0 - value.0 < more.0
+    limit - value < more
 }
 
-// The limits that a value and an amount exceed: bit 0 the lower, bit 4 the upper.
-fn limits_exceeded(rule: AccumulatorRule, value: AccumulatorAmount, more: AccumulatorAmount) -> u8
-    ensures { λ r. ⌜ (r ≡ limitBits true (ltb (rule .lower .0) (value .0 + more .0)) (ltb (rule .upper .0) (value .0 + more .0))) × (r ≤ 17) ⌝ }
+// The limits that the sum exceeds: bit 0 the lower, bit 4 the upper.
+fn limits_exceeded(lower: u64, upper: u64, value: u64, more: u64) -> u8
+    ensures { λ r. ⌜ (r ≡ bit (ltb lower (value + more)) + bit (ltb upper (value + more)) * 16) × (r ≤ 17) ⌝ }
 {
-    bit(sum_exceeds(rule.lower, value, more)) + bit(sum_exceeds(rule.upper, value, more)) * 16
+    bit(sum_exceeds(lower, value, more)) + bit(sum_exceeds(upper, value, more)) * 16
 }
 
 // What the tests of accumulator i + 1 add to its value: the purchase, with "include this
@@ -62,7 +61,7 @@ fn included(words: &Words, purchase: Purchase, i: usize, include: bool) -> Conve
     ensures { λ r. ⌜ r ≡ cond include (worth (rulesOf (now (words .entry))) purchase i) NoEntry ⌝ }
 {
     if include {
-        meters::worth(words, purchase, i)
+        purchase::worth(words, purchase, i)
     } else {
         Converted::NoEntry
     }
@@ -77,35 +76,33 @@ fn test_accumulator(
     value: AccumulatorAmount,
     purchase: Purchase,
 ) -> u8
-    ensures { λ r. ⌜ (r ≡ accumulatorLimits (rulesOf (now (words .entry))) place value purchase i) × (r ≤ 17) ⌝ }
+    ensures { λ r. ⌜ (r ≡ limitBits (ruleOf (rulesOf (now (words .entry))) place (accumulator i))
+        (worth (rulesOf (now (words .entry))) purchase i) (value .0)) × (r ≤ 17) ⌝ }
 {
     let rule = rules::accumulator_rule(words, place, i);
     if !rule.active {
         return 0;
     }
     match included(words, purchase, i, rule.include) {
-        Converted::Amount(more) => limits_exceeded(rule, value, more),
+        Converted::Amount(more) => limits_exceeded(rule.lower.0, rule.upper.0, value.0, more.0),
         Converted::Over => 17,
-        Converted::NoEntry => limits_exceeded(rule, value, AccumulatorAmount(0)),
+        Converted::NoEntry => limits_exceeded(rule.lower.0, rule.upper.0, value.0, 0),
     }
 }
 
-// A counter exceeds a limit, or, with "include this transaction", does with 1 added.
-fn count_exceeds(limit: u8, value: u8, include: bool) -> bool
-    ensures { λ r. ⌜ r ≡ countExceeds limit value include ⌝ }
+// The limits that counter i + 1 exceeds. A purchase adds 1.
+fn test_counter(words: &Words, place: Place, i: usize, value: u8) -> u8
+    ensures { λ r. ⌜ (r ≡ limitBits (ruleOf (rulesOf (now (words .entry))) place (counter i)) once value) × (r ≤ 17) ⌝ }
 {
-    (limit < value) | (include & (limit <= value))
+    let rule = rules::counter_rule(words, place, i);
+    if !rule.active {
+        return 0;
+    }
+    let more = bit(rule.include) as u64;
+    limits_exceeded(rule.lower as u64, rule.upper as u64, value as u64, more)
 }
 
-fn test_counter(rule: CounterRule, value: u8) -> u8
-    ensures { λ r. ⌜ (r ≡ limitBits (rule .active)
-        (countExceeds (rule .lower) value (rule .include))
-        (countExceeds (rule .upper) value (rule .include))) × (r ≤ 17) ⌝ }
-{
-    bit(rule.active & count_exceeds(rule.lower, value, rule.include))
-        + bit(rule.active & count_exceeds(rule.upper, value, rule.include)) * 16
-}
-
+// Bits 0 to 3 the lower limits, 4 to 7 the upper.
 fn test_accumulators(words: &Words, place: Place, values: Values, purchase: Purchase) -> u8
     ensures { λ r. ⌜ r ≡ accumulatorBits (rulesOf (now (words .entry))) place values purchase ⌝ }
 {
@@ -116,14 +113,14 @@ fn test_accumulators(words: &Words, place: Place, values: Values, purchase: Purc
         + test_accumulator(words, place, 3, amounts[3], purchase) * 8
 }
 
-fn test_counters(words: &Words, place: Place, values: Values) -> u8
-    ensures { λ r. ⌜ r ≡ counterBits (rulesOf (now (words .entry))) place values ⌝ }
+fn test_counters(words: &Words, place: Place, values: Values, purchase: Purchase) -> u8
+    ensures { λ r. ⌜ r ≡ counterBits (rulesOf (now (words .entry))) place values purchase ⌝ }
 {
     let counts = values.counters;
-    test_counter(rules::counter_rule(words, place, 0), counts[0])
-        + test_counter(rules::counter_rule(words, place, 1), counts[1]) * 2
-        + test_counter(rules::counter_rule(words, place, 2), counts[2]) * 4
-        + test_counter(rules::counter_rule(words, place, 3), counts[3]) * 8
+    test_counter(words, place, 0, counts[0])
+        + test_counter(words, place, 1, counts[1]) * 2
+        + test_counter(words, place, 2, counts[2]) * 4
+        + test_counter(words, place, 3, counts[3]) * 8
 }
 
 // The MTA is on and the amount, converted to its currency, exceeds it.
@@ -134,21 +131,10 @@ fn exceeds_maximum(words: &Words, place: Place, purchase: Purchase) -> bool
     if !maximum.on {
         return false;
     }
-    match meters::worth_in(words, purchase, maximum.currency) {
+    match purchase::worth_in(words, purchase, maximum.currency) {
         Converted::Amount(spent) => maximum.amount.0 < spent.0,
         Converted::Over => true,
         Converted::NoEntry => false,
-    }
-}
-
-// The tests of a purchase under a profile.
-pub fn test(words: &Words, place: Place, values: Values, purchase: Purchase) -> Tests
-    ensures { λ r. ⌜ r ≡ testsOf (rulesOf (now (words .entry))) place values purchase ⌝ }
-{
-    Tests {
-        accumulators: test_accumulators(words, place, values, purchase) as u16,
-        counters: test_counters(words, place, values) as u16,
-        maximum: exceeds_maximum(words, place, purchase),
     }
 }
 
@@ -162,14 +148,20 @@ fn history_bits(history: History) -> u8
         + bit(history.missing) * 16
 }
 
-// The decision bits: 0 to 4 copy the history, 5 is the MTA, 6 to 13 the accumulators, 14 to 21 the
-// counters.
-pub fn decision_bits(history: History, tests: Tests) -> u32
-    ensures { λ r. ⌜ r ≡ decisionBits history tests ⌝ }
+// The decision bits: the history, and the tests of a purchase under a profile.
+pub fn decision_bits(
+    words: &Words,
+    place: Place,
+    values: Values,
+    purchase: Purchase,
+    history: History,
+) -> u32
+    ensures { λ r. ⌜ r ≡ decisionBits (rulesOf (now (words .entry))) place values purchase history ⌝ }
 {
-    (history_bits(history) + bit(tests.maximum) * 32) as u32
-        + tests.accumulators as u32 * 64
-        + tests.counters as u32 * 16_384
+    history_bits(history) as u32
+        + bit(exceeds_maximum(words, place, purchase)) as u32 * MAXIMUM
+        + test_accumulators(words, place, values, purchase) as u32 * ACCUMULATORS
+        + test_counters(words, place, values, purchase) as u32 * COUNTERS
 }
 
 // Some bit is in both.

@@ -1,16 +1,15 @@
 // CVR and IAD: what goes out with a cryptogram.
 ghost use mathlib.Core.Path.{_≡_};
 ghost use Prim.Native.Nat.{_≤_};
-ghost use Rattle.checks.specs.Checks.{bit};
 ghost use Rattle.rules.specs.Rules.{rulesOf};
-ghost use Rattle.cryptogram.specs.Cryptogram.{kindCode, laterCode, verification, sentAmount, sentCount, sentIad};
-use checks::History;
+ghost use Rattle.cryptogram.specs.Cryptogram.{kindCode, laterCode, limitsByte, verification, sentAmount, sentCount, sentIad};
 use iad::Cvr;
 use iad::Iad;
 use money::AccumulatorAmount;
 use rules::Place;
 use rules::Values;
 use rules::Words;
+use state::History;
 use state::Kind;
 
 // The type of the second cryptogram.
@@ -25,12 +24,6 @@ pub struct Issuer {
     pub unperformed: bool,
     pub failed: bool,
     pub unable: bool,
-}
-
-pub fn bit_of(b: bool) -> u8
-    ensures { λ r. ⌜ (r ≡ bit b) × (r ≤ 1) ⌝ }
-{
-    if b { 1 } else { 0 }
 }
 
 fn kind_code(kind: Kind) -> u8
@@ -53,6 +46,16 @@ fn later_code(later: Later) -> u8
     }
 }
 
+// CVR byte 3: any counter lower, upper, any accumulator lower, upper.
+pub fn limits_of(adr: u32) -> u8
+    ensures { λ r. ⌜ r ≡ limitsByte adr ⌝ }
+{
+    checks::bit(checks::meets(adr, checks::COUNTERS_LOWER)) * 128
+        + checks::bit(checks::meets(adr, checks::COUNTERS_UPPER)) * 64
+        + checks::bit(checks::meets(adr, checks::ACCUMULATORS_LOWER)) * 32
+        + checks::bit(checks::meets(adr, checks::ACCUMULATORS_UPPER)) * 16
+}
+
 // The Card Verification Results. History and limits are those of the First.
 pub fn verify(
     words: &Words,
@@ -68,11 +71,11 @@ pub fn verify(
     Cvr {
         byte1: later_code(later) * 64
             + kind_code(first) * 16
-            + bit_of(issuer.unperformed) * 2
-            + bit_of(issuer.failed),
-        byte2: tries * 16 + bit_of(tries == 0) * 2 + bit_of(history.uncompleted),
+            + checks::bit(issuer.unperformed) * 2
+            + checks::bit(issuer.failed),
+        byte2: tries * 16 + checks::bit(tries == 0) * 2 + checks::bit(history.uncompleted),
         byte3: limits,
-        byte4: bit_of(history.online) * 2 + bit_of(issuer.unable),
+        byte4: checks::bit(history.online) * 2 + checks::bit(issuer.unable),
         byte5: 0,
     }
 }

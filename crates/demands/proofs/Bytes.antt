@@ -4,58 +4,84 @@ use mathlib.Core.Path.{_≡_, refl, sym, ap, ap₂, _∙_}
 use mathlib.Core.Bool.{Bool, true, false, cond, _&&_}
 use mathlib.Core.List.{List, [], _∷_}
 use Prim.Native.Nat.{ℕ, zero, suc, _+_, _-_, _*_, _/_, _%_, _^_, _≤_, _<_}
-use native.Mathlib.Nat.{add-zero}
+use native.Mathlib.Nat.{add-zero, div-one}
 use native.Mathlib.Omega.{arith}
 use borrow.Author.Tests.{ltb-true, ltb-false, lt-ltb, le-ltb, le-leb, eqb-true, eq-eqb, ne-eqb}
 use lib.Dec.{ltb, eqb}
 use lib.ListN.{length, getD}
-use Rattle.wire.specs.Wire.{byte, number}
 use Rattle.money.specs.declared.Rate.{Rate}
 use Rattle.money.specs.declared.Converted.{Converted}
 use Rattle.money.specs.declared.Converted.the-variants.{Amount, Over, NoEntry}
 use Rattle.money.specs.Money.{max, stopped, blank, isFor, isRate, rateFor, rounded, scaled, amountOf, amountOrOver, convertOf}
 use Rattle.rules.specs.declared.Place.{Place}
 use Rattle.rules.specs.declared.Place.the-variants.{One, Two, Three, Four}
-use Rattle.rules.specs.Rules.{blankProfile, blankAccumulator, blankCounter, indexOf, profileAt, currencyAt, accumulatorRule, counterRule}
+use Rattle.rules.specs.Rules.{Profile, blankProfile, blankAccumulator, blankCounter, indexOf, profileAt, currencyAt, accumulatorRule, counterRule}
 use Rattle.rules.proofs.Places.{four-at}
-use Rattle.ranges.proofs.Accepted.{Accepted}
+use Rattle.ranges.proofs.Accepted.{Accepted, accepted}
 use Rattle.setup.specs.Setup.{rateIn, accumulatorIn, counterIn, profileIn, rulesIn}
-use Rattle.meters.specs.declared.Purchase.{Purchase}
-use Rattle.meters.specs.Meters.{addition, worth}
-use Rattle.demands.specs.Audit.{placeFrom, placeOf, Conversion, comesTo, over, none, whole, upToMax, byEntry, converted, adds}
-use Rattle.demands.proofs.Found.{Holds}
+use Rattle.purchase.specs.declared.Purchase.{Purchase}
+use Rattle.purchase.specs.Meter.{Meter, accumulator, counter, IsMeter, MeterRule, accumulating, counting, ruleOf, worth}
+use Rattle.purchase.specs.Meter.{worthTo as cardWorth}
+use Rattle.meters.specs.Meters.{addition}
+use Rattle.demands.specs.Setup.{Setup, byteAt, numberAt, AcceptedSetup}
+use Rattle.demands.specs.Conversation.{rulesBy}
+use Rattle.demands.specs.Audit.{placeFrom, placeOf, Conversion, comesTo, over, none, whole, upToMax, byEntry, converted, adds, isActive, isAllowed, isIncluded, countsDeclines, upperOf, worthTo}
+use Rattle.demands.specs.Decision.{lowerOf}
+use Rattle.demands.proofs.Found.{Holds, below-four}
+
+-- every field of an accepted set-up is in its range
+pub fits : {setup : Setup} → AcceptedSetup setup → Accepted (setup .bytes)
+fits good = accepted _ (good .taken)
 
 -- the profile at a place of the rules stands at an offset in the bytes
-pub record Stands (s : List ℕ) (place : Place) (at : ℕ) : Type 0 where
-  pub there : indexOf place < byte s 3
+pub record Stands (setup : Setup) (place : Place) (at : ℕ) : Type 0 where
+  pub there : indexOf place < byteAt setup 3
   pub offset : at ≡ 52 + 107 * indexOf place
 
-at-index : (s : List ℕ) (syllabus : ℕ) (place : Place)
-    → profileAt (rulesIn s syllabus) place ≡ cond (ltb (indexOf place) (byte s 3)) (profileIn s (52 + 107 * indexOf place)) blankProfile
+at-index : (setup : Setup) (place : Place)
+    → profileAt (rulesBy setup) place ≡ cond (ltb (indexOf place) (byteAt setup 3)) (profileIn (setup .bytes) (52 + 107 * indexOf place)) blankProfile
 unfolding rulesIn
-at-index s syllabus One = refl
-at-index s syllabus Two = refl
-at-index s syllabus Three = refl
-at-index s syllabus Four = refl
+at-index setup One = refl
+at-index setup Two = refl
+at-index setup Three = refl
+at-index setup Four = refl
 
-module _ (s : List ℕ) (syllabus : ℕ) (place : Place) (at : ℕ) (stands : Stands s place at) where
-  pub profile-is : profileAt (rulesIn s syllabus) place ≡ profileIn s at
+module _ (setup : Setup) (place : Place) (at : ℕ) (stands : Stands setup place at) where
+  pub profile-is : profileAt (rulesBy setup) place ≡ profileIn (setup .bytes) at
   profile-is =
-      at-index s syllabus place
-      ∙ ap (λ b. cond b (profileIn s (52 + 107 * indexOf place)) blankProfile) (lt-ltb (indexOf place) (byte s 3) (stands .there))
-      ∙ ap (profileIn s) (sym (stands .offset))
+      at-index setup place
+      ∙ ap (λ b. cond b (profileIn (setup .bytes) (52 + 107 * indexOf place)) blankProfile) (lt-ltb (indexOf place) (byteAt setup 3) (stands .there))
+      ∙ ap (profileIn (setup .bytes)) (sym (stands .offset))
 
-  pub accumulator-is : (i : ℕ) → i < 4 → accumulatorRule (rulesIn s syllabus) place i ≡ accumulatorIn s (at + (24 + 17 * i))
+  pub accumulator-is : (i : ℕ) → i < 4 → accumulatorRule (rulesBy setup) place i ≡ accumulatorIn (setup .bytes) (at + (24 + 17 * i))
   unfolding profileIn
   accumulator-is i l =
       ap (λ profile. getD (profile .accumulators) i blankAccumulator) profile-is
-      ∙ four-at (λ j. accumulatorIn s (at + (24 + 17 * j))) blankAccumulator i l
+      ∙ four-at (λ j. accumulatorIn (setup .bytes) (at + (24 + 17 * j))) blankAccumulator i l
 
-  pub counter-is : (i : ℕ) → i < 4 → counterRule (rulesIn s syllabus) place i ≡ counterIn s (at + (92 + 3 * i))
+  pub counter-is : (i : ℕ) → i < 4 → counterRule (rulesBy setup) place i ≡ counterIn (setup .bytes) (at + (92 + 3 * i))
   unfolding profileIn
   counter-is i l =
       ap (λ profile. getD (profile .counters) i blankCounter) profile-is
-      ∙ four-at (λ j. counterIn s (at + (92 + 3 * j))) blankCounter i l
+      ∙ four-at (λ j. counterIn (setup .bytes) (at + (92 + 3 * j))) blankCounter i l
+
+-- the rule of a meter as the auditor reads it
+abbrev pub ruleRead : Setup → ℕ → Meter → MeterRule
+ruleRead setup at meter =
+    record {
+      active = isActive setup at meter;
+      allow = isAllowed setup at meter;
+      include = isIncluded setup at meter;
+      declines = countsDeclines setup at meter;
+      lower = lowerOf setup at meter;
+      upper = upperOf setup at meter;
+    }
+
+pub rule-read : (setup : Setup) (place : Place) (at : ℕ) → Stands setup place at → (meter : Meter) → IsMeter meter
+    → ruleOf (rulesBy setup) place meter ≡ ruleRead setup at meter
+unfolding accumulatorIn counterIn
+rule-read setup place at stands (accumulator i) l = ap accumulating (accumulator-is setup place at stands i l) ∙ rw div-one
+rule-read setup place at stands (counter i) l = ap counting (counter-is setup place at stands i l) ∙ rw div-one
 
 -- the card's answer as the auditor reads it
 abbrev pub asRead : Converted → Conversion
@@ -83,43 +109,58 @@ read-or-over n = by (ltb max n) where
   by true = refl
   by false = refl
 
-module _ (s : List ℕ) (syllabus : ℕ) (fits : Accepted s) where
+module _ (setup : Setup) (good : AcceptedSetup setup) where
   -- the first profile of a number is the only one
-  reach : (j i n : ℕ) → j < byte s 3 → i ≤ j → j < i + n → placeFrom s (byte s (52 + 107 * j)) i n ≡ 52 + 107 * j
+  reach : (j i n : ℕ) → j < byteAt setup 3 → i ≤ j → j < i + n → placeFrom setup (byteAt setup (52 + 107 * j)) i n ≡ 52 + 107 * j
   reach j i zero p h l = absurd (omega arith)
   reach j i (suc n) p h l = by (ltb i j) refl (λ m. reach j (suc i) n p m (omega arith)) where
-    by : (b : Bool) → ltb i j ≡ b → (i < j → placeFrom s (byte s (52 + 107 * j)) (suc i) n ≡ 52 + 107 * j)
-        → placeFrom s (byte s (52 + 107 * j)) i (suc n) ≡ 52 + 107 * j
+    by : (b : Bool) → ltb i j ≡ b → (i < j → placeFrom setup (byteAt setup (52 + 107 * j)) (suc i) n ≡ 52 + 107 * j)
+        → placeFrom setup (byteAt setup (52 + 107 * j)) i (suc n) ≡ 52 + 107 * j
     by true e r =
         let m = ltb-true i j e in
-        rw (ne-eqb (byte s (52 + 107 * i)) (byte s (52 + 107 * j)) (fits .numbers i j m p)) (r m)
+        rw (ne-eqb (byteAt setup (52 + 107 * i)) (byteAt setup (52 + 107 * j)) (fits good .numbers i j m p)) (r m)
     by false e r =
         let q : i ≡ j = omega (arith, ltb-false i j e) in
-        rw (q, eq-eqb (byte s (52 + 107 * j)) (byte s (52 + 107 * j)) refl)
+        rw (q, eq-eqb (byteAt setup (52 + 107 * j)) (byteAt setup (52 + 107 * j)) refl)
 
-  number-in : (place : Place) (number : ℕ) → Holds (rulesIn s syllabus) number place → (b : Bool) → ltb (indexOf place) (byte s 3) ≡ b
-      → (indexOf place < byte s 3) × (byte s (52 + 107 * indexOf place) ≡ number)
-  unfolding profileIn
-  number-in place number h true e =
-      (ltb-true _ _ e, sym (ap (λ p. p .number) (at-index s syllabus place ∙ ap (λ b. cond b (profileIn s (52 + 107 * indexOf place)) blankProfile) e)) ∙ h .its)
-  number-in place number h false e =
-      let z : 0 ≡ number = sym (ap (λ p. p .number) (at-index s syllabus place ∙ ap (λ b. cond b (profileIn s (52 + 107 * indexOf place)) blankProfile) e)) ∙ h .its in
-      absurd (omega (arith, h .some))
+  numbered-at : (i : ℕ) → i < 4
+      → getD (rulesBy setup .profiles) i blankProfile .number ≡ cond (ltb i (byteAt setup 3)) (byteAt setup (52 + 107 * i)) 0
+  unfolding rulesIn profileIn
+  numbered-at i l =
+      ap (λ (p : Profile). p .number) (four-at (λ j. cond (ltb j (byteAt setup 3)) (profileIn (setup .bytes) (52 + 107 * j)) blankProfile) blankProfile i l)
+      ∙ by (ltb i (byteAt setup 3)) where
+        by : (b : Bool) → cond b (profileIn (setup .bytes) (52 + 107 * i)) blankProfile .number ≡ cond b (byteAt setup (52 + 107 * i)) 0
+        by true = refl
+        by false = refl
+
+  -- a profile of the rules with a number stands in the bytes with it, and the other way round
+  pub number-in : (i number : ℕ) → i < 4 → 1 ≤ number → getD (rulesBy setup .profiles) i blankProfile .number ≡ number
+      → (i < byteAt setup 3) × (byteAt setup (52 + 107 * i) ≡ number)
+  number-in i number l some its = by (ltb i (byteAt setup 3)) refl (sym (numbered-at i l) ∙ its) where
+    by : (b : Bool) → ltb i (byteAt setup 3) ≡ b → cond b (byteAt setup (52 + 107 * i)) 0 ≡ number
+        → (i < byteAt setup 3) × (byteAt setup (52 + 107 * i) ≡ number)
+    by true e n = (ltb-true _ _ e, n)
+    by false e n = absurd (omega arith)
+
+  pub number-out : (i number : ℕ) → i < 4 → i < byteAt setup 3 → byteAt setup (52 + 107 * i) ≡ number
+      → getD (rulesBy setup .profiles) i blankProfile .number ≡ number
+  number-out i number l there its = numbered-at i l ∙ ap (λ b. cond b (byteAt setup (52 + 107 * i)) 0) (lt-ltb _ _ there) ∙ its
 
   -- the profile that a Start opens stands where the auditor looks for it
-  pub stands-at : (place : Place) (number : ℕ) → Holds (rulesIn s syllabus) number place → Stands s place (placeOf s number)
+  pub stands-at : (place : Place) (number : ℕ) → Holds (rulesBy setup) number place → Stands setup place (placeOf setup number)
   unfolding placeOf
   stands-at place number h =
-      let n = number-in place number h (ltb (indexOf place) (byte s 3)) refl in
+      let p = byteAt setup 3 in
+      let n = number-in (indexOf place) number (below-four place) (h .some) (h .its) in
       record {
         there = n .0;
-        offset = ap (λ k. placeFrom s k 0 (byte s 3)) (sym (n .1)) ∙ reach (indexOf place) 0 (byte s 3) (n .0) (omega arith) (omega (arith, n .0));
+        offset = ap (λ k. placeFrom setup k 0 p) (sym (n .1)) ∙ reach (indexOf place) 0 p (n .0) (omega arith) (omega (arith, n .0));
       }
 
   -- ---- conversion
 
   entry-at : (i : ℕ) → i < 5
-      → getD (rulesIn s syllabus .rates .entries) i blank ≡ cond (ltb i (byte s 4)) (rateIn s (52 + 107 * byte s 3 + 7 * i)) blank
+      → getD (rulesBy setup .rates .entries) i blank ≡ cond (ltb i (byteAt setup 4)) (rateIn (setup .bytes) (52 + 107 * byteAt setup 3 + 7 * i)) blank
   unfolding rulesIn
   entry-at zero l = refl
   entry-at (suc zero) l = refl
@@ -128,102 +169,118 @@ module _ (s : List ℕ) (syllabus : ℕ) (fits : Accepted s) where
   entry-at (suc (suc (suc (suc zero)))) l = refl
   entry-at (suc (suc (suc (suc (suc i))))) l = absurd (omega arith)
 
-  good-rate : (i : ℕ) → i < byte s 4 → isRate (rateIn s (52 + 107 * byte s 3 + 7 * i)) ≡ true
+  good-rate : (i : ℕ) → i < byteAt setup 4 → isRate (rateIn (setup .bytes) (52 + 107 * byteAt setup 3 + 7 * i)) ≡ true
   unfolding rateIn
-  good-rate i l = let r = fits .conversions i l in simp (le-leb _ _ (r .digits-least), le-leb _ _ (r .digits-most), le-leb _ _ (r .shift))
+  good-rate i l = let r = fits good .conversions i l in simp (le-leb _ _ (r .digits-least), le-leb _ _ (r .digits-most), le-leb _ _ (r .shift))
 
-  module _ (amount from to : ℕ) where
-    abbrev entries : List Rate
-    entries = rulesIn s syllabus .rates .entries
+  module _ (purchase : Purchase) (to : ℕ) where
+    -- the entry for the purchase among n of them from i on
+    abbrev entry : (i n : ℕ) → Rate
+    entry i n = rateFor (rulesBy setup .rates .entries) (purchase .currency) to i n
 
     -- the amount by entry i + 1, in billionths of a unit
     abbrev billionths : ℕ → ℕ
-    billionths i = amount * number s (52 + 107 * byte s 3 + 7 * i + 4) 2 * 10 ^ byte s (52 + 107 * byte s 3 + 7 * i + 6)
+    billionths i =
+        let at = 52 + 107 * byteAt setup 3 + 7 * i in
+        purchase .amount .0 * numberAt setup (at + 4) 2 * 10 ^ byteAt setup (at + 6)
+
+    abbrev is-for : Rate → Bool
+    is-for rate = isFor rate (purchase .currency) to
 
     -- what a rate, or its absence, makes of the amount
     abbrev byRate : Rate → Conversion
-    byRate rate = asRead (cond (isRate rate) (amountOrOver (scaled (eqb syllabus 1) amount rate)) NoEntry)
+    byRate rate = asRead (cond (isRate rate) (amountOrOver (scaled (eqb (setup .syllabus) 1) (purchase .amount .0) rate)) NoEntry)
 
-    blanks : (i n : ℕ) → byte s 4 ≤ i → i + n ≤ 5 → rateFor entries from to i n ≡ blank
+    blanks : (i n : ℕ) → byteAt setup 4 ≤ i → i + n ≤ 5 → entry i n ≡ blank
     unfolding rateFor
     blanks i zero c l = refl
     blanks i (suc n) c l =
-        let none : getD entries i blank ≡ blank = entry-at i (omega arith) ∙ ap (λ b. cond b (rateIn s (52 + 107 * byte s 3 + 7 * i)) blank) (le-ltb i (byte s 4) c) in
-        ap (λ rate. cond (isFor rate from to) rate (rateFor entries from to (suc i) n)) none
-        ∙ ap (λ rate. cond (isFor blank from to) blank rate) (blanks (suc i) n (omega arith) (omega arith))
-        ∙ same (isFor blank from to)
+        let none : getD (rulesBy setup .rates .entries) i blank ≡ blank =
+        entry-at i (omega arith) ∙ ap (λ b. cond b (rateIn (setup .bytes) (52 + 107 * byteAt setup 3 + 7 * i)) blank) (le-ltb i (byteAt setup 4) c) in
+        ap (λ rate. cond (is-for rate) rate (entry (suc i) n)) none
+        ∙ ap (λ rate. cond (is-for blank) blank rate) (blanks (suc i) n (omega arith) (omega arith))
+        ∙ same (is-for blank)
       where
         same : (b : Bool) → cond b blank blank ≡ blank
         same true = refl
         same false = refl
 
-    by-entry : (i n m : ℕ) → byte s 4 ≡ i + n → i + m ≡ 5 → byRate (rateFor entries from to i m) ≡ byEntry s syllabus amount from to i n
+    by-entry : (i n m : ℕ) → byteAt setup 4 ≡ i + n → i + m ≡ 5 → byRate (entry i m) ≡ byEntry setup purchase to i n
     unfolding rateFor rateIn scaled
     by-entry i zero m c l = ap byRate (blanks i m (omega arith) (omega arith))
-    by-entry i (suc n) zero c l = let most = fits .conversions-most in absurd (omega arith)
+    by-entry i (suc n) zero c l = let most = fits good .conversions-most in absurd (omega arith)
     by-entry i (suc n) (suc m) c l =
-        let at = 52 + 107 * byte s 3 + 7 * i in
-        let here : getD entries i blank ≡ rateIn s at =
-        entry-at i (omega arith) ∙ ap (λ b. cond b (rateIn s at) blank) (lt-ltb i (byte s 4) (omega arith)) in
-        ap (λ rate. byRate (cond (isFor rate from to) rate (rateFor entries from to (suc i) m))) here
-        ∙ found (isFor (rateIn s at) from to) (by-entry (suc i) n m (omega arith) (omega arith))
+        let at = 52 + 107 * byteAt setup 3 + 7 * i in
+        let here : getD (rulesBy setup .rates .entries) i blank ≡ rateIn (setup .bytes) at =
+        entry-at i (omega arith) ∙ ap (λ b. cond b (rateIn (setup .bytes) at) blank) (lt-ltb i (byteAt setup 4) (omega arith)) in
+        ap (λ rate. byRate (cond (is-for rate) rate (entry (suc i) m))) here
+        ∙ found (is-for (rateIn (setup .bytes) at)) (by-entry (suc i) n m (omega arith) (omega arith))
       where
-        found : (b : Bool) → byRate (rateFor entries from to (suc i) m) ≡ byEntry s syllabus amount from to (suc i) n → byRate (cond b (rateIn s (52 + 107 * byte s 3 + 7 * i)) (rateFor entries from to (suc i) m))
-            ≡ cond b (upToMax (whole syllabus (billionths i) (10 ^ 9))) (byEntry s syllabus amount from to (suc i) n)
-        found true r = rw (good-rate i (omega arith)) (read-or-over (rounded (eqb syllabus 1) (billionths i) (10 ^ 9)) ∙ ap upToMax (rounds syllabus (billionths i)))
+        found : (b : Bool) → byRate (entry (suc i) m) ≡ byEntry setup purchase to (suc i) n
+            → byRate (cond b (rateIn (setup .bytes) (52 + 107 * byteAt setup 3 + 7 * i)) (entry (suc i) m))
+            ≡ cond b (upToMax (whole (setup .syllabus) (billionths i) (10 ^ 9))) (byEntry setup purchase to (suc i) n)
+        found true r =
+            rw (good-rate i (omega arith))
+            (read-or-over (rounded (eqb (setup .syllabus) 1) (billionths i) (10 ^ 9)) ∙ ap upToMax (rounds (setup .syllabus) (billionths i)))
         found false r = r
 
-  currency-at : (i : ℕ) → i < 4 → currencyAt (rulesIn s syllabus) i ≡ number s (8 + 10 * i) 2
+  currency-at : (i : ℕ) → i < 4 → currencyAt (rulesBy setup) i ≡ numberAt setup (8 + 10 * i) 2
   unfolding rulesIn
-  currency-at i l = four-at (λ j. number s (8 + 10 * j) 2) 0 i l
+  currency-at i l = four-at (λ j. numberAt setup (8 + 10 * j) 2) 0 i l
 
-  rule-is : rulesIn s syllabus .rates .up ≡ eqb syllabus 1
+  rule-is : rulesBy setup .rates .up ≡ eqb (setup .syllabus) 1
   unfolding rulesIn
   rule-is = refl
 
   -- the amount of a purchase, converted to a currency by the rules and by the bytes
   pub converts-to : (purchase : Purchase) (to : ℕ) → purchase .amount .0 ≤ max
-      → asRead (convertOf (purchase .amount) (purchase .currency) to (rulesIn s syllabus .rates)) ≡ converted s syllabus (purchase .amount .0) (purchase .currency) to
+      → asRead (convertOf (purchase .amount) (purchase .currency) to (rulesBy setup .rates)) ≡ converted setup purchase to
   unfolding convertOf converted
   converts-to purchase to small =
-      let rate = rateFor (rulesIn s syllabus .rates .entries) (purchase .currency) to 0 5 in
+      let rate = entry purchase to 0 5 in
       let stays : stopped (purchase .amount .0) ≡ purchase .amount .0 = simp (le-ltb max (purchase .amount .0) small) in
       ap₂ (λ up a. asRead (cond (eqb (purchase .currency) to) (amountOf a) (cond (isRate rate) (amountOrOver (scaled up a rate)) NoEntry))) rule-is stays
-      ∙ same (purchase .amount .0) (purchase .currency) (eqb (purchase .currency) to)
+      ∙ same (eqb (purchase .currency) to)
     where
-      same : (a from : ℕ) (b : Bool)
-          → asRead (cond b (amountOf a) (cond (isRate (rateFor (rulesIn s syllabus .rates .entries) from to 0 5)) (amountOrOver (scaled (eqb syllabus 1) a (rateFor (rulesIn s syllabus .rates .entries) from to 0 5))) NoEntry))
-          ≡ cond b (comesTo a) (byEntry s syllabus a from to 0 (byte s 4))
-      same a from true = refl
-      same a from false = by-entry a from to 0 (byte s 4) 5 (omega arith) refl
+      same : (b : Bool)
+          → asRead (cond b (amountOf (purchase .amount .0)) (cond (isRate (entry purchase to 0 5))
+          (amountOrOver (scaled (eqb (setup .syllabus) 1) (purchase .amount .0) (entry purchase to 0 5))) NoEntry))
+          ≡ cond b (comesTo (purchase .amount .0)) (byEntry setup purchase to 0 (byteAt setup 4))
+      same true = refl
+      same false = by-entry purchase to 0 (byteAt setup 4) 5 (omega arith) refl
 
   -- and to the currency of accumulator i + 1
   pub converts : (purchase : Purchase) (i : ℕ) → i < 4 → purchase .amount .0 ≤ max
-      → asRead (worth (rulesIn s syllabus) purchase i) ≡ converted s syllabus (purchase .amount .0) (purchase .currency) (number s (8 + 10 * i) 2)
+      → asRead (worth (rulesBy setup) purchase i) ≡ converted setup purchase (numberAt setup (8 + 10 * i) 2)
   unfolding worth
   converts purchase i l small =
-      ap (λ to. asRead (convertOf (purchase .amount) (purchase .currency) to (rulesIn s syllabus .rates))) (currency-at i l)
-      ∙ converts-to purchase (number s (8 + 10 * i) 2) small
+      ap (λ to. asRead (convertOf (purchase .amount) (purchase .currency) to (rulesBy setup .rates))) (currency-at i l)
+      ∙ converts-to purchase (numberAt setup (8 + 10 * i) 2) small
 
-  -- what it adds to it
-  pub converts-adds : (purchase : Purchase) (i : ℕ) → i < 4 → purchase .amount .0 ≤ max
-      → addition (worth (rulesIn s syllabus) purchase i) ≡ adds (converted s syllabus (purchase .amount .0) (purchase .currency) (number s (8 + 10 * i) 2))
-  converts-adds purchase i l small = adds-read (worth (rulesIn s syllabus) purchase i) ∙ ap adds (converts purchase i l small)
+  -- and to a meter, with what it adds to it
+  pub worth-read : (purchase : Purchase) → purchase .amount .0 ≤ max → (meter : Meter) → IsMeter meter
+      → asRead (cardWorth (rulesBy setup) purchase meter) ≡ worthTo setup purchase meter
+  worth-read purchase small (accumulator i) l = converts purchase i l small
+  worth-read purchase small (counter i) l = refl
 
-module _ (s : List ℕ) (fits : Accepted s) where
+  pub worth-adds : (purchase : Purchase) → purchase .amount .0 ≤ max → (meter : Meter) → IsMeter meter
+      → addition (cardWorth (rulesBy setup) purchase meter) ≡ adds (worthTo setup purchase meter)
+  worth-adds purchase small meter l = adds-read (cardWorth (rulesBy setup) purchase meter) ∙ ap adds (worth-read purchase small meter l)
+
+module _ (setup : Setup) (good : AcceptedSetup setup) where
   -- and the number that stands there is the one looked for
-  there-is : (wanted at i n : ℕ) → placeFrom s wanted i n ≡ at → at < length s → byte s at ≡ wanted
+  there-is : (wanted at i n : ℕ) → placeFrom setup wanted i n ≡ at → at < length (setup .bytes) → byteAt setup at ≡ wanted
   there-is wanted at i zero e l = absurd (omega arith)
-  there-is wanted at i (suc n) e l = by (eqb (byte s (52 + 107 * i)) wanted) refl e (λ d. there-is wanted at (suc i) n d l) where
-    by : (b : Bool) → eqb (byte s (52 + 107 * i)) wanted ≡ b → cond b (52 + 107 * i) (placeFrom s wanted (suc i) n) ≡ at
-        → (placeFrom s wanted (suc i) n ≡ at → byte s at ≡ wanted) → byte s at ≡ wanted
-    by true q e r = ap (byte s) (sym e) ∙ eqb-true _ _ q
+  there-is wanted at i (suc n) e l = by (eqb (byteAt setup (52 + 107 * i)) wanted) refl e (λ d. there-is wanted at (suc i) n d l) where
+    by : (b : Bool) → eqb (byteAt setup (52 + 107 * i)) wanted ≡ b → cond b (52 + 107 * i) (placeFrom setup wanted (suc i) n) ≡ at
+        → (placeFrom setup wanted (suc i) n ≡ at → byteAt setup at ≡ wanted) → byteAt setup at ≡ wanted
+    by true q e r = ap (byteAt setup) (sym e) ∙ eqb-true _ _ q
     by false q e r = r e
 
-  pub number-there : (wanted : ℕ) (place : Place) → Stands s place (placeOf s wanted) → byte s (placeOf s wanted) ≡ wanted
+  pub number-there : (wanted : ℕ) (place : Place) → Stands setup place (placeOf setup wanted) → byteAt setup (placeOf setup wanted) ≡ wanted
   unfolding placeOf
   number-there wanted place stands =
-      let size = fits .size in
+      let size = fits good .size in
       let there = stands .there in
       let offset = stands .offset in
-      there-is wanted (placeFrom s wanted 0 (byte s 3)) 0 (byte s 3) refl (omega arith)
+      there-is wanted (placeFrom setup wanted 0 (byteAt setup 3)) 0 (byteAt setup 3) refl (omega arith)

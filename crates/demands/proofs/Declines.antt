@@ -4,13 +4,6 @@ use mathlib.Core.List.{List, [], _∷_, _++_}
 use Prim.Native.Nat.{ℕ}
 use lib.Dec.{T, eqb}
 use lib.ListN.{replicate}
-use Rattle.wire.specs.Wire.{number}
-use Rattle.money.specs.Money.{rateFor, rounded, scaled, convertOf}
-use Rattle.rules.specs.Rules.{findProfile}
-use Rattle.ranges.specs.Ranges.{isSetup, hasLength, isHead, areAccumulators, isAccumulator, areProfiles, isProfileOrAbsent, isProfile, areMasks, isMaximumAmount, areAccumulatorRules, isAccumulatorRule, areCounterRules, areSent, areNumbersApart, profileNumber, areConversions, isConversionOrAbsent, isConversion, conversionPair, arePairsApart}
-use Rattle.setup.specs.Setup.{rateIn, accumulatorIn, counterIn, profileIn, rulesIn, freshIn, readSetup}
-use Rattle.meters.specs.Meters.{worth, approved, declined}
-use Rattle.checks.specs.Checks.{accumulatorsLower, accumulatorsUpper, countersLower, countersUpper, maximumExceeded, testsOf, decisionBits}
 use Rattle.selection.specs.declared.Selection.the-variants.{Selected}
 use Rattle.command.specs.declared.Command.{Command}
 use Rattle.command.specs.declared.Command.the-variants.{Start as StartCommand, First as FirstCommand}
@@ -18,19 +11,18 @@ use Rattle.state.specs.declared.Answer.{Answer}
 use Rattle.state.specs.declared.Answer.the-variants.{Refused, Started, Given}
 use Rattle.state.specs.declared.Kind.the-variants.{Aac, Tc, Arqc}
 use Rattle.state.specs.declared.Outcome.{Outcome}
-use Rattle.cryptogram.specs.Cryptogram.{verification, sentIad}
-use Rattle.first.specs.First.{decision, limitsByte, concluded, firstPerformed}
-use Rattle.card.specs.Card.{freshState, startStep, firstStep, stepOf}
-use Rattle.demands.specs.Ledger.{counter}
-use Rattle.demands.specs.Conversation.{run, begin, valueOf}
+use Rattle.demands.specs.Setup.{Setup}
+use Rattle.purchase.specs.Meter.{counter, valueOf}
+use Rattle.demands.specs.Conversation.{next}
+use Rattle.demands.proofs.Computed.{computed}
 
 abbrev zeros : ℕ → List ℕ
 zeros n = replicate n 0
 
 -- a set-up of zeros but for profile 1 and its counter 1, which is sent
-abbrev body : (value switches lower : ℕ) → List ℕ
+abbrev body : (value switches lower : ℕ) → Setup
 body value switches lower =
-    zeros 3 ++ 1 ∷ zeros 44 ++ value ∷ zeros 3 ++ 1 ∷ zeros 91 ++ switches ∷ lower ∷ 255 ∷ zeros 9 ++ 0 ∷ 1 ∷ 0 ∷ []
+    record { bytes = zeros 3 ++ 1 ∷ zeros 44 ++ value ∷ zeros 3 ++ 1 ∷ zeros 91 ++ switches ∷ lower ∷ 255 ∷ zeros 9 ++ 0 ∷ 1 ∷ 0 ∷ []; syllabus = 0 }
 
 abbrev start : Command
 start = StartCommand (record { chosen = Selected 1 0 })
@@ -39,8 +31,8 @@ start = StartCommand (record { chosen = Selected 1 0 })
 abbrev first : Command
 first = FirstCommand (record { amount = record { 0 = 1 }; currency = 0x0978; requested = 0; terminal = 0x22 })
 
-abbrev outcome : List ℕ → Outcome
-outcome s = stepOf (rulesIn s 0) (run (rulesIn s 0) (begin s) (start ∷ []) .state) first
+abbrev outcome : Setup → Outcome
+outcome setup = next setup (start ∷ []) first
 
 -- an AAC, the IAD's counter and CVR byte 3
 abbrev shows : Answer → (count limits : ℕ) → Bool
@@ -83,5 +75,5 @@ all [] = true
 all (r ∷ rows) = holds r && all rows
 
 pub declines : T (all table)
-unfolding all table holds run freshState readSetup freshIn isSetup hasLength isHead areAccumulators isAccumulator number areProfiles isProfileOrAbsent isProfile areMasks isMaximumAmount areAccumulatorRules isAccumulatorRule areCounterRules areSent areNumbersApart profileNumber areConversions isConversionOrAbsent isConversion conversionPair arePairsApart rulesIn rateIn profileIn accumulatorIn counterIn stepOf startStep firstStep findProfile firstPerformed decision limitsByte concluded testsOf decisionBits accumulatorsLower accumulatorsUpper countersLower countersUpper maximumExceeded worth convertOf rateFor rounded scaled approved declined verification sentIad
+unfolding all table holds computed
 declines = tt

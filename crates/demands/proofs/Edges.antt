@@ -1,24 +1,27 @@
 -- The twelve edges of document 01 in one table, over the definitions that the contracts cite. Assumes nothing.
 use mathlib.Core.Bool.{Bool, true, false, _&&_}
 use mathlib.Core.List.{List, [], _∷_}
-use Prim.Native.Nat.{ℕ}
+use Prim.Native.Nat.{ℕ, _/_, _%_}
 use lib.Dec.{T, eqb}
 use Rattle.money.specs.declared.Converted.{Converted}
 use Rattle.money.specs.declared.Converted.the-variants.{Amount, Over, NoEntry}
 use Rattle.money.specs.declared.Rates.{Rates}
-use Rattle.money.specs.Money.{max, blank, rateFor, rounded, scaled, convertOf}
+use Rattle.money.specs.Money.{max, blank, convertOf}
 use Rattle.rules.specs.declared.Place.the-variants.{One}
 use Rattle.rules.specs.declared.Values.{Values}
 use Rattle.rules.specs.Rules.{Rules, four, blankAccumulator, blankCounter, blankProfile}
-use Rattle.meters.specs.declared.Purchase.{Purchase}
-use Rattle.meters.specs.Meters.{worth, approved, amountAt, countAt}
-use Rattle.checks.specs.declared.History.{History}
-use Rattle.checks.specs.Checks.{accumulatorsLower, accumulatorsUpper, countersLower, countersUpper, maximumExceeded, testsOf}
+use Rattle.purchase.specs.declared.Purchase.{Purchase}
+use Rattle.purchase.specs.Meter.{amountAt, countAt}
+use Rattle.meters.specs.declared.Change.the-variants.{Approve}
+use Rattle.meters.specs.Meters.{applied}
+use Rattle.state.specs.declared.History.{History}
+use Rattle.checks.specs.Checks.{decisionBits}
 use Rattle.state.specs.declared.Kind.{Kind}
 use Rattle.state.specs.declared.Kind.the-variants.{Aac, Tc}
 use Rattle.cryptogram.specs.declared.Later.the-variants.{NotRequested}
 use Rattle.cryptogram.specs.Cryptogram.{kindCode, verification, issuerBefore}
 use Rattle.first.specs.First.{decision}
+use Rattle.demands.proofs.Computed.{computed}
 
 -- one conversion, from currency 1 to currency 2
 abbrev rates : Bool → ℕ → ℕ → Rates
@@ -74,7 +77,7 @@ isOver (Amount amount) = false
 isOver Over = true
 isOver NoEntry = false
 
--- a value and an amount against a limit: the tests' bits of the first accumulator (1 lower, 16 upper); a conversion, its fraction rounded up or
+-- a value and an amount against a limit: the decision bits from 6 on of the first accumulator (1 lower, 16 upper); a conversion, its fraction rounded up or
 -- not, and one that is over; an approval stored in an accumulator and in a counter; a decision, with the masks Online, Decline, Default; CVR byte 1 of a First
 pub data Row : Type 0 where
   limitRow : (value amount limit bits : ℕ) → Row
@@ -87,12 +90,12 @@ pub data Row : Type 0 where
 
 unfoldable pub holds : Row → Bool
 holds (limitRow value amount upper bits) =
-    eqb (testsOf (card upper) One (values value 0) (purchase amount) .accumulators) bits
+    eqb (decisionBits (card upper) One (values value 0) (purchase amount) clear / 64 % 256) bits
 holds (rateRow up amount d t result) = isAmount (convertOf (record { 0 = amount }) 1 2 (rates up d t)) result
 holds (overRow up amount d t) = isOver (convertOf (record { 0 = amount }) 1 2 (rates up d t))
 holds (amountRow value more result) =
-    eqb (amountAt (approved (card max) One (values value 0) (purchase more)) 0 .0) result
-holds (countRow value result) = eqb (countAt (approved (card max) One (values 0 value) (purchase 1)) 0) result
+    eqb (amountAt (applied (card max) One (values value 0) (Approve (purchase more))) 0 .0) result
+holds (countRow value result) = eqb (countAt (applied (card max) One (values 0 value) (Approve (purchase 1))) 0) result
 holds (kindRow requested adr online decline default terminal k) =
     eqb (kindCode (decision requested adr (record { online = online; decline = decline; default = default }) terminal)) (kindCode k)
 holds (byteRow k n) = eqb (verification (card max) clear 0 k NotRequested (issuerBefore clear) .byte1) n
@@ -122,5 +125,5 @@ all (row ∷ rows) = holds row && all rows
 
 -- a) to l), in document 01's order; c), d) and e) by both rules
 pub edges : T (all table)
-unfolding all table holds testsOf accumulatorsLower accumulatorsUpper countersLower countersUpper maximumExceeded worth convertOf rateFor scaled rounded approved decision verification
+unfolding all table holds computed
 edges = tt

@@ -1,17 +1,16 @@
 -- A command that is taken is answered in its kind, and leaves due what the conversation says. Assumes nothing.
 use mathlib.Core.Path.{_≡_, refl, sym, ap, _∙_}
-use mathlib.Core.Bool.{Bool, true, false, cond, _||_}
-use mathlib.Core.List.{List, [], _∷_}
+use mathlib.Core.Bool.{Bool, true, false, cond}
+use mathlib.Core.List.{List}
 use Prim.Native.Nat.{ℕ}
 use lib.Dec.{eqb}
 use Rattle.refusal.specs.declared.Refusal.{Refusal}
 use Rattle.iad.specs.declared.Cvr.{Cvr}
-use Rattle.checks.specs.declared.History.{History}
-use Rattle.checks.specs.Checks.{meetsMask}
+use Rattle.state.specs.declared.History.{History}
 use Rattle.rules.specs.declared.Place.{Place}
 use Rattle.rules.specs.declared.Values.{Values}
-use Rattle.rules.specs.Rules.{Rules, profileAt}
-use Rattle.meters.specs.declared.Purchase.{Purchase}
+use Rattle.rules.specs.Rules.{Rules}
+use Rattle.purchase.specs.declared.Purchase.{Purchase}
 use Rattle.cryptogram.specs.declared.Issuer.{Issuer}
 use Rattle.command.specs.declared.First.{First}
 use Rattle.command.specs.declared.Second.{Second}
@@ -25,13 +24,15 @@ use Rattle.state.specs.declared.Pending.{Pending}
 use Rattle.state.specs.declared.Phase.the-variants.{Idle}
 use Rattle.state.specs.declared.State.{State}
 use Rattle.state.specs.declared.Outcome.{Outcome}
-use Rattle.first.specs.First.{firstPerformed, firstKind, concluded}
-use Rattle.second.specs.Second.{secondPerformed, isUnable, unableBits, unablePerformed, verifiedPerformed, failedPerformed, absentPerformed, closed}
+use Rattle.first.specs.First.{firstPerformed, firstKind, settled, asked, concluded}
+use Rattle.second.specs.Second.{secondPerformed, isUnable, unablePerformed, verifiedPerformed, failedPerformed, absentPerformed, closed}
 use Rattle.card.specs.Card.{refused, freshState}
 use Rattle.demands.specs.Audit.{isAccepted}
-use Rattle.demands.specs.Conversation.{Sitting, told, run, sat}
+use Rattle.demands.specs.Setup.{Setup}
+use Rattle.demands.specs.Conversation.{Sitting, told, satBy}
 use Rattle.demands.specs.Due.{Due, nothing, dueBy, due, dueIn, InKind}
 use Rattle.demands.proofs.Step.{Did, refused-it, started-it, took-first, took-second, did}
+use Rattle.demands.proofs.Run.{run-keeps}
 
 pub accepted-in-kind : (command : Command) (answer : Answer) → InKind command answer → isAccepted answer ≡ true
 accepted-in-kind (StartCommand start) (Started atc visits) k = refl
@@ -57,7 +58,7 @@ pub record Closes (second : Second) (outcome : Outcome) : Type 0 where
 module _ (rules : Rules) (state : State) where
   concluded-ends : (first : First) (place : Place) (purchase : Purchase) (limits : ℕ) (cvr : Cvr) (kind : Kind)
       → Concludes first (concluded rules state place purchase limits cvr kind)
-  unfolding concluded
+  unfolding settled asked concluded
   concluded-ends first place purchase limits cvr Tc = record { in-kind = tt; leaves = λ before. refl }
   concluded-ends first place purchase limits cvr Aac = record { in-kind = tt; leaves = λ before. refl }
   concluded-ends first place purchase limits cvr Arqc = record { in-kind = tt; leaves = λ before. refl }
@@ -81,8 +82,7 @@ module _ (rules : Rules) (state : State) where
   second-closes second pending =
       let closes = closed-ends second pending in
       chosen (isUnable (second .code))
-      (chosen (eqb (second .requested) 0 || meetsMask (unableBits rules state pending) (profileAt rules (pending .place) .masks .default))
-      (closes _ _ _ _) (closes _ _ _ _))
+      (closes _ _ _ _)
       (chosen (eqb (second .issuer) 1) (closes _ _ _ _) (chosen (eqb (second .issuer) 2) (closes _ _ _ _) (closes _ _ _ _)))
 
   refused-leaves : (command : Command) (refusal : Refusal) (before : Due) → before ≡ dueBy command (Refused refusal) before
@@ -103,16 +103,15 @@ module _ (rules : Rules) (state : State) where
 
 -- ---- over a list of commands
 
-run-due : (rules : Rules) (sitting : Sitting) → dueIn (sitting .state .phase) ≡ due (sitting .log) → (commands : List Command)
-    → dueIn (run rules sitting commands .state .phase) ≡ due (run rules sitting commands .log)
-unfolding run due
-run-due rules sitting h [] = h
-run-due rules sitting h (command ∷ commands) =
-    run-due rules (told rules sitting command)
-    (did-leaves rules (sitting .state) (did rules (sitting .state) command) ∙ ap (dueBy command _) h) commands
+abbrev AsSaid : Sitting → Type 0
+AsSaid sitting = dueIn (sitting .state .phase) ≡ due (sitting .log)
 
--- WHAT IS DUE, by the card's phase, is what the conversation says
-pub due-is : (words s : List ℕ) (syllabus : ℕ) (commands : List Command)
-    → dueIn (sat words s syllabus commands .state .phase) ≡ due (sat words s syllabus commands .log)
+told-due : (sitting : Sitting) → AsSaid sitting → (command : Command) → AsSaid (told sitting command)
+unfolding due
+told-due sitting h command = did-leaves (sitting .rules) (sitting .state) (did (sitting .rules) (sitting .state) command) ∙ ap (dueBy command _) h
+
+-- WHAT IS DUE, by the card's phase, is what the conversation says: by any rules
+pub due-is : (rules : Rules) (setup : Setup) (commands : List Command)
+    → dueIn (satBy rules setup commands .state .phase) ≡ due (satBy rules setup commands .log)
 unfolding freshState due
-due-is words s syllabus commands = run-due _ _ refl commands
+due-is rules setup commands = run-keeps AsSaid told-due _ refl commands

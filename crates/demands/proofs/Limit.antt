@@ -1,40 +1,34 @@
 -- Demand 3, the upper limit: no offline approval under a guarding profile leaves the value above that profile's upper limit.
 -- Assumes nothing.
 use mathlib.Core.Path.{_≡_, refl, sym, ap, _∙_, subst}
-use mathlib.Core.Bool.{Bool, true, false, cond, _&&_, _||_}
+use mathlib.Core.Bool.{Bool, true, false, cond, not, _&&_, _||_}
 use mathlib.Core.List.{List, [], _∷_}
 use Prim.Native.Nat.{ℕ, _+_, _^_, _≤_}
-use native.Mathlib.Nat.{div-one}
 use native.Mathlib.Omega.{arith}
 use borrow.Author.Tests.{ltb-true, eqb-true}
 use lib.Dec.{ltb, eqb}
-use lib.ListN.{length}
-use Rattle.wire.specs.Wire.{number}
 use Rattle.money.specs.declared.AccumulatorAmount.{AccumulatorAmount}
 use Rattle.money.specs.declared.Converted.{Converted}
 use Rattle.money.specs.declared.Converted.the-variants.{Amount, Over, NoEntry}
-use Rattle.money.specs.Money.{max}
 use Rattle.iad.specs.declared.Cvr.{Cvr}
 use Rattle.rules.specs.declared.Place.{Place}
 use Rattle.rules.specs.declared.Values.{Values}
-use Rattle.rules.specs.declared.AccumulatorRule.{AccumulatorRule}
-use Rattle.rules.specs.declared.CounterRule.{CounterRule}
 use Rattle.rules.specs.declared.Masks.{Masks}
-use Rattle.rules.specs.Rules.{Rules, Profile, profileAt, accumulatorRule, counterRule}
-use Rattle.ranges.specs.Ranges.{isSetup}
-use Rattle.setup.specs.Setup.{accumulatorIn, counterIn, profileIn, rulesIn}
-use Rattle.setup.proofs.Faithful.{Bytes, faithful}
+use Rattle.rules.specs.Rules.{Rules, Profile, profileAt}
+use Rattle.setup.specs.Setup.{profileIn}
 use Rattle.command.specs.declared.First.{First}
 use Rattle.command.specs.declared.Second.{Second}
 use Rattle.command.specs.declared.Command.{Command}
 use Rattle.command.specs.declared.Command.the-variants.{Start as StartCommand, First as FirstCommand, Second as SecondCommand}
-use Rattle.meters.specs.declared.Purchase.{Purchase}
-use Rattle.meters.specs.Meters.{add, moved, addition, amountAt, countAt, worth, approved}
-use Rattle.meters.proofs.Ledger.{approved-amount, approved-count}
-use Rattle.checks.specs.declared.History.{History}
-use Rattle.checks.specs.Checks.{bit, testsOf, decisionBits, meetsMask}
+use Rattle.purchase.specs.declared.Purchase.{Purchase}
+use Rattle.purchase.specs.Meter.{Meter, accumulator, counter, IsMeter, MeterRule, ruleOf, valueOf, worthTo, capOf as cap}
+use Rattle.meters.specs.declared.Change.the-variants.{Approve}
+use Rattle.meters.specs.Meters.{add, moved, addition, offline, applied, entered as entriesOf}
+use Rattle.meters.proofs.Ledger.{applied-moves}
+use Rattle.state.specs.declared.History.{History}
+use Rattle.checks.specs.Checks.{bit, exceedsUpper, decisionBits, meetsMask, upperBit as upperFlag}
 use Rattle.checks.proofs.Bits.{bitOf, meets-at, house-order}
-use Rattle.checks.proofs.Exceeds.{accumulator-kept, counter-kept}
+use Rattle.checks.proofs.Exceeds.{active-within}
 use Rattle.state.specs.declared.Answer.the-variants.{Refused}
 use Rattle.cryptogram.specs.declared.Issuer.{Issuer}
 use Rattle.state.specs.declared.Kind.{Kind}
@@ -42,16 +36,17 @@ use Rattle.state.specs.declared.Kind.the-variants.{Aac, Tc, Arqc}
 use Rattle.state.specs.declared.Pending.{Pending}
 use Rattle.state.specs.declared.State.{State}
 use Rattle.state.specs.declared.Outcome.{Outcome}
-use Rattle.first.specs.First.{decision, purchaseOf, firstKind, firstPerformed, concluded}
-use Rattle.second.specs.Second.{isUnable, unableIn, unableBits, unablePerformed, secondPerformed, closed}
-use Rattle.card.specs.Card.{stepOf}
-use Rattle.demands.specs.Ledger.{Meter, accumulator, counter, IsMeter}
-use Rattle.demands.specs.Conversation.{Sitting, sat, next, valueOf}
-use Rattle.demands.specs.Audit.{isOn, isActive, isIncluded, placeOf, upperOf, approves, named, spent, spentIn}
+use Rattle.first.specs.First.{decision, purchaseOf, firstKind, firstPerformed, settled, asked, concluded}
+use Rattle.state.specs.State.{unableIn}
+use Rattle.second.specs.Second.{isUnable, unableBits, unablePerformed, secondPerformed, closed}
+use Rattle.demands.specs.Setup.{Setup, numberAt, AcceptedSetup}
+use Rattle.demands.specs.Conversation.{Sitting, rulesBy, sat, next}
+use Rattle.demands.specs.Audit.{isOn, isActive, isIncluded, upperOf, approves, named, bought, inForce, placeBy}
 use Rattle.demands.specs.Guards.{upperBit, Guards}
 use Rattle.demands.proofs.Refusal.{never}
-use Rattle.demands.proofs.Step.{Did, refused-it, started-it, took-first, took-second, did}
-use Rattle.demands.proofs.Bytes.{Stands, profile-is, accumulator-is, counter-is}
+use Rattle.demands.proofs.Step.{Did, refused-it, started-it, took-first, took-second}
+use Rattle.demands.proofs.Run.{always-ruled, did-by}
+use Rattle.demands.proofs.Bytes.{Stands, profile-is, ruleRead, rule-read}
 use Rattle.demands.proofs.Total.{Agrees, Holding, always}
 
 -- ---- what an approval adds stays within a limit that the value, with the amount, is within
@@ -71,47 +66,48 @@ module _ (cap limit : ℕ) where
   approval-within value true NoEntry h k o = h
   approval-within value false worth h k o = h
 
-  counting-within : (value : ℕ) (on : Bool) → value ≤ limit → value + 1 ≤ limit → moved cap value (cond on (add 1 ∷ []) []) ≤ limit
-  counting-within value true h k = added value 1 k
-  counting-within value false h k = h
-
 -- a flag whose bit is in a mask that isn't met is not set
 unmet : (k adr mask : ℕ) (flag : Bool) → bitOf k adr ≡ bit flag → isOn mask (2 ^ k) ≡ true → meetsMask adr mask ≡ false → flag ≡ false
 unmet k adr mask false e m q = refl
 unmet k adr mask true e m q = absurd (never (sym q ∙ meets-at k adr mask e (eqb-true _ _ m)))
 
-module _ (s : List ℕ) (syllabus : ℕ) (place : Place) (at : ℕ) (stands : Stands s place at) (values : Values) (history : History) (purchase : Purchase) where
+module _ (setup : Setup) (place : Place) (at : ℕ) (stands : Stands setup place at) (values : Values) (history : History) (purchase : Purchase) where
   abbrev rules : Rules
-  rules = rulesIn s syllabus
+  rules = rulesBy setup
 
   abbrev adr : ℕ
-  adr = decisionBits history (testsOf rules place values purchase)
+  adr = decisionBits rules place values purchase history
+
+  module _ (meter : Meter) (l : IsMeter meter) (active : isActive setup at meter ≡ true) (included : isIncluded setup at meter ≡ true) where
+    abbrev rule : MeterRule
+    rule = ruleOf rules place meter
+
+    is : rule ≡ ruleRead setup at meter
+    is = rule-read setup place at stands meter l
+
+    unmet-within : (mask : ℕ) → isOn mask (2 ^ upperFlag meter) ≡ true → meetsMask adr mask ≡ false
+        → moved (cap meter) (valueOf values meter) (entriesOf rules place (Approve purchase) meter) ≤ upperOf setup at meter
+    unmet-within mask on q =
+        let active' : rule .active ≡ true = ap (λ (r : MeterRule). r .active) is ∙ active in
+        let included' : rule .include ≡ true = ap (λ (r : MeterRule). r .include) is ∙ included in
+        let flag = house-order rules place values purchase history .upper meter l in
+        let unset = unmet (upperFlag meter) adr mask (exceedsUpper rules place values purchase meter) flag on q in
+        let w = active-within rule (worthTo rules purchase meter) (rule .upper) (valueOf values meter) active' unset in
+        subst (λ upper. moved (cap meter) (valueOf values meter) (entriesOf rules place (Approve purchase) meter) ≤ upper)
+        (ap (λ (r : MeterRule). r .upper) is)
+        (approval-within (cap meter) (rule .upper) (valueOf values meter) (rule .active && rule .allow) (worthTo rules purchase meter) (w .alone)
+        (λ more. w .together more included') (w .not-over included'))
 
   -- an approval while a mask that holds the upper limit's bit isn't met
-  pub approved-within : (meter : Meter) → IsMeter meter → isActive s at meter ≡ true → isIncluded s at meter ≡ true
+  pub approved-within : (meter : Meter) → IsMeter meter → isActive setup at meter ≡ true → isIncluded setup at meter ≡ true
       → (mask : ℕ) → isOn mask (2 ^ upperBit meter) ≡ true → meetsMask adr mask ≡ false
-      → valueOf (approved rules place values purchase) meter ≤ upperOf s at meter
-  unfolding accumulatorIn counterIn
+      → valueOf (applied rules place values (Approve purchase)) meter ≤ upperOf setup at meter
   approved-within (accumulator i) l active included mask on q =
-      let is = accumulator-is s syllabus place at stands i l in
-      let active' : accumulatorRule rules place i .active ≡ true = ap (λ (r : AccumulatorRule). r .active) is ∙ (rw div-one at active) in
-      let included' : accumulatorRule rules place i .include ≡ true = ap (λ (r : AccumulatorRule). r .include) is ∙ included in
-      let upper : accumulatorRule rules place i .upper .0 ≡ upperOf s at (accumulator i) = ap (λ (r : AccumulatorRule). r .upper .0) is in
-      let flag = house-order history rules place values purchase .accumulatorUpper i l in
-      let kept = accumulator-kept rules place values purchase i l active' included' (unmet (10 + i) adr mask _ flag on q) in
-      rw (approved-amount rules place values purchase i l, ← upper)
-      (approval-within max (accumulatorRule rules place i .upper .0) (amountAt values i .0)
-      (accumulatorRule rules place i .active && accumulatorRule rules place i .allow) (worth rules purchase i) (kept .0) (kept .1) (kept .2))
+      subst (λ value. value ≤ upperOf setup at (accumulator i)) (sym (applied-moves rules place values (Approve purchase) (accumulator i) l))
+      (unmet-within (accumulator i) l active included mask on q)
   approved-within (counter i) l active included mask on q =
-      let is = counter-is s syllabus place at stands i l in
-      let active' : counterRule rules place i .active ≡ true = ap (λ (r : CounterRule). r .active) is ∙ (rw div-one at active) in
-      let included' : counterRule rules place i .include ≡ true = ap (λ (r : CounterRule). r .include) is ∙ included in
-      let upper : counterRule rules place i .upper ≡ upperOf s at (counter i) = ap (λ (r : CounterRule). r .upper) is in
-      let flag = house-order history rules place values purchase .counterUpper i l in
-      let kept = counter-kept rules place values i l active' included' (unmet (18 + i) adr mask _ flag on q) in
-      rw (approved-count rules place values purchase i l, ← upper)
-      (counting-within 255 (counterRule rules place i .upper) (countAt values i)
-      (counterRule rules place i .active && counterRule rules place i .allow) (kept .0) (kept .1))
+      subst (λ value. value ≤ upperOf setup at (counter i)) (sym (applied-moves rules place values (Approve purchase) (counter i) l))
+      (unmet-within (counter i) l active included mask on q)
 
 both-false : (b : Bool) → (b && false) ≡ true → false ≡ true
 both-false true e = e
@@ -126,59 +122,67 @@ tc-unmet requested bits masks terminal e = by (eqb requested 0) (meetsMask bits 
   by false true rest e = cc
   by false false rest e = refl
 
-module _ (s : List ℕ) (syllabus : ℕ) (sitting : Sitting) (holding : Holding s syllabus sitting) (meter : Meter) (l : IsMeter meter)
-    (guards : Guards s (placeOf s (named (sitting .log))) meter) where
+module _ (setup : Setup) (sitting : Sitting) (holding : Holding setup sitting) (meter : Meter) (l : IsMeter meter)
+    (guards : Guards (inForce setup (sitting .log)) (placeBy setup (sitting .log)) meter) where
+  abbrev now : Setup
+  now = inForce setup (sitting .log)
+
   abbrev card-rules : Rules
-  card-rules = rulesIn s syllabus
+  card-rules = rulesBy now
 
   abbrev state : State
   state = sitting .state
 
   abbrev at : ℕ
-  at = placeOf s (named (sitting .log))
+  at = placeBy setup (sitting .log)
 
   -- if an answer approves, the value is within
   abbrev Within : Command → Outcome → Type 0
-  Within command outcome = approves command (outcome .answer) ≡ true → valueOf (outcome .state .values) meter ≤ upperOf s at meter
+  Within command outcome = approves command (outcome .answer) ≡ true → valueOf (outcome .state .values) meter ≤ upperOf now at meter
 
-  concluded-within : (first : First) (place : Place) → Stands s place at → (limits : ℕ) (cvr : Cvr) (kind : Kind)
+  concluded-within : (first : First) (place : Place) → Stands now place at → (limits : ℕ) (cvr : Cvr) (kind : Kind)
       → kind ≡ firstKind card-rules state place first
       → Within (FirstCommand first) (concluded card-rules state place (purchaseOf first) limits cvr kind)
-  unfolding concluded profileIn
+  unfolding settled asked concluded profileIn
   concluded-within first place stands limits cvr Tc is e =
-      let mask : profileAt card-rules place .masks .decline ≡ number s (at + 5) 4 = ap (λ (p : Profile). p .masks .decline) (profile-is s syllabus place at stands) in
-      approved-within s syllabus place at stands (state .values) (state .history) (purchaseOf first) meter l (guards .active) (guards .included)
-      (profileAt card-rules place .masks .decline) (rw mask (guards .decline)) (tc-unmet (first .requested) _ (profileAt card-rules place .masks) (first .terminal) is)
+      let mask : profileAt card-rules place .masks .decline ≡ numberAt now (at + 5) 4 =
+      ap (λ (p : Profile). p .masks .decline) (profile-is now place at stands) in
+      approved-within now place at stands (state .values) (state .history) (purchaseOf first) meter l (guards .active) (guards .included)
+      (profileAt card-rules place .masks .decline) (rw mask (guards .decline))
+      (tc-unmet (first .requested) _ (profileAt card-rules place .masks) (first .terminal) is)
   concluded-within first place stands limits cvr Aac is e = absurd (never e)
   concluded-within first place stands limits cvr Arqc is e = absurd (never e)
 
-  first-within : (first : First) (place : Place) → Stands s place at → Within (FirstCommand first) (firstPerformed card-rules state first place)
+  first-within : (first : First) (place : Place) → Stands now place at → Within (FirstCommand first) (firstPerformed card-rules state first place)
   unfolding firstPerformed
   first-within first place stands = concluded-within first place stands _ _ (firstKind card-rules state place first) refl
 
-  unable-within : (second : Second) (pending : Pending) → Stands s (pending .place) at → (b : Bool)
-      → (eqb (second .requested) 0 || meetsMask (unableBits card-rules state pending) (profileAt card-rules (pending .place) .masks .default)) ≡ b
-      → (values : Values) (history : History) (issuer : Issuer)
-      → Within (SecondCommand second) (cond b (closed card-rules (state .atc) pending false values history issuer)
-      (closed card-rules (state .atc) pending true (approved card-rules (pending .place) (state .values) (pending .purchase)) history issuer))
+  unable-within : (second : Second) (pending : Pending) → Stands now (pending .place) at → (b : Bool)
+      → not (eqb (second .requested) 0 || meetsMask (unableBits card-rules state pending) (profileAt card-rules (pending .place) .masks .default)) ≡ b
+      → (history : History) (issuer : Issuer)
+      → Within (SecondCommand second)
+      (closed card-rules (state .atc) pending b (applied card-rules (pending .place) (state .values) (offline b (pending .purchase))) history issuer)
   unfolding closed profileIn
-  unable-within second pending stands true q values history issuer e = absurd (never (both-false (isUnable (second .code)) e))
-  unable-within second pending stands false q values history issuer e =
+  unable-within second pending stands false q history issuer e = absurd (never (both-false (isUnable (second .code)) e))
+  unable-within second pending stands true q history issuer e =
       let place = pending .place in
-      let mask : profileAt card-rules place .masks .default ≡ number s (at + 9) 4 = ap (λ (p : Profile). p .masks .default) (profile-is s syllabus place at stands) in
-      approved-within s syllabus place at stands (state .values) (unableIn (pending .history)) (pending .purchase) meter l (guards .active) (guards .included)
+      let mask : profileAt card-rules place .masks .default ≡ numberAt now (at + 9) 4 =
+      ap (λ (p : Profile). p .masks .default) (profile-is now place at stands) in
+      approved-within now place at stands (state .values) (unableIn (pending .history)) (pending .purchase) meter l (guards .active) (guards .included)
       (profileAt card-rules place .masks .default) (rw mask (guards .default)) (neither (eqb (second .requested) 0) _ q)
     where
-      neither : (a b : Bool) → (a || b) ≡ false → b ≡ false
-      neither true b e = absurd (never (sym e))
-      neither false b e = e
+      neither : (a b : Bool) → not (a || b) ≡ true → b ≡ false
+      neither true b e = absurd (never e)
+      neither false true e = absurd (never e)
+      neither false false e = refl
 
-  second-within : (second : Second) (pending : Pending) → Stands s (pending .place) at → Within (SecondCommand second) (secondPerformed card-rules state second pending)
+  second-within : (second : Second) (pending : Pending) → Stands now (pending .place) at
+      → Within (SecondCommand second) (secondPerformed card-rules state second pending)
   unfolding secondPerformed unablePerformed
   second-within second pending stands = by (isUnable (second .code)) refl _ where
     by : (u : Bool) → isUnable (second .code) ≡ u → (rest : Outcome)
         → Within (SecondCommand second) (cond u (unablePerformed card-rules state (second .requested) pending) rest)
-    by true u rest e = unable-within second pending stands _ refl _ _ _ e
+    by true u rest e = unable-within second pending stands _ refl _ _ e
     by false u rest e = absurd (never (rw u at e))
 
   did-within : {command : Command} {outcome : Outcome} → Did card-rules state command outcome → Within command outcome
@@ -189,18 +193,16 @@ module _ (s : List ℕ) (syllabus : ℕ) (sitting : Sitting) (holding : Holding 
     not-refused (SecondCommand second) e = both-false (isUnable (second .code)) e
   did-within (started-it start place holds) = λ e. absurd (never e)
   did-within (took-first first place is type small) =
-      first-within first place (subst (Agrees s (named (sitting .log)) (spent (sitting .log)) (spentIn (sitting .log))) is (holding .agrees))
+      first-within first place (subst (Agrees now (named (sitting .log)) (bought (sitting .log))) is (holding .agrees))
   did-within (took-second second pending is type issuer) =
-      second-within second pending (subst (Agrees s (named (sitting .log)) (spent (sitting .log)) (spentIn (sitting .log))) is (holding .agrees) .stands)
+      second-within second pending (subst (Agrees now (named (sitting .log)) (bought (sitting .log))) is (holding .agrees) .stands)
 
--- DEMAND 3, THE UPPER LIMIT
-pub limit : (s : List ℕ) (syllabus : ℕ) → Bytes s → isSetup s ≡ true → (words : List ℕ) → length words ≡ 164
-    → (commands : List Command) (command : Command) (meter : Meter) → IsMeter meter
-    → Guards s (placeOf s (named (sat words s syllabus commands .log))) meter
-    → approves command (next words s syllabus commands command .answer) ≡ true
-    → valueOf (next words s syllabus commands command .state .values) meter ≤ upperOf s (placeOf s (named (sat words s syllabus commands .log))) meter
-limit s syllabus bytes good words size commands command meter l guards =
-    subst (λ rules. approves command (stepOf rules (sat words s syllabus commands .state) command .answer) ≡ true
-    → valueOf (stepOf rules (sat words s syllabus commands .state) command .state .values) meter ≤ upperOf s (placeOf s (named (sat words s syllabus commands .log))) meter)
-    (sym (faithful s bytes syllabus words size good))
-    (did-within s syllabus (sat words s syllabus commands) (always s syllabus bytes good words size commands) meter l guards (did (rulesIn s syllabus) (sat words s syllabus commands .state) command))
+-- DEMAND 3, THE UPPER LIMIT, which is the one in force
+pub limit : (setup : Setup) → AcceptedSetup setup → (commands : List Command) (command : Command) (meter : Meter) → IsMeter meter
+    → Guards (inForce setup (sat setup commands .log)) (placeBy setup (sat setup commands .log)) meter
+    → approves command (next setup commands command .answer) ≡ true
+    → valueOf (next setup commands command .state .values) meter
+    ≤ upperOf (inForce setup (sat setup commands .log)) (placeBy setup (sat setup commands .log)) meter
+limit setup good commands command meter l guards =
+    let ruled = always-ruled setup good commands in
+    did-within setup (sat setup commands) (always setup good commands) meter l guards (did-by setup (sat setup commands) ruled command)

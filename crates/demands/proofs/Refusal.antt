@@ -6,23 +6,19 @@ use mathlib.Core.List.{List}
 use Prim.Native.Nat.{ℕ, _+_, _*_, _≤_, _<_}
 use native.Mathlib.Nat.{le-antisymm}
 use native.Mathlib.Omega.{arith}
-use borrow.Author.Tests.{lt-ltb, ltb-true, ltb-false, leb-true, leb-false, eqb-true, eqb-false}
+use borrow.Author.Tests.{ltb-true, ltb-false, leb-true, leb-false, eqb-true, eqb-false}
 use lib.Dec.{leb, ltb, eqb}
-use lib.ListN.{length, getD}
-use Rattle.wire.specs.Wire.{byte, isCurrency}
+use Rattle.wire.specs.Wire.{isCurrency}
 use Rattle.money.specs.Money.{max}
 use Rattle.refusal.specs.declared.Refusal.{Refusal}
-use Rattle.refusal.specs.declared.Refusal.the-variants.{BadSetup, OutOfTurn, UnknownProfile, AtcUsedUp, BadType, OutOfRange, RoomTooSmall, NotAnIad, Unreadable, BadRate, BadMta, NotSelected}
+use Rattle.refusal.specs.declared.Refusal.the-variants.{BadSetup, OutOfTurn, UnknownProfile, AtcUsedUp, BadType, OutOfRange, RoomTooSmall, NotAnIad}
+use Rattle.refusal.specs.declared.Refusal.the-variants.{Unreadable, BadRate, BadMta, NotSelected}
 use Rattle.refusal.specs.Refusal.{refusalNumber}
-use Rattle.ranges.specs.Ranges.{isSetup}
-use Rattle.ranges.proofs.Accepted.{Accepted, accepted, currency}
-use Rattle.setup.specs.Setup.{profileIn, rulesIn, wordsAfter}
-use Rattle.setup.proofs.Faithful.{Bytes, faithful}
+use Rattle.ranges.proofs.Accepted.{currency}
 use Rattle.rules.specs.declared.Place.{Place}
 use Rattle.rules.specs.declared.Found.{Found}
 use Rattle.rules.specs.declared.Found.the-variants.{At, Nothing}
-use Rattle.rules.specs.Rules.{Rules, Profile, blankProfile, indexOf, findProfile, rulesOf}
-use Rattle.rules.proofs.Places.{four-at}
+use Rattle.rules.specs.Rules.{Rules, indexOf, findProfile}
 use Rattle.selection.specs.declared.Selection.{Selection}
 use Rattle.selection.specs.declared.Selection.the-variants.{Selected, NotSelected as NoneSelected}
 use Rattle.selection.specs.Selection.{profileOf, visitsOf}
@@ -40,16 +36,21 @@ use Rattle.state.specs.declared.State.{State}
 use Rattle.state.specs.declared.Outcome.{Outcome}
 use Rattle.first.specs.First.{firstPerformed}
 use Rattle.second.specs.Second.{secondPerformed}
-use Rattle.card.specs.Card.{Ruling, refuse, take, ruleStart, ruleOpening, ruleFirst, ruleSecond, carried, startPerformed, startStep, firstStep, secondStep, stepOf, answerNumber}
+use Rattle.card.specs.Card.{Ruling, refuse, take, ruleStart, ruleOpening, ruleFirst, ruleSecond, carried, startPerformed, startStep, firstStep}
+use Rattle.card.specs.Card.{secondStep, stepOf, answerNumber}
 use Rattle.demands.proofs.Found.{Holds, Known, known, below-four}
-use Rattle.demands.specs.Conversation.{sat, next}
-use Rattle.demands.specs.Audit.{isAccepted}
+use Rattle.demands.specs.Setup.{Setup, byteAt, AcceptedSetup}
+use Rattle.demands.specs.Conversation.{rulesBy, sat, next}
+use Rattle.demands.specs.Audit.{isAccepted, inForce}
 use Rattle.demands.specs.Past.{atcBy}
 use Rattle.demands.specs.Due.{Due, aFirst, aSecond, due, dueIn, InKind}
 use Rattle.demands.proofs.Step.{Did, refused-it, started-it, took-first, took-second, did}
+use Rattle.demands.proofs.Run.{always-ruled}
+use Rattle.demands.proofs.Bytes.{fits, number-in, number-out}
 use Rattle.demands.proofs.Ends.{accepted-in-kind, first-concludes, second-closes, due-is}
 use Rattle.demands.proofs.Past.{atc}
-use Rattle.demands.specs.Rows.{InSetup, InRules, Unselected, StartRow, not-selected, not-in-setup, used-up, FirstRow, no-start, type-three, above-max, not-digits, SecondRow, no-arqc, type-two, issuer-data, Applies, rank, Numbered, done, refused}
+use Rattle.demands.specs.Rows.{InSetup, InRules, NoStart, NoArqc, Unselected, StartRow, not-selected, not-in-setup, used-up, FirstRow, no-start, type-three}
+use Rattle.demands.specs.Rows.{above-max, not-digits, SecondRow, no-arqc, type-two, issuer-data, Applies, rank, Numbered, done, refused}
 
 -- what is taken is answered, and no answer to it is a refusal
 record Taken (outcome : Outcome) : Type 0 where
@@ -98,51 +99,56 @@ start-ruled rules atc start = by (start .chosen) refl where
       subst (λ c. Ruled (StartRow (InRules rules) atc start) (ruleOpening atc (findProfile rules (profileOf c)))) is
       (opening-ruled rules atc start (λ h. subst Unselected is h) (findProfile rules (profileOf (start .chosen))) (known rules (profileOf (start .chosen))))
 
+-- of First no row is numbered below 2; below 5 none where a Start is open, and below 6 none where its type is in range too
+first-least : {due : Due} {first : First} {m : ℕ} → FirstRow due first m
+    → (2 ≤ rank m) × ((NoStart due → ⊥) → 5 ≤ rank m) × ((NoStart due → ⊥) → first .requested ≤ 2 → 6 ≤ rank m)
+first-least (no-start n h) = (omega (arith, ap rank n), λ begun. absurd (begun h), λ begun t. absurd (begun h))
+first-least (type-three n h) = (omega (arith, ap rank n), λ begun. omega (arith, ap rank n), λ begun t. omega arith)
+first-least (above-max n h) = (omega (arith, ap rank n), λ begun. omega (arith, ap rank n), λ begun t. omega (arith, ap rank n))
+first-least (not-digits n h) = (omega (arith, ap rank n), λ begun. omega (arith, ap rank n), λ begun t. omega (arith, ap rank n))
+
 first-ruled : (phase : Phase) (first : First) → Ruled (FirstRow (dueIn phase) first) (ruleFirst phase first)
-first-ruled Idle first = (no-start refl tt, λ m l. elim [ no-start n h ↦ omega (arith, ap rank n) | type-three n h ↦ omega (arith, ap rank n) | above-max n h ↦ omega (arith, ap rank n) | not-digits n h ↦ omega (arith, ap rank n) ])
-first-ruled (Asked pending) first = (no-start refl tt, λ m l. elim [ no-start n h ↦ omega (arith, ap rank n) | type-three n h ↦ omega (arith, ap rank n) | above-max n h ↦ omega (arith, ap rank n) | not-digits n h ↦ omega (arith, ap rank n) ])
+first-ruled Idle first = (no-start refl tt, λ m l row. omega (arith, first-least row .0))
+first-ruled (Asked pending) first = (no-start refl tt, λ m l row. omega (arith, first-least row .0))
 first-ruled (Opened place) first = by-type (ltb 2 (first .requested)) refl where
   by-currency : first .requested ≤ 2 → first .amount .0 ≤ max → (c : Bool) → isCurrency (first .currency) ≡ c
       → Ruled (FirstRow aFirst first) (cond c (take place) (refuse OutOfRange))
   by-currency t a true e =
       λ m. elim [ no-start n h ↦ h | type-three n h ↦ omega arith | above-max n h ↦ omega arith | not-digits n h ↦ h (currency (first .currency) .0 e) ]
-  by-currency t a false e = (
-    not-digits refl (λ c. never (sym e ∙ currency (first .currency) .1 c)),
-    λ m l. elim [ no-start n h ↦ h | type-three n h ↦ omega (arith, ap rank n) | above-max n h ↦ omega (arith, ap rank n) | not-digits n h ↦ omega (arith, ap rank n) ],
-  )
+  by-currency t a false e =
+      (not-digits refl (λ c. never (sym e ∙ currency (first .currency) .1 c)), λ m l row. omega (arith, first-least row .2 (λ none. none) t))
 
   by-amount : first .requested ≤ 2 → (a : Bool) → leb (first .amount .0) max ≡ a
       → Ruled (FirstRow aFirst first) (cond (a && isCurrency (first .currency)) (take place) (refuse OutOfRange))
   by-amount t true e = by-currency t (leb-true _ _ e) (isCurrency (first .currency)) refl
-  by-amount t false e = (
-    above-max refl (leb-false _ _ e),
-    λ m l. elim [ no-start n h ↦ h | type-three n h ↦ omega (arith, ap rank n) | above-max n h ↦ omega (arith, ap rank n) | not-digits n h ↦ omega (arith, ap rank n) ],
-  )
+  by-amount t false e = (above-max refl (leb-false _ _ e), λ m l row. omega (arith, first-least row .2 (λ none. none) t))
 
   by-type : (b : Bool) → ltb 2 (first .requested) ≡ b → Ruled (FirstRow aFirst first)
       (cond b (refuse BadType) (cond (leb (first .amount .0) max && isCurrency (first .currency)) (take place) (refuse OutOfRange)))
-  by-type true e = (
-    type-three refl (ltb-true _ _ e),
-    λ m l. elim [ no-start n h ↦ h | type-three n h ↦ omega (arith, ap rank n) | above-max n h ↦ omega (arith, ap rank n) | not-digits n h ↦ omega (arith, ap rank n) ],
-  )
+  by-type true e = (type-three refl (ltb-true _ _ e), λ m l row. omega (arith, first-least row .1 (λ none. none)))
   by-type false e = by-amount (ltb-false _ _ e) (leb (first .amount .0) max) refl
 
+-- of Second likewise
+second-least : {due : Due} {second : Second} {m : ℕ} → SecondRow due second m
+    → (2 ≤ rank m) × ((NoArqc due → ⊥) → 5 ≤ rank m) × ((NoArqc due → ⊥) → second .requested ≤ 1 → 6 ≤ rank m)
+second-least (no-arqc n h) = (omega (arith, ap rank n), λ begun. absurd (begun h), λ begun t. absurd (begun h))
+second-least (type-two n h) = (omega (arith, ap rank n), λ begun. omega (arith, ap rank n), λ begun t. omega arith)
+second-least (issuer-data n h) = (omega (arith, ap rank n), λ begun. omega (arith, ap rank n), λ begun t. omega (arith, ap rank n))
+
 second-ruled : (phase : Phase) (second : Second) → Ruled (SecondRow (dueIn phase) second) (ruleSecond phase second)
-second-ruled Idle second = (no-arqc refl tt, λ m l. elim [ no-arqc n h ↦ omega (arith, ap rank n) | type-two n h ↦ omega (arith, ap rank n) | issuer-data n h ↦ omega (arith, ap rank n) ])
-second-ruled (Opened place) second = (no-arqc refl tt, λ m l. elim [ no-arqc n h ↦ omega (arith, ap rank n) | type-two n h ↦ omega (arith, ap rank n) | issuer-data n h ↦ omega (arith, ap rank n) ])
+second-ruled Idle second = (no-arqc refl tt, λ m l row. omega (arith, second-least row .0))
+second-ruled (Opened place) second = (no-arqc refl tt, λ m l row. omega (arith, second-least row .0))
 second-ruled (Asked pending) second = by-type (ltb 1 (second .requested)) refl where
   by-issuer : second .requested ≤ 1 → (b : Bool) → ltb 2 (second .issuer) ≡ b
       → Ruled (SecondRow aSecond second) (cond b (refuse OutOfRange) (take pending))
-  by-issuer t true e =
-      (issuer-data refl (ltb-true _ _ e), λ m l. elim [ no-arqc n h ↦ h | type-two n h ↦ omega (arith, ap rank n) | issuer-data n h ↦ omega (arith, ap rank n) ])
+  by-issuer t true e = (issuer-data refl (ltb-true _ _ e), λ m l row. omega (arith, second-least row .2 (λ none. none) t))
   by-issuer t false e =
       let i = ltb-false 2 (second .issuer) e in
       λ m. elim [ no-arqc n h ↦ h | type-two n h ↦ omega arith | issuer-data n h ↦ omega arith ]
 
   by-type : (b : Bool) → ltb 1 (second .requested) ≡ b
       → Ruled (SecondRow aSecond second) (cond b (refuse BadType) (cond (ltb 2 (second .issuer)) (refuse OutOfRange) (take pending)))
-  by-type true e =
-      (type-two refl (ltb-true _ _ e), λ m l. elim [ no-arqc n h ↦ h | type-two n h ↦ omega (arith, ap rank n) | issuer-data n h ↦ omega (arith, ap rank n) ])
+  by-type true e = (type-two refl (ltb-true _ _ e), λ m l row. omega (arith, second-least row .1 (λ none. none)))
   by-type false e = by-issuer (ltb-false _ _ e) (ltb 2 (second .issuer)) refl
 
 -- ---- what a ruling carries
@@ -200,38 +206,21 @@ numbered-by-state rules state (SecondCommand second) =
 
 -- ---- the profiles of the rules are those of the bytes
 
-module _ (s : List ℕ) (syllabus : ℕ) (fits : Accepted s) where
-  numbered-at : (i : ℕ) → i < 4 → getD (rulesIn s syllabus .profiles) i blankProfile .number ≡ cond (ltb i (byte s 3)) (byte s (52 + 107 * i)) 0
-  unfolding rulesIn profileIn
-  numbered-at i l =
-      ap (λ (p : Profile). p .number) (four-at (λ j. cond (ltb j (byte s 3)) (profileIn s (52 + 107 * j)) blankProfile) blankProfile i l)
-      ∙ by (ltb i (byte s 3)) where
-        by : (b : Bool) → cond b (profileIn s (52 + 107 * i)) blankProfile .number ≡ cond b (byte s (52 + 107 * i)) 0
-        by true = refl
-        by false = refl
+module _ (setup : Setup) (good : AcceptedSetup setup) where
+  pub in-bytes : (number : ℕ) → InRules (rulesBy setup) number → InSetup setup number
+  in-bytes number r =
+      let n = number-in setup good (r .index) number (r .below) (r .some) (r .its) in
+      record { index = r .index; there = n .0; its = n .1 }
 
-  pub in-bytes : (number : ℕ) → InRules (rulesIn s syllabus) number → InSetup s number
-  in-bytes number r = by (ltb (r .index) (byte s 3)) refl where
-    by : (b : Bool) → ltb (r .index) (byte s 3) ≡ b → InSetup s number
-    by true e =
-        record {
-          index = r .index;
-          there = ltb-true _ _ e;
-          its = sym (ap (λ b. cond b (byte s (52 + 107 * r .index)) 0) e) ∙ sym (numbered-at (r .index) (r .below)) ∙ r .its;
-        }
-    by false e =
-        let z : 0 ≡ number = sym (ap (λ b. cond b (byte s (52 + 107 * r .index)) 0) e) ∙ sym (numbered-at (r .index) (r .below)) ∙ r .its in
-        absurd (omega (arith, r .some))
-
-  of-bytes : (number : ℕ) → InSetup s number → InRules (rulesIn s syllabus) number
+  of-bytes : (number : ℕ) → InSetup setup number → InRules (rulesBy setup) number
   of-bytes number i =
-      let below : i .index < 4 = omega (arith, i .there, fits .profiles-most) in
+      let below : i .index < 4 = omega (arith, i .there, fits good .profiles-most) in
       let its = i .its in
       record {
         index = i .index;
         below = below;
-        some = omega (arith, fits .profiles (i .index) (i .there) .number-least);
-        its = numbered-at (i .index) below ∙ ap (λ b. cond b (byte s (52 + 107 * i .index)) 0) (lt-ltb _ _ (i .there)) ∙ its;
+        some = omega (arith, fits good .profiles (i .index) (i .there) .number-least);
+        its = number-out setup good (i .index) number below (i .there) its;
       }
 
 -- rows over the same profiles
@@ -249,21 +238,20 @@ same-rows P Q to from atc due command n (refused a f) = refused (row P Q atc due
 
 -- THE NUMBER OF EVERY ANSWER, over every list of commands, is the first that applies, 0 where none does: by the profiles in the set-up's bytes,
 -- the ATC and what is due, as the conversation says
-module _ (s : List ℕ) (syllabus : ℕ) (bytes : Bytes s) (good : isSetup s ≡ true) (words : List ℕ) (size : length words ≡ 164) where
-  pub numbered : (commands : List Command) (command : Command)
-      → Numbered (InSetup s) (atcBy s (sat words s syllabus commands .log)) (due (sat words s syllabus commands .log)) command
-      (answerNumber (next words s syllabus commands command .answer))
-  numbered commands command =
-      let fits = accepted s good in
-      let sitting = sat words s syllabus commands in
-      let number : Rules → ℕ = λ rules. answerNumber (stepOf rules (sitting .state) command .answer) in
-      let read = faithful s bytes syllabus words size good in
-      subst (λ atc. Numbered (InSetup s) atc (due (sitting .log)) command (number (rulesOf (wordsAfter words s syllabus))))
-      (atc s syllabus bytes good words size commands)
-      (subst (λ d. Numbered (InSetup s) (sitting .state .atc) d command (number (rulesOf (wordsAfter words s syllabus))))
-      (due-is words s syllabus commands)
-      (subst (λ rules. Numbered (InSetup s) (sitting .state .atc) (dueIn (sitting .state .phase)) command (number rules)) (sym read)
-      (same-rows (InRules (rulesIn s syllabus)) (InSetup s) (in-bytes s syllabus fits) (of-bytes s syllabus fits) _ _ command _ (numbered-by-state (rulesIn s syllabus) (sitting .state) command))))
+pub numbered : (setup : Setup) → AcceptedSetup setup → (commands : List Command) (command : Command)
+    → Numbered (InSetup (inForce setup (sat setup commands .log))) (atcBy setup (sat setup commands .log)) (due (sat setup commands .log)) command
+    (answerNumber (next setup commands command .answer))
+numbered setup good commands command =
+    let sitting = sat setup commands in
+    let now = inForce setup (sitting .log) in
+    let ruled = always-ruled setup good commands in
+    let number = answerNumber (next setup commands command .answer) in
+    subst (λ atc. Numbered (InSetup now) atc (due (sitting .log)) command number) (atc setup good commands)
+    (subst (λ d. Numbered (InSetup now) (sitting .state .atc) d command number) (due-is (rulesBy setup) setup commands)
+    (same-rows (InRules (sitting .rules)) (InSetup now)
+    (λ n i. in-bytes now (ruled .good) n (subst (λ rules. InRules rules n) (ruled .rules-are) i))
+    (λ n i. subst (λ rules. InRules rules n) (sym (ruled .rules-are)) (of-bytes now (ruled .good) n i))
+    _ _ command _ (numbered-by-state (sitting .rules) (sitting .state) command)))
 
 -- A COMMAND THAT IS TAKEN IS ANSWERED IN ITS KIND
 pub in-kind : (rules : Rules) (state : State) (command : Command) → answerNumber (stepOf rules state command .answer) ≡ 0

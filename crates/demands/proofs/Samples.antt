@@ -6,35 +6,32 @@ use mathlib.Core.List.{List, [], _∷_, _++_}
 use Prim.Native.Nat.{ℕ, _*_}
 use lib.Dec.{T, eqb}
 use lib.ListN.{replicate}
-use Rattle.wire.specs.Wire.{number}
-use Rattle.ranges.specs.Ranges.{isSetup, hasLength, isHead, areAccumulators, isAccumulator, areProfiles, isProfileOrAbsent, isProfile, areMasks, isMaximumAmount, areAccumulatorRules, isAccumulatorRule, areCounterRules, areSent, areNumbersApart, profileNumber, areConversions, isConversionOrAbsent, isConversion, conversionPair, arePairsApart}
-use Rattle.rules.specs.Rules.{findProfile}
-use Rattle.setup.specs.Setup.{rateIn, accumulatorIn, counterIn, profileIn, rulesIn, freshIn, readSetup}
-use Rattle.money.specs.Money.{rateFor, rounded, scaled, convertOf}
-use Rattle.meters.specs.Meters.{worth, approved, declined, limited, cleared}
-use Rattle.checks.specs.declared.History.{History}
-use Rattle.checks.specs.Checks.{accumulatorsLower, accumulatorsUpper, countersLower, countersUpper, maximumExceeded, testsOf, decisionBits}
+use Rattle.ranges.specs.Ranges.{isSetup}
+use Rattle.state.specs.declared.History.{History}
 use Rattle.state.specs.declared.Answer.{Answer}
 use Rattle.state.specs.declared.Answer.the-variants.{Refused, Started, Given}
 use Rattle.state.specs.declared.Kind.{Kind}
 use Rattle.state.specs.declared.Kind.the-variants.{Aac, Tc, Arqc}
-use Rattle.cryptogram.specs.Cryptogram.{kindCode, verification, sentIad}
-use Rattle.first.specs.First.{decision, limitsByte, concluded, firstPerformed}
-use Rattle.second.specs.Second.{closed, ordered, unablePerformed, verifiedPerformed, failedPerformed, absentPerformed, secondPerformed}
-use Rattle.card.specs.Card.{freshState, startStep, firstStep, secondStep, stepOf}
+use Rattle.cryptogram.specs.Cryptogram.{kindCode}
 use Rattle.selection.specs.declared.Selection.the-variants.{Selected}
 use Rattle.command.specs.declared.Command.{Command}
 use Rattle.command.specs.declared.Command.the-variants.{Start as StartCommand, First as FirstCommand, Second as SecondCommand}
-use Rattle.demands.specs.Ledger.{Meter, accumulator, counter, owed}
-use Rattle.demands.specs.Conversation.{Exchange, Sitting, run, begin, valueOf}
-use Rattle.demands.specs.Audit.{placeOf, converted, named, spent, spentIn, ledger, audited}
+use Rattle.demands.specs.Setup.{Setup}
+use Rattle.purchase.specs.Meter.{Meter, accumulator, counter, valueOf}
+use Rattle.demands.specs.Conversation.{Exchange, Sitting, sat, next}
+use Rattle.demands.specs.Audit.{audited}
 use Rattle.demands.specs.Past.{past, atcBy}
 use Rattle.demands.specs.Due.{Due, nothing, aFirst, aSecond, due, dueIn}
+use Rattle.demands.proofs.Computed.{computed}
 
 abbrev zeros : ℕ → List ℕ
 zeros n = replicate n 0
 
 -- ---- set-ups
+
+-- of syllabus 0
+abbrev setupOf : List ℕ → Setup
+setupOf body = record { bytes = body; syllabus = 0 }
 
 -- p profiles, c conversions, ATC 0; accumulators in 0978 from a number below 65536, in 0840 from 0, in 0978 from 7
 abbrev head : (p c high low : ℕ) → List ℕ
@@ -51,25 +48,27 @@ profile n switches =
     n ∷ zeros 23 ++ rule switches 0 100 0x13 0x88 ++ rule 3 0 100 0x13 0x88 ++ rule 5 0 8 0 9 ++ zeros 17 ++ 3 ∷ 255 ∷ 255 ∷ zeros 12
 
 -- profile 2 leaves accumulator 1 out; 0978 to 0840 by 2
-unfoldable pub counting : List ℕ
-counting = head 2 1 0 0 ++ profile 1 3 ++ profile 2 0 ++ 0x09 ∷ 0x78 ∷ 0x08 ∷ 0x40 ∷ 0 ∷ 2 ∷ 9 ∷ []
+unfoldable pub counting : Setup
+counting = setupOf (head 2 1 0 0 ++ profile 1 3 ++ profile 2 0 ++ 0x09 ∷ 0x78 ∷ 0x08 ∷ 0x40 ∷ 0 ∷ 2 ∷ 9 ∷ [])
 
 -- Online accumulator 1's lower limit, 1000; Decline MTA, 0 in 0978 and off, and accumulator 1's upper limit, 5000; no conversion
-unfoldable pub limiting : (switches high low : ℕ) → List ℕ
+unfoldable pub limiting : (switches high low : ℕ) → Setup
 limiting switches high low =
-    head 1 0 high low ++ 1 ∷ zeros 3 ++ 0x40 ∷ 0 ∷ 0 ∷ 0x04 ∷ 0x20 ∷ zeros 5 ++ 0x09 ∷ 0x78 ∷ zeros 8 ++ rule switches 0x03 0xE8 0x13 0x88 ++ zeros 66
+    let masks = zeros 3 ++ 0x40 ∷ 0 ∷ 0 ∷ 0x04 ∷ 0x20 ∷ zeros 5 in
+    setupOf (head 1 0 high low ++ 1 ∷ masks ++ 0x09 ∷ 0x78 ∷ zeros 8 ++ rule switches 0x03 0xE8 0x13 0x88 ++ zeros 66)
 
 -- Default accumulator 1's lower limit, 1000, and no other mask; from 2000
-unfoldable pub defaulting : List ℕ
-defaulting = head 1 0 0x07 0xD0 ++ 1 ∷ zeros 11 ++ 0x40 ∷ zeros 11 ++ rule 1 0x03 0xE8 0x13 0x88 ++ zeros 66
+unfoldable pub defaulting : Setup
+defaulting = setupOf (head 1 0 0x07 0xD0 ++ 1 ∷ zeros 11 ++ 0x40 ∷ zeros 11 ++ rule 1 0x03 0xE8 0x13 0x88 ++ zeros 66)
 
 -- Decline accumulator 1's upper limit, MAX, which the purchase is tested with; from MAX
 abbrev most : List ℕ
 most = 0 ∷ 0 ∷ 0 ∷ 0xE8 ∷ 0xD4 ∷ 0xA5 ∷ 0x0F ∷ 0xFF ∷ []
 
-unfoldable pub full : List ℕ
+unfoldable pub full : Setup
 full =
-    1 ∷ 3 ∷ 0 ∷ 1 ∷ 0 ∷ zeros 3 ++ 0x09 ∷ 0x78 ∷ most ++ zeros 34 ++ 1 ∷ zeros 6 ++ 0x04 ∷ zeros 16 ++ 5 ∷ zeros 8 ++ most ++ zeros 66
+    let masks = zeros 6 ++ 0x04 ∷ zeros 16 in
+    setupOf (1 ∷ 3 ∷ 0 ∷ 1 ∷ 0 ∷ zeros 3 ++ 0x09 ∷ 0x78 ∷ most ++ zeros 34 ++ 1 ∷ masks ++ 5 ∷ zeros 8 ++ most ++ zeros 66)
 
 -- ---- sittings
 
@@ -127,33 +126,28 @@ sameHistory a b =
     && same (a .unable) (b .unable)
     && same (a .missing) (b .missing)
 
-abbrev holds : List ℕ → Sitting → Meter → Bool
-holds s sitting meter = eqb (valueOf (sitting .state .values) meter) (audited s 0 (sitting .log) meter)
+abbrev holds : Setup → Sitting → Meter → Bool
+holds setup sitting meter = eqb (valueOf (sitting .state .values) meter) (audited setup (sitting .log) meter)
 
 -- `total`, `history` and `atc` of a card after a list of commands
-unfoldable pub agrees : List ℕ → List Command → Bool
-agrees s commands =
-    let sitting = run (rulesIn s 0) (begin s) commands in
-    holds s sitting (accumulator 0) && holds s sitting (accumulator 1) && holds s sitting (accumulator 2) && holds s sitting (counter 0)
-    && sameHistory (sitting .state .history) (past s (sitting .log))
-    && eqb (sitting .state .atc) (atcBy s (sitting .log))
+unfoldable pub agrees : Setup → List Command → Bool
+agrees setup commands =
+    let sitting = sat setup commands in
+    holds setup sitting (accumulator 0) && holds setup sitting (accumulator 1) && holds setup sitting (accumulator 2)
+    && holds setup sitting (counter 0)
+    && sameHistory (sitting .state .history) (past setup (sitting .log))
+    && eqb (sitting .state .atc) (atcBy setup (sitting .log))
 
 -- `due-is`: what the card's phase says is due, and what the conversation says
-abbrev sameDue : Due → Due → Bool
-sameDue nothing nothing = true
-sameDue nothing aFirst = false
-sameDue nothing aSecond = false
-sameDue aFirst nothing = false
-sameDue aFirst aFirst = true
-sameDue aFirst aSecond = false
-sameDue aSecond nothing = false
-sameDue aSecond aFirst = false
-sameDue aSecond aSecond = true
+abbrev dueCode : Due → ℕ
+dueCode nothing = 0
+dueCode aFirst = 1
+dueCode aSecond = 2
 
 unfoldable pub duly : List Command → Bool
 duly commands =
-    let sitting = run (rulesIn counting 0) (begin counting) commands in
-    sameDue (dueIn (sitting .state .phase)) (due (sitting .log))
+    let sitting = sat counting commands in
+    eqb (dueCode (dueIn (sitting .state .phase))) (dueCode (due (sitting .log)))
 
 -- `in-kind`: Start starts, First and Second give
 abbrev isInKind : Command → Answer → Bool
@@ -170,7 +164,7 @@ areInKind [] = true
 areInKind (exchange ∷ older) = isInKind (exchange .command) (exchange .answer) && areInKind older
 
 unfoldable pub kindly : List Command → Bool
-kindly commands = areInKind (run (rulesIn counting 0) (begin counting) commands .log)
+kindly commands = areInKind (sat counting commands .log)
 
 abbrev isOf : Answer → Kind → Bool
 isOf (Refused refusal) kind = false
@@ -178,16 +172,19 @@ isOf (Started atc visits) kind = false
 isOf (Given given atc iad) kind = eqb (kindCode given) (kindCode kind)
 
 -- what First answers, requested a TC of 1 in a currency
-unfoldable pub answersTo : List ℕ → (currency : ℕ) → Kind → Bool
-answersTo s currency kind =
-    isOf (stepOf (rulesIn s 0) (run (rulesIn s 0) (begin s) (start 1 ∷ []) .state) (first 1 currency 1) .answer) kind
+unfoldable pub answersTo : Setup → (currency : ℕ) → Kind → Bool
+answersTo setup currency kind = isOf (next setup (start 1 ∷ []) (first 1 currency 1) .answer) kind
 
 -- with accumulator 1 by its switches from a number
 abbrev answers : (switches high low currency : ℕ) → Kind → Bool
 answers switches high low currency kind = answersTo (limiting switches high low) currency kind
 
+abbrev areSetups : List Setup → Bool
+areSetups [] = true
+areSetups (setup ∷ setups) = isSetup (setup .bytes) && areSetups setups
+
 pub record Samples : Type 0 where
-  pub accepted : T (isSetup counting && isSetup (limiting 1 0x07 0xD0) && isSetup (limiting 1 0x17 0x70) && isSetup (limiting 5 0x17 0x70) && isSetup defaulting && isSetup full)
+  pub accepted : T (areSetups (counting ∷ limiting 1 0x07 0xD0 ∷ limiting 1 0x17 0x70 ∷ limiting 5 0x17 0x70 ∷ defaulting ∷ full ∷ []))
   pub approvals-agree : T (agrees counting approvals)
   pub limits-agree : T (agrees counting limits)
   pub resets-agree : T (agrees counting resets)
@@ -214,7 +211,7 @@ pub record Samples : Type 0 where
   pub sum-unstopped : T (answersTo full 0x0978 Aac)
 
 pub samples : Samples
-unfolding counting limiting defaulting full approvals limits resets answered online agrees duly kindly answersTo due run freshState readSetup freshIn isSetup hasLength isHead areAccumulators isAccumulator number areProfiles isProfileOrAbsent isProfile areMasks isMaximumAmount areAccumulatorRules isAccumulatorRule areCounterRules areSent areNumbersApart profileNumber areConversions isConversionOrAbsent isConversion conversionPair arePairsApart rulesIn rateIn profileIn accumulatorIn counterIn stepOf startStep firstStep secondStep findProfile firstPerformed decision limitsByte concluded testsOf decisionBits accumulatorsLower accumulatorsUpper countersLower countersUpper maximumExceeded worth convertOf rateFor rounded scaled approved declined limited cleared verification sentIad secondPerformed unablePerformed verifiedPerformed failedPerformed absentPerformed closed ordered placeOf converted named spent spentIn ledger owed past atcBy
+unfolding counting limiting defaulting full approvals limits resets answered online agrees duly kindly answersTo computed
 samples =
     record {
       accepted = tt;

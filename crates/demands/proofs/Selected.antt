@@ -5,12 +5,9 @@ use mathlib.Core.List.{List}
 use Prim.Native.Nat.{ℕ, _+_, _≤_}
 use native.Mathlib.Omega.{arith}
 use lib.Dec.{eqb}
-use lib.ListN.{length}
 use Rattle.rules.specs.declared.Found.{Found}
 use Rattle.rules.specs.declared.Found.the-variants.{At, Nothing}
 use Rattle.rules.specs.Rules.{Rules, findProfile}
-use Rattle.ranges.specs.Ranges.{isSetup}
-use Rattle.setup.proofs.Faithful.{Bytes}
 use Rattle.selection.specs.declared.Selection.{Selection}
 use Rattle.selection.specs.declared.Selection.the-variants.{Selected, NotSelected}
 use Rattle.selection.specs.Selection.{selectionOf, profileOf, visitsOf}
@@ -23,9 +20,12 @@ use Rattle.state.specs.declared.Kind.{Kind}
 use Rattle.state.specs.declared.State.{State}
 use Rattle.iad.specs.declared.Iad.{Iad}
 use Rattle.card.specs.Card.{refuse, take, ruleStart, ruleOpening, carried, startPerformed, startStep, stepOf}
-use Rattle.demands.specs.Ledger.{Meter, IsMeter, owed}
-use Rattle.demands.specs.Conversation.{sat, next, valueOf}
-use Rattle.demands.specs.Audit.{capOf, startOf, placeOf, named, approves, upperOf, ledger, audited}
+use Rattle.state.specs.declared.Outcome.{Outcome}
+use Rattle.demands.specs.Setup.{Setup, AcceptedSetup}
+use Rattle.purchase.specs.Meter.{Meter, IsMeter, valueOf}
+use Rattle.demands.specs.Ledger.{owed}
+use Rattle.demands.specs.Conversation.{Sitting, outcomeOf, sat}
+use Rattle.demands.specs.Audit.{capOf, startOf, approves, upperOf, brought, inForce, placeBy, ledger, audited}
 use Rattle.demands.specs.Guards.{Guards}
 use Rattle.demands.specs.Past.{past}
 use Rattle.demands.specs.Decision.{flags, FirstAnswers}
@@ -60,7 +60,8 @@ module _ (file : List ℕ) (entries : ℕ) where
   unfolding stepOf startStep visitsIn isStart
   start-selected rules state terminal atc visits = by (selectionOf file entries terminal) where
     opened : (profile seen : ℕ) (found : Found) (b : Bool) → eqb (state .atc) 65535 ≡ b
-        → carried state (startPerformed state seen) (ruleOpening (state .atc) found) .answer ≡ Started atc visits → Selected profile seen ≡ Selected profile visits
+        → carried state (startPerformed state seen) (ruleOpening (state .atc) found) .answer ≡ Started atc visits
+        → Selected profile seen ≡ Selected profile visits
     opened profile seen Nothing b h e = let z = ap isStart e in absurd (omega arith)
     opened profile seen (At place) true h e = let z = ap isStart (rw h at e) in absurd (omega arith)
     opened profile seen (At place) false h e = ap (Selected profile) (ap visitsIn (rw h at e))
@@ -70,30 +71,32 @@ module _ (file : List ℕ) (entries : ℕ) where
     by NotSelected e = let z = ap isStart e in absurd (omega arith)
     by (Selected profile seen) e = opened profile seen (findProfile rules profile) (eqb (state .atc) 65535) refl e
 
-  module _ (s : List ℕ) (bytes : Bytes s) (good : isSetup s ≡ true) (syllabus : ℕ) (words : List ℕ) (size : length words ≡ 164) (said : List Said) where
+  module _ (setup : Setup) (good : AcceptedSetup setup) (said : List Said) where
+    -- the conversation so far, and what one thing more that is said comes to
+    abbrev pub sat-so-far : Sitting
+    sat-so-far = sat setup (allHeard file entries said)
+
+    abbrev pub next-heard : Said → Outcome
+    next-heard now = outcomeOf sat-so-far (heard file entries now)
+
     -- DEMAND 3, THE TOTAL, WITH PROFILES SELECTED
     pub selected-total : (meter : Meter) → IsMeter meter
-        → valueOf (sat words s syllabus (allHeard file entries said) .state .values) meter
-        ≡ owed (capOf meter) (startOf s meter) (ledger s syllabus meter (sat words s syllabus (allHeard file entries said) .log))
-    selected-total = total s syllabus bytes good words size (allHeard file entries said)
+        → valueOf (sat-so-far .state .values) meter ≡ owed (capOf meter) (startOf setup meter) (ledger setup meter (sat-so-far .log))
+    selected-total = total setup good (allHeard file entries said)
 
     -- DEMAND 3, THE UPPER LIMIT, for the profile that selection opened
     pub selected-limit : (now : Said) (meter : Meter) → IsMeter meter
-        → Guards s (placeOf s (named (sat words s syllabus (allHeard file entries said) .log))) meter
-        → approves (heard file entries now) (next words s syllabus (allHeard file entries said) (heard file entries now) .answer) ≡ true
-        → valueOf (next words s syllabus (allHeard file entries said) (heard file entries now) .state .values) meter
-        ≤ upperOf s (placeOf s (named (sat words s syllabus (allHeard file entries said) .log))) meter
-    selected-limit now = limit s syllabus bytes good words size (allHeard file entries said) (heard file entries now)
+        → Guards (inForce setup (sat-so-far .log)) (placeBy setup (sat-so-far .log)) meter
+        → approves (heard file entries now) (next-heard now .answer) ≡ true
+        → valueOf (next-heard now .state .values) meter ≤ upperOf (inForce setup (sat-so-far .log)) (placeBy setup (sat-so-far .log)) meter
+    selected-limit now = limit setup good (allHeard file entries said) (heard file entries now)
 
     -- DEMAND 2: WHAT FIRST AND SECOND ANSWER
-    pub selected-first : (f : First) (kind : Kind) (atc : ℕ) (iad : Iad)
-        → next words s syllabus (allHeard file entries said) (heard file entries (first f)) .answer ≡ Given kind atc iad
-        → FirstAnswers s (placeOf s (named (sat words s syllabus (allHeard file entries said) .log))) f
-        (flags s syllabus (placeOf s (named (sat words s syllabus (allHeard file entries said) .log))) (f .amount .0) (f .currency)
-        (audited s syllabus (sat words s syllabus (allHeard file entries said) .log)) (past s (sat words s syllabus (allHeard file entries said) .log))) kind
-    selected-first = first-answers s syllabus bytes good words size (allHeard file entries said)
+    pub selected-first : (f : First) (kind : Kind) (atc : ℕ) (iad : Iad) → next-heard (first f) .answer ≡ Given kind atc iad
+        → FirstAnswers (inForce setup (sat-so-far .log)) (placeBy setup (sat-so-far .log)) f
+        (flags (inForce setup (sat-so-far .log)) (placeBy setup (sat-so-far .log)) (brought f) (audited setup (sat-so-far .log))
+        (past setup (sat-so-far .log))) kind
+    selected-first = first-answers setup good (allHeard file entries said)
 
-    pub selected-gives : (now : Said)
-        → Gives s syllabus (sat words s syllabus (allHeard file entries said) .log) (heard file entries now)
-        (next words s syllabus (allHeard file entries said) (heard file entries now))
-    selected-gives now = gives s syllabus bytes good words size (allHeard file entries said) (heard file entries now)
+    pub selected-gives : (now : Said) → Gives setup (sat-so-far .log) (heard file entries now) (next-heard now)
+    selected-gives now = gives setup good (allHeard file entries said) (heard file entries now)

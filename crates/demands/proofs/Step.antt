@@ -27,7 +27,8 @@ use Rattle.state.specs.declared.State.{State}
 use Rattle.state.specs.declared.Outcome.{Outcome}
 use Rattle.first.specs.First.{firstPerformed}
 use Rattle.second.specs.Second.{secondPerformed}
-use Rattle.card.specs.Card.{refuse, take, ruleStart, ruleOpening, ruleFirst, ruleSecond, carried, refused, startPerformed, startStep, firstStep, secondStep, stepOf}
+use Rattle.card.specs.Card.{refuse, take, ruleStart, ruleOpening, ruleFirst, ruleSecond, carried, refused, startPerformed, startStep, firstStep}
+use Rattle.card.specs.Card.{secondStep, stepOf}
 use Rattle.demands.proofs.Found.{Holds, Known, known}
 
 pub data Did (rules : Rules) (state : State) : Command → Outcome → Type 0 where
@@ -53,7 +54,8 @@ module _ (rules : Rules) (state : State) where
       → Did rules state (StartCommand start) (carried state (startPerformed state (visitsOf chosen)) (ruleStart rules (state .atc) chosen))
   start-did start None is = refused-it NotSelected
   start-did start (Selected profile visits) is =
-      subst (λ c. Did rules state (StartCommand start) (carried state (startPerformed state (visitsOf c)) (ruleOpening (state .atc) (findProfile rules (profileOf c))))) is
+      subst (λ c. Did rules state (StartCommand start)
+      (carried state (startPerformed state (visitsOf c)) (ruleOpening (state .atc) (findProfile rules (profileOf c))))) is
       (opening-did start (findProfile rules (profileOf (start .chosen))) (known rules (profileOf (start .chosen))))
 
   first-did : (first : First) (phase : Phase) → state .phase ≡ phase

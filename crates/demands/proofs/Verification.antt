@@ -1,36 +1,32 @@
 -- The CVR's bits and the IAD's fields are those that document 01 names. Assumes nothing.
 use mathlib.Core.Path.{_≡_, refl, sym, ap, _∙_, subst}
-use mathlib.Core.Bool.{Bool, true, false}
-use mathlib.Core.List.{List}
+use mathlib.Core.Bool.{Bool, true, false, and-true, and-false}
 use Prim.Native.Nat.{ℕ, zero, suc, _+_, _*_, _≤_, _<_}
 use native.Mathlib.Omega.{arith}
 use lib.Dec.{eqb}
-use Rattle.wire.specs.Wire.{byte, number}
 use Rattle.money.specs.Money.{max}
 use Rattle.iad.specs.declared.Cvr.{Cvr}
 use Rattle.rules.specs.declared.Place.{Place}
 use Rattle.rules.specs.declared.Values.{Values}
-use Rattle.rules.specs.Rules.{Rules, Profile, accumulatorRule, counterRule, indexOf}
-use Rattle.ranges.proofs.Accepted.{Accepted}
+use Rattle.rules.specs.Rules.{Rules, Profile, indexOf}
 use Rattle.setup.specs.Setup.{profileIn, rulesIn}
-use Rattle.meters.specs.declared.Purchase.{Purchase}
-use Rattle.checks.specs.declared.History.{History}
-use Rattle.checks.specs.Checks.{bit, any, accumulatorExceeds, counterExceeds, accumulatorsLower, accumulatorsUpper, countersLower, countersUpper, testsOf}
-use Rattle.checks.proofs.Bits.{any-lower, any-upper}
+use Rattle.purchase.specs.declared.Purchase.{Purchase}
+use Rattle.state.specs.declared.History.{History}
+use Rattle.checks.specs.Checks.{bit, decisionBits, accumulatorsLowerGroup, accumulatorsUpperGroup, countersLowerGroup, countersUpperGroup}
 use Rattle.cryptogram.specs.declared.Issuer.{Issuer}
 use Rattle.state.specs.declared.Kind.{Kind}
 use Rattle.state.specs.declared.Kind.the-variants.{Aac, Tc, Arqc}
 use Rattle.cryptogram.specs.declared.Later.{Later}
-use Rattle.cryptogram.specs.Cryptogram.{kindCode, laterCode, verification, sentIad}
+use Rattle.cryptogram.specs.Cryptogram.{kindCode, laterCode, limitsByte, verification, sentIad}
 use Rattle.cryptogram.specs.Cryptogram.{sentOf as cardSent}
-use Rattle.first.specs.First.{limitsByte}
-use Rattle.demands.specs.Ledger.{Meter, accumulator, counter, IsMeter}
-use Rattle.demands.specs.Conversation.{valueOf}
-use Rattle.demands.specs.Decision.{aboveLower, aboveUpper}
+use Rattle.demands.specs.Setup.{Setup, byteAt, AcceptedSetup}
+use Rattle.purchase.specs.Meter.{Meter, accumulator, counter, IsMeter, valueOf}
+use Rattle.demands.specs.Conversation.{rulesBy}
+use Rattle.demands.specs.Decision.{aboveLower, aboveUpper, flags, meets}
 use Rattle.demands.specs.Verification.{anyOf, Verifies, sentOf, Sends}
 use Rattle.demands.specs.Audit.{placeOf}
-use Rattle.demands.proofs.Bytes.{Stands, profile-is, number-there}
-use Rattle.demands.proofs.Decision.{accumulators-lower, accumulators-upper, counters-lower, counters-upper}
+use Rattle.demands.proofs.Bytes.{fits, Stands, profile-is, number-there}
+use Rattle.demands.proofs.Decision.{met-is}
 
 bit-small : (b : Bool) → bit b < 2
 bit-small true = omega arith
@@ -45,60 +41,65 @@ kind-small Arqc = omega arith
 abbrev pub limitsOf : (countersLower countersUpper accumulatorsLower accumulatorsUpper : Bool) → ℕ
 limitsOf a b c d = bit a * 128 + bit b * 64 + bit c * 32 + bit d * 16
 
-limits-same : {a b c d a' b' c' d' : Bool} → a ≡ a' → b ≡ b' → c ≡ c' → d ≡ d' → limitsOf a b c d ≡ limitsOf a' b' c' d'
-limits-same p q r t = λ i. limitsOf (p i) (q i) (r i) (t i)
-
-module _ (s : List ℕ) (syllabus : ℕ) (fits : Accepted s) (place : Place) (at : ℕ) (stands : Stands s place at) (values : Values) (purchase : Purchase)
+module _ (setup : Setup) (good : AcceptedSetup setup) (place : Place) (at : ℕ) (stands : Stands setup place at) (values : Values) (purchase : Purchase)
     (small : purchase .amount .0 ≤ max) where
   abbrev rules : Rules
-  rules = rulesIn s syllabus
+  rules = rulesBy setup
 
   abbrev lower : Meter → Bool
-  lower = aboveLower s syllabus at (purchase .amount .0) (purchase .currency) (valueOf values)
+  lower = aboveLower setup at purchase (valueOf values)
 
   abbrev upper : Meter → Bool
-  upper = aboveUpper s syllabus at (purchase .amount .0) (purchase .currency) (valueOf values)
+  upper = aboveUpper setup at purchase (valueOf values)
 
-  causes : limitsByte (testsOf rules place values purchase)
-      ≡ limitsOf (any (countersLower rules place values)) (any (countersUpper rules place values))
-      (any (accumulatorsLower rules place values purchase)) (any (accumulatorsUpper rules place values purchase))
-  unfolding limitsByte testsOf accumulatorsLower accumulatorsUpper countersLower countersUpper
-  causes =
-      let cl : ℕ → Bool = λ i. counterExceeds rules place values (counterRule rules place i .lower) i in
-      let cu : ℕ → Bool = λ i. counterExceeds rules place values (counterRule rules place i .upper) i in
-      let al : ℕ → Bool = λ i. accumulatorExceeds rules place values purchase (accumulatorRule rules place i .lower .0) i in
-      let au : ℕ → Bool = λ i. accumulatorExceeds rules place values purchase (accumulatorRule rules place i .upper .0) i in
-      sym (limits-same (any-lower cl cu) (any-upper cl cu) (any-lower al au) (any-upper al au))
+  -- a group of the decision bits is met where one of its four flags is set
+  module _ (history : History) where
+    abbrev met : ℕ → Bool
+    met mask = meets (flags setup at purchase (valueOf values) history) mask
 
-  pub limits-are : limitsByte (testsOf rules place values purchase)
-      ≡ limitsOf (anyOf counter lower) (anyOf counter upper) (anyOf accumulator lower) (anyOf accumulator upper)
-  limits-are =
-      causes
-      ∙ simp (
-        counters-lower s syllabus fits place at stands values purchase small,
-        counters-upper s syllabus fits place at stands values purchase small,
-        accumulators-lower s syllabus fits place at stands values purchase small,
-        accumulators-upper s syllabus fits place at stands values purchase small,
-      )
+    counters-lower : met countersLowerGroup ≡ anyOf counter lower
+    unfolding flags
+    counters-lower = simp (and-true, and-false)
+
+    counters-upper : met countersUpperGroup ≡ anyOf counter upper
+    unfolding flags
+    counters-upper = simp (and-true, and-false)
+
+    accumulators-lower : met accumulatorsLowerGroup ≡ anyOf accumulator lower
+    unfolding flags
+    accumulators-lower = simp (and-true, and-false)
+
+    accumulators-upper : met accumulatorsUpperGroup ≡ anyOf accumulator upper
+    unfolding flags
+    accumulators-upper = simp (and-true, and-false)
+
+    pub limits-are : limitsByte (decisionBits rules place values purchase history)
+        ≡ limitsOf (anyOf counter lower) (anyOf counter upper) (anyOf accumulator lower) (anyOf accumulator upper)
+    unfolding limitsByte
+    limits-are =
+        let is = met-is setup good place at stands values purchase small history in
+        λ i. limitsOf ((is countersLowerGroup ∙ counters-lower) i) ((is countersUpperGroup ∙ counters-upper) i)
+        ((is accumulatorsLowerGroup ∙ accumulators-lower) i) ((is accumulatorsUpperGroup ∙ accumulators-upper) i)
 
 -- a CVR whose byte 3 has its four causes
-module _ (s : List ℕ) (syllabus profile amount currency : ℕ) (value : Meter → ℕ) (history : History) where
+module _ (setup : Setup) (profile : ℕ) (purchase : Purchase) (value : Meter → ℕ) (history : History) where
   abbrev below : Meter → Bool
-  below = aboveLower s syllabus profile amount currency value
+  below = aboveLower setup profile purchase value
 
   abbrev over : Meter → Bool
-  over = aboveUpper s syllabus profile amount currency value
+  over = aboveUpper setup profile purchase value
 
   pub verifies : (limits : ℕ) → limits ≡ limitsOf (anyOf counter below) (anyOf counter over) (anyOf accumulator below) (anyOf accumulator over)
       → (first : Kind) (later : Later) (issuer : Issuer)
-      → Verifies s syllabus profile amount currency value history (laterCode later) (kindCode first)
-      (record { unperformed = issuer .unperformed; failed = issuer .failed; unable = issuer .unable }) (verification (rulesIn s syllabus) history limits first later issuer)
+      → Verifies setup profile purchase value history (laterCode later) (kindCode first)
+      (record { unperformed = issuer .unperformed; failed = issuer .failed; unable = issuer .unable })
+      (verification (rulesBy setup) history limits first later issuer)
   unfolding verification rulesIn
   verifies limits is first later issuer =
       let a = bit-small (issuer .unperformed) in
       let b = bit-small (issuer .failed) in
       let k = kind-small first in
-      let c = bit-small (eqb (byte s 1) 0) in
+      let c = bit-small (eqb (byteAt setup 1) 0) in
       let d = bit-small (history .uncompleted) in
       let e = bit-small (history .online) in
       let f = bit-small (issuer .unable) in
@@ -127,74 +128,71 @@ module _ (s : List ℕ) (syllabus profile amount currency : ℕ) (value : Meter 
         byte5-all = refl;
       }
 
+-- a CVR shows of the rules the PIN's digit alone
+pub same-cvr : (a b : Rules) → a .pin ≡ b .pin → (history : History) (limits : ℕ) (first : Kind) (later : Later) (issuer : Issuer)
+    → verification a history limits first later issuer ≡ verification b history limits first later issuer
+unfolding verification
+same-cvr a b e history limits first later issuer = rw e
+
 -- ---- what is sent
 
-sent-amount : (values : Values) (n : ℕ) → n ≤ 4 → cardSent (values .accumulators) (record { 0 = 0 }) n .0 ≡ sentOf (valueOf values) accumulator n
-sent-amount values zero l = refl
-sent-amount values (suc zero) l = refl
-sent-amount values (suc (suc zero)) l = refl
-sent-amount values (suc (suc (suc zero))) l = refl
-sent-amount values (suc (suc (suc (suc zero)))) l = refl
-sent-amount values (suc (suc (suc (suc (suc n))))) l = absurd (omega arith)
+module _ (values : Values) (value : Meter → ℕ) (same : (meter : Meter) → IsMeter meter → valueOf values meter ≡ value meter) where
+  sent-amount : (n : ℕ) → n ≤ 4 → cardSent (values .accumulators) (record { 0 = 0 }) n .0 ≡ sentOf value accumulator n
+  sent-amount zero l = refl
+  sent-amount (suc zero) l = same (accumulator 0) (omega arith)
+  sent-amount (suc (suc zero)) l = same (accumulator 1) (omega arith)
+  sent-amount (suc (suc (suc zero))) l = same (accumulator 2) (omega arith)
+  sent-amount (suc (suc (suc (suc zero)))) l = same (accumulator 3) (omega arith)
+  sent-amount (suc (suc (suc (suc (suc n))))) l = absurd (omega arith)
 
-sent-count : (values : Values) (n : ℕ) → n ≤ 4 → cardSent (values .counters) 0 n ≡ sentOf (valueOf values) counter n
-sent-count values zero l = refl
-sent-count values (suc zero) l = refl
-sent-count values (suc (suc zero)) l = refl
-sent-count values (suc (suc (suc zero))) l = refl
-sent-count values (suc (suc (suc (suc zero)))) l = refl
-sent-count values (suc (suc (suc (suc (suc n))))) l = absurd (omega arith)
+  sent-count : (n : ℕ) → n ≤ 4 → cardSent (values .counters) 0 n ≡ sentOf value counter n
+  sent-count zero l = refl
+  sent-count (suc zero) l = same (counter 0) (omega arith)
+  sent-count (suc (suc zero)) l = same (counter 1) (omega arith)
+  sent-count (suc (suc (suc zero))) l = same (counter 2) (omega arith)
+  sent-count (suc (suc (suc (suc zero)))) l = same (counter 3) (omega arith)
+  sent-count (suc (suc (suc (suc (suc n))))) l = absurd (omega arith)
 
-module _ (s : List ℕ) (syllabus : ℕ) (fits : Accepted s) (place : Place) (at : ℕ) (stands : Stands s place at) (values : Values) (cvr : Cvr) where
-  pub sends : Sends s at (byte s at) (valueOf values) (sentIad (rulesIn s syllabus) place values cvr)
+module _ (setup : Setup) (good : AcceptedSetup setup) (wanted : ℕ) (place : Place) (stands : Stands setup place (placeOf setup wanted)) where
+  abbrev profile-at : ℕ
+  profile-at = placeOf setup wanted
+
+  -- a number of what is sent is 0 to 4
+  few : (k : ℕ) → byteAt setup (52 + 107 * indexOf place + k) ≤ 4 → byteAt setup (profile-at + k) ≤ 4
+  few k l = subst (λ a. byteAt setup (a + k) ≤ 4) (sym (stands .offset)) l
+
+  -- what is sent of the values that the auditor finds
+  pub sends-audited : (values : Values) (cvr : Cvr) (value : Meter → ℕ) → ((meter : Meter) → IsMeter meter → valueOf values meter ≡ value meter)
+      → Sends setup profile-at wanted value (sentIad (rulesBy setup) place values cvr)
   unfolding sentIad rulesIn profileIn
-  sends =
-      let ranges = fits .profiles (indexOf place) (stands .there) in
-      let profile = profile-is s syllabus place at stands in
-      let few : (k : ℕ) → byte s (52 + 107 * indexOf place + k) ≤ 4 → byte s (at + k) ≤ 4 = λ k l. subst (λ a. byte s (a + k) ≤ 4) (sym (stands .offset)) l in
+  sends-audited values cvr value same =
+      let ranges = fits good .profiles (indexOf place) (stands .there) in
+      let profile = profile-is setup place profile-at stands in
+      let count : ℕ → ℕ = cardSent (values .counters) 0 in
       record {
         key = refl;
-        profile-number = ap (λ (p : Profile). p .number) profile;
+        profile-number = ap (λ (p : Profile). p .number) profile ∙ number-there setup good wanted place stands;
         accumulator-sent =
             ap (λ (p : Profile). cardSent (values .accumulators) (record { 0 = 0 }) (p .sent .accumulator) .0) profile
-            ∙ sent-amount values (byte s (at + 104)) (few 104 (ranges .accumulator-sent));
-        first-sent = ap (λ (p : Profile). cardSent (values .counters) 0 (p .sent .first)) profile ∙ sent-count values (byte s (at + 105)) (few 105 (ranges .first-sent));
-        second-sent = ap (λ (p : Profile). cardSent (values .counters) 0 (p .sent .second)) profile ∙ sent-count values (byte s (at + 106)) (few 106 (ranges .second-sent));
-      }
-
--- what is sent of values that are equal
-sent-same : (f g : Meter → ℕ) → ((meter : Meter) → IsMeter meter → f meter ≡ g meter) → (n : ℕ) → n ≤ 4
-    → (sentOf f accumulator n ≡ sentOf g accumulator n) × (sentOf f counter n ≡ sentOf g counter n)
-sent-same f g h zero l = (refl, refl)
-sent-same f g h (suc i) l = (h (accumulator i) (omega arith), h (counter i) (omega arith))
-
-module _ (s : List ℕ) (syllabus : ℕ) (fits : Accepted s) (wanted : ℕ) (place : Place) (stands : Stands s place (placeOf s wanted)) (values : Values) (cvr : Cvr) where
-  -- of the values that the auditor finds
-  pub sends-audited : (value : Meter → ℕ) → ((meter : Meter) → IsMeter meter → valueOf values meter ≡ value meter)
-      → Sends s (placeOf s wanted) wanted value (sentIad (rulesIn s syllabus) place values cvr)
-  sends-audited value same =
-      let at = placeOf s wanted in
-      let sent = sends s syllabus fits place at stands values cvr in
-      let ranges = fits .profiles (indexOf place) (stands .there) in
-      let few : (k : ℕ) → byte s (52 + 107 * indexOf place + k) ≤ 4 → byte s (at + k) ≤ 4 = λ k l. subst (λ a. byte s (a + k) ≤ 4) (sym (stands .offset)) l in
-      record {
-        key = sent .key;
-        profile-number = sent .profile-number ∙ number-there s fits wanted place stands;
-        accumulator-sent = sent .accumulator-sent ∙ sent-same (valueOf values) value same (byte s (at + 104)) (few 104 (ranges .accumulator-sent)) .0;
-        first-sent = sent .first-sent ∙ sent-same (valueOf values) value same (byte s (at + 105)) (few 105 (ranges .first-sent)) .1;
-        second-sent = sent .second-sent ∙ sent-same (valueOf values) value same (byte s (at + 106)) (few 106 (ranges .second-sent)) .1;
+            ∙ sent-amount values value same (byteAt setup (profile-at + 104)) (few 104 (ranges .accumulator-sent));
+        first-sent =
+            ap (λ (p : Profile). count (p .sent .first)) profile
+            ∙ sent-count values value same (byteAt setup (profile-at + 105)) (few 105 (ranges .first-sent));
+        second-sent =
+            ap (λ (p : Profile). count (p .sent .second)) profile
+            ∙ sent-count values value same (byteAt setup (profile-at + 106)) (few 106 (ranges .second-sent));
       }
 
 -- CVR byte 3 of the values that the auditor finds
-abbrev pub limitsBy : List ℕ → (syllabus profile amount currency : ℕ) → (Meter → ℕ) → ℕ
-limitsBy s syllabus profile amount currency value =
-    limitsOf (anyOf counter (aboveLower s syllabus profile amount currency value)) (anyOf counter (aboveUpper s syllabus profile amount currency value))
-    (anyOf accumulator (aboveLower s syllabus profile amount currency value))
-    (anyOf accumulator (aboveUpper s syllabus profile amount currency value))
+abbrev pub limitsBy : Setup → (profile : ℕ) → Purchase → (Meter → ℕ) → ℕ
+limitsBy setup profile purchase value =
+    limitsOf (anyOf counter (aboveLower setup profile purchase value)) (anyOf counter (aboveUpper setup profile purchase value))
+    (anyOf accumulator (aboveLower setup profile purchase value))
+    (anyOf accumulator (aboveUpper setup profile purchase value))
 
-pub limits-audited : (s : List ℕ) (syllabus profile amount currency : ℕ) (f g : Meter → ℕ) → ((meter : Meter) → IsMeter meter → f meter ≡ g meter)
-    → limitsBy s syllabus profile amount currency f ≡ limitsBy s syllabus profile amount currency g
-limits-audited s syllabus profile amount currency f g h =
+pub limits-audited : (setup : Setup) (profile : ℕ) (purchase : Purchase) (f g : Meter → ℕ) → ((meter : Meter) → IsMeter meter → f meter ≡ g meter)
+    → limitsBy setup profile purchase f ≡ limitsBy setup profile purchase g
+limits-audited setup profile purchase f g h =
     simp (
       h (accumulator 0) (omega arith),
       h (accumulator 1) (omega arith),

@@ -1,21 +1,22 @@
--- The checks and First's decision as document 01 states them ("Start and the checks", "First: the answer"), from the set-up's bytes, its
--- syllabus, the values and the history; nothing here knows of a card's step or of the rules that it decoded.
+-- The checks and First's decision as document 01 states them ("Start and the checks", "First: the answer"), from the set-up, the
+-- values and the history; nothing here knows of a card's step or of the rules that it decoded.
 use mathlib.Core.Path.{_≡_}
 use Prim.Native.Nat.{ℕ, _+_, _/_, _≤_}
 use mathlib.Core.Bool.{Bool, true, false, _&&_, _||_}
 use mathlib.Core.List.{List, [], _∷_, _++_}
 use lib.Dec.{ltb, eqb}
-use Rattle.wire.specs.Wire.{byte, number}
-use Rattle.checks.specs.declared.History.{History}
+use Rattle.state.specs.declared.History.{History}
 use Rattle.command.specs.declared.First.{First}
+use Rattle.purchase.specs.declared.Purchase.{Purchase}
 use Rattle.state.specs.declared.Kind.{Kind}
 use Rattle.state.specs.declared.Kind.the-variants.{Aac, Tc, Arqc}
-use Rattle.demands.specs.Ledger.{Meter, accumulator, counter}
+use Rattle.demands.specs.Setup.{Setup, byteAt, numberAt}
+use Rattle.purchase.specs.Meter.{Meter, accumulator, counter}
 use Rattle.demands.specs.Audit.{isOn, ruleAt, isActive, isIncluded, upperOf, Conversion, comesTo, over, none, converted, worthTo}
 
-abbrev pub lowerOf : List ℕ → ℕ → Meter → ℕ
-lowerOf s profile (accumulator i) = number s (ruleAt profile (accumulator i) + 1) 8
-lowerOf s profile (counter i) = byte s (ruleAt profile (counter i) + 1)
+abbrev pub lowerOf : Setup → (profile : ℕ) → Meter → ℕ
+lowerOf setup profile (accumulator i) = numberAt setup (ruleAt profile (accumulator i) + 1) 8
+lowerOf setup profile (counter i) = byteAt setup (ruleAt profile (counter i) + 1)
 
 -- a value plus a converted amount exceeds a limit; this sum isn't stopped, and over exceeds every limit
 abbrev pub exceedsWith : (limit value : ℕ) → Conversion → Bool
@@ -25,33 +26,33 @@ exceedsWith limit value none = false
 
 -- one that is active exceeds a limit if its value does, or, with "include this transaction" and an amount that converts, if value plus
 -- converted amount does. A counter likewise, with 1 added.
-abbrev pub exceeds : List ℕ → (syllabus profile amount currency value limit : ℕ) → Meter → Bool
-exceeds s syllabus profile amount currency value limit meter =
-    isActive s profile meter
-    && (ltb limit value || (isIncluded s profile meter && exceedsWith limit value (worthTo s syllabus amount currency meter)))
+abbrev pub exceeds : Setup → (profile : ℕ) → Purchase → (value limit : ℕ) → Meter → Bool
+exceeds setup profile purchase value limit meter =
+    isActive setup profile meter
+    && (ltb limit value || (isIncluded setup profile meter && exceedsWith limit value (worthTo setup purchase meter)))
 
 -- MTA is on (13) and the amount, converted to its currency (14), exceeds it (16); without a conversion it doesn't
-abbrev pub exceedsMta : List ℕ → (syllabus profile amount currency : ℕ) → Bool
-exceedsMta s syllabus profile amount currency =
-    eqb (byte s (profile + 13)) 1 && exceedsWith (number s (profile + 16) 8) 0 (converted s syllabus amount currency (number s (profile + 14) 2))
+abbrev pub exceedsMta : Setup → (profile : ℕ) → Purchase → Bool
+exceedsMta setup profile purchase =
+    eqb (byteAt setup (profile + 13)) 1 && exceedsWith (numberAt setup (profile + 16) 8) 0 (converted setup purchase (numberAt setup (profile + 14) 2))
 
 abbrev pub eachOf : (ℕ → Meter) → (Meter → Bool) → List Bool
 eachOf meter test = test (meter 0) ∷ test (meter 1) ∷ test (meter 2) ∷ test (meter 3) ∷ []
 
-abbrev pub aboveLower : List ℕ → (syllabus profile amount currency : ℕ) → (Meter → ℕ) → Meter → Bool
-aboveLower s syllabus profile amount currency value meter = exceeds s syllabus profile amount currency (value meter) (lowerOf s profile meter) meter
+abbrev pub aboveLower : Setup → (profile : ℕ) → Purchase → (Meter → ℕ) → Meter → Bool
+aboveLower setup profile purchase value meter = exceeds setup profile purchase (value meter) (lowerOf setup profile meter) meter
 
-abbrev pub aboveUpper : List ℕ → (syllabus profile amount currency : ℕ) → (Meter → ℕ) → Meter → Bool
-aboveUpper s syllabus profile amount currency value meter = exceeds s syllabus profile amount currency (value meter) (upperOf s profile meter) meter
+abbrev pub aboveUpper : Setup → (profile : ℕ) → Purchase → (Meter → ℕ) → Meter → Bool
+aboveUpper setup profile purchase value meter = exceeds setup profile purchase (value meter) (upperOf setup profile meter) meter
 
 -- house order, bit 0 upward
-unfoldable pub flags : List ℕ → (syllabus profile amount currency : ℕ) → (Meter → ℕ) → History → List Bool
-flags s syllabus profile amount currency value history =
-    history .uncompleted ∷ history .online ∷ history .failed ∷ history .unable ∷ history .missing ∷ exceedsMta s syllabus profile amount currency
-    ∷ eachOf accumulator (aboveLower s syllabus profile amount currency value)
-    ++ eachOf accumulator (aboveUpper s syllabus profile amount currency value)
-    ++ eachOf counter (aboveLower s syllabus profile amount currency value)
-    ++ eachOf counter (aboveUpper s syllabus profile amount currency value)
+unfoldable pub flags : Setup → (profile : ℕ) → Purchase → (Meter → ℕ) → History → List Bool
+flags setup profile purchase value history =
+    history .uncompleted ∷ history .online ∷ history .failed ∷ history .unable ∷ history .missing ∷ exceedsMta setup profile purchase
+    ∷ eachOf accumulator (aboveLower setup profile purchase value)
+    ++ eachOf accumulator (aboveUpper setup profile purchase value)
+    ++ eachOf counter (aboveLower setup profile purchase value)
+    ++ eachOf counter (aboveUpper setup profile purchase value)
 
 -- some flag that is set has its bit in the mask
 abbrev pub meets : List Bool → ℕ → Bool
@@ -72,7 +73,7 @@ pub data Decides (requested : ℕ) (online decline default offline : Bool) : Kin
   online-approves : requested ≡ 1 → decline ≡ false → offline ≡ false → online ≡ false → Decides requested online decline default offline Tc
 
 -- the table over flags and the masks that stand in the bytes behind the profile's number: Online, Decline, Default
-abbrev pub FirstAnswers : List ℕ → (profile : ℕ) → First → List Bool → Kind → Type 0
-FirstAnswers s profile first fs kind =
-    Decides (first .requested) (meets fs (number s (profile + 1) 4)) (meets fs (number s (profile + 5) 4)) (meets fs (number s (profile + 9) 4))
-    (isOfflineOnly (first .terminal)) kind
+abbrev pub FirstAnswers : Setup → (profile : ℕ) → First → List Bool → Kind → Type 0
+FirstAnswers setup profile first fs kind =
+    Decides (first .requested) (meets fs (numberAt setup (profile + 1) 4)) (meets fs (numberAt setup (profile + 5) 4))
+    (meets fs (numberAt setup (profile + 9) 4)) (isOfflineOnly (first .terminal)) kind

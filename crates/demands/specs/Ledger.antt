@@ -1,6 +1,6 @@
 -- A ledger: what was put into a value and what was added to it, the newest entry first; and what the value must then be
 -- (demand 3: the amount at the last put, else the starting amount, plus all that was added later, the sum stopping at the cap).
-use Prim.Native.Nat.{ℕ, _+_, _<_, min}
+use Prim.Native.Nat.{ℕ, _+_, min}
 use mathlib.Core.List.{List, [], _∷_}
 use Rattle.meters.specs.Meters.{Entry, put, add}
 
@@ -18,12 +18,3 @@ since (add n ∷ older) = n + since older
 
 unfoldable pub owed : (cap start : ℕ) → List Entry → ℕ
 owed cap start ledger = min cap (base start ledger + since ledger)
-
--- accumulator or counter i + 1, of four each
-pub data Meter : Type 0 where
-  accumulator : ℕ → Meter
-  counter : ℕ → Meter
-
-abbrev pub IsMeter : Meter → Type 0
-IsMeter (accumulator i) = i < 4
-IsMeter (counter i) = i < 4

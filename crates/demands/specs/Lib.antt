@@ -1,3 +1,4 @@
+pub mod Setup
 pub mod Rows
 pub mod Ledger
 pub mod Conversation

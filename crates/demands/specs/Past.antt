@@ -5,16 +5,16 @@ use Prim.Native.Nat.{ℕ, _+_, _/_}
 use mathlib.Core.Bool.{Bool, true, false, cond, _&&_}
 use mathlib.Core.List.{List, [], _∷_}
 use lib.Dec.{eqb}
-use Rattle.wire.specs.Wire.{byte, number}
 use Rattle.command.specs.declared.Second.{Second}
 use Rattle.command.specs.declared.Command.{Command}
 use Rattle.command.specs.declared.Command.the-variants.{Start as StartCommand, First as FirstCommand, Second as SecondCommand}
-use Rattle.checks.specs.declared.History.{History}
+use Rattle.state.specs.declared.History.{History}
 use Rattle.state.specs.declared.Answer.{Answer}
 use Rattle.state.specs.declared.Answer.the-variants.{Refused, Started, Given}
 use Rattle.state.specs.declared.Kind.the-variants.{Aac, Tc, Arqc}
+use Rattle.demands.specs.Setup.{Setup, byteAt, numberAt}
 use Rattle.demands.specs.Conversation.{Exchange}
-use Rattle.demands.specs.Audit.{isOn, isAccepted, couldNotGoOnline}
+use Rattle.demands.specs.Audit.{isOn, isAccepted, couldNotGoOnline, inForce}
 
 abbrev pub isArqc : Answer → Bool
 isArqc (Refused refusal) = false
@@ -35,11 +35,11 @@ bySecond (FirstCommand first) answer before after = before
 bySecond (SecondCommand second) answer before after = cond (isAccepted answer) (after second) before
 
 -- bit 0, last online not completed: an ARQC sets it; verified clears it, and so does absent where authentication isn't required
-abbrev pub uncompletedBy : List ℕ → Command → Answer → Bool → Bool
-uncompletedBy s (StartCommand start) answer before = before
-uncompletedBy s (FirstCommand first) answer before = cond (isArqc answer) true before
-uncompletedBy s (SecondCommand second) answer before =
-    cond (isAccepted answer) (byOutcome second before false before (before && eqb (byte s 2) 1)) before
+abbrev pub uncompletedBy : Setup → Command → Answer → Bool → Bool
+uncompletedBy setup (StartCommand start) answer before = before
+uncompletedBy setup (FirstCommand first) answer before = cond (isArqc answer) true before
+uncompletedBy setup (SecondCommand second) answer before =
+    cond (isAccepted answer) (byOutcome second before false before (before && eqb (byteAt setup 2) 1)) before
 
 -- bit 1, go online next: verified makes it CSU byte 2 b4
 abbrev pub onlineBy : Command → Answer → Bool → Bool
@@ -58,14 +58,14 @@ abbrev pub missingBy : Command → Answer → Bool → Bool
 missingBy command answer before = bySecond command answer before (λ second. byOutcome second before false before true)
 
 -- a fresh card's history is clear but for go online next
-unfoldable pub past : List ℕ → List Exchange → History
-past s [] = record { uncompleted = false; online = eqb (byte s 7) 1; failed = false; unable = false; missing = false }
-past s (exchange ∷ older) =
+unfoldable pub past : Setup → List Exchange → History
+past setup [] = record { uncompleted = false; online = eqb (byteAt setup 7) 1; failed = false; unable = false; missing = false }
+past setup (exchange ∷ older) =
     let command = exchange .command in
     let answer = exchange .answer in
-    let before = past s older in
+    let before = past setup older in
     record {
-      uncompleted = uncompletedBy s command answer (before .uncompleted);
+      uncompleted = uncompletedBy (inForce setup older) command answer (before .uncompleted);
       online = onlineBy command answer (before .online);
       failed = failedBy command answer (before .failed);
       unable = unableBy command answer (before .unable);
@@ -78,9 +78,9 @@ isStarted (Started atc visits) = true
 isStarted (Given kind atc iad) = false
 
 -- the set-up's ATC, and 1 for each accepted Start
-unfoldable pub atcBy : List ℕ → List Exchange → ℕ
-atcBy s [] = number s 5 2
-atcBy s (exchange ∷ older) = cond (isStarted (exchange .answer)) (atcBy s older + 1) (atcBy s older)
+unfoldable pub atcBy : Setup → List Exchange → ℕ
+atcBy setup [] = numberAt setup 5 2
+atcBy setup (exchange ∷ older) = cond (isStarted (exchange .answer)) (atcBy setup older + 1) (atcBy setup older)
 
 -- the ATC that an answer says
 abbrev pub Says : Answer → ℕ → Type 0

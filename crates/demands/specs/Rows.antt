@@ -2,11 +2,9 @@
 -- are known, the ATC and what is due.
 use mathlib.Core.Path.{_≡_}
 use mathlib.Core.Bool.{cond}
-use mathlib.Core.List.{List}
 use Prim.Native.Nat.{ℕ, _+_, _*_, _≤_, _<_}
 use lib.Dec.{eqb}
 use lib.ListN.{getD}
-use Rattle.wire.specs.Wire.{byte}
 use Rattle.ranges.proofs.Accepted.{Currency}
 use Rattle.rules.specs.Rules.{Rules, blankProfile}
 use Rattle.selection.specs.declared.Selection.{Selection}
@@ -17,13 +15,14 @@ use Rattle.command.specs.declared.First.{First}
 use Rattle.command.specs.declared.Second.{Second}
 use Rattle.command.specs.declared.Command.{Command}
 use Rattle.command.specs.declared.Command.the-variants.{Start as StartCommand, First as FirstCommand, Second as SecondCommand}
+use Rattle.demands.specs.Setup.{Setup, byteAt}
 use Rattle.demands.specs.Due.{Due, nothing, aFirst, aSecond}
 
 -- a profile of this number is in the set-up: one of its p profiles, each of 107 bytes behind the first 52, has it as its first byte
-pub record InSetup (s : List ℕ) (number : ℕ) : Type 0 where
+pub record InSetup (setup : Setup) (number : ℕ) : Type 0 where
   pub index : ℕ
-  pub there : index < byte s 3
-  pub its : byte s (52 + 107 * index) ≡ number
+  pub there : index < byteAt setup 3
+  pub its : byteAt setup (52 + 107 * index) ≡ number
 
 -- the same of any rules: the numbers are 1 to 124, and 0 stands for a profile that is not there
 pub record InRules (rules : Rules) (number : ℕ) : Type 0 where

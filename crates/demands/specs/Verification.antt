@@ -4,7 +4,6 @@ use Prim.Native.Nat.{ℕ, zero, suc, _+_, _/_, _%_}
 use mathlib.Core.Bool.{Bool, true, false, cond, not, _&&_, _||_}
 use mathlib.Core.List.{List, _∷_}
 use lib.Dec.{eqb}
-use Rattle.wire.specs.Wire.{byte, number}
 use Rattle.iad.specs.declared.Cvr.{Cvr}
 use Rattle.iad.specs.declared.Iad.{Iad}
 use Rattle.selection.specs.declared.Selection.the-variants.{Selected}
@@ -14,14 +13,16 @@ use Rattle.command.specs.declared.First.{First}
 use Rattle.command.specs.declared.Second.{Second}
 use Rattle.command.specs.declared.Command.{Command}
 use Rattle.command.specs.declared.Command.the-variants.{Start as StartCommand, First as FirstCommand, Second as SecondCommand}
-use Rattle.checks.specs.declared.History.{History}
+use Rattle.purchase.specs.declared.Purchase.{Purchase}
+use Rattle.state.specs.declared.History.{History}
 use Rattle.state.specs.declared.Answer.the-variants.{Started, Given}
 use Rattle.state.specs.declared.Outcome.{Outcome}
 use Rattle.state.specs.declared.Kind.{Kind}
 use Rattle.state.specs.declared.Kind.the-variants.{Aac, Tc, Arqc}
-use Rattle.demands.specs.Ledger.{Meter, accumulator, counter}
+use Rattle.demands.specs.Setup.{Setup, byteAt, numberAt}
+use Rattle.purchase.specs.Meter.{Meter, accumulator, counter}
 use Rattle.demands.specs.Conversation.{Exchange}
-use Rattle.demands.specs.Audit.{isOn, placeOf, named, spent, spentIn, audited}
+use Rattle.demands.specs.Audit.{isOn, named, brought, bought, inForce, placeBy, audited}
 use Rattle.demands.specs.Past.{byOutcome, past, atcBy, beforeFirst}
 use Rattle.demands.specs.Rows.{InSetup}
 use Rattle.demands.specs.Decision.{aboveLower, aboveUpper, flags, meets, FirstAnswers}
@@ -50,22 +51,22 @@ pub record Issuing : Type 0 where
   pub failed : Bool
   pub unable : Bool
 
--- the history and the limits are those at First: amount, currency and values
-pub record Verifies (s : List ℕ) (syllabus profile amount currency : ℕ) (value : Meter → ℕ) (history : History) (second first : ℕ) (issuing : Issuing) (cvr : Cvr)
-    : Type 0 where
+-- the history and the limits are those at First: purchase and values
+pub record Verifies (setup : Setup) (profile : ℕ) (purchase : Purchase) (value : Meter → ℕ) (history : History)
+    (second first : ℕ) (issuing : Issuing) (cvr : Cvr) : Type 0 where
   pub byte1-b87 : cvr .byte1 / 64 ≡ second
   pub byte1-b65 : cvr .byte1 / 16 % 4 ≡ first
   pub byte1-b43 : cvr .byte1 / 4 % 4 ≡ 0
   pub byte1-b2 : cvr .byte1 / 2 % 2 ≡ bit (issuing .unperformed)
   pub byte1-b1 : cvr .byte1 % 2 ≡ bit (issuing .failed)
-  pub byte2-high : cvr .byte2 / 16 ≡ byte s 1
+  pub byte2-high : cvr .byte2 / 16 ≡ byteAt setup 1
   pub byte2-b43 : cvr .byte2 / 4 % 4 ≡ 0
-  pub byte2-b2 : cvr .byte2 / 2 % 2 ≡ bit (eqb (byte s 1) 0)
+  pub byte2-b2 : cvr .byte2 / 2 % 2 ≡ bit (eqb (byteAt setup 1) 0)
   pub byte2-b1 : cvr .byte2 % 2 ≡ bit (history .uncompleted)
-  pub byte3-b8 : cvr .byte3 / 128 ≡ bit (anyOf counter (aboveLower s syllabus profile amount currency value))
-  pub byte3-b7 : cvr .byte3 / 64 % 2 ≡ bit (anyOf counter (aboveUpper s syllabus profile amount currency value))
-  pub byte3-b6 : cvr .byte3 / 32 % 2 ≡ bit (anyOf accumulator (aboveLower s syllabus profile amount currency value))
-  pub byte3-b5 : cvr .byte3 / 16 % 2 ≡ bit (anyOf accumulator (aboveUpper s syllabus profile amount currency value))
+  pub byte3-b8 : cvr .byte3 / 128 ≡ bit (anyOf counter (aboveLower setup profile purchase value))
+  pub byte3-b7 : cvr .byte3 / 64 % 2 ≡ bit (anyOf counter (aboveUpper setup profile purchase value))
+  pub byte3-b6 : cvr .byte3 / 32 % 2 ≡ bit (anyOf accumulator (aboveLower setup profile purchase value))
+  pub byte3-b5 : cvr .byte3 / 16 % 2 ≡ bit (anyOf accumulator (aboveUpper setup profile purchase value))
   pub byte3-low : cvr .byte3 % 16 ≡ 0
   pub byte4-high : cvr .byte4 / 4 ≡ 0
   pub byte4-b2 : cvr .byte4 / 2 % 2 ≡ bit (history .online)
@@ -82,21 +83,21 @@ sentOf value meter zero = 0
 sentOf value meter (suc i) = value (meter i)
 
 -- key index, accumulator sent (104), the two counters sent (105, 106), profile; values are those after the step
-pub record Sends (s : List ℕ) (profile number : ℕ) (value : Meter → ℕ) (iad : Iad) : Type 0 where
-  pub key : iad .key ≡ byte s 0
+pub record Sends (setup : Setup) (profile number : ℕ) (value : Meter → ℕ) (iad : Iad) : Type 0 where
+  pub key : iad .key ≡ byteAt setup 0
   pub profile-number : iad .profile ≡ number
-  pub accumulator-sent : iad .accumulator .0 ≡ sentOf value accumulator (byte s (profile + 104))
-  pub first-sent : iad .first ≡ sentOf value counter (byte s (profile + 105))
-  pub second-sent : iad .second ≡ sentOf value counter (byte s (profile + 106))
+  pub accumulator-sent : iad .accumulator .0 ≡ sentOf value accumulator (byteAt setup (profile + 104))
+  pub first-sent : iad .first ≡ sentOf value counter (byteAt setup (profile + 105))
+  pub second-sent : iad .second ≡ sentOf value counter (byteAt setup (profile + 106))
 
 -- WHAT FIRST GIVES, by the conversation before it and the one with it
-pub record FirstGives (s : List ℕ) (syllabus : ℕ) (before after : List Exchange) (first : First) (kind : Kind) (iad : Iad) : Type 0 where
-  pub known : InSetup s (named before)
-  pub decides : FirstAnswers s (placeOf s (named before)) first
-      (flags s syllabus (placeOf s (named before)) (first .amount .0) (first .currency) (audited s syllabus before) (past s before)) kind
-  pub verifies : Verifies s syllabus (placeOf s (named before)) (first .amount .0) (first .currency) (audited s syllabus before) (past s before) notRequested (typeOf kind)
-      (issuingAtFirst (past s before)) (iad .cvr)
-  pub sends : Sends s (placeOf s (named before)) (named before) (audited s syllabus after) iad
+pub record FirstGives (setup : Setup) (before after : List Exchange) (first : First) (kind : Kind) (iad : Iad) : Type 0 where
+  pub known : InSetup (inForce setup before) (named before)
+  pub decides : FirstAnswers (inForce setup before) (placeBy setup before) first
+      (flags (inForce setup before) (placeBy setup before) (brought first) (audited setup before) (past setup before)) kind
+  pub verifies : Verifies (inForce setup before) (placeBy setup before) (brought first) (audited setup before) (past setup before)
+      notRequested (typeOf kind) (issuingAtFirst (past setup before)) (iad .cvr)
+  pub sends : Sends (inForce setup before) (placeBy setup before) (named before) (audited setup after) iad
 
 -- Second keeps First's b2 and b1; Y3/Z3 and absent set b2; failed sets b1; verified clears both
 abbrev pub issuingAtSecond : Second → History → Issuing
@@ -108,40 +109,42 @@ issuingAtSecond second history =
 
 -- Y3 or Z3: TC if requested and ADR doesn't meet Default; verified: TC if requested and CSU byte 2 b8 is set; failed: AAC; absent: TC if
 -- requested and authentication isn't required
-abbrev pub secondApproves : List ℕ → (profile : ℕ) → List Bool → Second → Bool
-secondApproves s profile fs second =
-    byOutcome second (eqb (second .requested) 1 && not (meets fs (number s (profile + 9) 4)))
+abbrev pub secondApproves : Setup → (profile : ℕ) → List Bool → Second → Bool
+secondApproves setup profile fs second =
+    byOutcome second (eqb (second .requested) 1 && not (meets fs (numberAt setup (profile + 9) 4)))
     (eqb (second .requested) 1 && isOn (second .csu / 65536) 128)
     false
-    (eqb (second .requested) 1 && eqb (byte s 2) 0)
+    (eqb (second .requested) 1 && eqb (byteAt setup 2) 0)
 
 -- bit 3 set
 abbrev pub withUnable : History → History
 withUnable history =
     record { uncompleted = history .uncompleted; online = history .online; failed = history .failed; unable = true; missing = history .missing }
 
--- WHAT SECOND GIVES: the amount is First's, the tests are repeated, the CVR is First's but for what is replaced
-pub record SecondGives (s : List ℕ) (syllabus : ℕ) (before after : List Exchange) (second : Second) (kind : Kind) (iad : Iad) : Type 0 where
-  pub known : InSetup s (named before)
+-- WHAT SECOND GIVES: the purchase is First's, the tests are repeated, the CVR is First's but for what is replaced
+pub record SecondGives (setup : Setup) (before after : List Exchange) (second : Second) (kind : Kind) (iad : Iad) : Type 0 where
+  pub known : InSetup (inForce setup before) (named before)
   pub decides : kind
-      ≡ cond (secondApproves s (placeOf s (named before))
-      (flags s syllabus (placeOf s (named before)) (spent before) (spentIn before) (audited s syllabus before) (withUnable (past s (beforeFirst before)))) second) Tc Aac
-  pub verifies : Verifies s syllabus (placeOf s (named before)) (spent before) (spentIn before) (audited s syllabus (beforeFirst before)) (past s (beforeFirst before)) (typeOf kind)
-      (typeOf Arqc) (issuingAtSecond second (past s (beforeFirst before))) (iad .cvr)
-  pub sends : Sends s (placeOf s (named before)) (named before) (audited s syllabus after) iad
+      ≡ cond (secondApproves (inForce setup before) (placeBy setup before)
+      (flags (inForce setup before) (placeBy setup before) (bought before) (audited setup before) (withUnable (past setup (beforeFirst before)))) second)
+      Tc Aac
+  pub verifies : Verifies (inForce setup (beforeFirst before)) (placeBy setup before) (bought before) (audited setup (beforeFirst before))
+      (past setup (beforeFirst before)) (typeOf kind) (typeOf Arqc) (issuingAtSecond second (past setup (beforeFirst before))) (iad .cvr)
+  pub sends : Sends (inForce setup before) (placeBy setup before) (named before) (audited setup after) iad
 
 -- WHAT AN ACCEPTED START SAYS: the ATC, 1 more than before; the profile was named or selected, and is in the set-up; the entries visited
-pub record StartGives (s : List ℕ) (before : List Exchange) (start : Start) (atc visits : ℕ) : Type 0 where
-  pub counts : atc ≡ atcBy s before + 1
+pub record StartGives (setup : Setup) (before : List Exchange) (start : Start) (atc visits : ℕ) : Type 0 where
+  pub counts : atc ≡ atcBy setup before + 1
   pub chose : start .chosen ≡ Selected (profileOf (start .chosen)) visits
-  pub known : InSetup s (profileOf (start .chosen))
+  pub known : InSetup (inForce setup before) (profileOf (start .chosen))
 
 -- WHAT AN OUTCOME GIVES
-abbrev pub Gives : List ℕ → (syllabus : ℕ) → List Exchange → Command → Outcome → Type 0
-Gives s syllabus before (StartCommand start) outcome = (atc visits : ℕ) → outcome .answer ≡ Started atc visits → StartGives s before start atc visits
-Gives s syllabus before (FirstCommand first) outcome =
+abbrev pub Gives : Setup → List Exchange → Command → Outcome → Type 0
+Gives setup before (StartCommand start) outcome =
+    (atc visits : ℕ) → outcome .answer ≡ Started atc visits → StartGives setup before start atc visits
+Gives setup before (FirstCommand first) outcome =
     (kind : Kind) (atc : ℕ) (iad : Iad) → outcome .answer ≡ Given kind atc iad
-    → FirstGives s syllabus before (record { command = FirstCommand first; answer = outcome .answer } ∷ before) first kind iad
-Gives s syllabus before (SecondCommand second) outcome =
+    → FirstGives setup before (record { command = FirstCommand first; answer = outcome .answer } ∷ before) first kind iad
+Gives setup before (SecondCommand second) outcome =
     (kind : Kind) (atc : ℕ) (iad : Iad) → outcome .answer ≡ Given kind atc iad
-    → SecondGives s syllabus before (record { command = SecondCommand second; answer = outcome .answer } ∷ before) second kind iad
+    → SecondGives setup before (record { command = SecondCommand second; answer = outcome .answer } ∷ before) second kind iad

@@ -1,16 +1,16 @@
 -- First GENERATE AC (document 01, "First: the answer", with request One: declines at First count).
-use Prim.Native.Nat.{ℕ, _+_, _*_, _/_, _%_}
-use mathlib.Core.Bool.{Bool, true, cond, not, _||_}
+use Prim.Native.Nat.{ℕ}
+use mathlib.Core.Bool.{Bool, cond, _||_}
 use lib.Dec.{eqb}
 use Rattle.iad.specs.declared.Cvr.{Cvr}
 use Rattle.rules.specs.declared.Masks.{Masks}
 use Rattle.rules.specs.declared.Place.{Place}
 use Rattle.rules.specs.Rules.{Rules, profileAt}
-use Rattle.meters.specs.declared.Purchase.{Purchase}
-use Rattle.meters.specs.Meters.{approved, declined}
-use Rattle.checks.specs.declared.History.{History}
-use Rattle.checks.specs.declared.Tests.{Tests}
-use Rattle.checks.specs.Checks.{bit, testsOf, decisionBits, meetsMask}
+use Rattle.purchase.specs.declared.Purchase.{Purchase}
+use Rattle.meters.specs.declared.Change.{Change}
+use Rattle.meters.specs.declared.Change.the-variants.{Approve, Decline}
+use Rattle.meters.specs.Meters.{applied}
+use Rattle.checks.specs.Checks.{decisionBits, meetsMask}
 use Rattle.command.specs.declared.First.{First}
 use Rattle.state.specs.declared.Answer.the-variants.{Given}
 use Rattle.state.specs.declared.Kind.{Kind}
@@ -19,7 +19,8 @@ use Rattle.cryptogram.specs.declared.Later.the-variants.{NotRequested}
 use Rattle.state.specs.declared.Phase.the-variants.{Idle, Asked}
 use Rattle.state.specs.declared.State.{State}
 use Rattle.state.specs.declared.Outcome.{Outcome}
-use Rattle.cryptogram.specs.Cryptogram.{verification, issuerBefore, sentIad}
+use Rattle.state.specs.State.{uncompletedIn}
+use Rattle.cryptogram.specs.Cryptogram.{limitsByte, verification, issuerBefore, sentIad}
 
 -- an offline-only terminal: type 13, 16, 23, 26 or 36 hex
 abbrev pub isOfflineOnly : ℕ → Bool
@@ -36,65 +37,49 @@ decision requested adr masks terminal =
     (cond (meetsMask adr (masks .default)) Aac Tc)
     (cond (meetsMask adr (masks .online)) Arqc Tc))))
 
--- CVR byte 3: b8 any counter lower, b7 upper, b6 any accumulator lower, b5 upper
-unfoldable pub limitsByte : Tests → ℕ
-limitsByte tests =
-    bit (not (eqb (tests .counters % 16) 0)) * 128 + bit (not (eqb (tests .counters / 16) 0)) * 64
-    + bit (not (eqb (tests .accumulators % 16) 0)) * 32
-    + bit (not (eqb (tests .accumulators / 16) 0)) * 16
-
--- ARQC sets "last online not completed"
-abbrev pub uncompleted : History → History
-uncompleted history =
-    record {
-      uncompleted = true;
-      online = history .online;
-      failed = history .failed;
-      unable = history .unable;
-      missing = history .missing;
-    }
-
--- an offline approval moves the values; AAC raises the counters that include offline declines, and no accumulator; ARQC moves none; TC or
--- AAC closes the transaction
-unfoldable pub concluded : Rules → State → Place → Purchase → ℕ → Cvr → Kind → Outcome
-concluded rules state place purchase limits cvr Tc =
-    let values = approved rules place (state .values) purchase in
+-- a TC or an AAC moves the values and closes the transaction
+unfoldable pub settled : Rules → State → Place → Cvr → Kind → Change → Outcome
+settled rules state place cvr kind change =
+    let values = applied rules place (state .values) change in
     record {
       state = record { values = values; phase = Idle; atc = state .atc; history = state .history };
-      answer = Given Tc (state .atc) (sentIad rules place values cvr);
+      answer = Given kind (state .atc) (sentIad rules place values cvr);
     }
-concluded rules state place purchase limits cvr Aac =
-    let raised = declined rules place (state .values) in
-    record {
-      state = record { values = raised; phase = Idle; atc = state .atc; history = state .history };
-      answer = Given Aac (state .atc) (sentIad rules place raised cvr);
-    }
-concluded rules state place purchase limits cvr Arqc =
+
+-- an ARQC moves no value and sets "last online not completed"
+unfoldable pub asked : Rules → State → Place → Purchase → ℕ → Cvr → Outcome
+asked rules state place purchase limits cvr =
     record {
       state =
           record {
             values = state .values;
             phase = Asked (record { purchase = purchase; limits = limits; place = place; history = state .history });
             atc = state .atc;
-            history = uncompleted (state .history);
+            history = uncompletedIn (state .history);
           };
       answer = Given Arqc (state .atc) (sentIad rules place (state .values) cvr);
     }
 
+-- TC is an offline approval, AAC an offline decline
+unfoldable pub concluded : Rules → State → Place → Purchase → ℕ → Cvr → Kind → Outcome
+concluded rules state place purchase limits cvr Tc = settled rules state place cvr Tc (Approve purchase)
+concluded rules state place purchase limits cvr Aac = settled rules state place cvr Aac Decline
+concluded rules state place purchase limits cvr Arqc = asked rules state place purchase limits cvr
+
 abbrev pub purchaseOf : First → Purchase
 purchaseOf first = record { amount = first .amount; currency = first .currency }
 
-abbrev pub firstTests : Rules → State → Place → First → Tests
-firstTests rules state place first = testsOf rules place (state .values) (purchaseOf first)
+abbrev pub firstBits : Rules → State → Place → First → ℕ
+firstBits rules state place first = decisionBits rules place (state .values) (purchaseOf first) (state .history)
 
 abbrev pub firstKind : Rules → State → Place → First → Kind
 firstKind rules state place first =
-    decision (first .requested) (decisionBits (state .history) (firstTests rules state place first)) (profileAt rules place .masks) (first .terminal)
+    decision (first .requested) (firstBits rules state place first) (profileAt rules place .masks) (first .terminal)
 
 -- the tests, the decision, the CVR, and what follows
 unfoldable pub firstPerformed : Rules → State → First → Place → Outcome
 firstPerformed rules state first place =
-    let limits = limitsByte (firstTests rules state place first) in
+    let limits = limitsByte (firstBits rules state place first) in
     let kind = firstKind rules state place first in
     concluded rules state place (purchaseOf first) limits
     (verification rules (state .history) limits kind NotRequested (issuerBefore (state .history))) kind

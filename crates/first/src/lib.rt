@@ -1,14 +1,13 @@
 // First GENERATE AC.
 ghost use mathlib.Core.Path.{_≡_};
 ghost use Rattle.rules.specs.Rules.{rulesOf};
-ghost use Rattle.first.specs.First.{isOfflineOnly, decision, limitsByte, concluded, firstPerformed};
-use checks::History;
-use checks::Tests;
+ghost use Rattle.first.specs.First.{isOfflineOnly, decision, settled, asked, concluded, firstPerformed};
 use command::First;
 use cryptogram::Issuer;
 use cryptogram::Later;
 use iad::Cvr;
-use meters::Purchase;
+use meters::Change;
+use purchase::Purchase;
 use rules::Masks;
 use rules::Place;
 use rules::Words;
@@ -54,18 +53,69 @@ fn decide(requested: u8, adr: u32, masks: Masks, terminal: u8) -> Kind
     Kind::Tc
 }
 
-// CVR byte 3: any counter lower, upper, any accumulator lower, upper.
-fn limits_of(tests: Tests) -> u8
-    ensures { λ r. ⌜ r ≡ limitsByte tests ⌝ }
+// Answers a TC or an AAC with the change that it makes, and closes the transaction.
+fn settle(
+    words: &Words,
+    state: State,
+    place: Place,
+    cvr: Cvr,
+    kind: Kind,
+    change: Change,
+) -> Outcome
+    ensures { λ r. ⌜ r ≡ settled (rulesOf (now (words .entry))) state place cvr kind change ⌝ }
 {
-    cryptogram::bit_of(tests.counters % 16 != 0) * 128
-        + cryptogram::bit_of(tests.counters / 16 != 0) * 64
-        + cryptogram::bit_of(tests.accumulators % 16 != 0) * 32
-        + cryptogram::bit_of(tests.accumulators / 16 != 0) * 16
+    let values = state.values;
+    let history = state.history;
+    let atc = state.atc;
+    let values = meters::apply(words, place, values, change);
+    let iad = cryptogram::send(words, place, values, cvr);
+    Outcome {
+        state: State {
+            values,
+            phase: Phase::Idle,
+            atc,
+            history,
+        },
+        answer: Answer::Given { kind, atc, iad },
+    }
 }
 
-// An approval moves the values, a decline the counters that include declines, an ARQC none. TC and
-// AAC close the transaction.
+// Answers an ARQC, which moves no value, and remembers what a Second needs.
+fn ask(
+    words: &Words,
+    state: State,
+    place: Place,
+    purchase: Purchase,
+    limits: u8,
+    cvr: Cvr,
+) -> Outcome
+    ensures { λ r. ⌜ r ≡ asked (rulesOf (now (words .entry))) state place purchase limits cvr ⌝ }
+{
+    let values = state.values;
+    let history = state.history;
+    let atc = state.atc;
+    let iad = cryptogram::send(words, place, values, cvr);
+    Outcome {
+        state: State {
+            values,
+            phase: Phase::Asked(Pending {
+                purchase,
+                limits,
+                place,
+                history,
+            }),
+            atc,
+            history: history.with_uncompleted(),
+        },
+        answer: Answer::Given {
+            kind: Kind::Arqc,
+            atc,
+            iad,
+        },
+    }
+}
+
+// What follows from the decision.
 fn conclude(
     words: &Words,
     state: State,
@@ -77,71 +127,10 @@ fn conclude(
 ) -> Outcome
     ensures { λ r. ⌜ r ≡ concluded (rulesOf (now (words .entry))) state place purchase limits cvr kind ⌝ }
 {
-    let values = state.values;
-    let history = state.history;
-    let atc = state.atc;
     match kind {
-        Kind::Tc => {
-            let approved = meters::approve(words, place, values, purchase);
-            let iad = cryptogram::send(words, place, approved, cvr);
-            Outcome {
-                state: State {
-                    values: approved,
-                    phase: Phase::Idle,
-                    atc,
-                    history,
-                },
-                answer: Answer::Given {
-                    kind: Kind::Tc,
-                    atc,
-                    iad,
-                },
-            }
-        }
-        Kind::Aac => {
-            let declined = meters::decline(words, place, values);
-            let iad = cryptogram::send(words, place, declined, cvr);
-            Outcome {
-                state: State {
-                    values: declined,
-                    phase: Phase::Idle,
-                    atc,
-                    history,
-                },
-                answer: Answer::Given {
-                    kind: Kind::Aac,
-                    atc,
-                    iad,
-                },
-            }
-        }
-        Kind::Arqc => {
-            let iad = cryptogram::send(words, place, values, cvr);
-            Outcome {
-                state: State {
-                    values,
-                    phase: Phase::Asked(Pending {
-                        purchase,
-                        limits,
-                        place,
-                        history,
-                    }),
-                    atc,
-                    history: History {
-                        uncompleted: true,
-                        online: history.online,
-                        failed: history.failed,
-                        unable: history.unable,
-                        missing: history.missing,
-                    },
-                },
-                answer: Answer::Given {
-                    kind: Kind::Arqc,
-                    atc,
-                    iad,
-                },
-            }
-        }
+        Kind::Tc => settle(words, state, place, cvr, kind, Change::Approve(purchase)),
+        Kind::Aac => settle(words, state, place, cvr, kind, Change::Decline),
+        Kind::Arqc => ask(words, state, place, purchase, limits, cvr),
     }
 }
 
@@ -155,15 +144,14 @@ pub fn perform(words: &Words, state: State, place: Place, first: First) -> Outco
         amount,
         currency: first.currency,
     };
-    let tests = checks::test(words, place, values, purchase);
-    let adr = checks::decision_bits(history, tests);
+    let adr = checks::decision_bits(words, place, values, purchase, history);
     let kind = decide(
         first.requested,
         adr,
         rules::profile_masks(words, place),
         first.terminal,
     );
-    let limits = limits_of(tests);
+    let limits = cryptogram::limits_of(adr);
     let issuer = Issuer {
         unperformed: history.unable | history.missing,
         failed: history.failed,

@@ -1,8 +1,8 @@
--- What each step enters into accumulator or counter i + 1, and what entries do to a value. Assumes nothing.
+-- What a change enters into a meter, and what entries do to a value. Assumes nothing.
 use mathlib.Core.Path.{_≡_, refl}
-use mathlib.Core.Bool.{Bool, true, false, cond, _&&_}
+use mathlib.Core.Bool.{Bool, true, false, cond}
 use mathlib.Core.List.{List, [], _∷_, _++_}
-use Prim.Native.Nat.{ℕ, _+_, _≤_, _<_}
+use Prim.Native.Nat.{ℕ, _+_, _≤_}
 use native.Mathlib.Omega.{arith}
 use borrow.Author.Tests.{ltb-false}
 use lib.Dec.{ltb}
@@ -10,53 +10,32 @@ use Rattle.money.specs.declared.Converted.{Converted}
 use Rattle.money.specs.declared.Converted.the-variants.{Amount, Over, NoEntry}
 use Rattle.money.specs.Money.{max}
 use Rattle.rules.specs.declared.Place.{Place}
-use Rattle.rules.specs.declared.AccumulatorRule.{AccumulatorRule}
-use Rattle.rules.specs.declared.CounterRule.{CounterRule}
 use Rattle.rules.specs.declared.Values.{Values}
-use Rattle.rules.specs.Rules.{Rules, accumulatorRule, counterRule}
+use Rattle.rules.specs.Rules.{Rules}
 use Rattle.rules.proofs.Places.{each}
-use Rattle.meters.specs.declared.Purchase.{Purchase}
-use Rattle.meters.specs.Meters.{Entry, put, add, move, moved, counterCap, worth, amountAt, countAt, addition, approval, counting, declining, putting, approved, declined, limited, cleared}
+use Rattle.purchase.specs.Meter.{Meter, accumulator, counter, IsMeter, MeterRule, valueOf, capOf, worthTo}
+use Rattle.meters.specs.declared.Change.{Change}
+use Rattle.meters.specs.declared.Change.the-variants.{Approve, Decline, SetToLimits, Clear}
+use Rattle.meters.specs.Meters.{Entry, put, add, move, moved, addition, counts, countsDecline, based, added, entered, applied}
 
-module _ (rules : Rules) (place : Place) (values : Values) where
-  pub approved-amount : (purchase : Purchase) (i : ℕ) → i < 4
-      → amountAt (approved rules place values purchase) i .0 ≡ moved max (amountAt values i .0) (approval (accumulatorRule rules place i) (worth rules purchase i))
-  unfolding approved
-  approved-amount purchase = each _ refl refl refl refl
+-- each meter is moved by what is entered
+module _ (rules : Rules) (place : Place) (values : Values) (change : Change) where
+  abbrev Moves : Meter → Type 0
+  Moves meter = valueOf (applied rules place values change) meter ≡ moved (capOf meter) (valueOf values meter) (entered rules place change meter)
 
-  pub approved-count : (purchase : Purchase) (i : ℕ) → i < 4
-      → countAt (approved rules place values purchase) i ≡ moved counterCap (countAt values i) (counting (counterRule rules place i))
-  unfolding approved
-  approved-count purchase = each _ refl refl refl refl
+  pub applied-moves : (meter : Meter) → IsMeter meter
+      → valueOf (applied rules place values change) meter ≡ moved (capOf meter) (valueOf values meter) (entered rules place change meter)
+  unfolding applied
+  applied-moves (accumulator i) l = each (λ i. Moves (accumulator i)) refl refl refl refl i l
+  applied-moves (counter i) l = each (λ i. Moves (counter i)) refl refl refl refl i l
 
-  pub declined-amount : (i : ℕ) → amountAt (declined rules place values) i ≡ amountAt values i
-  unfolding declined
-  declined-amount i = refl
-
-  pub declined-count : (i : ℕ) → i < 4
-      → countAt (declined rules place values) i ≡ moved counterCap (countAt values i) (declining (counterRule rules place i))
-  unfolding declined
-  declined-count = each _ refl refl refl refl
-
-  pub limited-amount : (i : ℕ) → i < 4 → amountAt (limited rules place values) i .0
-      ≡ moved max (amountAt values i .0) (putting (accumulatorRule rules place i .active) (accumulatorRule rules place i .upper .0))
-  unfolding limited
-  limited-amount = each _ refl refl refl refl
-
-  pub limited-count : (i : ℕ) → i < 4 → countAt (limited rules place values) i
-      ≡ moved counterCap (countAt values i) (putting (counterRule rules place i .active) (counterRule rules place i .upper))
-  unfolding limited
-  limited-count = each _ refl refl refl refl
-
-  pub cleared-amount : (i : ℕ) → i < 4
-      → amountAt (cleared rules place values) i .0 ≡ moved max (amountAt values i .0) (putting (accumulatorRule rules place i .active) 0)
-  unfolding cleared
-  cleared-amount = each _ refl refl refl refl
-
-  pub cleared-count : (i : ℕ) → i < 4
-      → countAt (cleared rules place values) i ≡ moved counterCap (countAt values i) (putting (counterRule rules place i .active) 0)
-  unfolding cleared
-  cleared-count = each _ refl refl refl refl
+-- nothing is entered into what is not active
+pub inactive-still : (rules : Rules) (meter : Meter) (rule : MeterRule) (change : Change) → rule .active ≡ false
+    → (based rule change ++ added rules meter rule change) ≡ []
+inactive-still rules meter rule (Approve purchase) e = simp e
+inactive-still rules meter rule Decline e = simp e
+inactive-still rules meter rule SetToLimits e = simp e
+inactive-still rules meter rule Clear e = simp e
 
 -- entries behind others move what those left
 pub moved-append : (cap value : ℕ) (before behind : List Entry) → moved cap value (before ++ behind) ≡ moved cap (moved cap value before) behind
@@ -105,15 +84,14 @@ module _ (cap : ℕ) where
   addition-puts Over = tt
   addition-puts NoEntry = tt
 
-  -- approvals and declines put nothing
-  pub approval-puts : (rule : AccumulatorRule) (worth : Converted) → Puts cap (approval rule worth)
-  approval-puts rule worth = unless-off (rule .active && rule .allow) (addition worth) (addition-puts worth)
+  active-puts : (active : Bool) (n : ℕ) → n ≤ cap → Puts cap (cond active (put n ∷ []) [] ++ [])
+  active-puts true n h = (h, tt)
+  active-puts false n h = tt
 
-  pub counting-puts : (rule : CounterRule) → Puts cap (counting rule)
-  counting-puts rule = unless-off (rule .active && rule .allow) (add 1 ∷ []) tt
-
-  pub declining-puts : (rule : CounterRule) → Puts cap (declining rule)
-  declining-puts rule = unless-off (rule .active && rule .allow && rule .declines) (add 1 ∷ []) tt
-
-  pub putting-puts : (active : Bool) (n : ℕ) → n ≤ cap → Puts cap (putting active n)
-  putting-puts active n h = unless-off active (put n ∷ []) (h, tt)
+  -- a change puts nothing above the cap where the upper limit is not above it
+  pub entered-puts : (rules : Rules) (meter : Meter) (rule : MeterRule) (change : Change) → rule .upper ≤ cap
+      → Puts cap (based rule change ++ added rules meter rule change)
+  entered-puts rules meter rule (Approve purchase) h = unless-off (counts rule) _ (addition-puts (worthTo rules purchase meter))
+  entered-puts rules meter rule Decline h = unless-off (countsDecline rule) (add 1 ∷ []) tt
+  entered-puts rules meter rule SetToLimits h = active-puts (rule .active) (rule .upper) h
+  entered-puts rules meter rule Clear h = active-puts (rule .active) 0 (omega arith)

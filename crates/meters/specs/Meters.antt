@@ -1,21 +1,19 @@
--- What a purchase is worth, and what approvals, declines and orders enter into an accumulator or a counter
--- (document 01, "First: the answer" and "Second: the answer"). Both are meters: a counter is one that stops at 255 and
--- to which a purchase is worth 1.
+-- What a change enters into a meter: a new base or none, then an addition or none (document 01, "First: the answer" and "Second: the answer").
 use Prim.Native.Nat.{ℕ, _+_}
-use mathlib.Core.Bool.{Bool, cond, _&&_}
-use mathlib.Core.List.{List, [], _∷_}
-use lib.ListN.{getD}
+use mathlib.Core.Bool.{Bool, true, false, cond, _&&_}
+use mathlib.Core.List.{List, [], _∷_, _++_}
 use lib.Dec.{ltb}
 use Rattle.money.specs.declared.AccumulatorAmount.{AccumulatorAmount}
 use Rattle.money.specs.declared.Converted.{Converted}
 use Rattle.money.specs.declared.Converted.the-variants.{Amount, Over, NoEntry}
-use Rattle.money.specs.Money.{max, convertOf}
+use Rattle.money.specs.Money.{max}
 use Rattle.rules.specs.declared.Place.{Place}
-use Rattle.rules.specs.declared.AccumulatorRule.{AccumulatorRule}
-use Rattle.rules.specs.declared.CounterRule.{CounterRule}
 use Rattle.rules.specs.declared.Values.{Values}
-use Rattle.rules.specs.Rules.{Rules, four, currencyAt, accumulatorRule, counterRule}
-use Rattle.meters.specs.declared.Purchase.{Purchase}
+use Rattle.rules.specs.Rules.{Rules, four}
+use Rattle.purchase.specs.declared.Purchase.{Purchase}
+use Rattle.purchase.specs.Meter.{Meter, accumulator, counter, MeterRule, ruleOf, counterCap, amountAt, countAt, worthTo}
+use Rattle.meters.specs.declared.Change.{Change}
+use Rattle.meters.specs.declared.Change.the-variants.{Approve, Decline, SetToLimits, Clear}
 
 -- an entry puts a value or adds to it, the sum stopping at the cap
 pub data Entry : Type 0 where
@@ -30,19 +28,6 @@ abbrev pub moved : ℕ → ℕ → List Entry → ℕ
 moved cap value [] = value
 moved cap value (entry ∷ entries) = moved cap (move cap value entry) entries
 
-abbrev pub counterCap : ℕ
-counterCap = 255
-
--- the purchase in the currency of accumulator i + 1
-unfoldable pub worth : Rules → Purchase → ℕ → Converted
-worth rules purchase i = convertOf (purchase .amount) (purchase .currency) (currencyAt rules i) (rules .rates)
-
-abbrev pub amountAt : Values → ℕ → AccumulatorAmount
-amountAt values i = getD (values .accumulators) i (record { 0 = 0 })
-
-abbrev pub countAt : Values → ℕ → ℕ
-countAt values i = getD (values .counters) i 0
-
 -- what each answer of conversion counts in a sum: an amount itself, over as MAX (request Four); with no entry in the table the amount
 -- doesn't count there
 abbrev pub addition : Converted → List Entry
@@ -50,53 +35,42 @@ addition (Amount amount) = add (amount .0) ∷ []
 addition Over = add max ∷ []
 addition NoEntry = []
 
--- at an offline approval, or at the addition that CSU order 11 asks for
-abbrev pub approval : AccumulatorRule → Converted → List Entry
-approval rule worth = cond (rule .active && rule .allow) (addition worth) []
+-- an offline approval or an offline decline
+abbrev pub offline : Bool → Purchase → Change
+offline true purchase = Approve purchase
+offline false purchase = Decline
 
-abbrev pub counting : CounterRule → List Entry
-counting rule = cond (rule .active && rule .allow) (add 1 ∷ []) []
+-- a purchase counts; an offline decline counts
+abbrev pub counts : MeterRule → Bool
+counts rule = rule .active && rule .allow
 
--- at an offline decline
-abbrev pub declining : CounterRule → List Entry
-declining rule = cond (rule .active && rule .allow && rule .declines) (add 1 ∷ []) []
+abbrev pub countsDecline : MeterRule → Bool
+countsDecline rule = rule .active && rule .allow && rule .declines
 
--- what is active takes this value: its upper limit, or zero
-abbrev pub putting : Bool → ℕ → List Entry
-putting active n = cond active (put n ∷ []) []
+-- a new base or none: by CSU order 01 what is active takes its upper limit, by order 10 zero
+abbrev pub based : MeterRule → Change → List Entry
+based rule (Approve purchase) = []
+based rule Decline = []
+based rule SetToLimits = cond (rule .active) (put (rule .upper) ∷ []) []
+based rule Clear = cond (rule .active) (put 0 ∷ []) []
+
+-- an addition or none: at an offline approval, or by CSU order 11, what a purchase is worth; at an offline decline 1
+abbrev pub added : Rules → Meter → MeterRule → Change → List Entry
+added rules meter rule (Approve purchase) = cond (counts rule) (addition (worthTo rules purchase meter)) []
+added rules meter rule Decline = cond (countsDecline rule) (add 1 ∷ []) []
+added rules meter rule SetToLimits = []
+added rules meter rule Clear = []
+
+abbrev pub entered : Rules → Place → Change → Meter → List Entry
+entered rules place change meter = based (ruleOf rules place meter) change ++ added rules meter (ruleOf rules place meter) change
 
 abbrev pub amountMoved : AccumulatorAmount → List Entry → AccumulatorAmount
-amountMoved value entries = record { 0 = moved max (value .0) entries }
+amountMoved amount entries = record { 0 = moved max (amount .0) entries }
 
--- after an offline approval, or after CSU order 11
-unfoldable pub approved : Rules → Place → Values → Purchase → Values
-approved rules place values purchase =
+-- the values after a change
+unfoldable pub applied : Rules → Place → Values → Change → Values
+applied rules place values change =
     record {
-      accumulators = four (λ i. amountMoved (amountAt values i) (approval (accumulatorRule rules place i) (worth rules purchase i)));
-      counters = four (λ i. moved counterCap (countAt values i) (counting (counterRule rules place i)));
-    }
-
--- after an offline decline: no accumulator moves
-unfoldable pub declined : Rules → Place → Values → Values
-declined rules place values =
-    record {
-      accumulators = values .accumulators;
-      counters = four (λ i. moved counterCap (countAt values i) (declining (counterRule rules place i)));
-    }
-
--- after CSU order 01
-unfoldable pub limited : Rules → Place → Values → Values
-limited rules place values =
-    record {
-      accumulators =
-          four (λ i. amountMoved (amountAt values i) (putting (accumulatorRule rules place i .active) (accumulatorRule rules place i .upper .0)));
-      counters = four (λ i. moved counterCap (countAt values i) (putting (counterRule rules place i .active) (counterRule rules place i .upper)));
-    }
-
--- after CSU order 10
-unfoldable pub cleared : Rules → Place → Values → Values
-cleared rules place values =
-    record {
-      accumulators = four (λ i. amountMoved (amountAt values i) (putting (accumulatorRule rules place i .active) 0));
-      counters = four (λ i. moved counterCap (countAt values i) (putting (counterRule rules place i .active) 0));
+      accumulators = four (λ i. amountMoved (amountAt values i) (entered rules place change (accumulator i)));
+      counters = four (λ i. moved counterCap (countAt values i) (entered rules place change (counter i)));
     }

@@ -5,10 +5,13 @@ use lib.Dec.{eqb, leb}
 use Rattle.rules.specs.declared.Place.{Place}
 use Rattle.rules.specs.declared.Values.{Values}
 use Rattle.rules.specs.Rules.{Rules, profileAt}
-use Rattle.meters.specs.declared.Purchase.{Purchase}
-use Rattle.meters.specs.Meters.{approved, declined, limited, cleared}
-use Rattle.checks.specs.declared.History.{History}
-use Rattle.checks.specs.Checks.{testsOf, decisionBits, meetsMask}
+use Rattle.purchase.specs.declared.Purchase.{Purchase}
+use Rattle.meters.specs.declared.Change.{Change}
+use Rattle.meters.specs.declared.Change.the-variants.{Approve, SetToLimits, Clear}
+use Rattle.meters.specs.Meters.{offline, applied}
+use Rattle.checks.specs.Checks.{decisionBits, meetsMask}
+use Rattle.state.specs.declared.History.{History}
+use Rattle.state.specs.State.{failedIn, unableIn}
 use Rattle.command.specs.declared.Second.{Second}
 use Rattle.state.specs.declared.Answer.the-variants.{Given}
 use Rattle.cryptogram.specs.declared.Issuer.{Issuer}
@@ -45,21 +48,10 @@ closed rules atc pending approves values history issuer =
 abbrev pub isUnable : ℕ → Bool
 isUnable code = eqb code 0x5933 || eqb code 0x5A33
 
-abbrev pub unableIn : History → History
-unableIn history =
-    record {
-      uncompleted = history .uncompleted;
-      online = history .online;
-      failed = history .failed;
-      unable = true;
-      missing = history .missing;
-    }
-
 -- First's ADR with bit 3 set, and the MTA, accumulator and counter checks repeated
 abbrev pub unableBits : Rules → State → Pending → ℕ
 unableBits rules state pending =
-    decisionBits (unableIn (pending .history))
-    (testsOf rules (pending .place) (state .values) (pending .purchase))
+    decisionBits rules (pending .place) (state .values) (pending .purchase) (unableIn (pending .history))
 
 abbrev pub issuerUnable : History → Issuer
 issuerUnable history = record { unperformed = true; failed = history .failed; unable = true }
@@ -68,21 +60,21 @@ issuerUnable history = record { unperformed = true; failed = history .failed; un
 unfoldable pub unablePerformed : Rules → State → ℕ → Pending → Outcome
 unablePerformed rules state requested pending =
     let place = pending .place in
-    cond (eqb requested 0 || meetsMask (unableBits rules state pending) (profileAt rules place .masks .default))
-    (closed rules (state .atc) pending false (declined rules place (state .values)) (unableIn (state .history)) (issuerUnable (pending .history)))
-    (closed rules (state .atc) pending true (approved rules place (state .values) (pending .purchase)) (unableIn (state .history))
-    (issuerUnable (pending .history)))
+    let approves = not (eqb requested 0 || meetsMask (unableBits rules state pending) (profileAt rules place .masks .default)) in
+    closed rules (state .atc) pending approves (applied rules place (state .values) (offline approves (pending .purchase)))
+    (unableIn (state .history)) (issuerUnable (pending .history))
 
 -- CSU byte 2
 abbrev pub updateByte : ℕ → ℕ
 updateByte csu = csu / 65536 % 256
 
 -- CSU byte 2 b2-b1: 00 nothing, 01 upper limits, 10 zero, 11 add as in an offline approval
+abbrev pub orderedChange : ℕ → Purchase → Change
+orderedChange order purchase = cond (eqb order 1) SetToLimits (cond (eqb order 2) Clear (Approve purchase))
+
 unfoldable pub ordered : Rules → Place → Values → Purchase → ℕ → Values
 ordered rules place values purchase update =
-    cond (eqb (update % 4) 0) values
-    (cond (eqb (update % 4) 1) (limited rules place values)
-    (cond (eqb (update % 4) 2) (cleared rules place values) (approved rules place values purchase)))
+    cond (eqb (update % 4) 0) values (applied rules place values (orderedChange (update % 4) purchase))
 
 -- verified: history bits 0, 2, 3, 4 are cleared, "go online next" becomes CSU byte 2 b4; TC if requested and b8 is set
 unfoldable pub verifiedPerformed : Rules → State → Second → Pending → Outcome
@@ -96,9 +88,7 @@ verifiedPerformed rules state second pending =
 -- failed: history bit 2 is set; AAC
 unfoldable pub failedPerformed : Rules → State → Pending → Outcome
 failedPerformed rules state pending =
-    let history = state .history in
-    closed rules (state .atc) pending false (state .values)
-    (record { uncompleted = history .uncompleted; online = history .online; failed = true; unable = history .unable; missing = history .missing })
+    closed rules (state .atc) pending false (state .values) (failedIn (state .history))
     (record { unperformed = issuerBefore (pending .history) .unperformed; failed = true; unable = false })
 
 -- absent: history bit 4 is set; TC if requested and authentication isn't required; when it isn't required, bit 0 is cleared

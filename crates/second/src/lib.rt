@@ -1,16 +1,18 @@
 // Second GENERATE AC.
 ghost use mathlib.Core.Path.{_≡_};
 ghost use Rattle.rules.specs.Rules.{rulesOf};
-ghost use Rattle.second.specs.Second.{isUnable, closingKind, laterKind, closed, ordered, unablePerformed, verifiedPerformed, failedPerformed, absentPerformed, secondPerformed};
-use checks::History;
+ghost use Rattle.second.specs.Second.{isUnable, closingKind, laterKind, closed, orderedChange, ordered};
+ghost use Rattle.second.specs.Second.{unablePerformed, verifiedPerformed, failedPerformed, absentPerformed, secondPerformed};
 use command::Second;
 use cryptogram::Issuer;
 use cryptogram::Later;
-use meters::Purchase;
+use meters::Change;
+use purchase::Purchase;
 use rules::Place;
 use rules::Values;
 use rules::Words;
 use state::Answer;
+use state::History;
 use state::Kind;
 use state::Outcome;
 use state::Pending;
@@ -64,21 +66,27 @@ fn close(
     }
 }
 
+// What an order other than 00 does to the values.
+fn change_ordered(order: u8, purchase: Purchase) -> Change
+    ensures { λ r. ⌜ r ≡ orderedChange order purchase ⌝ }
+{
+    if order == 1 {
+        return Change::SetToLimits;
+    }
+    if order == 2 {
+        return Change::Clear;
+    }
+    Change::Approve(purchase)
+}
+
 // What the issuer orders for the values: CSU byte 2, b2-b1.
 fn order(words: &Words, place: Place, values: Values, purchase: Purchase, update: u8) -> Values
     ensures { λ r. ⌜ r ≡ ordered (rulesOf (now (words .entry))) place values purchase update ⌝ }
 {
-    let what = update % 4;
-    if what == 0 {
+    if update % 4 == 0 {
         return values;
     }
-    if what == 1 {
-        return meters::set_to_limits(words, place, values);
-    }
-    if what == 2 {
-        return meters::reset(words, place, values);
-    }
-    meters::approve(words, place, values, purchase)
+    meters::apply(words, place, values, change_ordered(update % 4, purchase))
 }
 
 // Response code Y3 or Z3.
@@ -97,34 +105,25 @@ fn unable(words: &Words, state: State, pending: Pending, requested: u8) -> Outco
     let purchase = pending.purchase;
     let before = pending.history;
     let present = state.history;
-    let history = History {
-        uncompleted: present.uncompleted,
-        online: present.online,
-        failed: present.failed,
-        unable: true,
-        missing: present.missing,
-    };
-    let shown = History {
-        uncompleted: before.uncompleted,
-        online: before.online,
-        failed: before.failed,
-        unable: true,
-        missing: before.missing,
-    };
-    let tests = checks::test(words, place, values, purchase);
-    let adr = checks::decision_bits(shown, tests);
+    let adr = checks::decision_bits(words, place, values, purchase, before.with_unable());
+    let masks = rules::profile_masks(words, place);
+    let approves = !((requested == 0) | checks::meets(adr, masks.default));
+    let change = Change::offline(approves, purchase);
+    let values = meters::apply(words, place, values, change);
     let issuer = Issuer {
         unperformed: true,
         failed: before.failed,
         unable: true,
     };
-    let masks = rules::profile_masks(words, place);
-    if (requested == 0) | checks::meets(adr, masks.default) {
-        let values = meters::decline(words, place, values);
-        return close(words, state.atc, pending, false, values, history, issuer);
-    }
-    let values = meters::approve(words, place, values, purchase);
-    close(words, state.atc, pending, true, values, history, issuer)
+    close(
+        words,
+        state.atc,
+        pending,
+        approves,
+        values,
+        present.with_unable(),
+        issuer,
+    )
 }
 
 // The issuer's data verified.
@@ -159,19 +158,20 @@ fn failed(words: &Words, state: State, pending: Pending) -> Outcome
     let values = state.values;
     let present = state.history;
     let before = pending.history;
-    let history = History {
-        uncompleted: present.uncompleted,
-        online: present.online,
-        failed: true,
-        unable: present.unable,
-        missing: present.missing,
-    };
     let issuer = Issuer {
         unperformed: before.unable | before.missing,
         failed: true,
         unable: false,
     };
-    close(words, state.atc, pending, false, values, history, issuer)
+    close(
+        words,
+        state.atc,
+        pending,
+        false,
+        values,
+        present.with_failed(),
+        issuer,
+    )
 }
 
 // The issuer's data absent.
@@ -182,13 +182,8 @@ fn absent(words: &Words, state: State, pending: Pending, requested: u8) -> Outco
     let present = state.history;
     let before = pending.history;
     let required = rules::is_required(words);
-    let history = History {
-        uncompleted: present.uncompleted & required,
-        online: present.online,
-        failed: present.failed,
-        unable: present.unable,
-        missing: true,
-    };
+    let mut history = present.with_missing();
+    history.uncompleted = present.uncompleted & required;
     let issuer = Issuer {
         unperformed: true,
         failed: before.failed,

@@ -9,10 +9,11 @@ use Rattle.setup.specs.Setup.{rateIn, accumulatorIn, counterIn, profileIn, rule
 use Rattle.tail.specs.Tail.{baseEnd, syllabusIn}
 use Rattle.money.specs.Money.{rateFor, scaled, convertOf}
 use Rattle.iad.specs.Iad.{isCvr, isWritable, pairsOf, iadBytes, writeIad, written}
-use Rattle.meters.specs.Meters.{worth, approved, declined}
-use Rattle.checks.specs.Checks.{accumulatorsLower, accumulatorsUpper, countersLower, countersUpper, maximumExceeded, testsOf, decisionBits}
-use Rattle.cryptogram.specs.Cryptogram.{verification, sentIad}
-use Rattle.first.specs.First.{decision, limitsByte, concluded, firstPerformed}
+use Rattle.purchase.specs.Meter.{worth}
+use Rattle.meters.specs.Meters.{applied}
+use Rattle.checks.specs.Checks.{accumulatorsLower, accumulatorsUpper, countersLower, countersUpper, maximumExceeded, decisionBits}
+use Rattle.cryptogram.specs.Cryptogram.{limitsByte, verification, sentIad}
+use Rattle.first.specs.First.{decision, settled, asked, concluded, firstPerformed}
 use Rattle.second.specs.Second.{closed, unablePerformed, secondPerformed}
 use Rattle.card.specs.Card.{freshState, startStep, firstStep, secondStep, stepOf}
 use Rattle.lines.specs.Lines.{digit, decimal, hex, refusalLine, startLine, cryptogramLine}
@@ -24,7 +25,7 @@ use Rattle.spelling.specs.Printed.{printed, body, sent, printedLines}
 use Rattle.spelling.proofs.Witness.{printed-lines}
 
 worked : sittingOf 1 body {choice = byName} sent {rest = []} (ended refl) ≡ printedLines
-unfolding printed sent printedLines baseEnd syllabusIn standsFor allStandFor answers answerLine digit decimal hex refusalLine startLine cryptogramLine freshState freshIn number rulesIn rateIn profileIn accumulatorIn counterIn stepOf startStep firstStep secondStep findProfile firstPerformed decision limitsByte concluded testsOf decisionBits accumulatorsLower accumulatorsUpper countersLower countersUpper maximumExceeded worth convertOf rateFor scaled approved declined verification sentIad pairsOf iadBytes isCvr isWritable writeIad written secondPerformed unablePerformed closed
+unfolding printed sent printedLines baseEnd syllabusIn standsFor allStandFor answers answerLine digit decimal hex refusalLine startLine cryptogramLine freshState freshIn number rulesIn rateIn profileIn accumulatorIn counterIn stepOf startStep firstStep secondStep findProfile firstPerformed decision limitsByte settled asked concluded decisionBits accumulatorsLower accumulatorsUpper countersLower countersUpper maximumExceeded worth convertOf rateFor scaled applied verification sentIad pairsOf iadBytes isCvr isWritable writeIad written secondPerformed unablePerformed closed
 worked = refl
 
 -- DOCUMENT 01'S SITTING, FROM THE BYTES OF ITS PAPER TO THE BYTES OF ITS LINES

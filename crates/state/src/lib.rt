@@ -1,12 +1,52 @@
 // The card's state, and what a command comes to.
 ghost use mathlib.Core.Path.{_≡_};
-ghost use Rattle.state.specs.State.{cidOf};
-use checks::History;
+ghost use Rattle.state.specs.State.{cidOf, uncompletedIn, failedIn, unableIn, missingIn};
 use iad::Iad;
-use meters::Purchase;
+use purchase::Purchase;
 use refusal::Refusal;
 use rules::Place;
 use rules::Values;
+
+// The previous transactions: last online not completed, go online next, issuer authentication
+// failed, unable to go online, issuer data not received.
+pub struct History {
+    pub uncompleted: bool,
+    pub online: bool,
+    pub failed: bool,
+    pub unable: bool,
+    pub missing: bool,
+}
+
+// The history with one of them set.
+impl History {
+    pub fn with_uncompleted(mut self) -> History
+        ensures { λ r. ⌜ r ≡ uncompletedIn self ⌝ }
+    {
+        self.uncompleted = true;
+        self
+    }
+
+    pub fn with_failed(mut self) -> History
+        ensures { λ r. ⌜ r ≡ failedIn self ⌝ }
+    {
+        self.failed = true;
+        self
+    }
+
+    pub fn with_unable(mut self) -> History
+        ensures { λ r. ⌜ r ≡ unableIn self ⌝ }
+    {
+        self.unable = true;
+        self
+    }
+
+    pub fn with_missing(mut self) -> History
+        ensures { λ r. ⌜ r ≡ missingIn self ⌝ }
+    {
+        self.missing = true;
+        self
+    }
+}
 
 // What a Second needs of its First: the purchase, CVR byte 3, the profile, and the history as the
 // First found it.

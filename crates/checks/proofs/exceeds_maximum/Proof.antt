@@ -13,9 +13,10 @@ returns c =
 returns-2 : tie.Need-returns-2
 unfolding maximumExceeded
 returns-2 c =
-    let worth = c .before .before .before .before .before in
+    let told = c .before .before .before in
+    let worth = told .before .before in
     let maximum = worth .before .before .before .maximum-amount in
-    simp (← maximum .ensures, not-false (maximum .result .on) (worth .before .if1 .left), ← worth .worth-in .ensures, c .before .before .before .spent .given .1)
+    simp (← maximum .ensures, not-false (maximum .result .on) (worth .before .if1 .left), ← worth .worth-in .ensures, told .spent .given .1)
 
 returns-3 : tie.Need-returns-3
 unfolding maximumExceeded

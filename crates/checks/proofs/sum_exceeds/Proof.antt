@@ -8,7 +8,7 @@ use Rattle.checks.proofs.sum_exceeds.Statement.{statement}
 use Rattle.checks.proofs.sum_exceeds.Tie as tie
 
 returns : tie.Need-returns
-returns c = let a = c .before .before .before .args in sym (lt-ltb (a .limit .0) (a .value .0 + a .more .0) (omega arith))
+returns c = let a = c .before .args in sym (lt-ltb (a .limit) (a .value + a .more) (omega arith))
 
 returns-2 : tie.Need-returns-2
 returns-2 c = search (needs, left-to)

@@ -2,6 +2,7 @@
 use borrow.Author.Needs.{needs}
 use borrow.Author.Tests.{not-true, not-false}
 use native.Mathlib.Omega.{arith}
+use Rattle.rules.specs.Rules.{rulesOf}
 use Rattle.checks.proofs.Exceeds.{exceeds-sum}
 use Rattle.checks.proofs.test_accumulator.Statement.{statement}
 use Rattle.checks.proofs.test_accumulator.Tie as tie
@@ -12,27 +13,34 @@ returns c =
     (simp (← rule .ensures, not-true (rule .result .active) (c .if1 .taken)), omega arith)
 
 returns-2 : tie.Need-returns-2
+unfolding rulesOf
 returns-2 c =
-    let left = c .before .before .before .before in
-    let rule = left .before .before .before .accumulator-rule in (
-      simp (← rule .ensures, not-false (rule .result .active) (left .before .if1 .left), exceeds-sum, ← left .included .ensures, c .before .before .more .given .1)
+    let told = c .before .before in
+    let tested = told .before .before in
+    let active = tested .before in
+    let rule = active .before .before .accumulator-rule in (
+      simp (← rule .ensures, not-false (rule .result .active) (active .if1 .left), exceeds-sum, ← tested .included .ensures, told .more .given .1)
           (c .limits-exceeded .ensures .0),
       c .limits-exceeded .ensures .1,
     )
 
 returns-3 : tie.Need-returns-3
+unfolding rulesOf
 returns-3 c =
-    let left = c .before .before in
-    let rule = left .before .before .before .accumulator-rule in (
-      simp (← rule .ensures, not-false (rule .result .active) (left .before .if1 .left), exceeds-sum, ← left .included .ensures, c .enum-told .given .1),
+    let tested = c .before .before in
+    let active = tested .before in
+    let rule = active .before .before .accumulator-rule in (
+      simp (← rule .ensures, not-false (rule .result .active) (active .if1 .left), exceeds-sum, ← tested .included .ensures, c .enum-told .given .1),
       omega arith,
     )
 
 returns-4 : tie.Need-returns-4
+unfolding rulesOf
 returns-4 c =
-    let left = c .before .before .before in
-    let rule = left .before .before .before .accumulator-rule in (
-      simp (← rule .ensures, not-false (rule .result .active) (left .before .if1 .left), exceeds-sum, ← left .included .ensures, c .before .enum-told2 .given .1)
+    let tested = c .before .before .before in
+    let active = tested .before in
+    let rule = active .before .before .accumulator-rule in (
+      simp (← rule .ensures, not-false (rule .result .active) (active .if1 .left), exceeds-sum, ← tested .included .ensures, c .before .enum-told2 .given .1)
           (c .limits-exceeded2 .ensures .0),
       c .limits-exceeded2 .ensures .1,
     )

@@ -7,11 +7,13 @@ use Rattle.checks.proofs.test_accumulators.Tie as tie
 returns : tie.Need-returns
 unfolding accumulatorsLower accumulatorsUpper
 returns c =
+    let third = c .before .before in
+    let second = third .before .before in
     simp (
       c .test-accumulator4 .ensures .0,
-      c .before .before .test-accumulator3 .ensures .0,
-      c .before .before .before .before .test-accumulator2 .ensures .0,
-      c .before .before .before .before .before .before .test-accumulator .ensures .0,
+      third .test-accumulator3 .ensures .0,
+      second .test-accumulator2 .ensures .0,
+      second .before .before .test-accumulator .ensures .0,
     ) (omega arith)
 
 pub test-accumulators-spec : {M : Type 1} → statement M

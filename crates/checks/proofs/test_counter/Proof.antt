@@ -1,18 +1,30 @@
+-- What is active is tested by one sum.
 use borrow.Author.Needs.{needs}
+use borrow.Author.Tests.{not-true, not-false}
 use native.Mathlib.Omega.{arith}
+use Rattle.checks.proofs.Exceeds.{exceeds-once}
 use Rattle.checks.proofs.test_counter.Statement.{statement}
 use Rattle.checks.proofs.test_counter.Tie as tie
 
 returns : tie.Need-returns
-returns c = (
-  simp (
-    c .bit2 .ensures .0,
-    c .before .before .count-exceeds2 .ensures,
-    c .before .before .before .bit .ensures .0,
-    c .before .before .before .before .before .count-exceeds .ensures,
-  ),
-  omega arith,
-)
+returns c =
+    let rule = c .before .before .counter-rule in
+    (simp (← rule .ensures, not-true (rule .result .active) (c .if1 .taken)), omega arith)
+
+returns-2 : tie.Need-returns-2
+returns-2 c =
+    let more = c .before .before .before in
+    let active = more .before in
+    let rule = active .before .before .counter-rule in (
+      simp (
+        c .limits-exceeded .ensures .0,
+        more .bit .ensures .0,
+        ← rule .ensures,
+        not-false (rule .result .active) (active .if1 .left),
+        exceeds-once,
+      ),
+      c .limits-exceeded .ensures .1,
+    )
 
 pub test-counter-spec : {M : Type 1} → statement M
-test-counter-spec = tie.close (tie.spec (search needs) (search needs) (search needs) (search needs) (search needs) (search needs) returns)
+test-counter-spec = tie.close (tie.spec (search needs) returns (search needs) (search needs) (search needs) (search needs) (search needs) returns-2)

@@ -8,15 +8,11 @@ returns : tie.Need-returns
 unfolding countersLower countersUpper
 returns c =
     simp (
-      c .before .before .before .before .before .before .test-counter .ensures .0,
-      c .before .before .before .before .before .before .before .counter-rule .ensures,
-      c .before .before .before .before .test-counter2 .ensures .0,
-      c .before .before .before .before .before .counter-rule2 .ensures,
-      c .before .before .test-counter3 .ensures .0,
-      c .before .before .before .counter-rule3 .ensures,
       c .test-counter4 .ensures .0,
-      c .before .counter-rule4 .ensures,
+      c .before .test-counter3 .ensures .0,
+      c .before .before .test-counter2 .ensures .0,
+      c .before .before .before .test-counter .ensures .0,
     ) (omega arith)
 
 pub test-counters-spec : {M : Type 1} → statement M
-test-counters-spec = tie.close (tie.spec (search needs) (search needs) (search needs) (search needs) (search needs) (search needs) (search needs) (search needs) (search needs) (search needs) (search needs) (search needs) (search needs) (search needs) (search needs) (search needs) (search needs) (search needs) returns)
+test-counters-spec = tie.close (tie.spec (search needs) (search needs) (search needs) (search needs) (search needs) (search needs) (search needs) (search needs) (search needs) (search needs) (search needs) (search needs) (search needs) (search needs) returns)

@@ -6,13 +6,15 @@ use Rattle.cryptogram.proofs.send.Tie as tie
 returns : tie.Need-returns
 unfolding sentIad
 returns c =
+    let counters = c .before in
+    let amount = counters .before .before .before in
     simp (
       c .profile-number .ensures,
-      c .before .sent-counter2 .ensures,
-      c .before .before .sent-counter .ensures,
-      c .before .before .before .key-index .ensures,
-      c .before .before .before .before .sent-amount .ensures,
-      c .before .before .before .before .before .before .before .profile-sent .ensures,
+      counters .sent-counter2 .ensures,
+      counters .before .sent-counter .ensures,
+      counters .before .before .key-index .ensures,
+      amount .sent-amount .ensures,
+      amount .before .before .before .profile-sent .ensures,
     )
 
 pub send-spec : {M : Type 1} → statement M

@@ -20,16 +20,19 @@ add-t24 c = omega arith
 returns : tie.Need-returns
 unfolding verification
 returns c =
+    let fourth = c .before .before in
+    let second = fourth .before .before in
+    let codes = second .before .before in
     simp (
-      c .bit-of6 .ensures .0,
-      c .before .bit-of5 .ensures .0,
-      c .before .before .bit-of4 .ensures .0,
-      c .before .before .before .bit-of3 .ensures .0,
-      c .before .before .before .before .bit-of2 .ensures .0,
-      c .before .before .before .before .before .bit-of .ensures .0,
-      c .before .before .before .before .before .before .kind-code .ensures .0,
-      c .before .before .before .before .before .before .before .later-code .ensures .0,
-      c .before .before .before .before .before .before .before .before .pin-tries .ensures,
+      c .bit6 .ensures .0,
+      c .before .bit5 .ensures .0,
+      fourth .bit4 .ensures .0,
+      fourth .before .bit3 .ensures .0,
+      second .bit2 .ensures .0,
+      second .before .bit .ensures .0,
+      codes .kind-code .ensures .0,
+      codes .before .later-code .ensures .0,
+      codes .before .before .pin-tries .ensures,
     )
 
 pub verify-spec : {M : Type 1} → statement M

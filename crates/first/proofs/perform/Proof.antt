@@ -6,15 +6,16 @@ use Rattle.first.proofs.perform.Tie as tie
 returns : tie.Need-returns
 unfolding firstPerformed
 returns c =
+    let limits = c .before .before .before in
+    let masks = limits .before .before in
     simp (
       c .conclude .ensures,
       c .before .verify .ensures,
-      c .before .before .before .limits-of .ensures,
-      c .before .before .before .before .decide .ensures,
-      c .before .before .before .before .before .profile-masks .ensures,
-      c .before .before .before .before .before .before .decision-bits .ensures,
-      c .before .before .before .before .before .before .before .test .ensures,
+      limits .limits-of .ensures,
+      limits .before .decide .ensures,
+      masks .profile-masks .ensures,
+      masks .before .decision-bits .ensures,
     )
 
 pub perform-spec : {M : Type 1} → statement M
-perform-spec = tie.close (tie.spec (search needs) (search needs) (search needs) (search needs) (search needs) (search needs) (search needs) returns)
+perform-spec = tie.close (tie.spec (search needs) (search needs) (search needs) (search needs) (search needs) (search needs) returns)

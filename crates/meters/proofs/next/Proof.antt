@@ -3,7 +3,7 @@ use borrow.Author.Needs.{needs}
 use borrow.Author.Tests.{lt-ltb, le-ltb}
 use Prim.Native.Nat.{_+_}
 use native.Mathlib.Omega.{arith}
-use Rattle.meters.specs.Meters.{counterCap}
+use Rattle.purchase.specs.Meter.{counterCap}
 use Rattle.meters.proofs.next.Statement.{statement}
 use Rattle.meters.proofs.next.Tie as tie
 

@@ -5,7 +5,7 @@ use Rattle.second.proofs.failed.Tie as tie
 
 returns : tie.Need-returns
 unfolding failedPerformed
-returns c = simp (c .close .ensures)
+returns c = simp (c .close .ensures, c .before .with-failed .ensures)
 
 pub failed-spec : {M : Type 1} → statement M
-failed-spec = tie.close (tie.spec (search needs) returns)
+failed-spec = tie.close (tie.spec (search needs) (search needs) returns)

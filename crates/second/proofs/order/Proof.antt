@@ -10,16 +10,7 @@ returns c = simp (eq-eqb _ _ (c .if1 .taken))
 
 returns-2 : tie.Need-returns-2
 unfolding ordered
-returns-2 c = simp (ne-eqb _ _ (c .before .before .if1 .left), eq-eqb _ _ (c .before .if2 .taken), c .set-to-limits .ensures)
-
-returns-3 : tie.Need-returns-3
-unfolding ordered
-returns-3 c = simp (ne-eqb _ _ (c .before .before .before .if1 .left), ne-eqb _ _ (c .before .before .if2 .left), eq-eqb _ _ (c .before .if3 .taken), c .reset .ensures)
-
-returns-4 : tie.Need-returns-4
-unfolding ordered
-returns-4 c =
-    simp (ne-eqb _ _ (c .before .before .before .if1 .left), ne-eqb _ _ (c .before .before .if2 .left), ne-eqb _ _ (c .before .if3 .left), c .approve .ensures)
+returns-2 c = simp (ne-eqb _ _ (c .before .before .if1 .left), c .apply .ensures, c .before .change-ordered .ensures)
 
 pub order-spec : {M : Type 1} → statement M
-order-spec = tie.close (tie.spec returns (search needs) returns-2 (search needs) returns-3 (search needs) returns-4)
+order-spec = tie.close (tie.spec returns (search needs) (search needs) returns-2)

@@ -11,17 +11,33 @@ returns c = simp (sym (c .before .before .is-unable .ensures) ∙ c .before .if1
 
 returns-2 : tie.Need-returns-2
 unfolding secondPerformed
-returns-2 c = simp (sym (c .before .before .before .before .is-unable .ensures) ∙ c .before .before .before .if1 .left, eq-eqb _ _ (c .before .if2 .taken), c .verified .ensures)
+returns-2 c =
+    let able = c .before .before .before in
+    simp (sym (able .before .is-unable .ensures) ∙ able .if1 .left, eq-eqb _ _ (c .before .if2 .taken), c .verified .ensures)
 
 returns-3 : tie.Need-returns-3
 unfolding secondPerformed
 returns-3 c =
-    simp (sym (c .before .before .before .before .before .before .is-unable .ensures) ∙ c .before .before .before .before .before .if1 .left, ne-eqb _ _ (c .before .before .before .if2 .left), eq-eqb _ _ (c .before .if3 .taken), c .failed .ensures)
+    let unverified = c .before .before .before in
+    let able = unverified .before .before in
+    simp (
+      sym (able .before .is-unable .ensures) ∙ able .if1 .left,
+      ne-eqb _ _ (unverified .if2 .left),
+      eq-eqb _ _ (c .before .if3 .taken),
+      c .failed .ensures,
+    )
 
 returns-4 : tie.Need-returns-4
 unfolding secondPerformed
 returns-4 c =
-    simp (sym (c .before .before .before .before .before .before .is-unable .ensures) ∙ c .before .before .before .before .before .if1 .left, ne-eqb _ _ (c .before .before .before .if2 .left), ne-eqb _ _ (c .before .if3 .left), c .absent .ensures)
+    let unverified = c .before .before .before in
+    let able = unverified .before .before in
+    simp (
+      sym (able .before .is-unable .ensures) ∙ able .if1 .left,
+      ne-eqb _ _ (unverified .if2 .left),
+      ne-eqb _ _ (c .before .if3 .left),
+      c .absent .ensures,
+    )
 
 pub perform-spec : {M : Type 1} → statement M
 perform-spec = tie.close (tie.spec (search needs) (search needs) returns (search needs) returns-2 (search needs) returns-3 (search needs) returns-4)

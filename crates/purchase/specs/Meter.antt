@@ -1,0 +1,88 @@
+-- A meter: an accumulator or a counter (document 01, "Numbers" and "The paper"). A counter is one that stops at 255 and to which a purchase is worth 1.
+use Prim.Native.Nat.{ℕ, _<_}
+use mathlib.Core.Bool.{Bool, false}
+use lib.ListN.{getD}
+use Rattle.money.specs.declared.AccumulatorAmount.{AccumulatorAmount}
+use Rattle.money.specs.declared.Converted.{Converted}
+use Rattle.money.specs.declared.Converted.the-variants.{Amount}
+use Rattle.money.specs.Money.{max, convertOf}
+use Rattle.rules.specs.declared.Place.{Place}
+use Rattle.rules.specs.declared.AccumulatorRule.{AccumulatorRule}
+use Rattle.rules.specs.declared.CounterRule.{CounterRule}
+use Rattle.rules.specs.declared.Values.{Values}
+use Rattle.rules.specs.Rules.{Rules, currencyAt, accumulatorRule, counterRule}
+use Rattle.purchase.specs.declared.Purchase.{Purchase}
+
+-- accumulator or counter i + 1, of four each
+pub data Meter : Type 0 where
+  accumulator : ℕ → Meter
+  counter : ℕ → Meter
+
+abbrev pub IsMeter : Meter → Type 0
+IsMeter (accumulator i) = i < 4
+IsMeter (counter i) = i < 4
+
+-- its rule in a profile; an accumulator never includes offline declines
+pub record MeterRule : Type 0 where
+  pub active : Bool
+  pub allow : Bool
+  pub include : Bool
+  pub declines : Bool
+  pub lower : ℕ
+  pub upper : ℕ
+
+abbrev pub accumulating : AccumulatorRule → MeterRule
+accumulating rule =
+    record {
+      active = rule .active;
+      allow = rule .allow;
+      include = rule .include;
+      declines = false;
+      lower = rule .lower .0;
+      upper = rule .upper .0;
+    }
+
+abbrev pub counting : CounterRule → MeterRule
+counting rule =
+    record {
+      active = rule .active;
+      allow = rule .allow;
+      include = rule .include;
+      declines = rule .declines;
+      lower = rule .lower;
+      upper = rule .upper;
+    }
+
+abbrev pub ruleOf : Rules → Place → Meter → MeterRule
+ruleOf rules place (accumulator i) = accumulating (accumulatorRule rules place i)
+ruleOf rules place (counter i) = counting (counterRule rules place i)
+
+-- its value
+abbrev pub amountAt : Values → ℕ → AccumulatorAmount
+amountAt values i = getD (values .accumulators) i (record { 0 = 0 })
+
+abbrev pub countAt : Values → ℕ → ℕ
+countAt values i = getD (values .counters) i 0
+
+abbrev pub valueOf : Values → Meter → ℕ
+valueOf values (accumulator i) = amountAt values i .0
+valueOf values (counter i) = countAt values i
+
+-- where its sums stop
+abbrev pub counterCap : ℕ
+counterCap = 255
+
+abbrev pub capOf : Meter → ℕ
+capOf (accumulator i) = max
+capOf (counter i) = counterCap
+
+-- what a purchase is worth: to accumulator i + 1 the amount in its currency, to a counter 1
+unfoldable pub worth : Rules → Purchase → ℕ → Converted
+worth rules purchase i = convertOf (purchase .amount) (purchase .currency) (currencyAt rules i) (rules .rates)
+
+abbrev pub once : Converted
+once = Amount (record { 0 = 1 })
+
+abbrev pub worthTo : Rules → Purchase → Meter → Converted
+worthTo rules purchase (accumulator i) = worth rules purchase i
+worthTo rules purchase (counter i) = once

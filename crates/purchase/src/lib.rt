@@ -1,0 +1,32 @@
+// A purchase, and what it is worth.
+ghost use mathlib.Core.Path.{_≡_};
+ghost use Rattle.money.specs.Money.{convertOf};
+ghost use Rattle.rules.specs.Rules.{rulesOf};
+ghost use Rattle.purchase.specs.Meter.{worth};
+use money::AccumulatorAmount;
+use money::Converted;
+use money::TransactionAmount;
+use rules::Words;
+
+pub struct Purchase {
+    pub amount: TransactionAmount,
+    pub currency: u16,
+}
+
+// The purchase in a currency. The table is read only for another one.
+pub fn worth_in(words: &Words, purchase: Purchase, currency: u16) -> Converted
+    ensures { λ r. ⌜ r ≡ convertOf (purchase .amount) (purchase .currency) currency (rulesOf (now (words .entry)) .rates) ⌝ }
+{
+    let amount = purchase.amount;
+    if purchase.currency == currency {
+        return Converted::Amount(AccumulatorAmount(money::stop(amount.0)));
+    }
+    money::convert(amount, purchase.currency, currency, rules::rates(words))
+}
+
+// The purchase in the currency of accumulator i + 1.
+pub fn worth(words: &Words, purchase: Purchase, i: usize) -> Converted
+    ensures { λ r. ⌜ r ≡ worth (rulesOf (now (words .entry))) purchase i ⌝ }
+{
+    worth_in(words, purchase, rules::currency(words, i))
+}
