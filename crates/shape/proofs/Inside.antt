@@ -16,7 +16,7 @@ use Rattle.shape.specs.declared.Tails.{Tails}
 use Rattle.shape.specs.declared.Tails.the-variants.{Ended, Wrong}
 use Rattle.shape.specs.declared.ReadShape.{ReadShape}
 use Rattle.shape.specs.declared.ReadShape.the-variants.{Taken, Refused}
-use Rattle.shape.specs.Shape.{baseLength, based, baseTail, entriesEnd, fileEnd, selects, selectionTail, follows, syllabusTail, behind, since, tailsOf, whole, shapeOf}
+use Rattle.shape.specs.Shape.{Lies, baseLength, based, baseTail, entriesEnd, fileEnd, selects, selectionTail, follows, syllabusTail, behind, since, tailsOf, whole, shapeOf}
 use Rattle.shape.proofs.Either.{choose}
 
 -- entries end where they begin, or behind
@@ -24,10 +24,6 @@ pub not-before : (body : List ℕ) (at n : ℕ) → at ≤ entriesEnd body at n
 unfolding entriesEnd
 not-before body at zero = omega arith
 not-before body at (suc n) = let before = not-before body at n in omega arith
-
-abbrev pub Lies : Selecting → (bytes : ℕ) → Type 0
-Lies Off bytes = Unit
-Lies (On start end entries) bytes = (start ≤ end) × (end ≤ bytes)
 
 pub record Inside (shape : Shape) (bytes : ℕ) : Type 0 where
   pub base : shape .base ≤ bytes

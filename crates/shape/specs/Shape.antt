@@ -1,6 +1,6 @@
 -- The shape of a paper: what its version adds to a set-up's body, read front to back (docs/PAPERS.md, "How a version adds"; document 02, Three and
 -- Nine). The base of document 01, 52 + 107p + 7c bytes, then a tail for each addition, in the order of the versions, to the body's end.
-use Prim.Native.Nat.{ℕ, zero, suc, _+_, _*_}
+use Prim.Native.Nat.{ℕ, zero, suc, _+_, _*_, _≤_}
 use mathlib.Core.Bool.{cond}
 use mathlib.Core.List.{List}
 use lib.Dec.{eqb, ltb, leb}
@@ -74,6 +74,11 @@ shapeOf version body = whole body (tailsOf version body)
 
 abbrev pub basePart : Shape → (body : List ℕ) → List ℕ
 basePart shape body = take (shape .base) body
+
+-- the file lies in so many bytes
+abbrev pub Lies : Selecting → (bytes : ℕ) → Type 0
+Lies Off bytes = Unit
+Lies (On start end entries) bytes = (start ≤ end) × (end ≤ bytes)
 
 -- the same, with the file's places those in the paper, where the body stands at a place of it
 abbrev pub selectingAt : (place : ℕ) → Selecting → Selecting

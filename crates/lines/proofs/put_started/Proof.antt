@@ -1,7 +1,7 @@
 use borrow.Author.Needs.{needs}
 use borrow.Author.Tests.{eq-eqb, ne-eqb}
-use Rattle.turns.proofs.put_started.Statement.{statement}
-use Rattle.turns.proofs.put_started.Tie as tie
+use Rattle.lines.proofs.put_started.Statement.{statement}
+use Rattle.lines.proofs.put_started.Tie as tie
 
 returns : tie.Need-returns
 returns c =

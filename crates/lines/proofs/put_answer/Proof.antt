@@ -1,7 +1,7 @@
 use borrow.Author.Needs.{needs}
-use Rattle.turns.specs.Turns.{answerLine}
-use Rattle.turns.proofs.put_answer.Statement.{statement}
-use Rattle.turns.proofs.put_answer.Tie as tie
+use Rattle.lines.specs.Sitting.{answerLine}
+use Rattle.lines.proofs.put_answer.Statement.{statement}
+use Rattle.lines.proofs.put_answer.Tie as tie
 
 returns : tie.Need-returns
 unfolding answerLine

@@ -1,6 +1,6 @@
 use borrow.Author.Needs.{needs}
-use Rattle.turns.proofs.selects.Statement.{statement}
-use Rattle.turns.proofs.selects.Tie as tie
+use Rattle.command.proofs.selects.Statement.{statement}
+use Rattle.command.proofs.selects.Tie as tie
 
 returns : tie.Need-returns
 returns c = simp (c .enum-told .given .1)
