@@ -11,9 +11,8 @@ use Rattle.wire.specs.Wire.{number}
 use Rattle.wire.proofs.Pairs.{both}
 use Rattle.ranges.specs.Ranges.{isSetup, hasLength, isHead, areAccumulators, isAccumulator, areProfiles, isProfileOrAbsent, isProfile, areMasks, isMaximumAmount, areAccumulatorRules, isAccumulatorRule, areCounterRules, areSent, areNumbersApart, profileNumber, areConversions, isConversionOrAbsent, isConversion, conversionPair, arePairsApart}
 use Rattle.setup.specs.Setup.{readSetup}
-use Rattle.tail.specs.declared.Selecting.the-variants.{Off}
-use Rattle.tail.specs.Tail.{baseEnd, readTail}
-use Rattle.turns.specs.Sitting.{sittingLines}
+use Rattle.shape.specs.Shape.{based, baseTail, tailsOf, shapeOf}
+use Rattle.lines.specs.Sitting.{sittingLines}
 use Rattle.spelling.specs.Spelling.{Bytes, big, recordOf, first, second, kindOf, bodyOf, spellAll, paperOf, byName, Fits, AllFit}
 use Rattle.spelling.specs.Faults.{Opens}
 use Rattle.spelling.specs.Sitting.{SetUp, Ends, ended, sittingOf}
@@ -46,9 +45,9 @@ pub opens : Opens printed 1 body (spellAll sent)
 unfolding printed sent spellAll kindOf bodyOf recordOf big
 opens = record { is = refl; least = lit≤ tt; most = lit≤ tt; short = lit≤ tt }
 
-pub set-up : SetUp 1 body Off
-unfolding printed readTail baseEnd readSetup isSetup hasLength isHead areAccumulators isAccumulator number areProfiles isProfileOrAbsent isProfile areMasks isMaximumAmount areAccumulatorRules isAccumulatorRule areCounterRules areSent areNumbersApart profileNumber areConversions isConversionOrAbsent isConversion conversionPair arePairsApart
-set-up = record { tail = refl; base = refl }
+pub set-up : SetUp 1 body (based 159)
+unfolding printed shapeOf tailsOf baseTail readSetup isSetup hasLength isHead areAccumulators isAccumulator number areProfiles isProfileOrAbsent isProfile areMasks isMaximumAmount areAccumulatorRules isAccumulatorRule areCounterRules areSent areNumbersApart profileNumber areConversions isConversionOrAbsent isConversion conversionPair arePairsApart
+set-up = record { shape-is = refl; base = refl }
 
 pub fit : AllFit byName sent
 unfolding sent Fits
@@ -63,6 +62,6 @@ fit = (one, (buys 5000 (lit< tt), (one, (buys 1 (lit< tt), (cannot, (one, (buys 
   cannot = (one, lit< tt, lit< tt, lit< tt)
 
 -- THE PRINTED SITTING: THE LINES OF THE 242 BYTES ARE THOSE OF THE EIGHT THAT WERE SENT, AND NO MORE
-pub printed-lines : (words : List ℕ) → length words ≡ 164 → sittingLines words printed ≡ sittingOf 1 body {choice = byName} sent {rest = []} (ended refl)
+pub printed-lines : (words : List ℕ) → length words ≡ 164 → sittingLines words printed ≡ sittingOf (based 159) body {choice = byName} sent {rest = []} (ended refl)
 printed-lines words lent =
-    lines-of words printed 1 body (spellAll sent) opens Off set-up bytes lent sent [] fit (ended refl) (sym (append-nil (spellAll sent)))
+    lines-of words printed 1 body (spellAll sent) opens (based 159) set-up bytes lent sent [] fit (ended refl) (sym (append-nil (spellAll sent)))
