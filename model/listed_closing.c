@@ -1,5 +1,4 @@
-#include <string.h>
-
+#include "bytes.h"
 #include "listed.h"
 
 enum { AAC = 0, TC = 1, ARQC = 2 };
@@ -202,6 +201,25 @@ static void start_over(unsigned open, uint8_t profile, uint16_t atc,
     emit_paper(draft);
 }
 
+/* Default looks at nothing but that the terminal could not go online: for the
+ * first time, with a history that says so already, and cleared again. */
+static void unable_by_default(void)
+{
+    begin(0, 0);
+    for (unsigned i = 0; i < 2; i++)
+        put32(draft->bytes + SETUP_BODY + SETUP_HEAD + i * SETUP_PROFILE + 9,
+              1 << 3);
+    for (unsigned round = 0; round < 2; round++) {
+        for (unsigned i = 0; i < 2; i++) {
+            open_online(round, SMALL);
+            second(&(struct second){TC, i == 0 ? Y3 : Z3, ABSENT, 0});
+        }
+        open_online(round, SMALL);
+        second(&(struct second){TC, OTHER, VERIFIED, 0x82});
+    }
+    emit_paper(draft);
+}
+
 /* A profile without an MTA after one that exceeds its own: the amount of then
  * counts for nothing. */
 static void without_mta(void)
@@ -235,5 +253,6 @@ void listed_closing(struct draft *to, void (*then)(struct draft *draft))
                 start_over(open, profile, 0, turned);
             start_over(open, 1, 65534, turned);
         }
+    unable_by_default();
     without_mta();
 }

@@ -1,5 +1,5 @@
 /* mutate FILE: lists what can be changed in a C source, one change a line: its
- * number from 1, the line of the source, and what becomes of what.
+ * number from 1, the line and column of the source, and what becomes of what.
  * mutate FILE NUMBER: writes the source with that change.
  *
  * The changes: a condition negated, always or never met; an operand of && or
@@ -412,8 +412,11 @@ static void show(size_t begin, size_t end)
 static void list_change(size_t i)
 {
     const struct change *one = &change[i];
+    size_t column = 1;
 
-    printf("%zu %u `", i + 1, one->line);
+    while (column <= one->begin && source[one->begin - column] != '\n')
+        column++;
+    printf("%zu %u:%zu `", i + 1, one->line, column);
     show(one->begin, one->end);
     if (one->text[0] == '\0' || strcmp(one->text, ";") == 0) {
         printf("` left out");

@@ -6,7 +6,7 @@
 
 enum {
     PAPER_MAX = 65536,
-    LINE_MAX_BYTES = 96 /* "16383 0 40 65535 ", 64 digits and a line feed fit */
+    LINE_MAX_BYTES = 96 /* "21783 0 40 65535 ", 64 digits and a line feed fit */
 };
 
 struct sitting {

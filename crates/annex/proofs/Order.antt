@@ -1,5 +1,5 @@
 -- Numbers of so many bytes, the first byte the highest: how they stand is decided by the first byte in which they differ. Assumes nothing.
-use mathlib.Core.Path.{_≡_, refl, sym, _∙_}
+use mathlib.Core.Path.{_≡_, refl, sym}
 use mathlib.Core.Bool.{Bool, true, false}
 use Prim.Native.Nat.{ℕ, zero, suc, _+_, _*_, _<_}
 use native.Mathlib.Omega.{arith}
@@ -51,7 +51,10 @@ one-way n a b s t = by (ltb (s .differ) (t .differ)) (ltb (t .differ) (s .differ
         omega (arith, s .smaller)
 
 -- x and y: numbers that grow by a byte at each step, from the same
-module _ (x y : ℕ → ℕ) (a b : ℕ → ℕ) (none : x 0 ≡ y 0) (x-more : (i : ℕ) → x (suc i) ≡ x i * 256 + a i) (y-more : (i : ℕ) → y (suc i) ≡ y i * 256 + b i) where
+abbrev pub Grows : (ℕ → ℕ) → (ℕ → ℕ) → Type 0
+Grows x a = (i : ℕ) → x (suc i) ≡ x i * 256 + a i
+
+module _ (x y a b : ℕ → ℕ) (none : x 0 ≡ y 0) (x-more : Grows x a) (y-more : Grows y b) where
   pub same-number : (n : ℕ) → Same n a b → x n ≡ y n
   same-number zero h = none
   same-number (suc n) h =

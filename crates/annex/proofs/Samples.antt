@@ -1,13 +1,13 @@
 -- `walked` and `stopped`, computed for a few files: where the walk leads, or that it stops. They follow from the two; said apart, they show
 -- of a card that selects otherwise that the statement itself is false of it. Assumes nothing.
-use mathlib.Core.Bool.{Bool, true, false, not, _&&_}
+use mathlib.Core.Bool.{Bool, not, _&&_}
 use mathlib.Core.List.{List, [], _∷_, _++_}
 use Prim.Native.Nat.{ℕ, _+_, _*_}
 use lib.Dec.{T, eqb}
 use lib.ListN.{replicate}
 use Rattle.wire.specs.Wire.{number}
 use Rattle.entry.specs.Entry.{block, isWellFormed, reachesPast, masked, isAnyOf, passes, actionOf, actionTaken}
-use Rattle.selection.specs.Selection.{entriesOf, follow, selectFrom, selectionOf, selectionNumber, profileOf, visitsOf}
+use Rattle.selection.specs.Selection.{entriesOf, isFile, follow, selectFrom, selectionOf, selectionNumber, profileOf, visitsOf}
 use Rattle.annex.proofs.Witness.{file, terminal}
 
 -- what is compared: the profile and the visits; that it is refused
@@ -66,9 +66,14 @@ pub record Samples : Type 0 where
   pub unknown-check : T (stops (entry 1 2 (0 ∷ 0 ∷ []) 3 5 5) 1 (0 ∷ []))
   pub reaches-past : T (stops (three 0) 1 (0 ∷ 0xFF ∷ []))
   pub onward : T (stops (always 0x81 ++ always 0x7F ++ always 5) 3 (0 ∷ []))
+  -- a file, and none with a byte behind it, with an entry fewer, or cut short
+  pub whole-file : T (isFile file 3)
+  pub byte-behind : T (not (isFile (file ++ 0 ∷ []) 3))
+  pub entry-behind : T (not (isFile file 2))
+  pub cut-file : T (not (isFile (8 ∷ 1 ∷ 1 ∷ 2 ∷ 0 ∷ 0 ∷ 0 ∷ 5 ∷ []) 1))
 
 pub samples : Samples
-unfolding number block isWellFormed reachesPast masked isAnyOf passes actionOf actionTaken entriesOf follow selectFrom selectionOf
+unfolding number block isWellFormed reachesPast masked isAnyOf passes actionOf actionTaken entriesOf isFile follow selectFrom selectionOf
 samples =
     record {
       walk = tt;
@@ -98,4 +103,8 @@ samples =
       unknown-check = tt;
       reaches-past = tt;
       onward = tt;
+      whole-file = tt;
+      byte-behind = tt;
+      entry-behind = tt;
+      cut-file = tt;
     }

@@ -1,24 +1,24 @@
 -- The selection is the walk: what `selectionOf` gives is where the walk leads, and nothing where it stops. Assumes nothing.
 use mathlib.Core.Path.{_≡_, refl, sym, ap, subst, _∙_}
-use mathlib.Core.Bool.{Bool}
-use mathlib.Core.Logic.{_⊎_, inl, inr, _↔_}
+use mathlib.Core.Logic.{_↔_}
 use mathlib.Core.List.{List}
 use Prim.Native.Nat.{ℕ, zero, suc, _+_, _-_, _≤_, _<_}
 use native.Mathlib.Nat.{sub-zero}
 use native.Mathlib.Decide.{decLe, ℕ-discrete}
 use native.Mathlib.Omega.{arith}
 use borrow.Author.Tests.{lt-ltb, le-ltb, ne-eqb}
-use lib.ListN.{length, getD, drop}
 use Rattle.entry.specs.Entry.{actionOf, actionTaken}
 use Rattle.entry.specs.declared.Action.{Action}
 use Rattle.entry.specs.declared.Action.the-variants.{Profile, Move, Refused}
 use Rattle.selection.specs.Selection.{firstEntry, follow, oneMore, selectionOf, selectionNumber, skipped}
 use Rattle.selection.specs.declared.Selection.{Selection}
 use Rattle.selection.specs.declared.Selection.the-variants.{Selected, NotSelected}
-use Rattle.selection.proofs.Moves.{none, step, moves-on, moves-past}
-use Rattle.annex.specs.Annex.{Bytes, place, positive, negative, IllFormed, ReachesPast, Acts, passed, failed, Leads, Moves, Walks, names, moves, Stops, profile-zero, move-zero, past-the-end, profile-7F, empty-file, ill-formed, reaches-past, onward}
+use Rattle.selection.proofs.Moves.{none, step, moves-on}
+use Rattle.annex.specs.Annex.{Bytes, place, Acts, passed, failed, Leads, Moves, Walks, names, moves, Stops}
+use Rattle.annex.specs.Annex.{profile-zero, move-zero, past-the-end, profile-7F, empty-file, ill-formed, reaches-past, onward}
 use Rattle.annex.proofs.Places.{skipped-is, skipped-more}
-use Rattle.annex.proofs.Judged.{given, entry, Judged, ill, past, acts, ill-refused, past-refused, acts-as, judged}
+use Rattle.annex.proofs.Form.{given, entry}
+use Rattle.annex.proofs.Judged.{Judged, ill, past, acts, ill-refused, past-refused, acts-as, judged}
 
 -- AN ACTION BYTE
 profile-is : (a : ℕ) → 1 ≤ a → a ≤ 0x7E → actionOf a ≡ Profile a

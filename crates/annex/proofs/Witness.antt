@@ -3,17 +3,17 @@
 use mathlib.Core.Path.{_≡_, refl}
 use mathlib.Core.Bool.{Bool, true, false, _&&_}
 use mathlib.Core.List.{List, [], _∷_, _++_}
-use Prim.Native.Nat.{ℕ, zero, suc, _+_, _<_}
+use Prim.Native.Nat.{ℕ, zero, suc, _<_}
 use native.Mathlib.Omega.{arith}
 use borrow.Author.Tests.{ltb-true}
 use lib.Dec.{ltb}
-use lib.ListN.{getD, replicate, List·getD-eq-default}
+use lib.ListN.{replicate, List·getD-eq-default}
 use Rattle.wire.proofs.Pairs.{both}
 use Rattle.selection.specs.Selection.{selectionOf}
 use Rattle.selection.specs.declared.Selection.the-variants.{Selected}
-use Rattle.annex.specs.Annex.{Bytes, place, value, seen, Smaller, Passes, equal, less, greater, Acts, passed, failed, Walks, names, moves}
+use Rattle.annex.specs.Annex.{Bytes, place, value, seen, Passes, equal, less, greater, passed, failed, Walks, names, moves}
 use Rattle.annex.proofs.Order.{one-way}
-use Rattle.annex.proofs.Judged.{Whole, broken}
+use Rattle.annex.proofs.Form.{Whole, broken}
 use Rattle.annex.proofs.Walked.{walked}
 
 -- the entries stand at 0, 13 and 24

@@ -55,9 +55,21 @@ unfoldable pub counting : List ℕ
 counting = head 2 1 0 0 ++ profile 1 3 ++ profile 2 0 ++ 0x09 ∷ 0x78 ∷ 0x08 ∷ 0x40 ∷ 0 ∷ 2 ∷ 9 ∷ []
 
 -- Online accumulator 1's lower limit, 1000; Decline MTA, 0 in 0978 and off, and accumulator 1's upper limit, 5000; no conversion
-unfoldable pub limiting : (high low : ℕ) → List ℕ
-limiting high low =
-    head 1 0 high low ++ 1 ∷ zeros 3 ++ 0x40 ∷ 0 ∷ 0 ∷ 0x04 ∷ 0x20 ∷ zeros 5 ++ 0x09 ∷ 0x78 ∷ zeros 8 ++ rule 1 0x03 0xE8 0x13 0x88 ++ zeros 66
+unfoldable pub limiting : (switches high low : ℕ) → List ℕ
+limiting switches high low =
+    head 1 0 high low ++ 1 ∷ zeros 3 ++ 0x40 ∷ 0 ∷ 0 ∷ 0x04 ∷ 0x20 ∷ zeros 5 ++ 0x09 ∷ 0x78 ∷ zeros 8 ++ rule switches 0x03 0xE8 0x13 0x88 ++ zeros 66
+
+-- Default accumulator 1's lower limit, 1000, and no other mask; from 2000
+unfoldable pub defaulting : List ℕ
+defaulting = head 1 0 0x07 0xD0 ++ 1 ∷ zeros 11 ++ 0x40 ∷ zeros 11 ++ rule 1 0x03 0xE8 0x13 0x88 ++ zeros 66
+
+-- Decline accumulator 1's upper limit, MAX, which the purchase is tested with; from MAX
+abbrev most : List ℕ
+most = 0 ∷ 0 ∷ 0 ∷ 0xE8 ∷ 0xD4 ∷ 0xA5 ∷ 0x0F ∷ 0xFF ∷ []
+
+unfoldable pub full : List ℕ
+full =
+    1 ∷ 3 ∷ 0 ∷ 1 ∷ 0 ∷ zeros 3 ++ 0x09 ∷ 0x78 ∷ most ++ zeros 34 ++ 1 ∷ zeros 6 ++ 0x04 ∷ zeros 16 ++ 5 ∷ zeros 8 ++ most ++ zeros 66
 
 -- ---- sittings
 
@@ -165,14 +177,17 @@ isOf (Refused refusal) kind = false
 isOf (Started atc visits) kind = false
 isOf (Given given atc iad) kind = eqb (kindCode given) (kindCode kind)
 
--- what First answers, requested a TC of 1 in a currency, with accumulator 1 from a number
-unfoldable pub answers : (high low currency : ℕ) → Kind → Bool
-answers high low currency kind =
-    let s = limiting high low in
+-- what First answers, requested a TC of 1 in a currency
+unfoldable pub answersTo : List ℕ → (currency : ℕ) → Kind → Bool
+answersTo s currency kind =
     isOf (stepOf (rulesIn s 0) (run (rulesIn s 0) (begin s) (start 1 ∷ []) .state) (first 1 currency 1) .answer) kind
 
+-- with accumulator 1 by its switches from a number
+abbrev answers : (switches high low currency : ℕ) → Kind → Bool
+answers switches high low currency kind = answersTo (limiting switches high low) currency kind
+
 pub record Samples : Type 0 where
-  pub accepted : T (isSetup counting && isSetup (limiting 0x07 0xD0) && isSetup (limiting 0x17 0x70))
+  pub accepted : T (isSetup counting && isSetup (limiting 1 0x07 0xD0) && isSetup (limiting 1 0x17 0x70) && isSetup (limiting 5 0x17 0x70) && isSetup defaulting && isSetup full)
   pub approvals-agree : T (agrees counting approvals)
   pub limits-agree : T (agrees counting limits)
   pub resets-agree : T (agrees counting resets)
@@ -189,12 +204,17 @@ pub record Samples : Type 0 where
   pub firsts-in-kind : T (kindly (answered 0) && kindly (answered 1) && kindly (answered 2))
   pub seconds-in-kind : T (kindly (online unable) && kindly (online (second 0x80)) && kindly (online (after 2)) && kindly (online (after 0)))
   -- accumulator 1 at 2000 is above its lower limit: online
-  pub lower-online : T (answers 0x07 0xD0 0x0978 Arqc)
+  pub lower-online : T (answers 1 0x07 0xD0 0x0978 Arqc)
   -- at 6000 above its upper: declined, in a currency without a conversion too
-  pub upper-declined : T (answers 0x17 0x70 0x0840 Aac)
+  pub upper-declined : T (answers 1 0x17 0x70 0x0840 Aac)
+  pub upper-included-declined : T (answers 5 0x17 0x70 0x0840 Aac)
+  -- Default isn't asked on a terminal that can go online
+  pub default-unasked : T (answersTo defaulting 0x0978 Tc)
+  -- the sum that is tested isn't stopped at MAX
+  pub sum-unstopped : T (answersTo full 0x0978 Aac)
 
 pub samples : Samples
-unfolding counting limiting approvals limits resets answered online agrees duly kindly answers due run freshState readSetup freshIn isSetup hasLength isHead areAccumulators isAccumulator number areProfiles isProfileOrAbsent isProfile areMasks isMaximumAmount areAccumulatorRules isAccumulatorRule areCounterRules areSent areNumbersApart profileNumber areConversions isConversionOrAbsent isConversion conversionPair arePairsApart rulesIn rateIn profileIn accumulatorIn counterIn stepOf startStep firstStep secondStep findProfile firstPerformed decision limitsByte concluded testsOf decisionBits accumulatorsLower accumulatorsUpper countersLower countersUpper maximumExceeded worth convertOf rateFor rounded scaled approved declined limited cleared verification sentIad secondPerformed unablePerformed verifiedPerformed failedPerformed absentPerformed closed ordered placeOf converted named spent spentIn ledger owed past atcBy
+unfolding counting limiting defaulting full approvals limits resets answered online agrees duly kindly answersTo due run freshState readSetup freshIn isSetup hasLength isHead areAccumulators isAccumulator number areProfiles isProfileOrAbsent isProfile areMasks isMaximumAmount areAccumulatorRules isAccumulatorRule areCounterRules areSent areNumbersApart profileNumber areConversions isConversionOrAbsent isConversion conversionPair arePairsApart rulesIn rateIn profileIn accumulatorIn counterIn stepOf startStep firstStep secondStep findProfile firstPerformed decision limitsByte concluded testsOf decisionBits accumulatorsLower accumulatorsUpper countersLower countersUpper maximumExceeded worth convertOf rateFor rounded scaled approved declined limited cleared verification sentIad secondPerformed unablePerformed verifiedPerformed failedPerformed absentPerformed closed ordered placeOf converted named spent spentIn ledger owed past atcBy
 samples =
     record {
       accepted = tt;
@@ -214,4 +234,7 @@ samples =
       seconds-in-kind = tt;
       lower-online = tt;
       upper-declined = tt;
+      upper-included-declined = tt;
+      default-unasked = tt;
+      sum-unstopped = tt;
     }

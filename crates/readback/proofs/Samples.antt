@@ -1,17 +1,19 @@
 -- The statements at single inputs, by computation: line 2 of the printed sitting, and what differs from it in one byte. Assumes nothing.
+use mathlib.Core.Bool.{Bool, true, false, not, _&&_}
+use lib.Dec.{T, eqb}
 use mathlib.Core.Path.{_≡_, refl}
 use mathlib.Core.List.{List, [], _∷_}
 use Prim.Native.Nat.{ℕ}
 use native.Mathlib.Omega.{arith}
 use lib.ListN.{replicate}
 use Rattle.iad.specs.declared.Iad.{Iad}
-use Rattle.iad.specs.declared.ReadIad.the-variants.{Fields}
+use Rattle.iad.specs.declared.ReadIad.the-variants.{Fields as ReadFields}
 use Rattle.iad.specs.Iad.{cvrOf, pairsValue, iadOf, hasFixedBytes, isCvr, arePairs, isIad, readIad, readNumber}
 use Rattle.iad.specs.Iad.{pairsOf, iadBytes, isWritable, writeIad, written, writtenNumber}
 use Rattle.wire.specs.Wire.{number}
 use Rattle.lines.specs.Lines.{digit, decimal, hex, startLine, cryptogramLine}
 use Rattle.readback.specs.WellFormed.{WellFormed, Writable, OfBytes, LaidOut}
-use Rattle.readback.specs.Fields.{wordsIn, areDigits, valueIn, isHex, bytesIn, Three, Five, fieldsIn}
+use Rattle.readback.specs.Fields.{wordsIn, areDigits, valueIn, isHex, bytesIn, Fields, Two, Three, Four, Five, Other, fieldsIn}
 use Rattle.readback.proofs.Readable.{exactly-readable, exactly-read}
 use Rattle.readback.proofs.Told.{cryptogram-told}
 
@@ -36,7 +38,7 @@ fields byte1 =
       profile = 1;
     }
 
-pub sample-read : readIad bytes ≡ Fields (fields 0x90)
+pub sample-read : readIad bytes ≡ ReadFields (fields 0x90)
 unfolding readIad isIad hasFixedBytes number isCvr cvrOf arePairs iadOf pairsValue
 sample-read = refl
 
@@ -54,38 +56,54 @@ sample-told =
     record { key = omega arith; cvr1 = omega arith; cvr2 = omega arith; cvr3 = omega arith; cvr4 = omega arith; first = omega arith; second = omega arith } in
     cryptogram-told 2 (omega arith) 0x40 1 (fields 0x90) bytes (omega arith) (omega arith) writable small laid
 
-pub sample-first-type : readNumber (readIad (like 0xB0 0x00 0x50 0x01)) ≡ 8
-unfolding readIad isIad hasFixedBytes number isCvr cvrOf arePairs iadOf pairsValue
-sample-first-type = refl
+-- ---- what is compared
 
-pub sample-second-type : readNumber (readIad (like 0xD0 0x00 0x50 0x01)) ≡ 8
-unfolding readIad isIad hasFixedBytes number isCvr cvrOf arePairs iadOf pairsValue
-sample-second-type = refl
+abbrev same : List ℕ → List ℕ → Bool
+same [] [] = true
+same [] (b ∷ t) = false
+same (a ∷ s) [] = false
+same (a ∷ s) (b ∷ t) = eqb a b && same s t
 
-pub sample-byte-8 : readNumber (readIad (like 0x90 0x01 0x50 0x01)) ≡ 8
-unfolding readIad isIad hasFixedBytes number isCvr cvrOf arePairs iadOf pairsValue
-sample-byte-8 = refl
+-- the fields of a Start's line, and of a cryptogram's
+abbrev isThree : Fields → (number refusal atc : ℕ) → Bool
+isThree (Two n r) number refusal atc = false
+isThree (Three n r a) number refusal atc = eqb n number && eqb r refusal && eqb a atc
+isThree (Four n r a v) number refusal atc = false
+isThree (Five n r c a i) number refusal atc = false
+isThree Other number refusal atc = false
 
-pub sample-digit : readNumber (readIad (like 0x90 0x00 0x5A 0x01)) ≡ 8
-unfolding readIad isIad hasFixedBytes number isCvr cvrOf arePairs iadOf pairsValue
-sample-digit = refl
+abbrev isFive : Fields → (number refusal : ℕ) (cid : List ℕ) (atc : ℕ) (iad : List ℕ) → Bool
+isFive (Two n r) number refusal cid atc iad = false
+isFive (Three n r a) number refusal cid atc iad = false
+isFive (Four n r a v) number refusal cid atc iad = false
+isFive (Five n r c a i) number refusal cid atc iad = eqb n number && eqb r refusal && same c cid && eqb a atc && same i iad
+isFive Other number refusal cid atc iad = false
 
-pub sample-profile : readNumber (readIad (like 0x90 0x00 0x50 125)) ≡ 8
-unfolding readIad isIad hasFixedBytes number isCvr cvrOf arePairs iadOf pairsValue
-sample-profile = refl
+-- `exactly-unreadable`, `exactly-six` and what is told, at single inputs
+pub record Samples : Type 0 where
+  pub first-type : T (eqb (readNumber (readIad (like 0xB0 0x00 0x50 0x01))) 8)
+  pub second-type : T (eqb (readNumber (readIad (like 0xD0 0x00 0x50 0x01))) 8)
+  pub byte-8 : T (eqb (readNumber (readIad (like 0x90 0x01 0x50 0x01))) 8)
+  pub digit-above : T (eqb (readNumber (readIad (like 0x90 0x00 0x5A 0x01))) 8)
+  pub profile-125 : T (eqb (readNumber (readIad (like 0x90 0x00 0x50 125))) 8)
+  pub profile-0 : T (eqb (readNumber (readIad (like 0x90 0x00 0x50 0))) 8)
+  pub first-type-unwritten : T (eqb (writtenNumber (writeIad (fields 0xB0) (replicate 32 0))) 6)
+  pub six-before-seven : T (eqb (writtenNumber (writeIad (fields 0xB0) [])) 6)
+  pub start-line : T (isThree (fieldsIn (startLine 12 65_535)) 12 0 65_535)
+  pub cryptogram-line : T (isFive (fieldsIn (cryptogramLine 2 0x40 1 (fields 0x90))) 2 0 (0x40 ∷ []) 1 bytes)
 
-pub sample-no-profile : readNumber (readIad (like 0x90 0x00 0x50 0)) ≡ 8
-unfolding readIad isIad hasFixedBytes number isCvr cvrOf arePairs iadOf pairsValue
-sample-no-profile = refl
-
-pub sample-unwritten : writtenNumber (writeIad (fields 0xB0) (replicate 32 0)) ≡ 6
-unfolding writeIad isWritable isCvr
-sample-unwritten = refl
-
-pub sample-start : fieldsIn (startLine 12 65_535) ≡ Three 12 0 65_535
-unfolding startLine decimal digit fieldsIn wordsIn areDigits valueIn
-sample-start = refl
-
-pub sample-cryptogram : fieldsIn (cryptogramLine 2 0x40 1 (fields 0x90)) ≡ Five 2 0 (0x40 ∷ []) 1 bytes
-unfolding cryptogramLine written writeIad isWritable isCvr iadBytes pairsOf decimal digit hex fieldsIn wordsIn areDigits valueIn isHex bytesIn
-sample-cryptogram = refl
+pub samples : Samples
+unfolding readIad isIad hasFixedBytes number isCvr cvrOf arePairs iadOf pairsValue writeIad isWritable written iadBytes pairsOf startLine cryptogramLine decimal digit hex fieldsIn wordsIn areDigits valueIn isHex bytesIn
+samples =
+    record {
+      first-type = tt;
+      second-type = tt;
+      byte-8 = tt;
+      digit-above = tt;
+      profile-125 = tt;
+      profile-0 = tt;
+      first-type-unwritten = tt;
+      six-before-seven = tt;
+      start-line = tt;
+      cryptogram-line = tt;
+    }

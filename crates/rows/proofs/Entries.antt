@@ -1,12 +1,12 @@
 -- A file spelled entry by entry is read as a file; what is read as one is so spelled; what is not has one of the causes. Assumes nothing.
-use mathlib.Core.Path.{_≡_, refl, sym, ap, ap₂, subst, _∙_}
-use mathlib.Core.Bool.{Bool, true, false, cond, _&&_}
+use mathlib.Core.Path.{_≡_, refl, sym, ap, ap₂, _∙_}
+use mathlib.Core.Bool.{Bool, true, false, _&&_}
 use mathlib.Core.List.{List, [], _∷_, _++_}
 use Prim.Native.Nat.{ℕ, zero, suc, _+_, _≤_, _<_}
 use native.Mathlib.Numerals.{add-one}
 use native.Mathlib.Omega.{arith}
-use borrow.Author.Tests.{lt-ltb, le-ltb, ltb-true, ltb-false, eqb-true, eqb-false, ne-eqb}
-use lib.Dec.{ltb, eqb}
+use borrow.Author.Tests.{lt-ltb, le-ltb, ltb-true, ltb-false, eqb-true, ne-eqb}
+use lib.Dec.{ltb}
 use lib.ListN.{List·getD-eq-default, length, take, drop, length-append, length-take, take-append-drop}
 use lib.Seq.{take-at, drop-at, length-take-le, getD-drop, getD-take}
 use Rattle.wire.specs.Wire.{byte}

@@ -1,11 +1,12 @@
 pub mod Spelling
+pub mod Places
+pub mod Placed
 pub mod Fields
 pub mod Unspelled
+pub mod Ranges
 pub mod Entries
 pub mod Behind
 pub mod Causes
-pub mod Places
-pub mod Ranges
-pub mod Placed
+pub mod Whole
 pub mod Witness
 pub mod Samples

@@ -1,26 +1,25 @@
 -- A spelled set-up is accepted exactly if its fields are in their ranges; its number is then 0, and else 1. Assumes nothing.
-use mathlib.Core.Path.{_≡_, refl, sym, ap, subst, _∙_}
+use mathlib.Core.Path.{_≡_, refl, sym, _∙_}
 use mathlib.Core.Bool.{Bool, true, false, cond}
-use mathlib.Core.List.{List, [], _∷_, _++_}
+use mathlib.Core.List.{List}
 use mathlib.Core.Logic.{_↔_}
-use Prim.Native.Nat.{ℕ, zero, suc, _+_, _*_, _^_, _≤_, _<_}
-use native.Mathlib.Nat.{add-zero, zero-add, add-assoc}
+use Prim.Native.Nat.{ℕ, _+_, _*_, _<_}
 use native.Mathlib.Omega.{arith}
-use lib.ListN.{length}
+use lib.ListN.{length, getD}
 use Rattle.wire.specs.Wire.{byte, number}
-use Rattle.wire.proofs.Numbers.{one}
 use Rattle.ranges.specs.Ranges.{isSetup}
 use Rattle.ranges.proofs.Accepted.{Currency, AccumulatorRanges, AccumulatorRuleRanges, ProfileRanges, ConversionRanges, Accepted, accepted, complete}
 use Rattle.setup.specs.Setup.{readSetup, setupNumber}
-use Rattle.rows.specs.Rows.{Field, Fits, Accumulator, Limits, Profile, Conversion, Setup, listed, each, accumulatorRow, limitsRow, profileRow, conversionRow, setupRow, body}
-use Rattle.rows.specs.InRange.{ThreeDigits, AccumulatorRange, AccumulatorLimits, CounterLimits, ProfileRange, ConversionRange, SameNumber, SamePair, InRange}
-use Rattle.rows.proofs.Spelling.{Stands, stands-at}
-use Rattle.rows.proofs.Fields.{at-byte, ProfileAt, profile-at, body-size, tables, head-parts, first, profile-width, conversion-width}
+use Rattle.rows.specs.Rows.{Fits, Four, Limits, Profile, Conversion, Setup, listed, setupRow, body}
+use Rattle.rows.specs.InRange.{ThreeDigits, AccumulatorRange, AccumulatorLimits, CounterLimits, ProfileRange, ConversionRange, SameNumber, SamePair}
+use Rattle.rows.specs.InRange.{InRange}
+use Rattle.rows.specs.Offsets.{nth, AccumulatorOffsets, ProfileOffsets, ConversionOffsets, Offsets}
 use Rattle.rows.proofs.Places.{at-each, each-at, at-no-two, no-two-at}
+use Rattle.rows.proofs.Placed.{body-size, in-place}
 
 -- the same three digits
-there-digits : {code : ℕ} → ThreeDigits code → Currency code
-there-digits d =
+digits-there : {code there : ℕ} → there ≡ code → ThreeDigits code → Currency there
+digits-there e d =
     record {
       hundreds = d .hundreds;
       tens = d .tens;
@@ -28,11 +27,11 @@ there-digits d =
       hundreds-digit = d .hundreds-digit;
       tens-digit = d .tens-digit;
       ones-digit = d .ones-digit;
-      digits = d .digits;
+      digits = e ∙ d .digits;
     }
 
-back-digits : {code : ℕ} → Currency code → ThreeDigits code
-back-digits d =
+digits-back : {code there : ℕ} → there ≡ code → Currency there → ThreeDigits code
+digits-back e d =
     record {
       hundreds = d .hundreds;
       tens = d .tens;
@@ -40,197 +39,210 @@ back-digits d =
       hundreds-digit = d .hundreds-digit;
       tens-digit = d .tens-digit;
       ones-digit = d .ones-digit;
-      digits = d .digits;
+      digits = sym e ∙ d .digits;
     }
+
+-- what stands where there is no entry
+noLimits : Limits
+noLimits = record { switches = 0; lower = 0; upper = 0 }
+
+noFour : Four Limits
+noFour = record { one = noLimits; two = noLimits; three = noLimits; four = noLimits }
+
+noProfile : Profile
+noProfile =
+    record {
+      number = 0;
+      online = 0;
+      decline = 0;
+      default = 0;
+      maximum-on = 0;
+      maximum-currency = 0;
+      maximum = 0;
+      accumulators = noFour;
+      counters = noFour;
+      accumulator-sent = 0;
+      first-sent = 0;
+      second-sent = 0;
+    }
+
+noConversion : Conversion
+noConversion = record { from = 0; to = 0; digits = 0; shift = 0 }
 
 module _ (s : List ℕ) where
-  accumulator-range : (at : ℕ) (a : Accumulator) → Stands s at (accumulatorRow a) → AccumulatorRange a ↔ AccumulatorRanges s at
-  unfolding Stands
-  accumulator-range at a h =
-      let value = h .1 .0 in (
-        λ r. record { currency = subst Currency (sym (h .0)) (there-digits (r .currency)); value = omega arith },
-        λ r. record { currency = subst ThreeDigits (h .0) (back-digits (r .currency)); value = omega arith },
-      )
+  limits-range : (at : ℕ) (l : Limits) → AccumulatorOffsets s at l → AccumulatorLimits l ↔ AccumulatorRuleRanges s at
+  limits-range at l o = (
+    λ r. record { switches = rw (o .switches) (r .switches); lower = rw (o .lower) (r .lower); upper = rw (o .upper) (r .upper) },
+    λ r. record { switches = rw (o .switches) at (r .switches); lower = rw (o .lower) at (r .lower); upper = rw (o .upper) at (r .upper) },
+  )
 
-  limits-range : (at : ℕ) (l : Limits) → Stands s at (limitsRow 8 l) → AccumulatorLimits l ↔ AccumulatorRuleRanges s at
-  limits-range at l h =
-      let q = stands-at s (limitsRow 8 l) at h in
-      let switches : byte s at ≡ l .switches = ap (byte s) (sym (add-zero at)) ∙ at-byte s (at + 0) (l .switches) (q 0) in
-      let lower : number s (at + 1) 8 ≡ l .lower = q 1 in
-      let upper : number s (at + 9) 8 ≡ l .upper = q 2 in (
-        λ r. record { switches = omega arith; lower = omega arith; upper = omega arith },
-        λ r. record { switches = omega arith; lower = omega arith; upper = omega arith },
-      )
+  conversion-range : (at : ℕ) (c : Conversion) → ConversionOffsets s at c → ConversionRange c ↔ ConversionRanges s at
+  conversion-range at c o = (
+    λ r.
+        record {
+          from = digits-there (o .from) (r .from);
+          to = digits-there (o .to) (r .to);
+          other = λ e. r .other (sym (o .from) ∙ e ∙ o .to);
+          digits-least = rw (o .digits) (r .digits-least);
+          digits-most = rw (o .digits) (r .digits-most);
+          shift = rw (o .shift) (r .shift);
+        },
+    λ r.
+        record {
+          from = digits-back (o .from) (r .from);
+          to = digits-back (o .to) (r .to);
+          other = λ e. r .other (o .from ∙ e ∙ sym (o .to));
+          digits-least = rw (o .digits) at (r .digits-least);
+          digits-most = rw (o .digits) at (r .digits-most);
+          shift = rw (o .shift) at (r .shift);
+        },
+  )
 
-  counter-range : (at : ℕ) (l : Limits) → Stands s at (limitsRow 1 l) → CounterLimits l ↔ (byte s at ≤ 15)
-  unfolding Stands
-  counter-range at l h =
-      let switches = at-byte s at (l .switches) (h .0) in
-      (λ r. omega arith, λ r. omega arith)
-
-  conversion-range : (at : ℕ) (c : Conversion) → Stands s at (conversionRow c) → ConversionRange c ↔ ConversionRanges s at
-  unfolding conversionRow
-  conversion-range at c h =
-      let q = stands-at s (conversionRow c) at h in
-      let from : number s at 2 ≡ c .from = ap (λ n. number s n 2) (sym (add-zero at)) ∙ q 0 in
-      let to : number s (at + 2) 2 ≡ c .to = q 1 in
-      let digits : number s (at + 4) 2 ≡ c .digits = q 2 in
-      let shift : byte s (at + 6) ≡ c .shift = at-byte s (at + 6) (c .shift) (q 3) in (
+  profile-range : (at : ℕ) (p : Profile) → ProfileOffsets s at p → ProfileRange p ↔ ProfileRanges s at
+  profile-range at p o =
+      let rule : (j : ℕ) → j < 4 → AccumulatorLimits (nth (p .accumulators) j) ↔ AccumulatorRuleRanges s (at + (24 + 17 * j)) =
+      λ j l. limits-range (at + (24 + 17 * j)) (nth (p .accumulators) j) (o .accumulators j l) in
+      let rs = listed (p .accumulators) in
+      let cs = listed (p .counters) in (
         λ r.
             record {
-              from = subst Currency (sym from) (there-digits (r .from));
-              to = subst Currency (sym to) (there-digits (r .to));
-              other = λ e. r .other (sym from ∙ e ∙ to);
-              digits-least = omega (arith, r .digits-least);
-              digits-most = omega (arith, r .digits-most);
-              shift = omega (arith, r .shift);
+              number-least = rw (o .number-is) (r .number-least);
+              number-most = rw (o .number-is) (r .number-most);
+              online = rw (o .online) (r .online);
+              decline = rw (o .decline) (r .decline);
+              default = rw (o .default) (r .default);
+              maximum-on = rw (o .maximum-on) (r .maximum-on);
+              maximum-currency = digits-there (o .maximum-currency) (r .maximum-currency);
+              maximum = rw (o .maximum) (r .maximum);
+              accumulators = λ j l. rule j l .0 (at-each (p .accumulators .one) AccumulatorLimits rs (r .accumulators) j l);
+              counters = λ j l. rw (o .counters j l .switches) (at-each (p .counters .one) CounterLimits cs (r .counters) j l);
+              accumulator-sent = rw (o .accumulator-sent) (r .accumulator-sent);
+              first-sent = rw (o .first-sent) (r .first-sent);
+              second-sent = rw (o .second-sent) (r .second-sent);
             },
         λ r.
             record {
-              from = subst ThreeDigits from (back-digits (r .from));
-              to = subst ThreeDigits to (back-digits (r .to));
-              other = λ e. r .other (from ∙ e ∙ sym to);
-              digits-least = omega (arith, r .digits-least);
-              digits-most = omega (arith, r .digits-most);
-              shift = omega (arith, r .shift);
+              number-least = rw (o .number-is) at (r .number-least);
+              number-most = rw (o .number-is) at (r .number-most);
+              online = rw (o .online) at (r .online);
+              decline = rw (o .decline) at (r .decline);
+              default = rw (o .default) at (r .default);
+              maximum-on = rw (o .maximum-on) at (r .maximum-on);
+              maximum-currency = digits-back (o .maximum-currency) (r .maximum-currency);
+              maximum = rw (o .maximum) at (r .maximum);
+              accumulators = each-at (p .accumulators .one) AccumulatorLimits rs (λ j l. rule j l .1 (r .accumulators j l));
+              counters = each-at (p .counters .one) CounterLimits cs (λ j l. rw (o .counters j l .switches) at (r .counters j l));
+              accumulator-sent = rw (o .accumulator-sent) at (r .accumulator-sent);
+              first-sent = rw (o .first-sent) at (r .first-sent);
+              second-sent = rw (o .second-sent) at (r .second-sent);
             },
       )
 
-  profile-range : (at : ℕ) (p : Profile) → Stands s at (profileRow p) → ProfileRange p ↔ ProfileRanges s at
-  profile-range at p h =
-      let e = profile-at s at p h in
-      let there = at-each s (limitsRow 8) 17 (λ l. refl) at AccumulatorLimits (AccumulatorRuleRanges s) limits-range (listed (p .accumulators)) 24 (e .accumulators) in
-      let back = each-at s (limitsRow 8) 17 (λ l. refl) at AccumulatorLimits (AccumulatorRuleRanges s) limits-range (listed (p .accumulators)) 24 (e .accumulators) in
-      let counts = at-each s (limitsRow 1) 3 (λ l. refl) at CounterLimits (λ n. byte s n ≤ 15) counter-range (listed (p .counters)) 92 (e .counters) in
-      let counts-back = each-at s (limitsRow 1) 3 (λ l. refl) at CounterLimits (λ n. byte s n ≤ 15) counter-range (listed (p .counters)) 92 (e .counters) in (
-        λ r.
-            record {
-              number-least = rw (e .number-is) (r .number-least);
-              number-most = rw (e .number-is) (r .number-most);
-              online = rw (e .online) (r .online);
-              decline = rw (e .decline) (r .decline);
-              default = rw (e .default) (r .default);
-              maximum-on = rw (e .maximum-on) (r .maximum-on);
-              maximum-currency = rw (e .maximum-currency) (there-digits (r .maximum-currency));
-              maximum = rw (e .maximum) (r .maximum);
-              accumulators = there (r .accumulators);
-              counters = counts (r .counters);
-              accumulator-sent = rw (e .accumulator-sent) (r .accumulator-sent);
-              first-sent = rw (e .first-sent) (r .first-sent);
-              second-sent = rw (e .second-sent) (r .second-sent);
-            },
-        λ r.
-            record {
-              number-least = rw (e .number-is) at (r .number-least);
-              number-most = rw (e .number-is) at (r .number-most);
-              online = rw (e .online) at (r .online);
-              decline = rw (e .decline) at (r .decline);
-              default = rw (e .default) at (r .default);
-              maximum-on = rw (e .maximum-on) at (r .maximum-on);
-              maximum-currency = back-digits (rw (e .maximum-currency) at (r .maximum-currency));
-              maximum = rw (e .maximum) at (r .maximum);
-              accumulators = back (r .accumulators);
-              counters = counts-back (r .counters);
-              accumulator-sent = rw (e .accumulator-sent) at (r .accumulator-sent);
-              first-sent = rw (e .first-sent) at (r .first-sent);
-              second-sent = rw (e .second-sent) at (r .second-sent);
-            },
-      )
+  module _ (x : Setup) (o : Offsets s x) where
+    abbrev profile : ℕ → Profile
+    profile i = getD (x .profiles) i noProfile
 
-  number-alike : (m n : ℕ) (p q : Profile) → Stands s m (profileRow p) → Stands s n (profileRow q) → SameNumber p q ↔ (byte s m ≡ byte s n)
-  number-alike m n p q h k =
-      let a = profile-at s m p h .number-is in
-      let b = profile-at s n q k .number-is in
-      (λ e. a ∙ e ∙ sym b, λ e. sym a ∙ e ∙ b)
+    abbrev conversion : ℕ → Conversion
+    conversion i = getD (x .conversions) i noConversion
 
-  abbrev PairThere : ℕ → ℕ → Type 0
-  PairThere m n = (number s m 2 ≡ number s n 2) × (number s (m + 2) 2 ≡ number s (n + 2) 2)
+    abbrev after : ℕ
+    after = 52 + 107 * length (x .profiles)
 
-  pair-alike : (m n : ℕ) (c d : Conversion) → Stands s m (conversionRow c) → Stands s n (conversionRow d) → SamePair c d ↔ PairThere m n
-  unfolding Stands conversionRow
-  pair-alike m n c d h k =
-      (λ (f, t). (h .0 ∙ f ∙ sym (k .0), h .1 .0 ∙ t ∙ sym (k .1 .0)), λ (f, t). (sym (h .0) ∙ f ∙ k .0, sym (h .1 .0) ∙ t ∙ k .1 .0))
+    accumulator-range : (i : ℕ) → i < 4 → AccumulatorRange (nth (x .accumulators) i) ↔ AccumulatorRanges s (8 + 10 * i)
+    accumulator-range i l = (
+      λ r. record { currency = digits-there (o .currencies i l) (r .currency); value = rw (o .values i l) (r .value) },
+      λ r. record { currency = digits-back (o .currencies i l) (r .currency); value = rw (o .values i l) at (r .value) },
+    )
 
-module _ (x : Setup) (fits : Fits (setupRow x)) where
-  abbrev s : List ℕ
-  s = body x
+    profile-there : (i : ℕ) → i < length (x .profiles) → ProfileOffsets s (52 + 107 * i) (profile i)
+    profile-there i l = o .profiles i l noProfile
 
-  pin-is : byte s 1 ≡ x .pin
-  pin-is = at-byte s 1 (x .pin) (first x fits 1)
+    conversion-there : (i : ℕ) → i < length (x .conversions) → ConversionOffsets s (after + 7 * i) (conversion i)
+    conversion-there i l = o .conversions i l noConversion
 
-  required-is : byte s 2 ≡ x .required
-  required-is = at-byte s 2 (x .required) (first x fits 2)
+    number-alike : (i j : ℕ) → i < length (x .profiles) → j < length (x .profiles)
+        → SameNumber (profile i) (profile j) ↔ (byte s (52 + 107 * i) ≡ byte s (52 + 107 * j))
+    number-alike i j l m =
+        let a = profile-there i l .number-is in
+        let b = profile-there j m .number-is in
+        (λ e. a ∙ e ∙ sym b, λ e. sym a ∙ e ∙ b)
 
-  p-is : byte s 3 ≡ length (x .profiles)
-  p-is = at-byte s 3 (length (x .profiles)) (first x fits 3)
+    abbrev SameThere : ℕ → ℕ → Type 0
+    SameThere m n = (number s m 2 ≡ number s n 2) × (number s (m + 2) 2 ≡ number s (n + 2) 2)
 
-  c-is : byte s 4 ≡ length (x .conversions)
-  c-is = at-byte s 4 (length (x .conversions)) (first x fits 4)
+    pair-alike : (i j : ℕ) → i < length (x .conversions) → j < length (x .conversions)
+        → SamePair (conversion i) (conversion j) ↔ SameThere (after + 7 * i) (after + 7 * j)
+    pair-alike i j l m =
+        let a = conversion-there i l in
+        let b = conversion-there j m in
+        (λ (f, t). (a .from ∙ f ∙ sym (b .from), a .to ∙ t ∙ sym (b .to)), λ (f, t). (sym (a .from) ∙ f ∙ b .from, sym (a .to) ∙ t ∙ b .to))
 
-  online-is : byte s 7 ≡ x .online
-  online-is = at-byte s 7 (x .online) (first x fits 6)
+    -- fields in range, seen in the bytes
+    there : length s ≡ after + 7 * length (x .conversions) → InRange x → Accepted s
+    there size r =
+        let profiles = at-each noProfile ProfileRange (x .profiles) (r .profiles) in
+        let numbers = at-no-two noProfile SameNumber (x .profiles) (r .numbers) in
+        let conversions = at-each noConversion ConversionRange (x .conversions) (r .conversions) in
+        let pairs = at-no-two noConversion SamePair (x .conversions) (r .pairs) in
+        record {
+          size = rw (o .p, o .c) size;
+          pin = rw (o .pin) (r .pin);
+          required = rw (o .required) (r .required);
+          profiles-least = rw (o .p) (r .profiles-least);
+          profiles-most = rw (o .p) (r .profiles-most);
+          conversions-most = rw (o .c) (r .conversions-most);
+          online = rw (o .online) (r .online);
+          accumulators =
+              λ i l. accumulator-range i l .0 (at-each (x .accumulators .one) AccumulatorRange (listed (x .accumulators)) (r .accumulators) i l);
+          profiles = λ i l. let m = rw (o .p) at l in profile-range (52 + 107 * i) (profile i) (profile-there i m) .0 (profiles i m);
+          numbers =
+              λ i j l m e.
+              let n = rw (o .p) at m in
+              numbers i j l n (number-alike i j (omega arith) n .1 e);
+          conversions =
+              λ i l.
+              let m = rw (o .c) at l in
+              rw (o .p) (conversion-range (after + 7 * i) (conversion i) (conversion-there i m) .0 (conversions i m));
+          pairs =
+              λ i j l m f t.
+              let n = rw (o .c) at m in
+              pairs i j l n (pair-alike i j (omega arith) n .1 (rw (o .p) at f, rw (o .p) at t));
+        }
 
-  abbrev conversions-from : ℕ
-  conversions-from = 52 + 107 * length (x .profiles)
+    -- and back
+    back : Accepted s → InRange x
+    back a =
+        record {
+          pin = rw (o .pin) at (a .pin);
+          required = rw (o .required) at (a .required);
+          profiles-least = rw (o .p) at (a .profiles-least);
+          profiles-most = rw (o .p) at (a .profiles-most);
+          conversions-most = rw (o .c) at (a .conversions-most);
+          online = rw (o .online) at (a .online);
+          accumulators =
+              each-at (x .accumulators .one) AccumulatorRange (listed (x .accumulators)) (λ i l. accumulator-range i l .1 (a .accumulators i l));
+          profiles =
+              each-at noProfile ProfileRange (x .profiles)
+              (λ i l. profile-range (52 + 107 * i) (profile i) (profile-there i l) .1 (a .profiles i (rw (o .p) l)));
+          numbers =
+              no-two-at noProfile SameNumber (x .profiles)
+              (λ i j l m e. a .numbers i j l (rw (o .p) m) (number-alike i j (omega arith) m .0 e));
+          conversions =
+              each-at noConversion ConversionRange (x .conversions)
+              (λ i l. conversion-range (after + 7 * i) (conversion i) (conversion-there i l) .1 (rw (o .p) at (a .conversions i (rw (o .c) l))));
+          pairs =
+              no-two-at noConversion SamePair (x .conversions)
+              (λ i j l m e.
+              let (f, t) = pair-alike i j (omega arith) m .0 e in
+              a .pairs i j l (rw (o .c) m) (rw (o .p) f) (rw (o .p) t));
+        }
 
-  conversions-stand : Stands s (conversions-from + 0) (each conversionRow (x .conversions))
-  conversions-stand = rw (add-zero conversions-from) (tables x fits .1)
-
-  -- fields in range, seen in the bytes
-  there : InRange x → Accepted s
-  there r =
-      let accumulators = at-each s accumulatorRow 10 (λ a. refl) 0 AccumulatorRange (AccumulatorRanges s) (accumulator-range s) (listed (x .accumulators)) 8 (head-parts x fits .1) (r .accumulators) in
-      let profiles = at-each s profileRow 107 (profile-width x fits) 0 ProfileRange (ProfileRanges s) (profile-range s) (x .profiles) 52 (tables x fits .0) (r .profiles) in
-      let numbers = at-no-two s profileRow 107 (profile-width x fits) 0 SameNumber (λ m n. byte s m ≡ byte s n) (number-alike s) (x .profiles) 52 (tables x fits .0) (r .numbers) in
-      let conversions = at-each s conversionRow 7 (conversion-width x fits) conversions-from ConversionRange (ConversionRanges s) (conversion-range s) (x .conversions) 0 conversions-stand (r .conversions) in
-      let pairs = at-no-two s conversionRow 7 (conversion-width x fits) conversions-from SamePair (PairThere s) (pair-alike s) (x .conversions) 0 conversions-stand (r .pairs) in
-      record {
-        size = rw (p-is, c-is) (body-size x fits);
-        pin = rw pin-is (r .pin);
-        required = rw required-is (r .required);
-        profiles-least = rw p-is (r .profiles-least);
-        profiles-most = rw p-is (r .profiles-most);
-        conversions-most = rw c-is (r .conversions-most);
-        online = rw online-is (r .online);
-        accumulators = λ i l. rw zero-add at (accumulators i l);
-        profiles = λ i l. rw zero-add at (profiles i (rw p-is at l));
-        numbers = λ i j l m e. numbers i j l (rw p-is at m) (rw (zero-add (52 + 107 * i), zero-add (52 + 107 * j)) e);
-        conversions = λ i l. rw p-is (rw (zero-add (7 * i)) at (conversions i (rw c-is at l)));
-        pairs = λ i j l m f t. pairs i j l (rw c-is at m) (rw (zero-add (7 * i), zero-add (7 * j)) ((rw p-is at f), (rw p-is at t)));
-      }
-
-  -- and back
-  back : Accepted s → InRange x
-  back a =
-      record {
-        pin = rw pin-is at (a .pin);
-        required = rw required-is at (a .required);
-        profiles-least = rw p-is at (a .profiles-least);
-        profiles-most = rw p-is at (a .profiles-most);
-        conversions-most = rw c-is at (a .conversions-most);
-        online = rw online-is at (a .online);
-        accumulators =
-            each-at s accumulatorRow 10 (λ a. refl) 0 AccumulatorRange (AccumulatorRanges s) (accumulator-range s) (listed (x .accumulators)) 8 (head-parts x fits .1)
-            (λ i l. rw (zero-add (8 + 10 * i)) (a .accumulators i l));
-        profiles =
-            each-at s profileRow 107 (profile-width x fits) 0 ProfileRange (ProfileRanges s) (profile-range s) (x .profiles) 52 (tables x fits .0)
-            (λ i l. rw (zero-add (52 + 107 * i)) (a .profiles i (rw p-is l)));
-        numbers =
-            no-two-at s profileRow 107 (profile-width x fits) 0 SameNumber (λ m n. byte s m ≡ byte s n) (number-alike s) (x .profiles) 52 (tables x fits .0)
-            (λ i j l m e. a .numbers i j l (rw p-is m) (rw (zero-add (52 + 107 * i), zero-add (52 + 107 * j)) at e));
-        conversions =
-            each-at s conversionRow 7 (conversion-width x fits) conversions-from ConversionRange (ConversionRanges s) (conversion-range s) (x .conversions) 0 conversions-stand
-            (λ i l. rw (zero-add (7 * i)) (rw p-is at (a .conversions i (rw c-is l))));
-        pairs =
-            no-two-at s conversionRow 7 (conversion-width x fits) conversions-from SamePair (PairThere s) (pair-alike s) (x .conversions) 0 conversions-stand
-            (λ i j l m e.
-            let (f, t) = rw (zero-add (7 * i), zero-add (7 * j)) at e in
-            a .pairs i j l (rw c-is m) (rw p-is f) (rw p-is t));
-      }
-
-  -- THE STATEMENT: accepted exactly if every field is in its range
-  pub accepted-in-range : (isSetup s ≡ true) ↔ InRange x
-  accepted-in-range = (λ good. back (accepted s good), λ r. complete s (there r))
+-- THE STATEMENT: accepted exactly if every field is in its range
+pub accepted-in-range : (x : Setup) → Fits (setupRow x) → (isSetup (body x) ≡ true) ↔ InRange x
+accepted-in-range x fits =
+    let s = body x in
+    let o = in-place x fits in
+    (λ good. back s x o (accepted s good), λ r. complete s (there s x o (body-size x) r))
 
 -- ---- the number of the answer
 

@@ -1,14 +1,17 @@
 -- The statements evaluated at set-ups written out, each false by computation of a card that is wrong in its way. Assumes nothing.
 use mathlib.Core.Path.{_≡_, refl}
-use mathlib.Core.Bool.{true, false}
+use mathlib.Core.Bool.{Bool, true, false, not, _&&_}
+use lib.Dec.{T, eqb}
 use mathlib.Core.List.{List, [], _∷_, _++_}
 use Prim.Native.Nat.{ℕ, _+_}
-use lib.ListN.{length}
+use lib.ListN.{length, getD}
+use Rattle.rules.specs.Rules.{blankProfile, blankCounter}
 use Rattle.wire.specs.Wire.{byte, number}
 use Rattle.ranges.specs.Ranges.{isSetup, hasLength, isHead, areAccumulators, isAccumulator, areProfiles, isProfileOrAbsent, isProfile, areMasks, isMaximumAmount, areAccumulatorRules, isAccumulatorRule, areCounterRules, areSent, areNumbersApart, profileNumber, areConversions, isConversionOrAbsent, isConversion, conversionPair, arePairsApart}
 use Rattle.setup.specs.Setup.{rateIn, accumulatorIn, counterIn, profileIn, rulesIn, freshIn, readSetup, setupNumber}
-use Rattle.tail.specs.Tail.{baseEnd, syllabusIn, selectionTail, readTail, tailNumber}
-use Rattle.selection.specs.Selection.{isFile}
+use Rattle.shape.specs.declared.ReadShape.{ReadShape}
+use Rattle.shape.specs.declared.ReadShape.the-variants.{Taken, Refused}
+use Rattle.shape.specs.Shape.{baseTail, entriesEnd, selectionTail, syllabusTail, tailsOf, shapeOf, shapeNumber}
 use Rattle.rows.specs.Rows.{Four, Accumulator, Limits, Profile, Conversion, Setup, written, spelled, headRow, profileRow, conversionRow, setupRow, body}
 use Rattle.rows.specs.Said.{profileSaid, conversionSaid, rulesSaid, freshSaid}
 use Rattle.rows.specs.Tails.{off, first, second, third, tailBytes}
@@ -59,13 +62,14 @@ counted =
       conversions = conversion 110 ∷ conversion 114 ∷ conversion 118 ∷ [];
     }
 
-pub sample-rules : rulesIn (body counted) 1 ≡ rulesSaid counted 1
+-- what is read of it
+pub rules-read : rulesIn (body counted) 1 ≡ rulesSaid counted 1
 unfolding counted setupRow headRow profileRow conversionRow spelled written rulesIn rateIn profileIn accumulatorIn counterIn number rulesSaid profileSaid conversionSaid
-sample-rules = refl
+rules-read = refl
 
-pub sample-fresh : freshIn (body counted) ≡ freshSaid counted
+pub fresh-read : freshIn (body counted) ≡ freshSaid counted
 unfolding counted setupRow headRow profileRow conversionRow spelled written freshIn number freshSaid
-sample-fresh = refl
+fresh-read = refl
 
 -- ---- ranges: issuer authentication required is 2
 
@@ -83,35 +87,43 @@ twice =
       conversions = printed .conversions;
     }
 
-pub sample-required : setupNumber (readSetup (body twice) .answer) ≡ 1
-unfolding printed setupRow headRow profileRow conversionRow spelled written readSetup isSetup hasLength isHead areAccumulators isAccumulator number areProfiles isProfileOrAbsent isProfile areMasks isMaximumAmount areAccumulatorRules isAccumulatorRule areCounterRules areSent areNumbersApart profileNumber areConversions isConversionOrAbsent isConversion conversionPair arePairsApart
-sample-required = refl
+-- ---- what is compared
 
--- ---- tails: selection off and syllabus 1; a switch of 2; a byte behind "off"; an entry cut short; a byte behind the entries
+-- the limits of counter 1 in profile 1, as the rules have them, and as they were spelled
+abbrev limitsRead : Setup → Limits → Bool
+limitsRead x spelledAs =
+    let rule = getD (getD (rulesIn (body x) 1 .profiles) 0 blankProfile .counters) 0 blankCounter in
+    eqb (rule .lower) (spelledAs .lower) && eqb (rule .upper) (spelledAs .upper)
 
-pub sample-syllabus : syllabusIn 3 (printedBytes ++ tailBytes (third off 1)) ≡ 1
-unfolding printedBytes syllabusIn baseEnd
-sample-syllabus = refl
+-- the syllabus that was read, 9 where none was
+abbrev followed : ReadShape → ℕ
+followed (Taken shape) = shape .syllabus
+followed (Refused refusal) = 9
 
-abbrev refused : ℕ → List ℕ → Type 0
-refused version tail = tailNumber (readTail version (printedBytes ++ tail)) ≡ 1
+abbrev isRefused : ℕ → List ℕ → Bool
+isRefused version tail = eqb (shapeNumber (shapeOf version (printedBytes ++ tail))) 1
 
-pub sample-switch : refused 2 (2 ∷ [])
-unfolding printedBytes readTail baseEnd selectionTail
-sample-switch = refl
+-- `reads-fields`, `setup-refused`, `reads-tails` and `refused-by-cause` at single inputs
+pub record Samples : Type 0 where
+  pub counter-limits : T (limitsRead counted (limits 49))
+  pub required-above : T (eqb (setupNumber (readSetup (body twice) .answer)) 1)
+  pub syllabus-read : T (eqb (followed (shapeOf 3 (printedBytes ++ tailBytes (third off 1)))) 1)
+  pub switch-above : T (isRefused 2 (2 ∷ []))
+  pub behind-off : T (isRefused 2 (0 ∷ 0 ∷ []))
+  pub cut-short : T (isRefused 2 (1 ∷ 1 ∷ 2 ∷ 0 ∷ []))
+  pub left-over : T (isRefused 3 (1 ∷ 1 ∷ 0 ∷ 0 ∷ 0 ∷ []))
+  pub syllabus-above : T (isRefused 3 (0 ∷ 2 ∷ []))
 
-pub sample-behind-off : refused 2 (0 ∷ 0 ∷ [])
-unfolding printedBytes readTail baseEnd selectionTail
-sample-behind-off = refl
-
-pub sample-cut-short : refused 2 (1 ∷ 1 ∷ 2 ∷ 0 ∷ [])
-unfolding printedBytes readTail baseEnd selectionTail isFile
-sample-cut-short = refl
-
-pub sample-left-over : refused 3 (1 ∷ 1 ∷ 0 ∷ 0 ∷ 0 ∷ [])
-unfolding printedBytes readTail baseEnd syllabusIn selectionTail isFile
-sample-left-over = refl
-
-pub sample-high-syllabus : refused 3 (0 ∷ 2 ∷ [])
-unfolding printedBytes readTail baseEnd syllabusIn selectionTail isFile
-sample-high-syllabus = refl
+pub samples : Samples
+unfolding counted printed printedBytes setupRow headRow profileRow conversionRow spelled written rulesIn rateIn profileIn accumulatorIn counterIn number readSetup isSetup hasLength isHead areAccumulators isAccumulator areProfiles isProfileOrAbsent isProfile areMasks isMaximumAmount areAccumulatorRules isAccumulatorRule areCounterRules areSent areNumbersApart profileNumber areConversions isConversionOrAbsent isConversion conversionPair arePairsApart shapeOf tailsOf baseTail selectionTail entriesEnd syllabusTail
+samples =
+    record {
+      counter-limits = tt;
+      required-above = tt;
+      syllabus-read = tt;
+      switch-above = tt;
+      behind-off = tt;
+      cut-short = tt;
+      left-over = tt;
+      syllabus-above = tt;
+    }

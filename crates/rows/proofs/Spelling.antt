@@ -1,19 +1,14 @@
 -- Fields that are spelled are read where the widths before them end; what stands so in bytes is their spelling. Assumes nothing.
 use mathlib.Core.Path.{_≡_, refl, sym, ap, ap₂, subst, _∙_}
-use mathlib.Core.Bool.{Bool, true, false, cond}
 use mathlib.Core.List.{List, [], _∷_, _++_, append-assoc, append-nil}
 use Prim.Native.Nat.{ℕ, zero, suc, _+_, _*_, _/_, _%_, _^_, _≤_, _<_}
 use native.Mathlib.Nat.{add-zero, zero-add, add-assoc, add-suc, mul-zero, mul-suc, pow-suc}
 use native.Mathlib.Omega.{arith}
-use borrow.Author.Tests.{lt-ltb, le-ltb, ltb-true, ltb-false}
-use lib.Dec.{ltb}
 use lib.ListN.{length, getD, drop, length-append, drop-of-length-le}
 use lib.Seq.{getD-append-add, getD-at, drop-cons}
 use Rattle.wire.specs.Wire.{byte, number}
-use Rattle.wire.proofs.Numbers.{one}
 use Rattle.setup.proofs.Faithful.{Bytes}
 use Rattle.rows.specs.Rows.{Field, _of_, written, spelled, Fits, widths, fieldAt, offset, each}
-use Rattle.rows.specs.Said.{saidAt}
 
 -- ---- one number
 
@@ -53,7 +48,7 @@ spelled-stands [] before after h = tt
 spelled-stands (f ∷ fs) before after h =
     let w = written (f .width) (f .value) in
     let r = spelled-stands fs (before ++ w) after (h .1) in
-    let size : length (before ++ w) ≡ length before + f .width = length-append before w ∙ ap (λ n. length before + n) (written-size (f .width) (f .value)) in
+    let size : length (before ++ w) ≡ length before + f .width = omega (arith, length-append before w, written-size (f .width) (f .value)) in
     let same : (before ++ w) ++ (spelled fs ++ after) ≡ before ++ ((w ++ spelled fs) ++ after) = simp append-assoc in
     let here : number (before ++ ((w ++ spelled fs) ++ after)) (length before) (f .width) ≡ f .value =
     ap (λ n. number (before ++ ((w ++ spelled fs) ++ after)) n (f .width)) (sym (add-zero (length before)))
@@ -129,12 +124,6 @@ widths-each row w same (x ∷ xs) =
     let r = widths-each row w same xs in
     omega (arith, same x, widths-append (row x) (each row xs), mul-suc w (length xs))
 
-less-suc : (i n : ℕ) → ltb (suc i) (suc n) ≡ ltb i n
-less-suc i n = by (ltb i n) refl where
-  by : (t : Bool) → ltb i n ≡ t → ltb (suc i) (suc n) ≡ t
-  by true e = let l = ltb-true i n e in lt-ltb (suc i) (suc n) (omega arith)
-  by false e = let l = ltb-false i n e in le-ltb (suc i) (suc n) (omega arith)
-
 module _ (s : List ℕ) where
   pub parts : (a b : List Field) (at : ℕ) → Stands s at (a ++ b) → Stands s at a × Stands s (at + widths a) b
   unfolding Stands
@@ -148,21 +137,19 @@ module _ (s : List ℕ) where
   joins [] b at h k = subst (λ n. Stands s n b) (add-zero at) k
   joins (f ∷ a) b at h k = (h .0, joins a b (at + f .width) (h .1) (subst (λ n. Stands s n b) (sym (add-assoc at (f .width) (widths a))) k))
 
-  -- rows of one width: what is read where each begins is what that one says, and blank is what is not there
-  module _ {A B : Type 0} (row : A → List Field) (w : ℕ) (same : (x : A) → widths (row x) ≡ w)
-      (reading : ℕ → B) (said : A → B) (blank : B) (read : (at : ℕ) (x : A) → Stands s at (row x) → reading at ≡ said x) (at : ℕ) where
-    pub each-said : (xs : List A) (k : ℕ) → Stands s (at + k) (each row xs)
-        → (i : ℕ) → cond (ltb i (length xs)) (reading (at + (k + w * i))) blank ≡ saidAt said blank xs i
-    each-said [] k h i = rw (le-ltb i 0 (omega arith))
-    each-said (x ∷ xs) k h zero =
-        let p = parts (row x) (each row xs) (at + k) h in
-        rw (lt-ltb 0 (suc (length xs)) (omega arith), mul-zero w, add-zero k) (read (at + k) x (p .0))
-    each-said (x ∷ xs) k h (suc i) =
-        let p = parts (row x) (each row xs) (at + k) h in
-        let there : at + k + widths (row x) ≡ at + (k + w) = omega (arith, same x) in
-        let r = each-said xs (k + w) (subst (λ n. Stands s n (each row xs)) there (p .1)) i in
-        let place : k + w * suc i ≡ k + w + w * i = omega (arith, mul-suc w i) in
-        rw (less-suc i (length xs), place) r
+  -- of rows of one width, each begins where those before it end
+  pub each-stands : {A : Type 0} (row : A → List Field) (w : ℕ) → ((x : A) → widths (row x) ≡ w)
+      → (at : ℕ) (xs : List A) (k : ℕ) → Stands s (at + k) (each row xs)
+      → (i : ℕ) → i < length xs → (d : A) → Stands s (at + (k + w * i)) (row (getD xs i d))
+  each-stands row w same at [] k h i l d = absurd (omega arith)
+  each-stands row w same at (x ∷ xs) k h zero l d =
+      let place : at + k ≡ at + (k + w * 0) = omega (arith, mul-zero w) in
+      subst (λ n. Stands s n (row x)) place (parts (row x) (each row xs) (at + k) h .0)
+  each-stands row w same at (x ∷ xs) k h (suc i) l d =
+      let there : at + k + widths (row x) ≡ at + (k + w) = omega (arith, same x) in
+      let place : at + (k + w + w * i) ≡ at + (k + w * suc i) = omega (arith, mul-suc w i) in
+      let rest = subst (λ n. Stands s n (each row xs)) there (parts (row x) (each row xs) (at + k) h .1) in
+      subst (λ n. Stands s n (row (getD xs i d))) place (each-stands row w same at xs (k + w) rest i (omega arith) d)
 
 -- ---- back: what stands in bytes is their spelling
 

@@ -3,7 +3,6 @@ use mathlib.Core.Path.{_≡_, refl, sym, ap, subst, _∙_}
 use mathlib.Core.Bool.{true}
 use mathlib.Core.List.{List, [], _∷_, _++_}
 use Prim.Native.Nat.{ℕ, zero, suc, _+_, _*_}
-use native.Mathlib.Nat.{add-zero, add-assoc}
 use native.Mathlib.Omega.{arith}
 use lib.ListN.{length}
 use Rattle.wire.specs.Wire.{byte, number}
@@ -11,7 +10,9 @@ use Rattle.wire.proofs.Numbers.{one}
 use Rattle.ranges.specs.Ranges.{isSetup}
 use Rattle.ranges.proofs.Accepted.{accepted}
 use Rattle.setup.proofs.Faithful.{Bytes}
-use Rattle.rows.specs.Rows.{Field, _of_, spelled, Fits, widths, Four, Limits, Accumulator, Profile, Conversion, Setup, listed, each, accumulatorRow, counterRow, firstRow, headRow, profileHead, limitsRow, sentRow, profileRow, conversionRow, setupRow, body}
+use Rattle.rows.specs.Rows.{Field, _of_, Fits, widths, Four, Limits, Accumulator, Profile, Conversion, Setup, listed, each, accumulatorRow}
+use Rattle.rows.specs.Rows.{counterRow, firstRow, headRow, profileHead, limitsRow, sentRow, profileRow, conversionRow, setupRow, body}
+use Rattle.rows.proofs.Placed.{profile-width, conversion-width}
 use Rattle.rows.proofs.Spelling.{Stands, joins, widths-append, widths-each, stands-fit, whole-spelled}
 
 -- so many of a width, one after the other
@@ -28,7 +29,8 @@ inFour : {A : Type 0} → (ℕ → A) → (w at : ℕ) → Four A
 inFour f w at = record { one = f at; two = f (at + w); three = f (at + w + w); four = f (at + w + w + w) }
 
 module _ (s : List ℕ) where
-  made-stands : {A : Type 0} (row : A → List Field) (w : ℕ) → ((x : A) → widths (row x) ≡ w) → (f : ℕ → A) → ((at : ℕ) → Stands s at (row (f at)))
+  made-stands : {A : Type 0} (row : A → List Field) (w : ℕ) → ((x : A) → widths (row x) ≡ w)
+      → (f : ℕ → A) → ((at : ℕ) → Stands s at (row (f at)))
       → (n at : ℕ) → Stands s at (each row (made f w at n))
   unfolding made Stands
   made-stands row w same f there zero at = tt
@@ -36,7 +38,8 @@ module _ (s : List ℕ) where
       joins s (row (f at)) (each row (made f w (at + w) n)) at (there at)
       (subst (λ m. Stands s (at + m) (each row (made f w (at + w) n))) (sym (same (f at))) (made-stands row w same f there n (at + w)))
 
-  four-stands : {A : Type 0} (row : A → List Field) (w : ℕ) → ((x : A) → widths (row x) ≡ w) → (f : ℕ → A) → ((at : ℕ) → Stands s at (row (f at)))
+  four-stands : {A : Type 0} (row : A → List Field) (w : ℕ) → ((x : A) → widths (row x) ≡ w)
+      → (f : ℕ → A) → ((at : ℕ) → Stands s at (row (f at)))
       → (at : ℕ) → Stands s at (each row (listed (inFour f w at)))
   unfolding made inFour
   four-stands row w same f there at = made-stands row w same f there 4 at
@@ -92,14 +95,6 @@ module _ (s : List ℕ) where
   limits-stand : (w at : ℕ) → Stands s at (limitsRow w (limitsFrom w at))
   unfolding Stands limitsFrom
   limits-stand w at = (refl, (refl, (refl, tt)))
-
-  profile-width : (p : Profile) → widths (profileRow p) ≡ 107
-  unfolding profileRow
-  profile-width p = refl
-
-  conversion-width : (c : Conversion) → widths (conversionRow c) ≡ 7
-  unfolding conversionRow
-  conversion-width c = refl
 
   conversion-stands : (at : ℕ) → Stands s at (conversionRow (conversionFrom at))
   unfolding Stands conversionRow conversionFrom
@@ -166,7 +161,10 @@ module _ (s : List ℕ) where
   setup-width : widths (setupRow setupFrom) ≡ 52 + 107 * byte s 3 + 7 * byte s 4
   unfolding setupRow headRow setupFrom
   setup-width =
-      omega (arith, profiles-width, conversions-width, widths-append profiles-row conversions-row, widths-append (headRow setupFrom) (profiles-row ++ conversions-row))
+      let p = profiles-width in
+      let c = conversions-width in
+      let both = widths-append profiles-row conversions-row in
+      omega (arith, widths-append (headRow setupFrom) (profiles-row ++ conversions-row))
 
   module _ (bytes : Bytes s) where
     pub spelled-if-sized : length s ≡ 52 + 107 * byte s 3 + 7 * byte s 4 → (x : Setup) × Fits (setupRow x) × (body x ≡ s)

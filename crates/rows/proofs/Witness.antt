@@ -1,21 +1,20 @@
 -- The set-up of the sitting that document 01 prints ("A sitting in full"), from its fields: its bytes, and that the premises of the statements are met.
 -- Assumes nothing.
 use mathlib.Core.Path.{_≡_, refl}
-use mathlib.Core.Bool.{Bool, true, false, _&&_}
+use mathlib.Core.Bool.{Bool, true, _&&_}
 use mathlib.Core.List.{List, [], _∷_, _++_}
 use Prim.Native.Nat.{ℕ, _^_}
 use native.Mathlib.Omega.{arith}
 use borrow.Author.Tests.{ltb-true}
 use lib.Dec.{ltb}
-use lib.ListN.{length, replicate}
+use lib.ListN.{replicate}
 use Rattle.wire.specs.Wire.{byte, number}
 use Rattle.wire.proofs.Pairs.{both}
 use Rattle.ranges.specs.Ranges.{isSetup}
-use Rattle.tail.specs.Tail.{readTail, tailNumber}
 use Rattle.rows.specs.Rows.{Field, written, spelled, Fits, Four, Accumulator, Limits, Profile, Setup, headRow, profileRow, setupRow, body}
 use Rattle.rows.specs.Said.{Says}
 use Rattle.rows.specs.InRange.{ThreeDigits, AccumulatorRange, AccumulatorLimits, InRange}
-use Rattle.rows.specs.Tails.{on, first, second, third, Tail, tailBytes, TailSays}
+use Rattle.rows.specs.Tails.{on, third, Tail, tailBytes, TailSays}
 use Rattle.rows.proofs.Fields.{reads-fields}
 use Rattle.rows.proofs.Ranges.{accepted-in-range}
 use Rattle.rows.proofs.Behind.{reads-tails}

@@ -3,3 +3,4 @@ pub mod Said
 pub mod InRange
 pub mod Offsets
 pub mod Tails
+pub mod Whole

@@ -51,7 +51,7 @@ pub record Offsets (s : List ℕ) (x : Setup) : Type 0 where
   pub atc : number s 5 2 ≡ x .atc
   pub online : byte s 7 ≡ x .online
   pub currencies : (i : ℕ) → i < 4 → number s (8 + 10 * i) 2 ≡ nth (x .accumulators) i .currency
-  pub values : (i : ℕ) → i < 4 → number s (10 + 10 * i) 8 ≡ nth (x .accumulators) i .value
+  pub values : (i : ℕ) → i < 4 → number s (8 + 10 * i + 2) 8 ≡ nth (x .accumulators) i .value
   pub counters : (i : ℕ) → i < 4 → byte s (48 + i) ≡ nth (x .counters) i
   pub profiles : (i : ℕ) → i < length (x .profiles) → (d : Profile) → ProfileOffsets s (52 + 107 * i) (getD (x .profiles) i d)
   pub conversions : (i : ℕ) → i < length (x .conversions) → (d : Conversion)

@@ -116,4 +116,5 @@ pub record Says (x : Setup) (s : List ℕ) : Type 0 where
   pub rules : (syllabus : ℕ) → rulesIn s syllabus ≡ rulesSaid x syllabus
   pub fresh : freshIn s ≡ freshSaid x
   pub read : isSetup s ≡ true → readSetup s ≡ record { fresh = freshSaid x; answer = Done }
-  pub loaded : (syllabus : ℕ) (words : List ℕ) → length words ≡ 164 → isSetup s ≡ true → rulesOf (wordsAfter words s syllabus) ≡ rulesSaid x syllabus
+  pub loaded : (syllabus : ℕ) (words : List ℕ) → length words ≡ 164 → isSetup s ≡ true
+      → rulesOf (wordsAfter words s syllabus) ≡ rulesSaid x syllabus

@@ -7,3 +7,5 @@ pub mod Lines
 pub mod Parsed
 pub mod Papers
 pub mod Witness
+pub mod Samples
+pub mod Text

@@ -1,11 +1,11 @@
 -- A paper opens as its spelling says, or one of the causes of refusal 9 applies; never both. Assumes nothing.
-use mathlib.Core.Path.{_≡_, refl, sym, ap, subst, _∙_}
+use mathlib.Core.Path.{_≡_, refl, sym, ap, _∙_}
 use mathlib.Core.Bool.{Bool, true, false, cond, _||_}
 use mathlib.Core.Logic.{_⊎_, inl, inr, _↔_}
 use mathlib.Core.List.{List, [], _∷_, _++_}
-use Prim.Native.Nat.{ℕ, suc, _+_, _<_, _≤_}
+use Prim.Native.Nat.{ℕ, _+_, _<_, _≤_}
 use native.Mathlib.Omega.{arith}
-use borrow.Author.Tests.{lt-ltb, le-ltb, ltb-true, ltb-false, eq-eqb, ne-eqb, eqb-true, eqb-false}
+use borrow.Author.Tests.{lt-ltb, le-ltb, ltb-true, ltb-false, ne-eqb, eqb-true, eqb-false}
 use lib.Dec.{ltb, eqb}
 use lib.ListN.{length, drop}
 use lib.Seq.{drop-drop}
@@ -13,13 +13,13 @@ use Rattle.wire.specs.Wire.{byte}
 use Rattle.refusal.specs.declared.Refusal.the-variants.{Unreadable}
 use Rattle.paper.specs.declared.Next.{Next}
 use Rattle.paper.specs.declared.Next.the-variants.{Record, Fault, End}
-use Rattle.paper.specs.declared.Opened.{Opened}
 use Rattle.paper.specs.declared.Opened.the-variants.{Setup, Refused}
 use Rattle.paper.specs.Paper.{isUnreadable, nextAt, setupIn, openPaper, openedNumber}
 use Rattle.paper.specs.Walk.{part}
-use Rattle.spelling.specs.Spelling.{Bytes, recordOf, paperOf}
-use Rattle.spelling.specs.Faults.{Broken, Whole, OpenFault, empty, over, bad-version, setup-missing, setup-broken, other-first, Opens}
-use Rattle.spelling.proofs.Shapes.{Shape, nothing, broken, whole, shape, here-length, shift, next-drop, part-drop, next-nothing, next-broken, next-whole, body-there, rest-there}
+use Rattle.spelling.specs.Spelling.{Bytes, recordOf}
+use Rattle.spelling.specs.Faults.{Whole, OpenFault, empty, over, bad-version, setup-missing, setup-broken, other-first, Opens}
+use Rattle.spelling.proofs.Shapes.{Shape, nothing, broken, whole, shape, shift, next-drop, part-drop, next-nothing, next-broken}
+use Rattle.spelling.proofs.Shapes.{here-length, next-whole, body-there, rest-there}
 
 -- ---- what opens
 

@@ -4,16 +4,15 @@ use mathlib.Core.List.{List, [], _∷_, _++_, append-assoc}
 use Prim.Native.Nat.{ℕ, zero, suc, _+_, _≤_}
 use native.Mathlib.Omega.{arith}
 use lib.ListN.{length, drop, length-append}
-use Rattle.refusal.specs.declared.Refusal.the-variants.{Unreadable}
-use Rattle.paper.specs.declared.Next.the-variants.{Record, Fault, End}
+use Rattle.paper.specs.declared.Next.the-variants.{Record}
 use Rattle.paper.specs.Paper.{nextAt}
 use Rattle.paper.specs.Walk.{part}
-use Rattle.command.specs.declared.ReadCommand.the-variants.{Taken, Refused}
-use Rattle.spelling.specs.Spelling.{Bytes, recordOf, Sent, kindOf, bodyOf, spell, spellAll, Choice, Fits, AllFit, standsFor}
-use Rattle.spelling.specs.Faults.{Broken, Whole, RestFault, broken, repeated, unknown, start-length, first-length, second-length}
+use Rattle.command.specs.declared.ReadCommand.the-variants.{Taken}
+use Rattle.spelling.specs.Spelling.{Bytes, Sent, kindOf, bodyOf, spell, spellAll, Choice, Fits, AllFit, standsFor}
+use Rattle.spelling.specs.Faults.{Whole, RestFault, broken, repeated, unknown, start-length, first-length, second-length}
 use Rattle.spelling.specs.Sitting.{Ends, ended, faulty}
 use Rattle.spelling.proofs.Numbers.{bytes-behind}
-use Rattle.spelling.proofs.Shapes.{record-length, next-nothing, next-broken, next-whole, body-there, rest-there}
+use Rattle.spelling.proofs.Shapes.{record-length, next-broken, next-whole, body-there, rest-there}
 use Rattle.spelling.proofs.Commands.{readBy, taken, one-sent, Wrong, a-setup, no-command, bad-start, bad-first, bad-second, refused-wrong}
 use Rattle.spelling.proofs.Records.{View, none, fault, spelled, view, whole-spelled}
 

@@ -1,9 +1,8 @@
 -- One record: what is sent is read as that, whatever is read was sent, and refusal 9 has one of its causes. Assumes nothing.
 use mathlib.Core.Path.{_≡_, refl, sym, ap, subst, _∙_}
-use mathlib.Core.Bool.{Bool, true, false, cond, _&&_}
-use mathlib.Core.Logic.{_⊎_, inl, inr}
-use mathlib.Core.List.{List, [], _∷_, _++_}
-use Prim.Native.Nat.{ℕ, _+_, _<_, _≤_}
+use mathlib.Core.Logic.{_↔_}
+use mathlib.Core.List.{List, [], _++_}
+use Prim.Native.Nat.{ℕ, _+_, _<_}
 use native.Mathlib.Omega.{arith}
 use borrow.Author.Tests.{le-leb}
 use lib.ListN.{length, drop}
@@ -12,22 +11,24 @@ use Rattle.refusal.specs.declared.Refusal.the-variants.{Unreadable}
 use Rattle.shape.specs.declared.Selecting.{Selecting}
 use Rattle.shape.specs.declared.Selecting.the-variants.{Off, On}
 use Rattle.shape.specs.declared.Shape.{Shape as PaperShape}
-use Rattle.paper.specs.declared.Next.{Next}
-use Rattle.paper.specs.declared.Next.the-variants.{Record, Fault, End}
-use Rattle.paper.specs.Paper.{nextAt}
+use Rattle.paper.specs.declared.Next.the-variants.{Record, Fault}
+use Rattle.paper.specs.Paper.{nextAt, nextNumber}
 use Rattle.paper.specs.Walk.{part}
 use Rattle.command.specs.declared.Command.{Command}
 use Rattle.command.specs.declared.ReadCommand.{ReadCommand}
 use Rattle.command.specs.declared.ReadCommand.the-variants.{Taken, Refused}
 use Rattle.command.specs.Command.{selectingOf, commandIn}
 use Rattle.command.specs.Command as C
-use Rattle.spelling.specs.Spelling.{Bytes, big, recordOf, Sent, names, brings, first, second, kindOf, bodyOf, spell, Choice, byName, byFile, choiceIn, Fits, standsFor}
+use Rattle.spelling.specs.Spelling.{Bytes, big, recordOf, Sent, names, brings, first, second, kindOf, bodyOf, spell}
+use Rattle.spelling.specs.Spelling.{Choice, byName, byFile, choiceIn, Fits, standsFor}
 use Rattle.spelling.specs.Faults.{Broken, Whole, RestFault, broken, repeated, unknown, start-length, first-length, second-length}
-use Rattle.spelling.specs.Sitting.{Reading, over, refused, command, readingIn, readingOf, reading, Lies, Spelled}
-use Rattle.spelling.proofs.Numbers.{bytes-drop, bytes-front, bytes-behind}
+use Rattle.spelling.specs.Sitting.{over, refused, command, readingIn, readingOf, reading, Lies, Spelled}
+use Rattle.spelling.proofs.Numbers.{bytes-drop, bytes-front}
 use Rattle.spelling.proofs.Shapes as S
-use Rattle.spelling.proofs.Shapes.{Shape, nothing, whole, shape, record-is, record-length, shift, next-drop, part-drop, next-nothing, next-broken, next-whole, body-there}
-use Rattle.spelling.proofs.Commands.{readBy, taken, one-sent, Wrong, a-setup, no-command, bad-start, bad-first, bad-second, Meaning, sent, wrong, meaning, refused-wrong}
+use Rattle.spelling.proofs.Shapes.{Shape, nothing, whole, shape, record-is, record-length, shift, next-drop, part-drop}
+use Rattle.spelling.proofs.Shapes.{next-nothing, next-broken, next-whole, body-there}
+use Rattle.spelling.proofs.Commands.{readBy, taken, Wrong, a-setup, no-command, bad-start, bad-first, bad-second, refused-wrong}
+use Rattle.spelling.proofs.Commands.{Meaning, sent, wrong, meaning}
 
 -- ---- what can stand at the front
 
@@ -155,6 +156,20 @@ module _ (form : PaperShape) (s : List ℕ) (lies : Lies (form .selecting) s) (a
   reads-fault f = refused-there (faulty f)
 
   module _ (bytes : Bytes s) where
+    -- NO WHOLE RECORD STANDS THERE EXACTLY WHERE THE READER SAYS 9
+    pub broken-exactly : (nextNumber (nextAt s at) ≡ 9) ↔ Broken (drop at s)
+    broken-exactly =
+        (by (shape (drop at s) (bytes-drop at s bytes)), λ b. rw (next-drop s at, next-broken (drop at s) b))
+      where
+        by : Shape (drop at s) → nextNumber (nextAt s at) ≡ 9 → Broken (drop at s)
+        by (nothing e) n =
+            let zero : nextNumber (nextAt s at) ≡ 0 = rw (next-drop s at, next-nothing (drop at s) e) in
+            absurd (omega arith)
+        by (S.broken b) n = b
+        by (whole kind body w) n =
+            let zero : nextNumber (nextAt s at) ≡ 0 = ap nextNumber (stands kind body w .next) in
+            absurd (omega arith)
+
     -- WHATEVER IS READ AS A COMMAND IS THE SPELLING OF WHAT FITS AND STANDS FOR IT
     pub spelled-if-read : (c : Command) (end : ℕ) → reading form s at ≡ command c end → Spelled choice s at c end
     spelled-if-read c end e = by (view choice (drop at s) (bytes-drop at s bytes)) where
@@ -174,6 +189,9 @@ module _ (form : PaperShape) (s : List ℕ) (lies : Lies (form .selecting) s) (a
       by (none n) = let z : _≡_ {A = ℕ} 0 1 = cc (reads-end n) in absurd (omega arith)
       by (fault f) = (cc (reads-fault f), f)
       by (spelled x more fits is) = let r = reads-spelled x fits more is in let z : _≡_ {A = ℕ} 0 1 = cc in absurd (omega arith)
+
+    pub refused-exactly : (reading form s at ≡ refused 9) ↔ RestFault choice (drop at s)
+    refused-exactly = (λ e. fault-if-refused 9 e .1, reads-fault)
 
     pub end-if-over : reading form s at ≡ over → drop at s ≡ []
     end-if-over e = by (view choice (drop at s) (bytes-drop at s bytes)) where

@@ -1,9 +1,8 @@
 -- What can stand at the front of bytes: nothing, no whole record, or a whole record; and what `nextAt` says of each. Assumes nothing.
-use mathlib.Core.Path.{_≡_, refl, sym, ap, subst, _∙_}
+use mathlib.Core.Path.{_≡_, refl, ap}
 use mathlib.Core.Bool.{Bool, true, false, cond, _||_}
 use mathlib.Core.List.{List, [], _∷_, _++_}
-use Prim.Native.Nat.{ℕ, zero, suc, _+_, _-_, _*_, _/_, _%_, _<_, _≤_}
-use native.Mathlib.Nat.{add-zero, add-assoc}
+use Prim.Native.Nat.{ℕ, suc, _+_, _-_, _*_, _/_, _%_, _<_, _≤_}
 use native.Mathlib.Omega.{arith}
 use borrow.Author.Tests.{le-leb, lt-leb, leb-true, leb-false, lt-ltb, le-ltb, ltb-true, ltb-false, ne-eqb, eqb-true, eqb-false}
 use lib.Dec.{leb, ltb, eqb}
@@ -131,7 +130,9 @@ next-broken s (cut-in-length b e) = rw (e, said-alone b, lt-ltb 1 (2 + b * 256) 
   by true = refl
   by false = refl
 next-broken s (cut-short high low more e h) =
-    rw (e, said high low more, lt-leb (suc (suc (length more))) 0 (omega arith), lt-ltb (suc (suc (length more))) (2 + (high * 256 + low)) (omega arith)) (by (eqb (high * 256 + low) 0))
+    let some = lt-leb (suc (suc (length more))) 0 (omega arith) in
+    let cut = lt-ltb (suc (suc (length more))) (2 + (high * 256 + low)) (omega arith) in
+    rw (e, said high low more, some, cut) (by (eqb (high * 256 + low) 0))
   where
     by : (t : Bool) → cond (t || true) Fault (Record (byte more 0) 3 (2 + (high * 256 + low))) ≡ Fault
     by true = refl

@@ -1,22 +1,24 @@
--- The premises are met: by the paper of the printed sitting, and each cause of refusal 9 by some bytes. Assumes nothing.
+-- The premises are met: by the paper of the printed sitting, and by one whose Starts bring the terminal's data. Assumes nothing.
 use mathlib.Core.Path.{_≡_, refl, sym}
-use mathlib.Core.Bool.{Bool, true, false, _&&_}
+use mathlib.Core.Bool.{Bool, true, _&&_}
 use mathlib.Core.List.{List, [], _∷_, append-nil}
 use Prim.Native.Nat.{ℕ, _^_, _<_}
-use native.Mathlib.Omega.{arith}
 use borrow.Author.Tests.{ltb-true}
-use lib.Dec.{ltb, lit<, lit≤}
+use lib.Dec.{T, ltb, lit<, lit≤}
 use lib.ListN.{length}
 use Rattle.wire.specs.Wire.{number}
 use Rattle.wire.proofs.Pairs.{both}
 use Rattle.ranges.specs.Ranges.{isSetup, hasLength, isHead, areAccumulators, isAccumulator, areProfiles, isProfileOrAbsent, isProfile, areMasks, isMaximumAmount, areAccumulatorRules, isAccumulatorRule, areCounterRules, areSent, areNumbersApart, profileNumber, areConversions, isConversionOrAbsent, isConversion, conversionPair, arePairsApart}
 use Rattle.setup.specs.Setup.{readSetup}
-use Rattle.shape.specs.Shape.{based, baseTail, tailsOf, shapeOf}
+use Rattle.shape.specs.declared.Selecting.the-variants.{On}
+use Rattle.shape.specs.declared.Shape.{Shape}
+use Rattle.shape.specs.Shape.{based, baseTail, entriesEnd, selects, selectionTail, tailsOf, shapeOf}
 use Rattle.lines.specs.Sitting.{sittingLines}
-use Rattle.spelling.specs.Spelling.{Bytes, big, recordOf, first, second, kindOf, bodyOf, spellAll, paperOf, byName, Fits, AllFit}
+use Rattle.spelling.specs.Spelling.{Bytes, big, recordOf, brings, first, second, kindOf, bodyOf, spellAll, paperOf}
+use Rattle.spelling.specs.Spelling.{Choice, byName, byFile, choiceIn, Fits, AllFit}
 use Rattle.spelling.specs.Faults.{Opens}
-use Rattle.spelling.specs.Sitting.{SetUp, Ends, ended, sittingOf}
-use Rattle.spelling.specs.Printed.{printed, body, sent}
+use Rattle.spelling.specs.Sitting.{SetUp, ended, sittingOf}
+use Rattle.spelling.specs.Printed.{printed, body, sent, selection, selectionBody, file, brought}
 use Rattle.spelling.proofs.Papers.{lines-of}
 
 areBytes : List ℕ → Bool
@@ -65,3 +67,51 @@ fit = (one, (buys 5000 (lit< tt), (one, (buys 1 (lit< tt), (cannot, (one, (buys 
 pub printed-lines : (words : List ℕ) → length words ≡ 164 → sittingLines words printed ≡ sittingOf (based 159) body {choice = byName} sent {rest = []} (ended refl)
 printed-lines words lent =
     lines-of words printed 1 body (spellAll sent) opens (based 159) set-up bytes lent sent [] fit (ended refl) (sym (append-nil (spellAll sent)))
+
+-- ---- the paper whose Starts bring the terminal's data
+
+abbrev selective : Shape
+selective = selects (based 266) 268 279 1
+
+abbrev chosen : Choice
+chosen = byFile file 1
+
+pub brought-spelled : paperOf 2 selectionBody (spellAll brought) ≡ selection
+unfolding selection brought spellAll kindOf bodyOf recordOf big
+brought-spelled = refl
+
+pub brought-long : length selection ≡ 330
+unfolding selection
+brought-long = refl
+
+pub brought-bytes : Bytes selection
+unfolding selection areBytes
+brought-bytes = bytes-of selection refl
+
+pub brought-opens : Opens selection 2 selectionBody (spellAll brought)
+unfolding selection brought spellAll kindOf bodyOf recordOf big
+brought-opens = record { is = refl; least = lit≤ tt; most = lit≤ tt; short = lit≤ tt }
+
+pub brought-set-up : SetUp 2 selectionBody selective
+unfolding selection shapeOf tailsOf baseTail selectionTail entriesEnd readSetup isSetup hasLength isHead areAccumulators isAccumulator number areProfiles isProfileOrAbsent isProfile areMasks isMaximumAmount areAccumulatorRules isAccumulatorRule areCounterRules areSent areNumbersApart profileNumber areConversions isConversionOrAbsent isConversion conversionPair arePairsApart
+brought-set-up = record { shape-is = refl; base = refl }
+
+pub brought-chosen : choiceIn (On 268 279 1) selectionBody ≡ chosen
+unfolding selection
+brought-chosen = refl
+
+pub brought-fit : AllFit chosen brought
+unfolding brought Fits
+brought-fit = (three 1 0 0x56 tt tt tt, (buys 5000 (lit< tt), (three 1 8 0x40 tt tt tt, (buys 1 (lit< tt), ((lit< tt, (lit< tt, (lit< tt, tt))), tt))))) where
+  three : (a b c : ℕ) → T (ltb a 256) → T (ltb b 256) → T (ltb c 256) → Fits chosen (brings (a ∷ b ∷ c ∷ []))
+  three a b c p q r = (lit< tt, (lit< p, (lit< q, (lit< r, tt))))
+
+  buys : (amount : ℕ) → amount < 256 ^ 8 → Fits chosen (first 1 amount 0x0978 0x22)
+  buys amount h = (lit< tt, h, lit< tt, lit< tt)
+
+pub brought-lines : (words : List ℕ) → length words ≡ 164
+    → sittingLines words selection ≡ sittingOf selective selectionBody {choice = chosen} brought {rest = []} (ended refl)
+unfolding selection
+brought-lines words lent =
+    lines-of words selection 2 selectionBody (spellAll brought) brought-opens selective brought-set-up brought-bytes lent brought []
+    brought-fit (ended refl) (sym (append-nil (spellAll brought)))

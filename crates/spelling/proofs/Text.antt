@@ -1,0 +1,31 @@
+-- The lines of examples/printed.paper are the lines that document 01 prints. Assumes nothing.
+use mathlib.Core.Path.{_≡_, refl, _∙_}
+use mathlib.Core.List.{List, []}
+use Prim.Native.Nat.{ℕ}
+use lib.ListN.{length}
+use Rattle.wire.specs.Wire.{number}
+use Rattle.rules.specs.Rules.{findProfile}
+use Rattle.setup.specs.Setup.{rateIn, accumulatorIn, counterIn, profileIn, rulesIn, freshIn}
+use Rattle.shape.specs.Shape.{based}
+use Rattle.money.specs.Money.{rateFor, scaled, convertOf}
+use Rattle.iad.specs.Iad.{isCvr, isWritable, pairsOf, iadBytes, writeIad, written}
+use Rattle.meters.specs.Meters.{worth, approved, declined}
+use Rattle.checks.specs.Checks.{accumulatorsLower, accumulatorsUpper, countersLower, countersUpper, maximumExceeded, testsOf, decisionBits}
+use Rattle.cryptogram.specs.Cryptogram.{verification, sentIad}
+use Rattle.first.specs.First.{decision, limitsByte, concluded, firstPerformed}
+use Rattle.second.specs.Second.{closed, unablePerformed, secondPerformed}
+use Rattle.card.specs.Card.{freshState, startStep, firstStep, secondStep, stepOf}
+use Rattle.lines.specs.Lines.{digit, decimal, hex, refusalLine, startLine, cryptogramLine}
+use Rattle.lines.specs.Sitting.{answerLine, sittingLines}
+use Rattle.spelling.specs.Spelling.{byName, standsFor, allStandFor}
+use Rattle.spelling.specs.Sitting.{answers, ended, sittingOf}
+use Rattle.spelling.specs.Printed.{printed, body, sent, printedLines}
+use Rattle.spelling.proofs.Witness.{printed-lines}
+
+worked : sittingOf (based 159) body {choice = byName} sent {rest = []} (ended refl) ≡ printedLines
+unfolding printed sent printedLines standsFor allStandFor answers answerLine digit decimal hex refusalLine startLine cryptogramLine freshState freshIn number rulesIn rateIn profileIn accumulatorIn counterIn stepOf startStep firstStep secondStep findProfile firstPerformed decision limitsByte concluded testsOf decisionBits accumulatorsLower accumulatorsUpper countersLower countersUpper maximumExceeded worth convertOf rateFor scaled approved declined verification sentIad pairsOf iadBytes isCvr isWritable writeIad written secondPerformed unablePerformed closed
+worked = refl
+
+-- DOCUMENT 01'S SITTING, FROM THE BYTES OF ITS PAPER TO THE BYTES OF ITS LINES
+pub printed-text : (words : List ℕ) → length words ≡ 164 → sittingLines words printed ≡ printedLines
+printed-text words lent = printed-lines words lent ∙ worked
