@@ -109,6 +109,7 @@ pub record Samples : Type 0 where
   pub required-above : T (eqb (setupNumber (readSetup (body twice) .answer)) 1)
   pub syllabus-read : T (eqb (followed (shapeOf 3 (printedBytes ++ tailBytes (third off 1)))) 1)
   pub switch-above : T (isRefused 2 (2 ∷ []))
+  pub switch-two : T (isRefused 2 (2 ∷ 0 ∷ []))
   pub behind-off : T (isRefused 2 (0 ∷ 0 ∷ []))
   pub cut-short : T (isRefused 2 (1 ∷ 1 ∷ 2 ∷ 0 ∷ []))
   pub left-over : T (isRefused 3 (1 ∷ 1 ∷ 0 ∷ 0 ∷ 0 ∷ []))
@@ -122,6 +123,7 @@ samples =
       required-above = tt;
       syllabus-read = tt;
       switch-above = tt;
+      switch-two = tt;
       behind-off = tt;
       cut-short = tt;
       left-over = tt;
