@@ -54,4 +54,3 @@ by-next s version start end false (Record kind first last) e o = by-kind (eqb ki
 pub setup-inside : (s : List ℕ) (version start end : ℕ) → openPaper s ≡ Setup version start end → (start ≤ end) × (end ≤ length s)
 unfolding openPaper
 setup-inside s version start end e = by-next s version start end (isUnreadable s) (nextAt s 1) refl e
-

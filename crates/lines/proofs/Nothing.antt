@@ -21,4 +21,3 @@ nothing-behind bytes to = by (leb (to + longest) bytes) where
   by : (b : Bool) → cond b (to + 0) to ≡ to
   by true = add-zero to
   by false = refl
-

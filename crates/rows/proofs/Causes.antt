@@ -228,8 +228,8 @@ module _ (body : List ℕ) (small : Small body) where
       record { base = base; tail = second (p .choice); version-is = refl; sized = base-sized more; fine = p .fine; joined = sym (p .joined) ∙ all }
 
   third-spelled : (shape : Shape) → shapeOf 3 body ≡ Taken shape → IsSpelled 3 body
-  unfolding shapeOf tailsOf
-  third-spelled shape e = by-base (baseTail body) refl (ended (Sh.behind (Sh.behind (baseTail body) (selectionTail body)) (syllabusTail body)) shape e) where
+  unfolding shapeOf tailsOf baseTail
+  third-spelled shape e = by (ltb (length body) (baseLength body)) refl (ended (Sh.behind (Sh.behind (baseTail body) (selectionTail body)) (syllabusTail body)) shape e) where
     spelled : baseLength body ≤ length body → (at : ℕ) → Passed (baseLength body) at → Followed at (length body) → IsSpelled 3 body
     spelled more at p f =
         record {
@@ -249,14 +249,12 @@ module _ (body : List ℕ) (small : Small body) where
     by-selection more (Ended sh at) s e =
         spelled more at (selection-passed (based (baseLength body)) sh (baseLength body) at s) (syllabus-passed sh shape at (length body) e)
 
-    by-base : (t : Tails) → baseTail body ≡ t → Sh.behind (Sh.behind t (selectionTail body)) (syllabusTail body) ≡ Ended shape (length body) → IsSpelled 3 body
-    unfolding baseTail
-    by-base t b e = by (ltb (length body) (baseLength body)) refl b e where
-      by : (c : Bool) → ltb (length body) (baseLength body) ≡ c → cond c Wrong (Ended (based (baseLength body)) (baseLength body)) ≡ t
-          → Sh.behind (Sh.behind t (selectionTail body)) (syllabusTail body) ≡ Ended shape (length body) → IsSpelled 3 body
-      by true a b e = let w : Wrong ≡ t = b in never (let z = rw (← w) at e in cc)
-      by false a b e =
-          by-selection (ltb-false (length body) (baseLength body) a) (selectionTail body (based (baseLength body)) (baseLength body)) refl (rw (← b) at e)
+    by : (c : Bool) → ltb (length body) (baseLength body) ≡ c
+        → Sh.behind (Sh.behind (cond c Wrong (Ended (based (baseLength body)) (baseLength body))) (selectionTail body)) (syllabusTail body) ≡ Ended shape (length body)
+        → IsSpelled 3 body
+    by true a e = never cc
+    by false a e =
+        by-selection (ltb-false (length body) (baseLength body) a) (selectionTail body (based (baseLength body)) (baseLength body)) refl e
 
   spelled-if-taken : (version : ℕ) → 1 ≤ version → version ≤ 3 → (shape : Shape) → shapeOf version body ≡ Taken shape → IsSpelled version body
   spelled-if-taken zero l m = absurd (omega arith)

@@ -110,10 +110,9 @@ module _ (front s : List ℕ) where
     further-on t = record { state = t .state; at = from (t .at); event = t .event }
 
     taken-behind : (state : State) (at : ℕ) → takenOf rules shape state all (from at) ≡ further-on (takenBy rules reads shape state s at (nextAt s at))
-    unfolding takenOf
+    unfolding takenOf answeredBy
     taken-behind state at = rw (next-behind at) (by (nextAt s at)) where
       answered : (end : ℕ) (read : ReadCommand) → answeredBy rules state (from end) read ≡ further-on (answeredBy rules state end read)
-      unfolding answeredBy
       answered end (CommandTaken command) = refl
       answered end (CommandRefused refusal) = refl
 

@@ -13,4 +13,3 @@ returns-2 c = simp (c .before .before .before .read2 .given .1, c .before .step 
 
 pub answer-spec : {M : Type 1} → statement M
 answer-spec = tie.close (tie.spec (search needs) (search needs) (search needs) returns returns-2)
-

@@ -50,4 +50,3 @@ pub begin-spec : {M : Type 1} → statement M
 begin-spec =
     tie.close
     (tie.spec (search needs) (search needs) (search needs) (search needs) sub-take-setup part-take-setup-start part-take-setup-end take-setup-requires returns returns-2)
-

@@ -7,4 +7,3 @@ returns c = simp (c .fresh-card .ensures, c .before .no-card .ensures)
 
 pub refuse-spec : {M : Type 1} → statement M
 refuse-spec = tie.close (tie.spec (search needs) (search needs) returns)
-

@@ -43,4 +43,3 @@ pub take-spec : {M : Type 1} → statement M
 take-spec =
     tie.close
     (tie.spec (search needs) (search needs) (search needs) (search needs) sub-read-record part-read-record-start part-read-record-end (search needs) (search needs) returns returns-2 returns-3)
-

@@ -11,4 +11,3 @@ returns c =
 
 pub take-base-spec : {M : Type 1} → statement M
 take-base-spec = tie.close (tie.spec (search needs) (search needs) (search needs) returns)
-

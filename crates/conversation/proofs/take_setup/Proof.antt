@@ -41,4 +41,3 @@ pub take-setup-spec : {M : Type 1} → statement M
 take-setup-spec =
     tie.close
     (tie.spec (search needs) (search needs) (search needs) (search needs) select-in-requires slice-aggregate-take-base (search needs) returns returns-2)
-
