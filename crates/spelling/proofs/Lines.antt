@@ -14,7 +14,7 @@ use Rattle.conversation.specs.declared.Event.{Event}
 use Rattle.conversation.specs.declared.Event.the-variants.{End, Refused, Answered}
 use Rattle.conversation.specs.Conversation.{answeredBy, takenOf}
 use Rattle.conversation.specs.Events.{eventsFrom}
-use Rattle.lines.specs.Sitting.{linesOf}
+use Rattle.lines.specs.Sitting.{answerLine, linesOf}
 use Rattle.spelling.specs.Spelling.{Sent, kindOf, bodyOf, spell, spellAll, Choice, choiceIn, Fits, AllFit, standsFor, allStandFor}
 use Rattle.spelling.specs.Sitting.{reading, Lies, happened, answers, Ends, ended, faulty, lastEvents, lastLines}
 use Rattle.spelling.proofs.Shapes.{record-length, shift, next-drop, next-nothing}
@@ -110,6 +110,7 @@ module _ (rules : Rules) (choice : Choice) (rest : List ℕ) (ends : Ends choice
   lines-happened [] state number = last-lines ends number ∙ ap (lastLines ends) (sym (add-zero number))
   lines-happened (x ∷ xs) state number =
       let after = stepOf rules state (standsFor choice x) .state in
-      ap (λ (l : List (List ℕ)). _ ∷ l)
+      let sum : number + 1 + length xs ≡ number + suc (length xs) = omega arith in
+      ap (λ (l : List (List ℕ)). answerLine number (stepOf rules state (standsFor choice x) .answer) ∷ l)
       (lines-happened xs after (number + 1)
-      ∙ ap (λ (k : ℕ). answers rules after (number + 1) (allStandFor choice xs) ++ lastLines ends k) (omega arith))
+      ∙ ap (λ (k : ℕ). answers rules after (number + 1) (allStandFor choice xs) ++ lastLines ends k) sum)

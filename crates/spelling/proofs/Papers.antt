@@ -172,7 +172,7 @@ pub one-line : (words s : List ℕ) (version : ℕ) (body rest : List ℕ) → O
     → sittingLines words s ≡ refusalLine 0 1 ∷ []
 unfolding begunOf setupBegun
 one-line words s version body rest o n =
-    let i = rw (← r .1) (by n) in
+    let i : One (shapedBegun (part s 4 (4 + length body)) 4 (4 + length body) (shapeOf version (part s 4 (4 + length body))) .event) = rw (r .1) (by n) in
     ended-at-once words s (i .refusal) (rw (r .0) (i .is)) ∙ ap (λ (k : ℕ). refusalLine 0 k ∷ []) (i .one)
   where
     r : (openPaper s ≡ Setup version 4 (4 + length body)) × (part s 4 (4 + length body) ≡ body) × (drop (4 + length body) s ≡ rest)
