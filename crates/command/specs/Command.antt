@@ -1,14 +1,18 @@
 -- The commands of a paper (document 01, "The paper" and "Refusal numbers"; document 02, Three).
-use Prim.Native.Nat.{ℕ}
-use mathlib.Core.Bool.{cond, _&&_}
-use mathlib.Core.List.{List}
-use lib.ListN.{length}
-use lib.Dec.{eqb}
+use Prim.Native.Nat.{ℕ, _-_}
+use mathlib.Core.Bool.{Bool, false, cond, _&&_}
+use mathlib.Core.List.{List, []}
+use lib.ListN.{length, take, drop}
+use lib.Dec.{eqb, leb}
 use Rattle.wire.specs.Wire.{byte, number}
 use Rattle.refusal.specs.declared.Refusal.the-variants.{Unreadable}
 use Rattle.refusal.specs.Refusal.{refusalNumber}
-use Rattle.selection.specs.declared.Selection.the-variants.{Selected}
+use Rattle.selection.specs.declared.Selection.{Selection}
+use Rattle.selection.specs.declared.Selection.the-variants.{Selected, NotSelected}
 use Rattle.selection.specs.Selection.{selectionOf}
+use Rattle.shape.specs.declared.Selecting.{Selecting}
+use Rattle.shape.specs.declared.Selecting.the-variants.{Off, On}
+use Rattle.shape.specs.declared.Shape.{Shape}
 use Rattle.command.specs.declared.Start.{Start}
 use Rattle.command.specs.declared.First.{First}
 use Rattle.command.specs.declared.Second.{Second}
@@ -39,6 +43,27 @@ commandOf kind body =
 unfoldable pub selectingOf : (file : List ℕ) (entries kind : ℕ) (body : List ℕ) → ReadCommand
 selectingOf file entries kind body =
     cond (eqb kind 2) (Taken (StartCommand (record { chosen = selectionOf file entries body }))) (commandOf kind body)
+
+-- a file that does not lie in the paper is empty
+abbrev pub fileIn : (paper : List ℕ) (start end : ℕ) → List ℕ
+fileIn paper start end = cond (leb start end && leb end (length paper)) (take (end - start) (drop start paper)) []
+
+-- a record of a kind is a Start that selects its profile, and what the paper's file selects
+abbrev pub isSelecting : Selecting → (kind : ℕ) → Bool
+isSelecting Off kind = false
+isSelecting (On start end entries) kind = eqb kind 2
+
+abbrev pub selectedIn : Selecting → (paper terminal : List ℕ) → Selection
+selectedIn Off paper terminal = NotSelected
+selectedIn (On start end entries) paper terminal = selectionOf (fileIn paper start end) entries terminal
+
+-- THE COMMAND IN A RECORD OF A PAPER, by the paper's shape
+abbrev pub readBy : Selecting → (paper : List ℕ) (kind : ℕ) (body : List ℕ) → ReadCommand
+readBy Off paper kind body = commandOf kind body
+readBy (On start end entries) paper kind body = selectingOf (fileIn paper start end) entries kind body
+
+unfoldable pub commandIn : Shape → (paper : List ℕ) (kind : ℕ) (body : List ℕ) → ReadCommand
+commandIn shape paper kind body = readBy (shape .selecting) paper kind body
 
 abbrev pub readNumber : ReadCommand → ℕ
 readNumber (Taken command) = 0

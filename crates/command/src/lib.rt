@@ -1,11 +1,13 @@
 // Commands out of record bodies. What a command says is judged by the card.
 ghost use mathlib.Core.Path.{_≡_};
-ghost use Rattle.command.specs.Command.{startOf, firstOf, secondOf, commandOf};
+ghost use Rattle.command.specs.Command.{startOf, firstOf, secondOf, commandOf, isSelecting, selectedIn, commandIn};
 use money::TransactionAmount;
 use refusal::Refusal;
 use selection::Selection;
+use shape::Selecting;
+use shape::Shape;
 
-pub const START: u8 = 2;
+const START: u8 = 2;
 
 const FIRST: u8 = 3;
 
@@ -81,7 +83,7 @@ fn read_second(body: &[u8]) -> Second
 
 // The command in a record of a kind, or refusal 9 for an unknown kind, a repeated set-up or a body
 // of another length.
-pub fn read_command(kind: u8, body: &[u8]) -> ReadCommand
+fn read_command(kind: u8, body: &[u8]) -> ReadCommand
     ensures { λ r. ⌜ r ≡ commandOf kind (now (body .entry)) ⌝ }
 {
     if (kind == START) & (body.len() == 1) {
@@ -94,4 +96,46 @@ pub fn read_command(kind: u8, body: &[u8]) -> ReadCommand
         return ReadCommand::Taken(Command::Second(read_second(body)));
     }
     ReadCommand::Refused(Refusal::Unreadable)
+}
+
+// Whether a record of a kind is a Start that selects its profile.
+fn selects(selecting: Selecting, kind: u8) -> bool
+    ensures { λ r. ⌜ r ≡ isSelecting selecting kind ⌝ }
+{
+    match selecting {
+        Selecting::Off => false,
+        Selecting::On { .. } => kind == START,
+    }
+}
+
+// What the paper's file selects for the terminal's data. A file that does not lie in the paper is
+// empty.
+fn select_profile(selecting: Selecting, paper: &[u8], data: &[u8]) -> Selection
+    ensures { λ r. ⌜ r ≡ selectedIn selecting (now (paper .entry)) (now («data» .entry)) ⌝ }
+{
+    match selecting {
+        Selecting::Off => Selection::NotSelected,
+        Selecting::On {
+            start,
+            end,
+            entries,
+        } => {
+            if (start <= end) & (end <= paper.len()) {
+                return selection::select(&paper[start..end], entries, data);
+            }
+            selection::select(&paper[..0], entries, data)
+        }
+    }
+}
+
+// The command in a record of a paper, by the paper's shape.
+pub fn read_record(shape: Shape, paper: &[u8], kind: u8, body: &[u8]) -> ReadCommand
+    ensures { λ r. ⌜ r ≡ commandIn shape (now (paper .entry)) kind (now (body .entry)) ⌝ }
+{
+    let selecting = shape.selecting;
+    if selects(selecting, kind) {
+        let chosen = select_profile(selecting, paper, body);
+        return ReadCommand::Taken(Command::Start(Start { chosen }));
+    }
+    read_command(kind, body)
 }

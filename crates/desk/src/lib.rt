@@ -1,10 +1,10 @@
 // Papers from standard input, lines to standard output: what reads, loops and writes. Every byte
-// of a line is decided in `turns`.
+// of a line is decided in `lines`.
 ghost use mathlib.Core.Path.{_≡_};
 ghost use Prim.Native.Nat.{_≤_};
 ghost use lib.ListN.{length};
+use conversation::Event;
 use rules::Words;
-use turns::Pace;
 
 const LONGEST_PAPER: usize = 65_536;
 
@@ -26,35 +26,37 @@ fn reserve(room: &[u8], to: usize) -> usize {
     0
 }
 
-fn is_over(pace: Pace) -> bool {
-    match pace {
-        Pace::On => false,
-        Pace::Over => true,
-        Pace::NoRoom => true,
+fn is_over(event: Event) -> bool {
+    match event {
+        Event::SetUp => false,
+        Event::End => true,
+        Event::Refused(_) => true,
+        Event::Answered { .. } => false,
     }
 }
 
-// The turns of a whole paper, their lines behind those in the room.
+// The events of a whole paper, their lines behind those in the room.
 fn sit(paper: &[u8], words: &mut Words, room: &mut [u8], to: usize) -> usize {
-    let selecting = turns::selecting_in(paper);
-    let begun = turns::begin(paper, words, room, reserve(room, to));
-    let pace = begun.pace;
+    let begun = conversation::begin(paper, words);
+    let shape = begun.shape;
+    let event = begun.event;
     let mut state = begun.state;
     let mut at = begun.at;
-    let mut to = begun.to;
-    let mut over = is_over(pace);
+    let to = reserve(room, to);
+    let mut to = lines::put(room, to, 0, event);
+    let mut over = is_over(event);
     let mut number: u16 = 1;
     while number < 65_535 {
         if over {
             return to;
         }
+        let taken = conversation::take(words, shape, state, paper, at);
+        let event = taken.event;
+        state = taken.state;
+        at = taken.at;
         to = reserve(room, to);
-        let turn = turns::take_turn(words, selecting, state, paper, at, number, room, to);
-        let pace = turn.pace;
-        state = turn.state;
-        at = turn.at;
-        to = turn.to;
-        over = is_over(pace);
+        to = lines::put(room, to, number, event);
+        over = is_over(event);
         number += 1;
     }
     to

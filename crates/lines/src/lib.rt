@@ -1,12 +1,16 @@
-// The lines of a sitting, written into lent room from a place on; the place behind is returned.
+// The events of a conversation as lines, written into lent room from a place on; the place behind is
+// returned.
 ghost use mathlib.Core.Path.{_≡_};
 ghost use mathlib.Core.List.{[], _∷_, _++_};
 ghost use Prim.Native.Nat.{_+_, _*_, _-_, _≤_, _<_};
 ghost use lib.ListN.{length, replicate};
 ghost use Rattle.iad.specs.Iad.{written};
 ghost use Rattle.lines.specs.Lines.{digit, decimal, hexDigit, hexByte, hex, refusalLine, startLine, selectedLine, cryptogramLine, placed, placeBehind};
+ghost use Rattle.lines.specs.Sitting.{startedLine, answerLine, eventLine};
 ghost use Rattle.lines.specs.Stored.{Stored};
+use conversation::Event;
 use iad::Iad;
+use state::Answer;
 
 // The most bytes that a line has.
 pub const LONGEST: usize = 82;
@@ -97,7 +101,7 @@ fn put_done(room: &mut [u8], at: usize) -> usize
 }
 
 // Record number, refusal.
-pub fn put_refusal(room: &mut [u8], at: usize, number: u16, refusal: u8) -> usize
+fn put_refusal(room: &mut [u8], at: usize, number: u16, refusal: u8) -> usize
     ensures { λ r. ⌜ (r ≡ placeBehind (length (now (room .entry))) at (refusalLine number refusal)) × (now (room .exit) ≡ placed (now (room .entry)) at (refusalLine number refusal)) ⌝ }
 {
     if bytes_left(room.len(), at) < LONGEST {
@@ -108,7 +112,7 @@ pub fn put_refusal(room: &mut [u8], at: usize, number: u16, refusal: u8) -> usiz
 }
 
 // After Start: record number, 0, ATC.
-pub fn put_start(room: &mut [u8], at: usize, number: u16, atc: u16) -> usize
+fn put_start(room: &mut [u8], at: usize, number: u16, atc: u16) -> usize
     ensures { λ r. ⌜ (r ≡ placeBehind (length (now (room .entry))) at (startLine number atc)) × (now (room .exit) ≡ placed (now (room .entry)) at (startLine number atc)) ⌝ }
 {
     if bytes_left(room.len(), at) < LONGEST {
@@ -120,7 +124,7 @@ pub fn put_start(room: &mut [u8], at: usize, number: u16, atc: u16) -> usize
 }
 
 // After a Start that selected its profile: record number, 0, ATC, the entries visited.
-pub fn put_selected(room: &mut [u8], at: usize, number: u16, atc: u16, visits: u8) -> usize
+fn put_selected(room: &mut [u8], at: usize, number: u16, atc: u16, visits: u8) -> usize
     ensures { λ r. ⌜ (r ≡ placeBehind (length (now (room .entry))) at (selectedLine number atc visits)) × (now (room .exit) ≡ placed (now (room .entry)) at (selectedLine number atc visits)) ⌝ }
 {
     if bytes_left(room.len(), at) < LONGEST {
@@ -133,7 +137,7 @@ pub fn put_selected(room: &mut [u8], at: usize, number: u16, atc: u16, visits: u
 }
 
 // After First or Second: record number, 0, CID, ATC, IAD.
-pub fn put_cryptogram(room: &mut [u8], at: usize, number: u16, cid: u8, atc: u16, iad: Iad) -> usize
+fn put_cryptogram(room: &mut [u8], at: usize, number: u16, cid: u8, atc: u16, iad: Iad) -> usize
     ensures { λ r. ⌜ (r ≡ placeBehind (length (now (room .entry))) at (cryptogramLine number cid atc iad)) × (now (room .exit) ≡ placed (now (room .entry)) at (cryptogramLine number cid atc iad)) ⌝ }
 {
     if bytes_left(room.len(), at) < LONGEST {
@@ -145,4 +149,43 @@ pub fn put_cryptogram(room: &mut [u8], at: usize, number: u16, cid: u8, atc: u16
     let at = put_hex(room, at, &[cid], b' ');
     let at = put_decimal(room, at, atc, b' ');
     put_hex(room, at, &bytes, b'\n')
+}
+
+// The visits show where a profile was selected.
+fn put_started(room: &mut [u8], at: usize, number: u16, atc: u16, visits: u8) -> usize
+    ensures { λ r. ⌜ (r ≡ placeBehind (length (now (room .entry))) at (startedLine number atc visits)) × (now (room .exit) ≡ placed (now (room .entry)) at (startedLine number atc visits)) ⌝ }
+{
+    if visits == 0 {
+        return put_start(room, at, number, atc);
+    }
+    put_selected(room, at, number, atc, visits)
+}
+
+fn put_answer(room: &mut [u8], at: usize, number: u16, answer: Answer) -> usize
+    ensures { λ r. ⌜ (r ≡ placeBehind (length (now (room .entry))) at (answerLine number answer)) × (now (room .exit) ≡ placed (now (room .entry)) at (answerLine number answer)) ⌝ }
+{
+    match answer {
+        Answer::Refused(refusal) => put_refusal(room, at, number, refusal::number_of(refusal)),
+        Answer::Started { atc, visits } => put_started(room, at, number, atc, visits),
+        Answer::Given { kind, atc, iad } => put_cryptogram(
+            room,
+            at,
+            number,
+            state::cid_of(kind),
+            atc,
+            iad,
+        ),
+    }
+}
+
+// The line of an event. A paper's end has none.
+pub fn put(room: &mut [u8], at: usize, number: u16, event: Event) -> usize
+    ensures { λ r. ⌜ (r ≡ placeBehind (length (now (room .entry))) at (eventLine number event)) × (now (room .exit) ≡ placed (now (room .entry)) at (eventLine number event)) ⌝ }
+{
+    match event {
+        Event::SetUp => put_refusal(room, at, number, 0),
+        Event::End => at,
+        Event::Refused(refusal) => put_refusal(room, at, number, refusal::number_of(refusal)),
+        Event::Answered { answer, .. } => put_answer(room, at, number, answer),
+    }
 }

@@ -1,29 +1,36 @@
 -- Of any body: either it is a base and the tail of its version, and its number is 0, or one of the causes holds of it, and its number is 1. Assumes nothing.
 use mathlib.Core.Path.{_≡_, refl, sym, ap, ap₂, subst, _∙_}
-use mathlib.Core.Bool.{Bool, true, false}
-use mathlib.Core.List.{List, [], _∷_, _++_, append-nil}
+use mathlib.Core.Bool.{Bool, true, false, cond}
+use mathlib.Core.List.{List, [], _∷_, _++_, append-assoc, append-nil}
 use mathlib.Core.Logic.{_⊎_, inl, inr, _↔_}
-use Prim.Native.Nat.{ℕ, zero, suc, _+_, _-_, _≤_, _<_, min}
+use Prim.Native.Nat.{ℕ, zero, suc, _+_, _-_, _*_, _≤_, _<_}
+use native.Mathlib.Numerals.{add-one}
 use native.Mathlib.Omega.{arith}
-use borrow.Author.Tests.{le-ltb, ltb-true, ltb-false, lt-leb, le-leb, leb-true, leb-false, eqb-true, eqb-false, ne-eqb}
+use borrow.Author.Tests.{lt-ltb, le-ltb, ltb-true, ltb-false, lt-leb, le-leb, leb-true, leb-false, eqb-true, eqb-false, eq-eqb, ne-eqb}
 use lib.Dec.{leb, ltb, eqb}
-use lib.ListN.{length, getD, take, drop, length-append, length-drop, take-append-drop, drop-of-length-le}
-use lib.Seq.{drop-at, take-at, take-all, take-suc, length-take-le, getD-take, getD-drop}
+use lib.ListN.{length, getD, take, drop, length-append, length-take, length-drop, take-append-drop}
+use lib.Seq.{drop-at, take-at, take-all, take-suc, take-add, take-length, drop-cons, length-take-le, getD-take, getD-drop}
 use Rattle.wire.specs.Wire.{byte}
+use Rattle.refusal.specs.declared.Refusal.the-variants.{BadSetup}
 use Rattle.selection.specs.Selection.{isFile}
 use Rattle.setup.proofs.Faithful.{Bytes}
-use Rattle.tail.specs.Tail.{baseEnd, syllabusIn, selectionTail, readTail, tailNumber}
-use Rattle.rows.specs.Tails.{Choosing, off, on, choosingBytes, Tail, first, second, third, versionOf, tailBytes, FineChoosing, Fine, baseLength, Base}
-use Rattle.rows.specs.Tails.{IsSpelled, BadChoosing, missing, above, behind-off, no-number, entries, butLast, BadTail, choosing, no-syllabus}
-use Rattle.rows.specs.Tails.{syllabus-above, between}
-use Rattle.rows.proofs.Entries.{file-read, Small, small-drop, small-take, file-spelled, file-bad, bad-file}
+use Rattle.shape.specs.declared.Shape.{Shape}
+use Rattle.shape.specs.declared.Tails.{Tails}
+use Rattle.shape.specs.declared.Tails.the-variants.{Ended, Wrong}
+use Rattle.shape.specs.declared.ReadShape.{ReadShape}
+use Rattle.shape.specs.declared.ReadShape.the-variants.{Taken, Refused}
+use Rattle.shape.specs.Shape.{based, baseTail, fileEnd, selects, selectionTail, follows, syllabusTail, tailsOf, whole, shapeOf, shapeNumber}
+use Rattle.shape.specs.Shape as Sh
+use Rattle.shape.proofs.Files.{file-ends}
+use Rattle.shape.proofs.Inside.{not-before}
+use Rattle.rows.specs.Tails.{Choosing, off, on, fileBytes, choosingBytes, Tail, first, second, third, versionOf, tailBytes, FineChoosing, Fine, baseLength, Base, IsSpelled, BadChoosing, missing, above, behind-off, no-number, entries, butLast, BadTail, other-length, choosing, no-syllabus, syllabus-above, between}
+use Rattle.rows.proofs.Entries.{file-read, Small, small-drop, small-take, Entries, file-spelled, file-bad, bad-file}
 use Rattle.rows.proofs.Behind.{length-kept, third-size, third-last, reads-tails}
 
--- a number is 0 where P holds, and 1 where Q does
-abbrev Settled : (P Q : Type 0) → ℕ → Type 0
-Settled P Q n = (P × (n ≡ 0)) ⊎ (Q × (n ≡ 1))
+never : {P : Type 0} → _≡_ {A = ℕ} 0 1 → P
+never z = absurd (omega arith)
 
--- ---- the selection's part
+-- ---- the selection's part is spelled, or has a cause
 
 record Chosen (tail : List ℕ) : Type 0 where
   choice : Choosing
@@ -35,40 +42,25 @@ more-than-one zero e f = absurd (eqb-false 0 0 e refl)
 more-than-one (suc zero) e f = absurd (eqb-false 1 1 f refl)
 more-than-one (suc (suc x)) e f = omega arith
 
-one-byte : (x at : ℕ) (none some : Bool) → eqb x 0 ≡ none → eqb x 1 ≡ some
-    → Settled (Chosen (x ∷ [])) (BadChoosing (x ∷ [])) (tailNumber (selectionTail (x ∷ []) at))
-unfolding selectionTail
-one-byte x at true some e f = inl (record { choice = off; fine = tt; bytes = ap (λ n. n ∷ []) (sym (eqb-true x 0 e)) }, rw e refl)
-one-byte x at false true e f = inr (no-number (eqb-true x 1 f) refl, rw (e, f) refl)
-one-byte x at false false e f = inr (above (more-than-one x e f), rw (e, f) refl)
+one-byte : (x : ℕ) (none some : Bool) → eqb x 0 ≡ none → eqb x 1 ≡ some → Chosen (x ∷ []) ⊎ BadChoosing (x ∷ [])
+one-byte x true some e f = inl (record { choice = off; fine = tt; bytes = ap (λ n. n ∷ []) (sym (eqb-true x 0 e)) })
+one-byte x false true e f = inr (no-number (eqb-true x 1 f) refl)
+one-byte x false false e f = inr (above (more-than-one x e f))
 
-more-bytes : (x n : ℕ) (file : List ℕ) (at : ℕ) → Small (x ∷ n ∷ file)
-    → (none some good : Bool) → eqb x 0 ≡ none → eqb x 1 ≡ some → isFile file n ≡ good
-    → Settled (Chosen (x ∷ n ∷ file)) (BadChoosing (x ∷ n ∷ file)) (tailNumber (selectionTail (x ∷ n ∷ file) at))
-unfolding selectionTail
-more-bytes x n file at small true true good e f g =
-    let a = eqb-true x 0 e in
-    let b = eqb-true x 1 f in
-    absurd (omega arith)
-more-bytes x n file at small true false good e f g =
-    let long : eqb (suc (suc (length file))) 1 ≡ false = ne-eqb (suc (suc (length file))) 1 (λ z. omega arith) in
-    let two : 1 < suc (suc (length file)) = omega arith in
-    inr (behind-off (eqb-true x 0 e) two, rw (e, long, f) refl)
-more-bytes x n file at small false true true e f g =
-    let long : ltb (suc (suc (length file))) 2 ≡ false = le-ltb (suc (suc (length file))) 2 (omega arith) in
+more-bytes : (x n : ℕ) (file : List ℕ) → Small (x ∷ n ∷ file) → (none some good : Bool) → eqb x 0 ≡ none → eqb x 1 ≡ some → isFile file n ≡ good
+    → Chosen (x ∷ n ∷ file) ⊎ BadChoosing (x ∷ n ∷ file)
+more-bytes x n file small true some good e f g = inr (behind-off (eqb-true x 0 e) (omega arith))
+more-bytes x n file small false true true e f g =
     let es = file-spelled n file (λ i. small (suc (suc i))) g in
     let is : choosingBytes (on (es .entries)) ≡ x ∷ n ∷ file = ap₂ _∷_ (sym (eqb-true x 1 f)) (ap₂ _∷_ (es .count) (es .joined)) in
-    inl (record { choice = on (es .entries); fine = (rw (es .count) (small 1), es .fine); bytes = is }, rw (e, f, long, g) refl)
-more-bytes x n file at small false true false e f g =
-    let long : ltb (suc (suc (length file))) 2 ≡ false = le-ltb (suc (suc (length file))) 2 (omega arith) in
-    let two : 1 < suc (suc (length file)) = omega arith in
-    inr (entries (eqb-true x 1 f) two (file-bad n file g), rw (e, f, long, g) refl)
-more-bytes x n file at small false false good e f g = inr (above (more-than-one x e f), rw (e, f) refl)
+    inl (record { choice = on (es .entries); fine = (rw (es .count) (small 1), es .fine); bytes = is })
+more-bytes x n file small false true false e f g = inr (entries (eqb-true x 1 f) (omega arith) (file-bad n file g))
+more-bytes x n file small false false good e f g = inr (above (more-than-one x e f))
 
-settled : (tail : List ℕ) (at : ℕ) → Small tail → Settled (Chosen tail) (BadChoosing tail) (tailNumber (selectionTail tail at))
-settled [] at small = inr (missing refl, unfold selectionTail in refl)
-settled (x ∷ []) at small = one-byte x at (eqb x 0) (eqb x 1) refl refl
-settled (x ∷ n ∷ file) at small = more-bytes x n file at small (eqb x 0) (eqb x 1) (isFile file n) refl refl refl
+settled : (tail : List ℕ) → Small tail → Chosen tail ⊎ BadChoosing tail
+settled [] small = inr (missing refl)
+settled (x ∷ []) small = one-byte x (eqb x 0) (eqb x 1) refl refl
+settled (x ∷ n ∷ file) small = more-bytes x n file small (eqb x 0) (eqb x 1) (isFile file n) refl refl refl
 
 -- what was spelled has none of the causes
 no-cause : (c : Choosing) → BadChoosing (choosingBytes c) → ⊥
@@ -91,11 +83,100 @@ some-bytes : (c : Choosing) → 1 ≤ length (choosingBytes c)
 some-bytes off = omega arith
 some-bytes (on es) = omega arith
 
--- ---- the whole tail
+-- ---- what a tail's reader has passed is spelled
 
-module _ (body : List ℕ) (bytes : Bytes body) where
-  small : Small body
-  small = bytes .below
+-- where tails end, and what they come to
+endOf : Tails → ℕ
+endOf Wrong = 0
+endOf (Ended shape at) = at
+
+module _ (body : List ℕ) (small : Small body) where
+  -- from a place to another a choosing is spelled
+  record Passed (at end : ℕ) : Type 0 where
+    choice : Choosing
+    fine : FineChoosing choice
+    joined : take end body ≡ take at body ++ choosingBytes choice
+
+  passed-off : (at : ℕ) → at < length body → byte body at ≡ 0 → Passed at (at + 1)
+  passed-off at l z =
+      record {
+        choice = off;
+        fine = tt;
+        joined = rw (add-one at) (take-suc body at 0 l ∙ ap (λ (x : ℕ). take at body ++ x ∷ []) z);
+      }
+
+  passed-on : (at : ℕ) → at < length body → byte body at ≡ 1 → fileEnd body at ≤ length body → Passed at (fileEnd body at)
+  passed-on at l z h =
+      let n = byte body (at + 1) in
+      let end = fileEnd body at in
+      let from = not-before body (at + 2) n in
+      let size = end - (at + 2) in
+      let file = take size (drop (at + 2) body) in
+      let good : isFile file n ≡ true = file-ends body end h n (at + 2) from ∙ eq-eqb end end refl in
+      let es = file-spelled n file (small-take (drop (at + 2) body) (small-drop body small (at + 2)) size) good in
+      let all : at + suc (suc size) ≡ end = omega arith in
+      let next : suc at ≡ at + 1 = sym (add-one at) in
+      let third : suc (suc at) ≡ at + 2 = omega arith in
+      let two : drop at body ≡ 1 ∷ n ∷ drop (at + 2) body =
+      drop-cons body at 0 l
+      ∙ ap₂ _∷_ z (drop-cons body (suc at) 0 (omega arith) ∙ ap₂ (λ (x : ℕ) (t : List ℕ). x ∷ t) (ap (byte body) next) (ap (λ (k : ℕ). drop k body) third)) in
+      record {
+        choice = on (es .entries);
+        fine = (rw (es .count) (small (at + 1)), es .fine);
+        joined =
+            ap (λ (k : ℕ). take k body) (sym all) ∙ take-add at (suc (suc size)) body
+            ∙ ap (λ (t : List ℕ). take at body ++ take (suc (suc size)) t) two
+            ∙ ap₂ (λ (x : ℕ) (t : List ℕ). take at body ++ 1 ∷ x ∷ t) (sym (es .count)) (sym (es .joined));
+      }
+
+  selection-passed : (shape shape′ : Shape) (at end : ℕ) → selectionTail body shape at ≡ Ended shape′ end → Passed at end
+  unfolding selectionTail endOf
+  selection-passed shape shape′ at end e =
+      by (leb (length body) at) refl (eqb (byte body at) 0) refl (ltb 1 (byte body at)) refl (ltb (length body) (fileEnd body at)) refl e
+    where
+      by : (short : Bool) → leb (length body) at ≡ short → (none : Bool) → eqb (byte body at) 0 ≡ none → (high : Bool) → ltb 1 (byte body at) ≡ high
+          → (cut : Bool) → ltb (length body) (fileEnd body at) ≡ cut
+          → cond short Wrong (cond none (Ended shape (at + 1)) (cond high Wrong (cond cut Wrong
+          (Ended (selects shape (at + 2) (fileEnd body at) (byte body (at + 1))) (fileEnd body at))))) ≡ Ended shape′ end
+          → Passed at end
+      by true a none b high c cut d e = never cc
+      by false a true b high c cut d e =
+          subst (Passed at) (ap endOf e) (passed-off at (leb-false (length body) at a) (eqb-true (byte body at) 0 b))
+      by false a false b true c cut d e = never cc
+      by false a false b false c true d e = never cc
+      by false a false b false c false d e =
+          let some = eqb-false (byte body at) 0 b in
+          let low = ltb-false 1 (byte body at) c in
+          let one : byte body at ≡ 1 = only-one (byte body at) some low in
+          subst (Passed at) (ap endOf e) (passed-on at (leb-false (length body) at a) one (ltb-false (length body) (fileEnd body at) d))
+        where
+          only-one : (x : ℕ) → (x ≡ 0 → ⊥) → x ≤ 1 → x ≡ 1
+          only-one zero n l = absurd (n refl)
+          only-one (suc zero) n l = refl
+          only-one (suc (suc x)) n l = absurd (omega arith)
+
+  -- and then a syllabus
+  record Followed (at end : ℕ) : Type 0 where
+    syllabus : ℕ
+    low : syllabus ≤ 1
+    joined : take end body ≡ take at body ++ syllabus ∷ []
+
+  syllabus-passed : (shape shape′ : Shape) (at end : ℕ) → syllabusTail body shape at ≡ Ended shape′ end → Followed at end
+  unfolding syllabusTail endOf
+  syllabus-passed shape shape′ at end e = by (leb (length body) at) refl (ltb 1 (byte body at)) refl e where
+    by : (short : Bool) → leb (length body) at ≡ short → (high : Bool) → ltb 1 (byte body at) ≡ high
+        → cond short Wrong (cond high Wrong (Ended (follows shape (byte body at)) (at + 1))) ≡ Ended shape′ end → Followed at end
+    by true a high b e = never cc
+    by false a true b e = never cc
+    by false a false b e =
+        subst (Followed at) (ap endOf e)
+        (record {
+          syllabus = byte body at;
+          low = ltb-false 1 (byte body at) b;
+          joined = rw (add-one at) (take-suc body at 0 (leb-false (length body) at a));
+        })
+
+  -- ---- the whole body
 
   abbrev base : List ℕ
   base = take (baseLength body) body
@@ -103,45 +184,101 @@ module _ (body : List ℕ) (bytes : Bytes body) where
   abbrev behind : List ℕ
   behind = drop (baseLength body) body
 
-  base-sized : baseLength body < length body → length base ≡ baseLength base
+  base-sized : baseLength body ≤ length body → length base ≡ baseLength base
   base-sized more =
       let size = length-take-le (baseLength body) body (omega arith) in
       let p : byte base 3 ≡ byte body 3 = getD-take (baseLength body) body 3 0 (omega arith) in
       let c : byte base 4 ≡ byte body 4 = getD-take (baseLength body) body 4 0 (omega arith) in
       omega arith
 
-  drop-least : (least : Bool) → leb (length body) (baseLength body) ≡ least → drop (min (length body) (baseLength body)) body ≡ behind
-  drop-least true e =
-      let l = leb-true (length body) (baseLength body) e in
-      let past : length body ≤ min (length body) (baseLength body) = omega arith in
-      drop-of-length-le body past ∙ sym (drop-of-length-le body l)
-  drop-least false e =
-      let l = leb-false (length body) (baseLength body) e in
-      let is : min (length body) (baseLength body) ≡ baseLength body = omega arith in
-      ap (λ n. drop n body) is
+  all : take (length body) body ≡ body
+  all = take-length body
 
-  second-settled : Settled (IsSpelled 2 body) (BadTail 2 body) (tailNumber (readTail 2 body))
-  unfolding readTail baseEnd
-  second-settled = by (settled behind (baseEnd 2 body) (small-drop body small (baseLength body))) where
-    same : tailNumber (readTail 2 body) ≡ tailNumber (selectionTail behind (baseEnd 2 body))
-    same = ap (λ (t : List ℕ). tailNumber (selectionTail t (baseEnd 2 body))) (drop-least (leb (length body) (baseLength body)) refl)
+  ended : (t : Tails) (shape : Shape) → whole body t ≡ Taken shape → t ≡ Ended shape (length body)
+  ended Wrong shape e = never cc
+  ended (Ended sh at) shape e = by (eqb at (length body)) refl e where
+    by : (b : Bool) → eqb at (length body) ≡ b → cond b (Taken sh) (Refused BadSetup) ≡ Taken shape → Ended sh at ≡ Ended shape (length body)
+    by true a e = let same : sh ≡ shape = cc in rw (same, eqb-true at (length body) a)
+    by false a e = never cc
 
-    by : Settled (Chosen behind) (BadChoosing behind) (tailNumber (selectionTail behind (baseEnd 2 body)))
-        → Settled (IsSpelled 2 body) (BadTail 2 body) (tailNumber (readTail 2 body))
-    by (inl (c, z)) =
-        let more : baseLength body < length body = omega (arith, some-bytes (c .choice), ap length (c .bytes), length-drop (baseLength body) body) in
-        inl (
-          record {
-            base = base;
-            tail = second (c .choice);
-            version-is = refl;
-            sized = base-sized more;
-            fine = c .fine;
-            joined = ap (λ (t : List ℕ). base ++ t) (c .bytes) ∙ take-append-drop (baseLength body) body;
-          },
-          same ∙ z,
-        )
-    by (inr (b, z)) = inr (choosing refl b, same ∙ z)
+  -- the base is whole wherever the shape is taken
+  based-on : (tail : Shape → ℕ → Tails) (shape : Shape) → Sh.behind (baseTail body) tail ≡ Ended shape (length body)
+      → (baseLength body ≤ length body) × (tail (based (baseLength body)) (baseLength body) ≡ Ended shape (length body))
+  unfolding baseTail
+  based-on tail shape e = by (ltb (length body) (baseLength body)) refl e where
+    by : (b : Bool) → ltb (length body) (baseLength body) ≡ b
+        → Sh.behind (cond b Wrong (Ended (based (baseLength body)) (baseLength body))) tail ≡ Ended shape (length body)
+        → (baseLength body ≤ length body) × (tail (based (baseLength body)) (baseLength body) ≡ Ended shape (length body))
+    by true a e = never cc
+    by false a e = (ltb-false (length body) (baseLength body) a, e)
+
+  first-spelled : (shape : Shape) → shapeOf 1 body ≡ Taken shape → IsSpelled 1 body
+  unfolding shapeOf tailsOf baseTail endOf
+  first-spelled shape e = by (ltb (length body) (baseLength body)) refl (ended (baseTail body) shape e) where
+    by : (b : Bool) → ltb (length body) (baseLength body) ≡ b
+        → cond b Wrong (Ended (based (baseLength body)) (baseLength body)) ≡ Ended shape (length body) → IsSpelled 1 body
+    by true a e = never cc
+    by false a e = record { base = body; tail = first; version-is = refl; sized = sym (ap endOf e); fine = tt; joined = append-nil body }
+
+  second-spelled : (shape : Shape) → shapeOf 2 body ≡ Taken shape → IsSpelled 2 body
+  unfolding shapeOf tailsOf
+  second-spelled shape e =
+      let (more, t) = based-on (selectionTail body) shape (ended (Sh.behind (baseTail body) (selectionTail body)) shape e) in
+      let p = selection-passed (based (baseLength body)) shape (baseLength body) (length body) t in
+      record { base = base; tail = second (p .choice); version-is = refl; sized = base-sized more; fine = p .fine; joined = sym (p .joined) ∙ all }
+
+  third-spelled : (shape : Shape) → shapeOf 3 body ≡ Taken shape → IsSpelled 3 body
+  unfolding shapeOf tailsOf baseTail
+  third-spelled shape e = by (ltb (length body) (baseLength body)) refl (ended (Sh.behind (Sh.behind (baseTail body) (selectionTail body)) (syllabusTail body)) shape e) where
+    spelled : baseLength body ≤ length body → (at : ℕ) → Passed (baseLength body) at → Followed at (length body) → IsSpelled 3 body
+    spelled more at p f =
+        record {
+          base = base;
+          tail = third (p .choice) (f .syllabus);
+          version-is = refl;
+          sized = base-sized more;
+          fine = (p .fine, f .low);
+          joined =
+              sym (append-assoc base (choosingBytes (p .choice)) (f .syllabus ∷ [])) ∙ ap (λ (t : List ℕ). t ++ f .syllabus ∷ []) (sym (p .joined))
+              ∙ sym (f .joined) ∙ all;
+        }
+
+    by-selection : baseLength body ≤ length body → (t : Tails) → selectionTail body (based (baseLength body)) (baseLength body) ≡ t
+        → Sh.behind t (syllabusTail body) ≡ Ended shape (length body) → IsSpelled 3 body
+    by-selection more Wrong s e = never cc
+    by-selection more (Ended sh at) s e =
+        spelled more at (selection-passed (based (baseLength body)) sh (baseLength body) at s) (syllabus-passed sh shape at (length body) e)
+
+    by : (c : Bool) → ltb (length body) (baseLength body) ≡ c
+        → Sh.behind (Sh.behind (cond c Wrong (Ended (based (baseLength body)) (baseLength body))) (selectionTail body)) (syllabusTail body) ≡ Ended shape (length body)
+        → IsSpelled 3 body
+    by true a e = never cc
+    by false a e =
+        by-selection (ltb-false (length body) (baseLength body) a) (selectionTail body (based (baseLength body)) (baseLength body)) refl e
+
+  spelled-if-taken : (version : ℕ) → 1 ≤ version → version ≤ 3 → (shape : Shape) → shapeOf version body ≡ Taken shape → IsSpelled version body
+  spelled-if-taken zero l m = absurd (omega arith)
+  spelled-if-taken (suc zero) l m = first-spelled
+  spelled-if-taken (suc (suc zero)) l m = second-spelled
+  spelled-if-taken (suc (suc (suc zero))) l m = third-spelled
+  spelled-if-taken (suc (suc (suc (suc n)))) l m = absurd (omega arith)
+
+  -- ---- spelled, or with a cause
+
+  second-settled : IsSpelled 2 body ⊎ BadTail 2 body
+  second-settled = by (settled behind (small-drop body small (baseLength body))) where
+    by : Chosen behind ⊎ BadChoosing behind → IsSpelled 2 body ⊎ BadTail 2 body
+    by (inl c) =
+        let more : baseLength body ≤ length body = omega (arith, some-bytes (c .choice), ap length (c .bytes), length-drop (baseLength body) body) in
+        inl (record {
+          base = base;
+          tail = second (c .choice);
+          version-is = refl;
+          sized = base-sized more;
+          fine = c .fine;
+          joined = ap (λ (t : List ℕ). base ++ t) (c .bytes) ∙ take-append-drop (baseLength body) body;
+        })
+    by (inr b) = inr (choosing refl b)
 
   abbrev last : ℕ
   last = byte body (length body - 1)
@@ -149,68 +286,42 @@ module _ (body : List ℕ) (bytes : Bytes body) where
   last-joins : baseLength body < length body → butLast behind ++ last ∷ [] ≡ behind
   last-joins more =
       let size = length-drop (baseLength body) body in
-      let place : baseLength body + (length behind - 1) ≡ length body - 1 = omega arith in
       let there : getD behind (length behind - 1) 0 ≡ last =
-      getD-drop (baseLength body) body (length behind - 1) 0 ∙ ap (byte body) place in
+      getD-drop (baseLength body) body (length behind - 1) 0 ∙ ap (byte body) (let e : baseLength body + (length behind - 1) ≡ length body - 1 = omega arith in e) in
       let all : take (suc (length behind - 1)) behind ≡ behind = take-all (suc (length behind - 1)) behind (omega arith) in
       ap (λ n. butLast behind ++ n ∷ []) (sym there) ∙ sym (take-suc behind (length behind - 1) 0 (omega arith)) ∙ all
 
-  third-is : baseLength body < length body → ltb 1 last ≡ false
-      → tailNumber (readTail 3 body) ≡ tailNumber (selectionTail (butLast behind) (baseEnd 3 body))
-  unfolding readTail baseEnd syllabusIn
-  third-is more low =
-      let end : min (length body) (baseLength body) ≡ baseLength body = omega arith in
-      let long : leb (length body) (baseLength body) ≡ false = lt-leb (length body) (baseLength body) more in
-      let size : length body - 1 - baseLength body ≡ length behind - 1 = omega (arith, length-drop (baseLength body) body) in
-      rw (end, long, low, size) refl
-
-  third-short : length body ≤ baseLength body → tailNumber (readTail 3 body) ≡ 1
-  unfolding readTail baseEnd
-  third-short l =
-      let m : leb (length body) (min (length body) (baseLength body)) ≡ true = le-leb (length body) (min (length body) (baseLength body)) (omega arith) in
-      rw m refl
-
-  third-high : baseLength body < length body → ltb 1 last ≡ true → tailNumber (readTail 3 body) ≡ 1
-  unfolding readTail baseEnd syllabusIn
-  third-high l f =
-      let m : leb (length body) (min (length body) (baseLength body)) ≡ false = lt-leb (length body) (min (length body) (baseLength body)) (omega arith) in
-      rw (m, f) refl
-
-  third-settled : Settled (IsSpelled 3 body) (BadTail 3 body) (tailNumber (readTail 3 body))
+  third-settled : IsSpelled 3 body ⊎ BadTail 3 body
   third-settled = by (leb (length body) (baseLength body)) refl (ltb 1 last) refl where
-    chosen : baseLength body < length body → ltb 1 last ≡ false
-        → Settled (Chosen (butLast behind)) (BadChoosing (butLast behind)) (tailNumber (selectionTail (butLast behind) (baseEnd 3 body)))
-        → Settled (IsSpelled 3 body) (BadTail 3 body) (tailNumber (readTail 3 body))
-    chosen more low (inl (c, z)) =
-        inl (
-          record {
-            base = base;
-            tail = third (c .choice) last;
-            version-is = refl;
-            sized = base-sized more;
-            fine = (c .fine, ltb-false 1 last low);
-            joined =
-                ap (λ (t : List ℕ). base ++ (t ++ last ∷ [])) (c .bytes) ∙ ap (λ (t : List ℕ). base ++ t) (last-joins more)
-                ∙ take-append-drop (baseLength body) body;
-          },
-          third-is more low ∙ z,
-        )
-    chosen more low (inr (b, z)) = inr (between refl b, third-is more low ∙ z)
+    chosen : baseLength body < length body → ltb 1 last ≡ false → Chosen (butLast behind) ⊎ BadChoosing (butLast behind) → IsSpelled 3 body ⊎ BadTail 3 body
+    chosen more low (inl c) =
+        inl (record {
+          base = base;
+          tail = third (c .choice) last;
+          version-is = refl;
+          sized = base-sized (omega arith);
+          fine = (c .fine, ltb-false 1 last low);
+          joined =
+              ap (λ (t : List ℕ). base ++ (t ++ last ∷ [])) (c .bytes) ∙ ap (λ (t : List ℕ). base ++ t) (last-joins more)
+              ∙ take-append-drop (baseLength body) body;
+        })
+    chosen more low (inr b) = inr (between refl b)
 
-    by : (least : Bool) → leb (length body) (baseLength body) ≡ least → (high : Bool) → ltb 1 last ≡ high
-        → Settled (IsSpelled 3 body) (BadTail 3 body) (tailNumber (readTail 3 body))
-    by true e high f = let l = leb-true (length body) (baseLength body) e in inr (no-syllabus refl l, third-short l)
-    by false e true f = inr (syllabus-above refl (ltb-true 1 last f), third-high (leb-false (length body) (baseLength body) e) f)
+    by : (least : Bool) → leb (length body) (baseLength body) ≡ least → (high : Bool) → ltb 1 last ≡ high → IsSpelled 3 body ⊎ BadTail 3 body
+    by true e high f = inr (no-syllabus refl (leb-true (length body) (baseLength body) e))
+    by false e true f = inr (syllabus-above refl (ltb-true 1 last f))
     by false e false f =
-        let more = leb-false (length body) (baseLength body) e in
-        chosen more f (settled (butLast behind) (baseEnd 3 body) (small-take behind (small-drop body small (baseLength body)) (length behind - 1)))
+        chosen (leb-false (length body) (baseLength body) e) f
+        (settled (butLast behind) (small-take behind (small-drop body small (baseLength body)) (length behind - 1)))
 
-  first-settled : Settled (IsSpelled 1 body) (BadTail 1 body) (tailNumber (readTail 1 body))
-  unfolding readTail
-  first-settled = inl (record { base = body; tail = first; version-is = refl; sized = tt; fine = tt; joined = append-nil body }, refl)
+  first-settled : IsSpelled 1 body ⊎ BadTail 1 body
+  first-settled = by (eqb (length body) (baseLength body)) refl where
+    by : (b : Bool) → eqb (length body) (baseLength body) ≡ b → IsSpelled 1 body ⊎ BadTail 1 body
+    by true e =
+        inl (record { base = body; tail = first; version-is = refl; sized = eqb-true (length body) (baseLength body) e; fine = tt; joined = append-nil body })
+    by false e = inr (other-length refl (eqb-false (length body) (baseLength body) e))
 
-  tail-settled : (version : ℕ) → 1 ≤ version → version ≤ 3
-      → Settled (IsSpelled version body) (BadTail version body) (tailNumber (readTail version body))
+  tail-settled : (version : ℕ) → 1 ≤ version → version ≤ 3 → IsSpelled version body ⊎ BadTail version body
   tail-settled zero l m = absurd (omega arith)
   tail-settled (suc zero) l m = first-settled
   tail-settled (suc (suc zero)) l m = second-settled
@@ -218,17 +329,19 @@ module _ (body : List ℕ) (bytes : Bytes body) where
   tail-settled (suc (suc (suc (suc n)))) l m = absurd (omega arith)
 
 -- no body is spelled and has a cause
-excluded : (base : List ℕ) (tail : Tail) → Base tail base → Fine tail → BadTail (versionOf tail) (base ++ tailBytes tail) → ⊥
+excluded : (base : List ℕ) (tail : Tail) → Base base → Fine tail → BadTail (versionOf tail) (base ++ tailBytes tail) → ⊥
+excluded base first sized fine (other-length v n) = n (rw (append-nil base) sized)
 excluded base first sized fine (choosing v b) = omega arith
 excluded base first sized fine (no-syllabus v l) = omega arith
 excluded base first sized fine (syllabus-above v l) = omega arith
 excluded base first sized fine (between v b) = omega arith
+excluded base (second c) sized fine (other-length v n) = omega arith
 excluded base (second c) sized fine (choosing v b) =
-    let size = sym (length-kept base sized (choosingBytes c)) in
-    no-cause c (subst (λ (t : List ℕ). BadChoosing t) (drop-at base (choosingBytes c) (baseLength (base ++ choosingBytes c)) size) b)
+    no-cause c (subst (λ (t : List ℕ). BadChoosing t) (drop-at base (choosingBytes c) (baseLength (base ++ choosingBytes c)) (sym (length-kept base sized (choosingBytes c)))) b)
 excluded base (second c) sized fine (no-syllabus v l) = omega arith
 excluded base (second c) sized fine (syllabus-above v l) = omega arith
 excluded base (second c) sized fine (between v b) = omega arith
+excluded base (third c y) sized fine (other-length v n) = omega arith
 excluded base (third c y) sized fine (choosing v b) = omega arith
 excluded base (third c y) sized fine (no-syllabus v l) =
     let tail = choosingBytes c ++ y ∷ [] in
@@ -240,28 +353,43 @@ excluded base (third c y) sized fine (between v b) =
     let size : length (choosingBytes c) ≡ length tail - 1 = omega (arith, length-append (choosingBytes c) (y ∷ [])) in
     no-cause c (subst (λ (t : List ℕ). BadChoosing t) (ap butLast behind ∙ take-at (choosingBytes c) (y ∷ []) (length tail - 1) size) b)
 
+-- a shape is taken, or its number is 1
+data Ways (read : ReadShape) : Type 0 where
+  taken : (shape : Shape) → read ≡ Taken shape → Ways read
+  one : shapeNumber read ≡ 1 → Ways read
+
+ways : (version : ℕ) (body : List ℕ) → Ways (shapeOf version body)
+unfolding shapeOf
+ways version body = by (tailsOf version body) where
+  by-end : (shape : Shape) (b : Bool) → Ways (cond b (Taken shape) (Refused BadSetup))
+  by-end shape true = taken shape refl
+  by-end shape false = one refl
+
+  by : (tails : Tails) → Ways (whole body tails)
+  by Wrong = one refl
+  by (Ended shape at) = by-end shape (eqb at (length body))
+
 -- THE STATEMENTS: a tail is taken exactly if the body is spelled, and refusal 1 exactly if it has one of the causes
 module _ (version : ℕ) (body : List ℕ) (bytes : Bytes body) (least : 1 ≤ version) (most : version ≤ 3) where
-  pub tails-if-read : tailNumber (readTail version body) ≡ 0 → IsSpelled version body
-  tails-if-read z = by (tail-settled body bytes version least most) where
-    by : Settled (IsSpelled version body) (BadTail version body) (tailNumber (readTail version body)) → IsSpelled version body
-    by (inl (s, e)) = s
-    by (inr (b, e)) = absurd (omega arith)
+  pub tails-if-read : shapeNumber (shapeOf version body) ≡ 0 → IsSpelled version body
+  tails-if-read z = by (ways version body) where
+    by : Ways (shapeOf version body) → IsSpelled version body
+    by (taken shape e) = spelled-if-taken body (bytes .below) version least most shape e
+    by (one e) = absurd (omega arith)
 
-  pub read-if-spelled : IsSpelled version body → tailNumber (readTail version body) ≡ 0
+  pub read-if-spelled : IsSpelled version body → shapeNumber (shapeOf version body) ≡ 0
   read-if-spelled s =
-      let read : readTail (versionOf (s .tail)) (s .base ++ tailBytes (s .tail)) ≡ _ = reads-tails (s .base) (s .tail) (s .sized) (s .fine) .read in
-      rw (← s .version-is, ← s .joined) (ap tailNumber read)
+      let read : shapeOf (versionOf (s .tail)) (s .base ++ tailBytes (s .tail)) ≡ _ = reads-tails (s .base) (s .tail) (s .sized) (s .fine) .read in
+      rw (← s .version-is, ← s .joined) (ap shapeNumber read)
 
-  pub refused-by-cause : (tailNumber (readTail version body) ≡ 1) ↔ BadTail version body
-  refused-by-cause = (λ z. there z (tail-settled body bytes version least most), λ b. back b (tail-settled body bytes version least most)) where
-    there : tailNumber (readTail version body) ≡ 1
-        → Settled (IsSpelled version body) (BadTail version body) (tailNumber (readTail version body)) → BadTail version body
-    there z (inl (s, e)) = absurd (omega arith)
-    there z (inr (b, e)) = b
+  pub refused-by-cause : (shapeNumber (shapeOf version body) ≡ 1) ↔ BadTail version body
+  refused-by-cause = (λ z. there z (tail-settled body (bytes .below) version least most), λ b. back b (ways version body)) where
+    there : shapeNumber (shapeOf version body) ≡ 1 → IsSpelled version body ⊎ BadTail version body → BadTail version body
+    there z (inl s) = absurd (omega (arith, read-if-spelled s))
+    there z (inr b) = b
 
-    back : BadTail version body → Settled (IsSpelled version body) (BadTail version body) (tailNumber (readTail version body))
-        → tailNumber (readTail version body) ≡ 1
-    back b (inl (s, e)) =
+    back : BadTail version body → Ways (shapeOf version body) → shapeNumber (shapeOf version body) ≡ 1
+    back b (taken shape e) =
+        let s = spelled-if-taken body (bytes .below) version least most shape e in
         absurd (excluded (s .base) (s .tail) (s .sized) (s .fine) (rw (s .version-is, s .joined) b))
-    back b (inr (c, e)) = e
+    back b (one e) = e

@@ -9,8 +9,9 @@ use Rattle.rules.specs.Rules.{blankProfile, blankCounter}
 use Rattle.wire.specs.Wire.{byte, number}
 use Rattle.ranges.specs.Ranges.{isSetup, hasLength, isHead, areAccumulators, isAccumulator, areProfiles, isProfileOrAbsent, isProfile, areMasks, isMaximumAmount, areAccumulatorRules, isAccumulatorRule, areCounterRules, areSent, areNumbersApart, profileNumber, areConversions, isConversionOrAbsent, isConversion, conversionPair, arePairsApart}
 use Rattle.setup.specs.Setup.{rateIn, accumulatorIn, counterIn, profileIn, rulesIn, freshIn, readSetup, setupNumber}
-use Rattle.tail.specs.Tail.{baseEnd, syllabusIn, selectionTail, readTail, tailNumber}
-use Rattle.selection.specs.Selection.{isFile}
+use Rattle.shape.specs.declared.ReadShape.{ReadShape}
+use Rattle.shape.specs.declared.ReadShape.the-variants.{Taken, Refused}
+use Rattle.shape.specs.Shape.{baseTail, entriesEnd, selectionTail, syllabusTail, tailsOf, shapeOf, shapeNumber}
 use Rattle.rows.specs.Rows.{Four, Accumulator, Limits, Profile, Conversion, Setup, written, spelled, headRow, profileRow, conversionRow, setupRow, body}
 use Rattle.rows.specs.Said.{profileSaid, conversionSaid, rulesSaid, freshSaid}
 use Rattle.rows.specs.Tails.{off, first, second, third, tailBytes}
@@ -94,28 +95,35 @@ limitsRead x spelledAs =
     let rule = getD (getD (rulesIn (body x) 1 .profiles) 0 blankProfile .counters) 0 blankCounter in
     eqb (rule .lower) (spelledAs .lower) && eqb (rule .upper) (spelledAs .upper)
 
+-- the syllabus that was read, 9 where none was
+abbrev followed : ReadShape → ℕ
+followed (Taken shape) = shape .syllabus
+followed (Refused refusal) = 9
+
 abbrev isRefused : ℕ → List ℕ → Bool
-isRefused version tail = eqb (tailNumber (readTail version (printedBytes ++ tail))) 1
+isRefused version tail = eqb (shapeNumber (shapeOf version (printedBytes ++ tail))) 1
 
 -- `reads-fields`, `setup-refused`, `reads-tails` and `refused-by-cause` at single inputs
 pub record Samples : Type 0 where
   pub counter-limits : T (limitsRead counted (limits 49))
   pub required-above : T (eqb (setupNumber (readSetup (body twice) .answer)) 1)
-  pub syllabus-read : T (eqb (syllabusIn 3 (printedBytes ++ tailBytes (third off 1))) 1)
+  pub syllabus-read : T (eqb (followed (shapeOf 3 (printedBytes ++ tailBytes (third off 1)))) 1)
   pub switch-above : T (isRefused 2 (2 ∷ []))
+  pub switch-two : T (isRefused 2 (2 ∷ 0 ∷ []))
   pub behind-off : T (isRefused 2 (0 ∷ 0 ∷ []))
   pub cut-short : T (isRefused 2 (1 ∷ 1 ∷ 2 ∷ 0 ∷ []))
   pub left-over : T (isRefused 3 (1 ∷ 1 ∷ 0 ∷ 0 ∷ 0 ∷ []))
   pub syllabus-above : T (isRefused 3 (0 ∷ 2 ∷ []))
 
 pub samples : Samples
-unfolding counted printed printedBytes setupRow headRow profileRow conversionRow spelled written rulesIn rateIn profileIn accumulatorIn counterIn number readSetup isSetup hasLength isHead areAccumulators isAccumulator areProfiles isProfileOrAbsent isProfile areMasks isMaximumAmount areAccumulatorRules isAccumulatorRule areCounterRules areSent areNumbersApart profileNumber areConversions isConversionOrAbsent isConversion conversionPair arePairsApart readTail baseEnd syllabusIn selectionTail isFile
+unfolding counted printed printedBytes setupRow headRow profileRow conversionRow spelled written rulesIn rateIn profileIn accumulatorIn counterIn number readSetup isSetup hasLength isHead areAccumulators isAccumulator areProfiles isProfileOrAbsent isProfile areMasks isMaximumAmount areAccumulatorRules isAccumulatorRule areCounterRules areSent areNumbersApart profileNumber areConversions isConversionOrAbsent isConversion conversionPair arePairsApart shapeOf tailsOf baseTail selectionTail entriesEnd syllabusTail
 samples =
     record {
       counter-limits = tt;
       required-above = tt;
       syllabus-read = tt;
       switch-above = tt;
+      switch-two = tt;
       behind-off = tt;
       cut-short = tt;
       left-over = tt;

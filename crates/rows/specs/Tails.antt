@@ -1,13 +1,14 @@
 -- What follows the base of a set-up's body, spelled (docs/PAPERS.md, "Tail of version 02", "Tail of version 03"; document 02, Three and Nine).
-use Prim.Native.Nat.{ℕ, suc, _+_, _-_, _*_, _≤_, _<_}
+use Prim.Native.Nat.{ℕ, zero, suc, _+_, _-_, _*_, _≤_, _<_}
 use mathlib.Core.Path.{_≡_}
 use mathlib.Core.List.{List, [], _∷_, _++_}
 use lib.ListN.{length, take, drop}
 use Rattle.wire.specs.Wire.{byte}
-use Rattle.tail.specs.declared.Selecting.{Selecting}
-use Rattle.tail.specs.declared.Selecting.the-variants.{Off, On}
-use Rattle.tail.specs.declared.ReadTail.the-variants.{Taken}
-use Rattle.tail.specs.Tail.{baseEnd, basePart, syllabusIn, readTail}
+use Rattle.shape.specs.declared.Selecting.{Selecting}
+use Rattle.shape.specs.declared.Selecting.the-variants.{Off, On}
+use Rattle.shape.specs.declared.Shape.{Shape}
+use Rattle.shape.specs.declared.ReadShape.the-variants.{Taken}
+use Rattle.shape.specs.Shape.{basePart, shapeOf}
 
 -- selection off, or on with the bytes of each entry
 pub data Choosing : Type 0 where
@@ -66,14 +67,12 @@ Fine first = Unit
 Fine (second choosing) = FineChoosing choosing
 Fine (third choosing syllabus) = FineChoosing choosing × (syllabus ≤ 1)
 
--- p and c stand at 3 and 4 of the base, which has 52 + 107p + 7c bytes; version 01 leaves its length to the set-up's reader
+-- p and c stand at 3 and 4 of the base, which has 52 + 107p + 7c bytes
 abbrev pub baseLength : List ℕ → ℕ
 baseLength s = 52 + 107 * byte s 3 + 7 * byte s 4
 
-abbrev pub Base : Tail → List ℕ → Type 0
-Base first base = Unit
-Base (second choosing) base = length base ≡ baseLength base
-Base (third choosing syllabus) base = length base ≡ baseLength base
+abbrev pub Base : List ℕ → Type 0
+Base base = length base ≡ baseLength base
 
 -- ---- what is read of a body that is a base and its tail
 
@@ -90,11 +89,13 @@ abbrev pub fileOf : Choosing → List ℕ
 fileOf off = []
 fileOf (on es) = fileBytes es
 
+-- the shape: the base's length, where the file stands, the syllabus
+abbrev pub shapeSaid : (base : List ℕ) → Tail → Shape
+shapeSaid base tail = record { base = length base; selecting = selecting (choosingOf tail) (length base); syllabus = syllabusOf tail }
+
 pub record TailSays (base : List ℕ) (tail : Tail) (body : List ℕ) : Type 0 where
-  pub end : baseEnd (versionOf tail) body ≡ length base
-  pub base-is : basePart (versionOf tail) body ≡ base
-  pub syllabus : syllabusIn (versionOf tail) body ≡ syllabusOf tail
-  pub read : readTail (versionOf tail) body ≡ Taken (selecting (choosingOf tail) (length base))
+  pub read : shapeOf (versionOf tail) body ≡ Taken (shapeSaid base tail)
+  pub base-is : basePart (shapeSaid base tail) body ≡ base
   pub file : fileIn (selecting (choosingOf tail) (length base)) body ≡ fileOf (choosingOf tail)
 
 -- a body is a base and the tail of its version
@@ -102,7 +103,7 @@ pub record IsSpelled (version : ℕ) (body : List ℕ) : Type 0 where
   pub base : List ℕ
   pub tail : Tail
   pub version-is : versionOf tail ≡ version
-  pub sized : Base tail base
+  pub sized : Base base
   pub fine : Fine tail
   pub joined : base ++ tailBytes tail ≡ body
 
@@ -125,8 +126,10 @@ pub data BadChoosing (tail : List ℕ) : Type 0 where
 abbrev pub butLast : List ℕ → List ℕ
 butLast s = take (length s - 1) s
 
--- version 02: what is behind the base; version 03: nothing behind the base, a syllabus above 1, or what stands between; version 01 has no cause
+-- version 01: another length than the base's; version 02: what is behind the base; version 03: nothing behind the base, a syllabus above 1, or
+-- what stands between
 pub data BadTail (version : ℕ) (body : List ℕ) : Type 0 where
+  other-length : version ≡ 1 → (length body ≡ baseLength body → ⊥) → BadTail version body
   choosing : version ≡ 2 → BadChoosing (drop (baseLength body) body) → BadTail version body
   no-syllabus : version ≡ 3 → length body ≤ baseLength body → BadTail version body
   syllabus-above : version ≡ 3 → 1 < byte body (length body - 1) → BadTail version body

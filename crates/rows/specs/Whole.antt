@@ -5,13 +5,14 @@ use Prim.Native.Nat.{ℕ}
 use lib.ListN.{length}
 use Rattle.rules.specs.Rules.{rulesOf}
 use Rattle.setup.specs.declared.SetupAnswer.the-variants.{Done}
-use Rattle.setup.specs.Setup.{readSetup, wordsAfter}
-use Rattle.tail.specs.declared.ReadTail.the-variants.{Taken}
-use Rattle.tail.specs.Tail.{basePart, syllabusIn, readTail}
+use Rattle.setup.specs.Setup.{readSetup, wordsAfter, setupNumber}
+use Rattle.shape.specs.declared.Shape.{Shape}
+use Rattle.shape.specs.declared.ReadShape.the-variants.{Taken}
+use Rattle.shape.specs.Shape.{basePart, shapeOf}
 use Rattle.rows.specs.Rows.{Setup, Fits, setupRow, body}
 use Rattle.rows.specs.InRange.{InRange}
 use Rattle.rows.specs.Said.{rulesSaid, freshSaid}
-use Rattle.rows.specs.Tails.{Tail, versionOf, tailBytes, choosingOf, syllabusOf, Fine, selecting}
+use Rattle.rows.specs.Tails.{Tail, versionOf, tailBytes, syllabusOf, Fine, shapeSaid}
 
 abbrev pub wholeBody : Setup → Tail → List ℕ
 wholeBody x tail = body x ++ tailBytes tail
@@ -25,9 +26,15 @@ pub record IsSetup (version : ℕ) (s : List ℕ) : Type 0 where
   pub fine : Fine tail
   pub spelled : wholeBody setup tail ≡ s
 
--- what the turns ask of it: the rules in the words that it was loaded into, the fresh card, and where selection's file stands
+-- its base and its tails, where its shape is this
+pub record IsTaken (version : ℕ) (s : List ℕ) : Type 0 where
+  pub shape : Shape
+  pub shape-is : shapeOf version s ≡ Taken shape
+  pub base : setupNumber (readSetup (basePart shape s) .answer) ≡ 0
+
+-- what the conversation asks of it: the rules in the words that it was loaded into, the fresh card, and where selection's file stands
 pub record WholeSays (x : Setup) (tail : Tail) (version : ℕ) (s : List ℕ) : Type 0 where
-  pub selecting-is : readTail version s ≡ Taken (selecting (choosingOf tail) (length (body x)))
-  pub answered : readSetup (basePart version s) ≡ record { fresh = freshSaid x; answer = Done }
+  pub shape-is : shapeOf version s ≡ Taken (shapeSaid (body x) tail)
+  pub answered : readSetup (basePart (shapeSaid (body x) tail) s) ≡ record { fresh = freshSaid x; answer = Done }
   pub loaded : (words : List ℕ) → length words ≡ 164
-      → rulesOf (wordsAfter words (basePart version s) (syllabusIn version s)) ≡ rulesSaid x (syllabusOf tail)
+      → rulesOf (wordsAfter words (basePart (shapeSaid (body x) tail) s) (syllabusOf tail)) ≡ rulesSaid x (syllabusOf tail)

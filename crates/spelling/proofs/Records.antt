@@ -8,15 +8,17 @@ use borrow.Author.Tests.{le-leb}
 use lib.ListN.{length, drop}
 use lib.Seq.{drop-drop, drop-append-seam}
 use Rattle.refusal.specs.declared.Refusal.the-variants.{Unreadable}
-use Rattle.tail.specs.declared.Selecting.{Selecting}
-use Rattle.tail.specs.declared.Selecting.the-variants.{Off, On}
+use Rattle.shape.specs.declared.Selecting.{Selecting}
+use Rattle.shape.specs.declared.Selecting.the-variants.{Off, On}
+use Rattle.shape.specs.declared.Shape.{Shape as PaperShape}
 use Rattle.paper.specs.declared.Next.the-variants.{Record, Fault}
 use Rattle.paper.specs.Paper.{nextAt, nextNumber}
 use Rattle.paper.specs.Walk.{part}
 use Rattle.command.specs.declared.Command.{Command}
 use Rattle.command.specs.declared.ReadCommand.{ReadCommand}
 use Rattle.command.specs.declared.ReadCommand.the-variants.{Taken, Refused}
-use Rattle.turns.specs.Turns.{commandIn}
+use Rattle.command.specs.Command.{selectingOf, commandIn}
+use Rattle.command.specs.Command as C
 use Rattle.spelling.specs.Spelling.{Bytes, big, recordOf, Sent, names, brings, first, second, kindOf, bodyOf, spell}
 use Rattle.spelling.specs.Spelling.{Choice, byName, byFile, choiceIn, Fits, standsFor}
 use Rattle.spelling.specs.Faults.{Broken, Whole, RestFault, broken, repeated, unknown, start-length, first-length, second-length}
@@ -75,25 +77,27 @@ whole-spelled choice x h s more e = record { more = more; is = e; sized = body-s
 
 -- ---- a place of a paper
 
-pub commands-same : (selecting : Selecting) (s : List ℕ) → Lies selecting s → (kind : ℕ) (body : List ℕ)
-    → commandIn selecting s kind body ≡ readBy (choiceIn selecting s) kind body
+pub commands-same : (form : PaperShape) (s : List ℕ) → Lies (form .selecting) s → (kind : ℕ) (body : List ℕ)
+    → commandIn form s kind body ≡ readBy (choiceIn (form .selecting) s) kind body
 unfolding commandIn
-commands-same Off s h kind body = refl
-commands-same (On start end entries) s h kind body = rw (le-leb start end (h .0), le-leb end (length s) (h .1))
+commands-same form s h kind body = by (form .selecting) h where
+  by : (selecting : Selecting) → Lies selecting s → C.readBy selecting s kind body ≡ readBy (choiceIn selecting s) kind body
+  by Off h = refl
+  by (On start end entries) h = rw (le-leb start end (h .0), le-leb end (length s) (h .1))
 
 -- a record stands at a place, is read as that, and the next place is its end
-pub record Stands (selecting : Selecting) (s : List ℕ) (at : ℕ) (read : ReadCommand) (end : ℕ) : Type 0 where
+pub record Stands (form : PaperShape) (s : List ℕ) (at : ℕ) (read : ReadCommand) (end : ℕ) : Type 0 where
   pub kind : ℕ
   pub start : ℕ
   pub next : nextAt s at ≡ Record kind start end
-  pub is : commandIn selecting s kind (part s start end) ≡ read
+  pub is : commandIn form s kind (part s start end) ≡ read
 
-module _ (selecting : Selecting) (s : List ℕ) (lies : Lies selecting s) (at : ℕ) where
+module _ (form : PaperShape) (s : List ℕ) (lies : Lies (form .selecting) s) (at : ℕ) where
   abbrev choice : Choice
-  choice = choiceIn selecting s
+  choice = choiceIn (form .selecting) s
 
   stands : (kind : ℕ) (body : List ℕ) → Whole (drop at s) kind body
-      → Stands selecting s at (readBy choice kind body) (at + (3 + length body))
+      → Stands form s at (readBy choice kind body) (at + (3 + length body))
   stands kind body w =
       let there : nextAt (drop at s) 0 ≡ Record kind 3 (3 + length body) = rw (w .is) (next-whole kind body (w .more) (w .sized)) in
       let inside : part (drop at s) 3 (3 + length body) ≡ body = rw (w .is) (body-there kind body (w .more)) in
@@ -101,11 +105,11 @@ module _ (selecting : Selecting) (s : List ℕ) (lies : Lies selecting s) (at : 
         kind = kind;
         start = at + 3;
         next = next-drop s at ∙ ap (shift at) there;
-        is = ap (commandIn selecting s kind) (part-drop s at 3 (3 + length body) ∙ inside) ∙ commands-same selecting s lies kind body;
+        is = ap (commandIn form s kind) (part-drop s at 3 (3 + length body) ∙ inside) ∙ commands-same form s lies kind body;
       }
 
   pub sent-stands : (x : Sent) → Fits choice x → (rest : List ℕ) → drop at s ≡ spell x ++ rest
-      → Stands selecting s at (Taken (standsFor choice x)) (at + length (spell x))
+      → Stands form s at (Taken (standsFor choice x)) (at + length (spell x))
   sent-stands x h rest e =
       let st = stands (kindOf x) (bodyOf x) (whole-spelled choice x h (drop at s) rest e) in
       rw (record-length (kindOf x) (bodyOf x), ← taken choice x h) st
@@ -113,7 +117,7 @@ module _ (selecting : Selecting) (s : List ℕ) (lies : Lies selecting s) (at : 
   -- no whole record stands there, or one that is refused
   pub data Faulty : Type 0 where
     at-next : nextAt s at ≡ Fault → Faulty
-    at-record : (end : ℕ) → Stands selecting s at (Refused Unreadable) end → Faulty
+    at-record : (end : ℕ) → Stands form s at (Refused Unreadable) end → Faulty
 
   wrongly : (kind : ℕ) (body : List ℕ) → Whole (drop at s) kind body → Wrong choice kind body → Faulty
   wrongly kind body w cause =
@@ -128,27 +132,27 @@ module _ (selecting : Selecting) (s : List ℕ) (lies : Lies selecting s) (at : 
   faulty (second-length body w n) = wrongly 4 body w (bad-second refl n)
 
   -- what is read there
-  reads-stood : (read : ReadCommand) (end : ℕ) → Stands selecting s at read end → reading selecting s at ≡ readingOf end read
+  reads-stood : (read : ReadCommand) (end : ℕ) → Stands form s at read end → reading form s at ≡ readingOf end read
   unfolding reading
-  reads-stood read end st = ap (readingIn selecting s) (st .next) ∙ ap (readingOf end) (st .is)
+  reads-stood read end st = ap (readingIn form s) (st .next) ∙ ap (readingOf end) (st .is)
 
   -- WHAT IS SPELLED AT A PLACE IS READ AS THAT COMMAND, AND THE READER GOES ON BEHIND IT
   pub reads-spelled : (x : Sent) → Fits choice x → (rest : List ℕ) → drop at s ≡ spell x ++ rest
-      → (reading selecting s at ≡ command (standsFor choice x) (at + length (spell x))) × (drop (at + length (spell x)) s ≡ rest)
+      → (reading form s at ≡ command (standsFor choice x) (at + length (spell x))) × (drop (at + length (spell x)) s ≡ rest)
   reads-spelled x h rest e =
       (reads-stood _ _ (sent-stands x h rest e), sym (drop-drop (length (spell x)) at s) ∙ rw (e, drop-append-seam (spell x) rest))
 
   -- THE END
-  pub reads-end : drop at s ≡ [] → reading selecting s at ≡ over
+  pub reads-end : drop at s ≡ [] → reading form s at ≡ over
   unfolding reading
   reads-end e = rw (next-drop s at, next-nothing (drop at s) e)
 
-  refused-there : Faulty → reading selecting s at ≡ refused 9
+  refused-there : Faulty → reading form s at ≡ refused 9
   unfolding reading
   refused-there (at-next e) = rw e
   refused-there (at-record end st) = reads-stood (Refused Unreadable) end st
 
-  pub reads-fault : RestFault choice (drop at s) → reading selecting s at ≡ refused 9
+  pub reads-fault : RestFault choice (drop at s) → reading form s at ≡ refused 9
   reads-fault f = refused-there (faulty f)
 
   module _ (bytes : Bytes s) where
@@ -167,7 +171,7 @@ module _ (selecting : Selecting) (s : List ℕ) (lies : Lies selecting s) (at : 
             absurd (omega arith)
 
     -- WHATEVER IS READ AS A COMMAND IS THE SPELLING OF WHAT FITS AND STANDS FOR IT
-    pub spelled-if-read : (c : Command) (end : ℕ) → reading selecting s at ≡ command c end → Spelled choice s at c end
+    pub spelled-if-read : (c : Command) (end : ℕ) → reading form s at ≡ command c end → Spelled choice s at c end
     spelled-if-read c end e = by (view choice (drop at s) (bytes-drop at s bytes)) where
       by : View choice (drop at s) → Spelled choice s at c end
       by (none n) = let z : _≡_ {A = ℕ} 0 1 = cc (reads-end n) in absurd (omega arith)
@@ -179,17 +183,17 @@ module _ (selecting : Selecting) (s : List ℕ) (lies : Lies selecting s) (at : 
           record { sent = x; fits = fits; stands = same; is = is ∙ rw (to, r .1); ends = to }
 
     -- A REFUSAL IS 9, AND HAS ONE OF ITS CAUSES
-    pub fault-if-refused : (n : ℕ) → reading selecting s at ≡ refused n → (n ≡ 9) × RestFault choice (drop at s)
+    pub fault-if-refused : (n : ℕ) → reading form s at ≡ refused n → (n ≡ 9) × RestFault choice (drop at s)
     fault-if-refused n e = by (view choice (drop at s) (bytes-drop at s bytes)) where
       by : View choice (drop at s) → (n ≡ 9) × RestFault choice (drop at s)
       by (none n) = let z : _≡_ {A = ℕ} 0 1 = cc (reads-end n) in absurd (omega arith)
       by (fault f) = (cc (reads-fault f), f)
       by (spelled x more fits is) = let r = reads-spelled x fits more is in let z : _≡_ {A = ℕ} 0 1 = cc in absurd (omega arith)
 
-    pub refused-exactly : (reading selecting s at ≡ refused 9) ↔ RestFault choice (drop at s)
+    pub refused-exactly : (reading form s at ≡ refused 9) ↔ RestFault choice (drop at s)
     refused-exactly = (λ e. fault-if-refused 9 e .1, reads-fault)
 
-    pub end-if-over : reading selecting s at ≡ over → drop at s ≡ []
+    pub end-if-over : reading form s at ≡ over → drop at s ≡ []
     end-if-over e = by (view choice (drop at s) (bytes-drop at s bytes)) where
       by : View choice (drop at s) → drop at s ≡ []
       by (none n) = n

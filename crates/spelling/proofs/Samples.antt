@@ -7,14 +7,15 @@ use lib.Dec.{T, eqb}
 use lib.ListN.{length, replicate}
 use Rattle.wire.specs.Wire.{number}
 use Rattle.setup.specs.Setup.{rulesIn, freshIn}
-use Rattle.tail.specs.declared.Selecting.the-variants.{Off}
+use Rattle.shape.specs.Shape.{based}
 use Rattle.paper.specs.Paper.{nextAt, openPaper, openedNumber}
 use Rattle.command.specs.declared.Command.the-variants.{Start as StartCommand, First as FirstCommand, Second as SecondCommand}
-use Rattle.command.specs.Command.{firstOf, secondOf, commandOf}
+use Rattle.command.specs.Command.{firstOf, secondOf, commandOf, commandIn}
 use Rattle.card.specs.Card.{freshState}
 use Rattle.lines.specs.Lines.{digit, decimal, refusalLine}
-use Rattle.turns.specs.Turns.{commandIn, turnTold}
-use Rattle.turns.specs.Sitting.{linesFrom}
+use Rattle.conversation.specs.Conversation.{answeredBy, takenOf}
+use Rattle.conversation.specs.Events.{eventsFrom}
+use Rattle.lines.specs.Sitting.{linesOf}
 use Rattle.spelling.specs.Spelling.{big, recordOf, names, first, second, kindOf, bodyOf, spell}
 use Rattle.spelling.specs.Sitting.{Reading, over, refused, command, reading}
 
@@ -29,7 +30,7 @@ isNine (refused n) = eqb n 9
 isNine (command c end) = false
 
 abbrev faults : List ℕ → Bool
-faults s = isNine (reading Off s 0)
+faults s = isNine (reading (based 0) s 0)
 
 -- `reads-spelled`: the fields read of a First and of a Second, and where the next record stands
 abbrev isFirst : Reading → (type amount currency terminal end : ℕ) → Bool
@@ -50,15 +51,15 @@ isSecond (command (SecondCommand s) at) type code issuer csu end =
 
 -- `lines-of`: how many lines n turns over a rest say
 abbrev lineCount : List ℕ → ℕ
-lineCount s = length (linesFrom 9 (rulesIn [] 0) Off (freshState (freshIn [])) s 0 1)
+lineCount s = length (linesOf 1 (eventsFrom 9 (rulesIn [] 0) (based 0) (freshState (freshIn [])) s 0))
 
 pub record Samples : Type 0 where
   -- 4 bytes and any 65,533 more
   pub over-long : (more : List ℕ) → length more ≡ 65533 → T (isUnread (1 ∷ 0 ∷ 1 ∷ 1 ∷ more))
   pub version-0 : T (isUnread (0 ∷ 0 ∷ 1 ∷ 1 ∷ []))
   pub version-4 : T (isUnread (4 ∷ 0 ∷ 1 ∷ 1 ∷ []))
-  pub first-fields : T (isFirst (reading Off (spell (first 1 5000 0x0978 0x22)) 0) 1 5000 0x0978 0x22 15)
-  pub second-fields : T (isSecond (reading Off (spell (second 1 0x5933 2 0x01020304)) 0) 1 0x5933 2 0x01020304 11)
+  pub first-fields : T (isFirst (reading (based 0) (spell (first 1 5000 0x0978 0x22)) 0) 1 5000 0x0978 0x22 15)
+  pub second-fields : T (isSecond (reading (based 0) (spell (second 1 0x5933 2 0x01020304)) 0) 1 0x5933 2 0x01020304 11)
   -- the set-up repeated, an unknown kind, none (length 0), a Start of two bytes
   pub setup-repeated : T (faults (recordOf 1 (1 ∷ [])))
   pub kind-unknown : T (faults (recordOf 5 (replicate 8 0)))
@@ -68,7 +69,7 @@ pub record Samples : Type 0 where
   pub ends-at-nine : T (eqb (lineCount (recordOf 1 (1 ∷ []) ++ spell (names 1))) 1)
 
 pub samples : Samples
-unfolding openPaper nextAt number reading commandIn commandOf firstOf secondOf kindOf bodyOf recordOf big linesFrom turnTold refusalLine decimal digit
+unfolding openPaper nextAt number reading commandIn commandOf firstOf secondOf kindOf bodyOf recordOf big eventsFrom takenOf answeredBy linesOf refusalLine decimal digit
 samples =
     record {
       over-long = λ more e. rw e tt;

@@ -6,7 +6,7 @@ use lib.ListN.{length}
 use Rattle.wire.specs.Wire.{number}
 use Rattle.rules.specs.Rules.{findProfile}
 use Rattle.setup.specs.Setup.{rateIn, accumulatorIn, counterIn, profileIn, rulesIn, freshIn}
-use Rattle.tail.specs.Tail.{baseEnd, syllabusIn}
+use Rattle.shape.specs.Shape.{based}
 use Rattle.money.specs.Money.{rateFor, scaled, convertOf}
 use Rattle.iad.specs.Iad.{isCvr, isWritable, pairsOf, iadBytes, writeIad, written}
 use Rattle.purchase.specs.Meter.{worth}
@@ -17,15 +17,14 @@ use Rattle.first.specs.First.{decision, settled, asked, concluded, firstPerform
 use Rattle.second.specs.Second.{closed, unablePerformed, secondPerformed}
 use Rattle.card.specs.Card.{freshState, startStep, firstStep, secondStep, stepOf}
 use Rattle.lines.specs.Lines.{digit, decimal, hex, refusalLine, startLine, cryptogramLine}
-use Rattle.turns.specs.Turns.{answerLine}
-use Rattle.turns.specs.Sitting.{sittingLines}
+use Rattle.lines.specs.Sitting.{answerLine, sittingLines}
 use Rattle.spelling.specs.Spelling.{byName, standsFor, allStandFor}
 use Rattle.spelling.specs.Sitting.{answers, ended, sittingOf}
 use Rattle.spelling.specs.Printed.{printed, body, sent, printedLines}
 use Rattle.spelling.proofs.Witness.{printed-lines}
 
-worked : sittingOf 1 body {choice = byName} sent {rest = []} (ended refl) ≡ printedLines
-unfolding printed sent printedLines baseEnd syllabusIn standsFor allStandFor answers answerLine digit decimal hex refusalLine startLine cryptogramLine freshState freshIn number rulesIn rateIn profileIn accumulatorIn counterIn stepOf startStep firstStep secondStep findProfile firstPerformed decision limitsByte settled asked concluded decisionBits accumulatorsLower accumulatorsUpper countersLower countersUpper maximumExceeded worth convertOf rateFor scaled applied verification sentIad pairsOf iadBytes isCvr isWritable writeIad written secondPerformed unablePerformed closed
+worked : sittingOf (based 159) body {choice = byName} sent {rest = []} (ended refl) ≡ printedLines
+unfolding printed sent printedLines standsFor allStandFor answers answerLine digit decimal hex refusalLine startLine cryptogramLine freshState freshIn number rulesIn rateIn profileIn accumulatorIn counterIn stepOf startStep firstStep secondStep findProfile firstPerformed decision limitsByte settled asked concluded decisionBits accumulatorsLower accumulatorsUpper countersLower countersUpper maximumExceeded worth convertOf rateFor scaled applied verification sentIad pairsOf iadBytes isCvr isWritable writeIad written secondPerformed unablePerformed closed
 worked = refl
 
 -- DOCUMENT 01'S SITTING, FROM THE BYTES OF ITS PAPER TO THE BYTES OF ITS LINES

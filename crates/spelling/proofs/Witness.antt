@@ -10,10 +10,10 @@ use Rattle.wire.specs.Wire.{number}
 use Rattle.wire.proofs.Pairs.{both}
 use Rattle.ranges.specs.Ranges.{isSetup, hasLength, isHead, areAccumulators, isAccumulator, areProfiles, isProfileOrAbsent, isProfile, areMasks, isMaximumAmount, areAccumulatorRules, isAccumulatorRule, areCounterRules, areSent, areNumbersApart, profileNumber, areConversions, isConversionOrAbsent, isConversion, conversionPair, arePairsApart}
 use Rattle.setup.specs.Setup.{readSetup}
-use Rattle.selection.specs.Selection.{isFile}
-use Rattle.tail.specs.declared.Selecting.the-variants.{Off, On}
-use Rattle.tail.specs.Tail.{baseEnd, selectionTail, readTail}
-use Rattle.turns.specs.Sitting.{sittingLines}
+use Rattle.shape.specs.declared.Selecting.the-variants.{On}
+use Rattle.shape.specs.declared.Shape.{Shape}
+use Rattle.shape.specs.Shape.{based, baseTail, entriesEnd, selects, selectionTail, tailsOf, shapeOf}
+use Rattle.lines.specs.Sitting.{sittingLines}
 use Rattle.spelling.specs.Spelling.{Bytes, big, recordOf, brings, first, second, kindOf, bodyOf, spellAll, paperOf}
 use Rattle.spelling.specs.Spelling.{Choice, byName, byFile, choiceIn, Fits, AllFit}
 use Rattle.spelling.specs.Faults.{Opens}
@@ -47,9 +47,9 @@ pub opens : Opens printed 1 body (spellAll sent)
 unfolding printed sent spellAll kindOf bodyOf recordOf big
 opens = record { is = refl; least = lit≤ tt; most = lit≤ tt; short = lit≤ tt }
 
-pub set-up : SetUp 1 body Off
-unfolding printed readTail baseEnd readSetup isSetup hasLength isHead areAccumulators isAccumulator number areProfiles isProfileOrAbsent isProfile areMasks isMaximumAmount areAccumulatorRules isAccumulatorRule areCounterRules areSent areNumbersApart profileNumber areConversions isConversionOrAbsent isConversion conversionPair arePairsApart
-set-up = record { tail = refl; base = refl }
+pub set-up : SetUp 1 body (based 159)
+unfolding printed shapeOf tailsOf baseTail readSetup isSetup hasLength isHead areAccumulators isAccumulator number areProfiles isProfileOrAbsent isProfile areMasks isMaximumAmount areAccumulatorRules isAccumulatorRule areCounterRules areSent areNumbersApart profileNumber areConversions isConversionOrAbsent isConversion conversionPair arePairsApart
+set-up = record { shape-is = refl; base = refl }
 
 pub fit : AllFit byName sent
 unfolding sent Fits
@@ -64,11 +64,14 @@ fit = (one, (buys 5000 (lit< tt), (one, (buys 1 (lit< tt), (cannot, (one, (buys 
   cannot = (one, lit< tt, lit< tt, lit< tt)
 
 -- THE PRINTED SITTING: THE LINES OF THE 242 BYTES ARE THOSE OF THE EIGHT THAT WERE SENT, AND NO MORE
-pub printed-lines : (words : List ℕ) → length words ≡ 164 → sittingLines words printed ≡ sittingOf 1 body {choice = byName} sent {rest = []} (ended refl)
+pub printed-lines : (words : List ℕ) → length words ≡ 164 → sittingLines words printed ≡ sittingOf (based 159) body {choice = byName} sent {rest = []} (ended refl)
 printed-lines words lent =
-    lines-of words printed 1 body (spellAll sent) opens Off set-up bytes lent sent [] fit (ended refl) (sym (append-nil (spellAll sent)))
+    lines-of words printed 1 body (spellAll sent) opens (based 159) set-up bytes lent sent [] fit (ended refl) (sym (append-nil (spellAll sent)))
 
 -- ---- the paper whose Starts bring the terminal's data
+
+abbrev selective : Shape
+selective = selects (based 266) 268 279 1
 
 abbrev chosen : Choice
 chosen = byFile file 1
@@ -89,9 +92,9 @@ pub brought-opens : Opens selection 2 selectionBody (spellAll brought)
 unfolding selection brought spellAll kindOf bodyOf recordOf big
 brought-opens = record { is = refl; least = lit≤ tt; most = lit≤ tt; short = lit≤ tt }
 
-pub brought-set-up : SetUp 2 selectionBody (On 268 279 1)
-unfolding selection readTail baseEnd selectionTail isFile readSetup isSetup hasLength isHead areAccumulators isAccumulator number areProfiles isProfileOrAbsent isProfile areMasks isMaximumAmount areAccumulatorRules isAccumulatorRule areCounterRules areSent areNumbersApart profileNumber areConversions isConversionOrAbsent isConversion conversionPair arePairsApart
-brought-set-up = record { tail = refl; base = refl }
+pub brought-set-up : SetUp 2 selectionBody selective
+unfolding selection shapeOf tailsOf baseTail selectionTail entriesEnd readSetup isSetup hasLength isHead areAccumulators isAccumulator number areProfiles isProfileOrAbsent isProfile areMasks isMaximumAmount areAccumulatorRules isAccumulatorRule areCounterRules areSent areNumbersApart profileNumber areConversions isConversionOrAbsent isConversion conversionPair arePairsApart
+brought-set-up = record { shape-is = refl; base = refl }
 
 pub brought-chosen : choiceIn (On 268 279 1) selectionBody ≡ chosen
 unfolding selection
@@ -107,8 +110,8 @@ brought-fit = (three 1 0 0x56 tt tt tt, (buys 5000 (lit< tt), (three 1 8 0x40 tt
   buys amount h = (lit< tt, h, lit< tt, lit< tt)
 
 pub brought-lines : (words : List ℕ) → length words ≡ 164
-    → sittingLines words selection ≡ sittingOf 2 selectionBody {choice = chosen} brought {rest = []} (ended refl)
+    → sittingLines words selection ≡ sittingOf selective selectionBody {choice = chosen} brought {rest = []} (ended refl)
 unfolding selection
 brought-lines words lent =
-    lines-of words selection 2 selectionBody (spellAll brought) brought-opens (On 268 279 1) brought-set-up brought-bytes lent brought []
+    lines-of words selection 2 selectionBody (spellAll brought) brought-opens selective brought-set-up brought-bytes lent brought []
     brought-fit (ended refl) (sym (append-nil (spellAll brought)))

@@ -5,8 +5,8 @@ use lib.ListN.{length, take, drop}
 use Rattle.selection.specs.declared.Selection.{Selection}
 use Rattle.selection.specs.declared.Selection.the-variants.{Selected, NotSelected}
 use Rattle.selection.specs.Selection.{selectionOf}
-use Rattle.tail.specs.declared.Selecting.{Selecting}
-use Rattle.tail.specs.declared.Selecting.the-variants.{Off, On}
+use Rattle.shape.specs.declared.Selecting.{Selecting}
+use Rattle.shape.specs.declared.Selecting.the-variants.{Off, On}
 use Rattle.command.specs.declared.Command.{Command}
 use Rattle.command.specs.declared.Command.the-variants.{Start as StartCommand, First as FirstCommand, Second as SecondCommand}
 

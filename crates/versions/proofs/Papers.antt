@@ -1,6 +1,6 @@
--- A paper of a version: what stands in front of a record does not matter to its lines, but for the file that selects. Assumes nothing.
+-- A paper of a version: what stands in front of a record does not matter to its events, but for the file that selects. Assumes nothing.
 use mathlib.Core.Path.{_≡_, refl, sym, ap, _∙_}
-use mathlib.Core.Bool.{Bool, true, false, cond, not, _||_}
+use mathlib.Core.Bool.{Bool, true, false, cond, not, _&&_, _||_}
 use mathlib.Core.List.{List, [], _∷_, _++_}
 use Prim.Native.Nat.{ℕ, zero, suc, _+_, _-_, _/_, _%_, _≤_}
 use native.Mathlib.Nat.{add-zero, add-assoc}
@@ -11,43 +11,46 @@ use lib.ListN.{length, drop, length-append, length-drop}
 use lib.Seq.{getD-append-add, drop-append-add, drop-append-le, take-append-le, take-at}
 use Rattle.wire.specs.Wire.{byte, number}
 use Rattle.rules.specs.Rules.{Rules, rulesOf}
-use Rattle.setup.specs.Setup.{readSetup, setupNumber, wordsAfter}
-use Rattle.refusal.specs.Refusal.{refusalNumber}
+use Rattle.setup.specs.Setup.{readSetup, wordsAfter}
 use Rattle.selection.specs.Selection.{selectionOf}
-use Rattle.tail.specs.declared.Selecting.{Selecting}
-use Rattle.tail.specs.declared.Selecting.the-variants.{Off, On as SelectingOn}
-use Rattle.tail.specs.declared.ReadTail.{ReadTail}
-use Rattle.tail.specs.declared.ReadTail.the-variants.{Taken, Refused as TailRefused}
-use Rattle.tail.specs.Tail.{basePart, syllabusIn, readTail}
+use Rattle.shape.specs.declared.Selecting.{Selecting}
+use Rattle.shape.specs.declared.Selecting.the-variants.{Off, On}
+use Rattle.shape.specs.declared.Shape.{Shape}
+use Rattle.shape.specs.declared.ReadShape.{ReadShape}
+use Rattle.shape.specs.declared.ReadShape.the-variants.{Taken as ShapeTaken, Refused as ShapeRefused}
+use Rattle.shape.specs.Shape.{Lies, basePart, shapeOf, shapeAt}
+use Rattle.shape.proofs.Inside.{inside}
 use Rattle.paper.specs.declared.Next.{Next}
 use Rattle.paper.specs.declared.Next.the-variants.{Record, Fault, End}
 use Rattle.paper.specs.declared.Opened.the-variants.{Setup}
 use Rattle.paper.specs.Paper.{endAt, nextAt, openPaper}
 use Rattle.paper.specs.Walk.{part, written}
-use Rattle.command.specs.Command.{commandOf, selectingOf}
+use Rattle.command.specs.Command.{commandOf, selectingOf, readBy, commandIn}
 use Rattle.command.specs.declared.Command.the-variants.{Start as StartCommand}
 use Rattle.command.specs.declared.ReadCommand.{ReadCommand}
-use Rattle.command.specs.declared.ReadCommand.the-variants.{Taken as CommandTaken, Refused}
+use Rattle.command.specs.declared.ReadCommand.the-variants.{Taken as CommandTaken, Refused as CommandRefused}
 use Rattle.state.specs.declared.State.{State}
 use Rattle.card.specs.Card.{freshState}
-use Rattle.lines.specs.Lines.{refusalLine}
-use Rattle.turns.specs.Turns.{Told, paceOf, inPaper, baseTold, commandIn, commandTold, nextTold, turnTold, setupTold, begunTold, wordsSetUp, selectingIn}
-use Rattle.turns.specs.Sitting.{lastly, followed, linesFrom, sittingLines}
-use Rattle.turns.proofs.Sitting.{settled}
+use Rattle.conversation.specs.declared.Event.{Event}
+use Rattle.conversation.specs.declared.Event.the-variants.{Refused}
+use Rattle.conversation.specs.declared.Taken.{Taken}
+use Rattle.conversation.specs.Conversation.{answeredBy, nextTaken, takenOf, setUpEvent, baseBegun, setupBegun, begunOf, setupWords, wordsBegun}
+use Rattle.conversation.specs.Events.{following, eventsFrom, eventsOf}
+use Rattle.conversation.proofs.Events.{settled}
 
 -- ---- what stands in front of a record does not matter, but for the file
 
--- the lines of n turns over a rest, whatever reads its records
-abbrev pub toldBy : Rules → (ℕ → List ℕ → ReadCommand) → State → List ℕ → (at number : ℕ) → Next → Told
-toldBy rules reads state s at number End = nextTold rules Off state s at number End
-toldBy rules reads state s at number Fault = nextTold rules Off state s at number Fault
-toldBy rules reads state s at number (Record kind start end) = commandTold rules state end number (reads kind (part s start end))
+-- the events of n records over a rest, whatever reads them
+abbrev pub takenBy : Rules → (ℕ → List ℕ → ReadCommand) → Shape → State → List ℕ → (at : ℕ) → Next → Taken
+takenBy rules reads shape state s at End = nextTaken rules shape state s at End
+takenBy rules reads shape state s at Fault = nextTaken rules shape state s at Fault
+takenBy rules reads shape state s at (Record kind start end) = answeredBy rules state end (reads kind (part s start end))
 
-unfoldable pub linesBy : ℕ → Rules → (ℕ → List ℕ → ReadCommand) → State → List ℕ → (at number : ℕ) → List (List ℕ)
-linesBy zero rules reads state s at record-number = []
-linesBy (suc n) rules reads state s at record-number =
-    let turn = toldBy rules reads state s at record-number (nextAt s at) in
-    followed (turn .pace) (turn .line) (linesBy n rules reads (turn .state) s (turn .at) (record-number + 1))
+unfoldable pub eventsBy : ℕ → Rules → (ℕ → List ℕ → ReadCommand) → Shape → State → List ℕ → (at : ℕ) → List Event
+eventsBy zero rules reads shape state s at = []
+eventsBy (suc n) rules reads shape state s at =
+    let taken = takenBy rules reads shape state s at (nextAt s at) in
+    following (taken .event) (eventsBy n rules reads shape (taken .state) s (taken .at))
 
 module _ (front s : List ℕ) where
   abbrev from : ℕ → ℕ
@@ -100,40 +103,38 @@ module _ (front s : List ℕ) where
       by false true = refl
       by false false = refl
 
-  module _ (rules : Rules) (selecting : Selecting) (reads : ℕ → List ℕ → ReadCommand)
-      (agrees : (kind : ℕ) (body : List ℕ) → commandIn selecting all kind body ≡ reads kind body) where
-    -- what a turn comes to, its place counted from the front
-    abbrev further-on : Told → Told
-    further-on t = record { state = t .state; at = from (t .at); pace = t .pace; line = t .line }
+  module _ (rules : Rules) (shape : Shape) (reads : ℕ → List ℕ → ReadCommand)
+      (agrees : (kind : ℕ) (body : List ℕ) → commandIn shape all kind body ≡ reads kind body) where
+    -- what is taken, its place counted from the front
+    abbrev further-on : Taken → Taken
+    further-on t = record { state = t .state; at = from (t .at); event = t .event }
 
-    turn-behind : (state : State) (at number : ℕ)
-        → turnTold rules selecting state all (from at) number ≡ further-on (toldBy rules reads state s at number (nextAt s at))
-    unfolding turnTold
-    turn-behind state at number = rw (next-behind at) (by (nextAt s at)) where
-      answered : (end : ℕ) (read : ReadCommand)
-          → commandTold rules state (from end) number read ≡ further-on (commandTold rules state end number read)
+    taken-behind : (state : State) (at : ℕ) → takenOf rules shape state all (from at) ≡ further-on (takenBy rules reads shape state s at (nextAt s at))
+    unfolding takenOf answeredBy
+    taken-behind state at = rw (next-behind at) (by (nextAt s at)) where
+      answered : (end : ℕ) (read : ReadCommand) → answeredBy rules state (from end) read ≡ further-on (answeredBy rules state end read)
       answered end (CommandTaken command) = refl
-      answered end (Refused refusal) = refl
+      answered end (CommandRefused refusal) = refl
 
-      by : (n : Next) → nextTold rules selecting state all (from at) number (shift n) ≡ further-on (toldBy rules reads state s at number n)
+      by : (n : Next) → nextTaken rules shape state all (from at) (shift n) ≡ further-on (takenBy rules reads shape state s at n)
       by End = refl
       by Fault = refl
       by (Record kind start end) = rw (part-behind start end, agrees kind (part s start end)) (answered end (reads kind (part s start end)))
 
-    lines-behind : (n : ℕ) (state : State) (at number : ℕ) → linesFrom n rules selecting state all (from at) number ≡ linesBy n rules reads state s at number
-    unfolding linesFrom linesBy
-    lines-behind zero state at number = refl
-    lines-behind (suc n) state at number =
-        let turn = toldBy rules reads state s at number (nextAt s at) in
-        rw (turn-behind state at number) (ap (followed (turn .pace) (turn .line)) (lines-behind n (turn .state) (turn .at) (number + 1)))
+    events-behind : (n : ℕ) (state : State) (at : ℕ) → eventsFrom n rules shape state all (from at) ≡ eventsBy n rules reads shape state s at
+    unfolding eventsFrom eventsBy
+    events-behind zero state at = refl
+    events-behind (suc n) state at =
+        let taken = takenBy rules reads shape state s at (nextAt s at) in
+        rw (taken-behind state at) (ap (following (taken .event)) (events-behind n (taken .state) (taken .at)))
 
-    -- and the lines behind it are those of the rest
-    lines-of-rest : (n : ℕ) (state : State) (number : ℕ) → length s ≤ n
-        → linesFrom n rules selecting state all (length front) number ≡ linesBy (length s) rules reads state s 0 number
-    lines-of-rest n state number h =
-        settled rules selecting all (length s) n state (length front) number (omega (arith, length-append front s)) h
-        ∙ ap (λ (at : ℕ). linesFrom (length s) rules selecting state all at number) (sym (add-zero (length front)))
-        ∙ lines-behind (length s) state 0 number
+    -- and the events behind it are those of the rest
+    events-of-rest : (n : ℕ) (state : State) → length s ≤ n
+        → eventsFrom n rules shape state all (length front) ≡ eventsBy (length s) rules reads shape state s 0
+    events-of-rest n state h =
+        settled rules shape all (length s) n state (length front) (omega (arith, length-append front s)) h
+        ∙ ap (eventsFrom (length s) rules shape state all) (sym (add-zero (length front)))
+        ∙ events-behind (length s) state 0
 
 -- ---- a paper of a version
 
@@ -144,16 +145,17 @@ front version body = version ∷ written (record { kind = 1; body = body })
 abbrev pub paperOf : (version : ℕ) (body rest : List ℕ) → List ℕ
 paperOf version body rest = front version body ++ rest
 
--- the lines of a paper, from its base, its rest, its syllabus, what reads its records, and its tail
-abbrev pub linesGiven : (words base rest : List ℕ) (syllabus : ℕ) (reads : ℕ → List ℕ → ReadCommand) → ReadTail → List (List ℕ)
-linesGiven words base rest syllabus reads (TailRefused refusal) = lastly (refusalLine 0 (refusalNumber refusal))
-linesGiven words base rest syllabus reads (Taken selecting) =
-    followed (paceOf (readSetup base .answer)) (refusalLine 0 (setupNumber (readSetup base .answer)))
-    (linesBy (length rest) (rulesOf (wordsAfter words base syllabus)) reads (freshState (readSetup base .fresh)) rest 0 1)
+-- the events of a paper, from its base, what stands behind its set-up, what reads its records, and the shape that was read
+abbrev pub eventsShaped : (words base rest : List ℕ) → (ℕ → List ℕ → ReadCommand) → ReadShape → List Event
+eventsShaped words base rest reads (ShapeRefused refusal) = Refused refusal ∷ []
+eventsShaped words base rest reads (ShapeTaken shape) =
+    following (setUpEvent (readSetup base .answer))
+    (eventsBy (length rest) (rulesOf (wordsAfter words base (shape .syllabus))) reads (shapeAt 4 shape) (freshState (readSetup base .fresh)) rest 0)
 
-pub off-reads : (paper : List ℕ) (kind : ℕ) (body : List ℕ) → commandIn Off paper kind body ≡ commandOf kind body
-unfolding commandIn
-off-reads paper kind body = refl
+-- its base, and its records are so read
+abbrev pub Agrees : (body base : List ℕ) → (ℕ → List ℕ → ReadCommand) → ReadShape → Type 0
+Agrees body base reads (ShapeRefused refusal) = Unit
+Agrees body base reads (ShapeTaken shape) = (basePart shape body ≡ base) × ((kind : ℕ) (b : List ℕ) → commandIn shape body kind b ≡ reads kind b)
 
 -- 01, 02 or 03
 abbrev pub Known : ℕ → Type 0
@@ -190,33 +192,46 @@ module _ (version : ℕ) (known : Known version) (body rest : List ℕ) (short :
   its-body = take-at body rest (4 + length body - 4) (omega arith)
 
   -- a part of the body, by its places in the paper
-  pub part-of-body : (start end : ℕ) → start ≤ end → end ≤ length body → part (paperOf version body rest) (4 + start) (4 + end) ≡ part body start end
+  part-of-body : (start end : ℕ) → start ≤ end → end ≤ length body → part (paperOf version body rest) (4 + start) (4 + end) ≡ part body start end
   part-of-body start end l h =
       let size : 4 + end - (4 + start) ≡ end - start = omega arith in
       let left : end - start ≤ length (drop start body) = omega (arith, length-drop start body) in
       rw (size, drop-append-add (version ∷ (length body + 1) / 256 ∷ (length body + 1) % 256 ∷ 1 ∷ []) (body ++ rest) start, drop-append-le start body rest (omega arith))
       (take-append-le (end - start) (drop start body) rest left)
 
-  -- a Start is read by the file in the body
-  pub by-file : (start end entries : ℕ) → readTail version body ≡ Taken (SelectingOn start end entries) → start ≤ end → end ≤ length body
-      → (terminal : List ℕ) → commandIn (selectingIn (paperOf version body rest)) (paperOf version body rest) 2 terminal
-      ≡ CommandTaken (StartCommand (record { chosen = selectionOf (part body start end) entries terminal }))
-  unfolding selectingIn commandIn selectingOf
-  by-file start end entries e l h terminal =
-      rw (opened, its-body, e, le-leb (4 + start) (4 + end) (omega arith), le-leb (4 + end) (length (paperOf version body rest)) (omega (arith, whole-length)), part-of-body start end l h)
+  -- its records are read by the file in its body
+  pub by-body : (shape : Shape) → Lies (shape .selecting) (length body) → (kind : ℕ) (b : List ℕ)
+      → commandIn (shapeAt 4 shape) (paperOf version body rest) kind b ≡ commandIn shape body kind b
+  unfolding commandIn
+  by-body shape lies kind b = by (shape .selecting) lies where
+    by : (selecting : Selecting) → Lies selecting (length body)
+        → readBy (shapeAt 4 (record { base = 0; selecting = selecting; syllabus = 0 }) .selecting) (paperOf version body rest) kind b ≡ readBy selecting body kind b
+    by Off l = refl
+    by (On start end entries) l =
+        rw (
+          le-leb (4 + start) (4 + end) (omega (arith, l .0)),
+          le-leb (4 + end) (length (paperOf version body rest)) (omega (arith, whole-length, l .1)),
+          le-leb start end (l .0),
+          le-leb end (length body) (l .1),
+          part-of-body start end (l .0) (l .1),
+        )
 
-  module _ (words base : List ℕ) (syllabus : ℕ) (follows : syllabusIn version body ≡ syllabus) (is : basePart version body ≡ base)
-      (reads : ℕ → List ℕ → ReadCommand) where
-    pub lines-are : (tail : ReadTail) → readTail version body ≡ tail
-        → ((kind : ℕ) (b : List ℕ) → commandIn (inPaper 4 tail) (paperOf version body rest) kind b ≡ reads kind b)
-        → sittingLines words (paperOf version body rest) ≡ linesGiven words base rest syllabus reads tail
-    unfolding sittingLines begunTold setupTold baseTold selectingIn wordsSetUp
-    lines-are (TailRefused refusal) e agrees = rw (opened, its-body, e)
-    lines-are (Taken selecting) e agrees =
-        let rules = rulesOf (wordsAfter words base syllabus) in
-        let state = freshState (readSetup base .fresh) in
-        let paper = paperOf version body rest in
-        rw (opened, its-body, e, is, follows)
-        (ap (followed (paceOf (readSetup base .answer)) (refusalLine 0 (setupNumber (readSetup base .answer))))
-        (ap (λ (at : ℕ). linesFrom (length paper) rules (inPaper 4 (Taken selecting)) state paper at 1) (sym front-length)
-        ∙ lines-of-rest (front version body) rest rules (inPaper 4 (Taken selecting)) reads agrees (length paper) state 1 (omega (arith, whole-length))))
+  -- ITS EVENTS, BY ITS BODY'S SHAPE
+  pub events-are : (words base : List ℕ) (reads : ℕ → List ℕ → ReadCommand) (read : ReadShape) → shapeOf version body ≡ read → Agrees body base reads read
+      → eventsOf words (paperOf version body rest) ≡ eventsShaped words base rest reads read
+  unfolding eventsOf begunOf setupBegun baseBegun wordsBegun setupWords
+  events-are words base reads (ShapeRefused refusal) e agrees = rw (opened, its-body, e)
+  events-are words base reads (ShapeTaken shape) e agrees =
+      let rules = rulesOf (wordsAfter words base (shape .syllabus)) in
+      let state = freshState (readSetup base .fresh) in
+      let paper = paperOf version body rest in
+      rw (opened, its-body, e, agrees .0)
+      (ap (following (setUpEvent (readSetup base .answer)))
+      (ap (eventsFrom (length paper) rules (shapeAt 4 shape) state paper) (sym front-length)
+      ∙ events-of-rest (front version body) rest rules (shapeAt 4 shape) reads
+      (λ kind b. by-body shape (inside body version shape e .file) kind b ∙ agrees .1 kind b) (length paper) state (omega (arith, whole-length))))
+
+  -- its shape, with the file's places in the paper
+  pub shaped : (shape : Shape) → shapeOf version body ≡ ShapeTaken shape → begunOf (paperOf version body rest) .shape ≡ shapeAt 4 shape
+  unfolding begunOf setupBegun baseBegun
+  shaped shape e = rw (opened, its-body, e)

@@ -1,0 +1,30 @@
+-- The events of a whole paper: the set-up's, then one for each record that is reached, to an ending refusal or the paper's end.
+use Prim.Native.Nat.{ℕ, zero, suc}
+use mathlib.Core.List.{List, [], _∷_}
+use lib.ListN.{length}
+use Rattle.rules.specs.Rules.{Rules, rulesOf}
+use Rattle.shape.specs.declared.Shape.{Shape}
+use Rattle.state.specs.declared.State.{State}
+use Rattle.conversation.specs.declared.Event.{Event}
+use Rattle.conversation.specs.declared.Event.the-variants.{SetUp, End, Refused, Answered}
+use Rattle.conversation.specs.Conversation.{takenOf, begunOf, wordsBegun}
+
+-- an event, and those behind it where the conversation goes on
+abbrev pub following : Event → List Event → List Event
+following SetUp more = SetUp ∷ more
+following End more = []
+following (Refused refusal) more = Refused refusal ∷ []
+following (Answered command answer) more = Answered command answer ∷ more
+
+-- the events of n records from a place on
+unfoldable pub eventsFrom : ℕ → Rules → Shape → State → (paper : List ℕ) (at : ℕ) → List Event
+eventsFrom zero rules shape state paper at = []
+eventsFrom (suc n) rules shape state paper at =
+    let taken = takenOf rules shape state paper at in
+    following (taken .event) (eventsFrom n rules shape (taken .state) paper (taken .at))
+
+-- those of a paper, with the words that it was lent; no paper has more records than bytes
+unfoldable pub eventsOf : (words paper : List ℕ) → List Event
+eventsOf words paper =
+    let begun = begunOf paper in
+    following (begun .event) (eventsFrom (length paper) (rulesOf (wordsBegun words paper)) (begun .shape) (begun .state) paper (begun .at))

@@ -1,0 +1,186 @@
+// A conversation: one record of a paper taken, as a value. What it comes to is an event; no text
+// and no room is here.
+ghost use mathlib.Core.Path.{_≡_};
+ghost use Prim.Native.Nat.{_+_, _<_, _^_};
+ghost use lib.ListN.{length};
+ghost use Rattle.rules.specs.Rules.{rulesOf};
+ghost use Rattle.setup.specs.Setup.{wordsAfter};
+ghost use Rattle.shape.specs.Shape.{Lies, selectingAt, shapeAt};
+ghost use Rattle.conversation.specs.Conversation.{answeredBy, takenOf, setUpEvent, refusedAt, baseBegun, setupBegun, setupWords, begunOf, wordsBegun};
+use command::Command;
+use command::ReadCommand;
+use paper::Next;
+use paper::Opened;
+use refusal::Refusal;
+use rules::Words;
+use setup::SetupAnswer;
+use shape::ReadShape;
+use shape::Selecting;
+use shape::Shape;
+use state::Answer;
+use state::State;
+
+pub enum Event {
+    // The card is set up.
+    SetUp,
+    // The paper's end.
+    End,
+    // Nothing more of the paper is read.
+    Refused(Refusal),
+    Answered { command: Command, answer: Answer },
+}
+
+// The card after a record, the place of the next one, and what happened.
+pub struct Taken {
+    pub state: State,
+    pub at: usize,
+    pub event: Event,
+}
+
+// The same after the set-up, and the paper's shape.
+pub struct Begun {
+    pub shape: Shape,
+    pub state: State,
+    pub at: usize,
+    pub event: Event,
+}
+
+// A record's command is answered, or refusal 9 ends the paper.
+fn answer(words: &Words, state: State, read: ReadCommand, end: usize) -> Taken
+    ensures { λ r. ⌜ r ≡ answeredBy (rulesOf (now (words .entry))) state end read ⌝ }
+{
+    match read {
+        ReadCommand::Refused(refusal) => Taken {
+            state,
+            at: end,
+            event: Event::Refused(refusal),
+        },
+        ReadCommand::Taken(command) => {
+            let outcome = card::step(words, state, command);
+            let after = outcome.state;
+            let answer = outcome.answer;
+            Taken {
+                state: after,
+                at: end,
+                event: Event::Answered { command, answer },
+            }
+        }
+    }
+}
+
+// The record at a place of a paper.
+pub fn take(words: &Words, shape: Shape, state: State, paper: &[u8], at: usize) -> Taken
+    ensures { λ r. ⌜ r ≡ takenOf (rulesOf (now (words .entry))) shape state (now (paper .entry)) at ⌝ }
+{
+    match paper::record_at(paper, at) {
+        Next::End => Taken {
+            state,
+            at,
+            event: Event::End,
+        },
+        Next::Fault => Taken {
+            state,
+            at,
+            event: Event::Refused(Refusal::Unreadable),
+        },
+        Next::Record { kind, start, end } => {
+            let read = command::read_record(shape, paper, kind, &paper[start..end]);
+            answer(words, state, read, end)
+        }
+    }
+}
+
+fn event_of(answer: SetupAnswer) -> Event
+    ensures { λ r. ⌜ r ≡ setUpEvent answer ⌝ }
+{
+    match answer {
+        SetupAnswer::Done => Event::SetUp,
+        SetupAnswer::Refused(refusal) => Event::Refused(refusal),
+    }
+}
+
+// A paper that ends with its set-up: no card.
+fn refuse(refusal: Refusal, at: usize) -> Begun
+    ensures { λ r. ⌜ r ≡ refusedAt refusal at ⌝ }
+{
+    let none = setup::no_card();
+    Begun {
+        shape: Shape {
+            base: 0,
+            selecting: Selecting::Off,
+            syllabus: 0,
+        },
+        state: card::fresh_card(none),
+        at,
+        event: Event::Refused(refusal),
+    }
+}
+
+// The set-up's base, read into lent words.
+fn take_base(shape: Shape, base: &[u8], end: usize, words: &mut Words) -> Begun
+    ensures { λ r. ⌜ (r ≡ baseBegun shape (now (base .entry)) end) × (now (words .exit) ≡ wordsAfter (now (words .entry)) (now (base .entry)) (shape .syllabus)) ⌝ }
+{
+    let read = setup::read_setup(base, shape.syllabus, words);
+    let fresh = read.fresh;
+    let answer = read.answer;
+    Begun {
+        shape,
+        state: card::fresh_card(fresh),
+        at: end,
+        event: event_of(answer),
+    }
+}
+
+// The file's places in the paper, where its body of so many bytes stands at a place of it.
+fn select_in(selecting: Selecting, place: usize, bytes: usize) -> Selecting
+    requires { ⌜ Lies selecting bytes × (place + bytes < 2 ^ 63) ⌝ }
+    ensures { λ r. ⌜ r ≡ selectingAt place selecting ⌝ }
+{
+    match selecting {
+        Selecting::Off => Selecting::Off,
+        Selecting::On {
+            start,
+            end,
+            entries,
+        } => Selecting::On {
+            start: place + start,
+            end: place + end,
+            entries,
+        },
+    }
+}
+
+// The set-up: its shape is read and then its base, or refused.
+fn take_setup(version: u8, body: &[u8], place: usize, end: usize, words: &mut Words) -> Begun
+    requires { ⌜ place + length (now body) < 2 ^ 63 ⌝ }
+    ensures { λ r. ⌜ (r ≡ setupBegun version (now (body .entry)) place end) × (now (words .exit) ≡ setupWords (now (words .entry)) version (now (body .entry))) ⌝ }
+{
+    match shape::read_shape(version, body) {
+        ReadShape::Refused(refusal) => refuse(refusal, end),
+        ReadShape::Taken(shape) => {
+            let base = shape.base;
+            let read = shape.selecting;
+            let selecting = select_in(read, place, body.len());
+            let placed = Shape {
+                base,
+                selecting,
+                syllabus: shape.syllabus,
+            };
+            take_base(placed, &body[..base], end, words)
+        }
+    }
+}
+
+// The paper is opened and its set-up read into lent words, or refused.
+pub fn begin(paper: &[u8], words: &mut Words) -> Begun
+    ensures { λ r. ⌜ (r ≡ begunOf (now (paper .entry))) × (now (words .exit) ≡ wordsBegun (now (words .entry)) (now (paper .entry))) ⌝ }
+{
+    match paper::open_paper(paper) {
+        Opened::Refused(refusal) => refuse(refusal, 0),
+        Opened::Setup {
+            version,
+            start,
+            end,
+        } => take_setup(version, &paper[start..end], start, end, words),
+    }
+}

@@ -1,0 +1,81 @@
+-- A shape that was read lies in its body: its base, and its file. Assumes nothing.
+use mathlib.Core.Path.{_≡_, subst}
+use mathlib.Core.Bool.{Bool, true, false}
+use mathlib.Core.List.{List}
+use Prim.Native.Nat.{ℕ, zero, suc, _+_, _≤_}
+use native.Mathlib.Omega.{arith}
+use borrow.Author.Tests.{ltb-false}
+use lib.Dec.{eqb, ltb, leb}
+use lib.ListN.{length}
+use Rattle.wire.specs.Wire.{byte}
+use Rattle.refusal.specs.declared.Refusal.the-variants.{BadSetup}
+use Rattle.shape.specs.declared.Selecting.{Selecting}
+use Rattle.shape.specs.declared.Selecting.the-variants.{Off, On}
+use Rattle.shape.specs.declared.Shape.{Shape}
+use Rattle.shape.specs.declared.Tails.{Tails}
+use Rattle.shape.specs.declared.Tails.the-variants.{Ended, Wrong}
+use Rattle.shape.specs.declared.ReadShape.{ReadShape}
+use Rattle.shape.specs.declared.ReadShape.the-variants.{Taken, Refused}
+use Rattle.shape.specs.Shape.{Lies, baseLength, based, baseTail, entriesEnd, fileEnd, selects, selectionTail, follows, syllabusTail, behind, since, tailsOf, whole, shapeOf}
+use Rattle.shape.proofs.Either.{choose}
+
+-- entries end where they begin, or behind
+pub not-before : (body : List ℕ) (at n : ℕ) → at ≤ entriesEnd body at n
+unfolding entriesEnd
+not-before body at zero = omega arith
+not-before body at (suc n) = let before = not-before body at n in omega arith
+
+pub record Inside (shape : Shape) (bytes : ℕ) : Type 0 where
+  pub base : shape .base ≤ bytes
+  pub file : Lies (shape .selecting) bytes
+
+abbrev Within : ℕ → Tails → Type 0
+Within bytes Wrong = Unit
+Within bytes (Ended shape at) = Inside shape bytes
+
+module _ (body : List ℕ) where
+  abbrev In : Tails → Type 0
+  In = Within (length body)
+
+  base-in : In (baseTail body)
+  unfolding baseTail
+  base-in =
+      choose In (ltb (length body) (baseLength body)) Wrong (Ended (based (baseLength body)) (baseLength body)) (λ _. tt)
+      (λ e. record { base = ltb-false _ _ e; file = tt })
+
+  selection-in : (shape : Shape) (at : ℕ) → Inside shape (length body) → In (selectionTail body shape at)
+  unfolding selectionTail
+  selection-in shape at i =
+      choose In (leb (length body) at) Wrong _ (λ _. tt)
+      (λ _. choose In (eqb (byte body at) 0) (Ended shape (at + 1)) _ (λ _. i)
+      (λ _. choose In (ltb 1 (byte body at)) Wrong _ (λ _. tt)
+      (λ _. choose In (ltb (length body) (fileEnd body at)) Wrong (Ended (selects shape (at + 2) (fileEnd body at) (byte body (at + 1))) (fileEnd body at)) (λ _. tt)
+      (λ e. record { base = i .base; file = (not-before body (at + 2) (byte body (at + 1)), ltb-false _ _ e) }))))
+
+  syllabus-in : (shape : Shape) (at : ℕ) → Inside shape (length body) → In (syllabusTail body shape at)
+  unfolding syllabusTail
+  syllabus-in shape at i =
+      choose In (leb (length body) at) Wrong _ (λ _. tt)
+      (λ _. choose In (ltb 1 (byte body at)) Wrong (Ended (follows shape (byte body at)) (at + 1)) (λ _. tt) (λ _. record { base = i .base; file = i .file }))
+
+  since-in : (first version : ℕ) (before : Tails) (tail : Shape → ℕ → Tails) → In before → ((shape : Shape) (at : ℕ) → Inside shape (length body) → In (tail shape at))
+      → In (since first version before tail)
+  since-in first version Wrong tail i then = choose In (ltb version first) Wrong Wrong (λ _. tt) (λ _. tt)
+  since-in first version (Ended shape at) tail i then = choose In (ltb version first) (Ended shape at) (tail shape at) (λ _. i) (λ _. then shape at i)
+
+  tails-in : (version : ℕ) → In (tailsOf version body)
+  unfolding tailsOf
+  tails-in version =
+      since-in 3 version _ (syllabusTail body) (since-in 2 version (baseTail body) (selectionTail body) base-in selection-in) syllabus-in
+
+  abbrev Read : ReadShape → Type 0
+  Read (Taken shape) = Inside shape (length body)
+  Read (Refused refusal) = Unit
+
+  whole-in : (tails : Tails) → In tails → Read (whole body tails)
+  whole-in Wrong i = tt
+  whole-in (Ended shape at) i = choose Read (eqb at (length body)) (Taken shape) (Refused BadSetup) (λ _. i) (λ _. tt)
+
+  pub inside : (version : ℕ) (shape : Shape) → shapeOf version body ≡ Taken shape → Inside shape (length body)
+  unfolding shapeOf
+  inside version shape e = subst Read e (whole-in (tailsOf version body) (tails-in version))

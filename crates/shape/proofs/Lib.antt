@@ -1,0 +1,4 @@
+pub mod Either
+pub mod Inside
+pub mod Older
+pub mod Files

@@ -1,0 +1,172 @@
+-- One law for each tail: the byte 00 behind an older body is the newer one with the addition off. Assumes nothing.
+use mathlib.Core.Path.{_≡_, refl, sym, ap, subst, _∙_}
+use mathlib.Core.Bool.{Bool, true, false, cond}
+use mathlib.Core.List.{List, [], _∷_, _++_}
+use Prim.Native.Nat.{ℕ, zero, suc, _+_, _≤_, _<_}
+use native.Mathlib.Omega.{arith}
+use borrow.Author.Tests.{lt-ltb, le-ltb, ltb-true, ltb-false, le-leb, lt-leb, leb-true, leb-false, eq-eqb, ne-eqb, eqb-true, eqb-false}
+use lib.Dec.{eqb, ltb, leb}
+use lib.ListN.{length, length-append, List·getD-eq-default}
+use lib.Seq.{getD-append-seam}
+use Rattle.wire.specs.Wire.{byte}
+use Rattle.refusal.specs.declared.Refusal.the-variants.{BadSetup}
+use Rattle.shape.specs.declared.Shape.{Shape}
+use Rattle.shape.specs.declared.Tails.{Tails}
+use Rattle.shape.specs.declared.Tails.the-variants.{Ended, Wrong}
+use Rattle.shape.specs.declared.ReadShape.the-variants.{Taken, Refused}
+use Rattle.shape.specs.Shape.{baseLength, based, baseTail, entriesEnd, fileEnd, selects, selectionTail, follows, syllabusTail, behind, tailsOf, whole, shapeOf}
+use Rattle.shape.proofs.Either.{choose}
+
+-- a byte past the end reads as 0
+pub same-byte : (body : List ℕ) (at : ℕ) → byte (body ++ 0 ∷ []) at ≡ byte body at
+same-byte [] zero = refl
+same-byte [] (suc at) = refl
+same-byte (x ∷ body) zero = refl
+same-byte (x ∷ body) (suc at) = same-byte body at
+
+module _ (body : List ℕ) where
+  abbrev newer : List ℕ
+  newer = body ++ 0 ∷ []
+
+  longer : length newer ≡ length body + 1
+  longer = length-append body (0 ∷ [])
+
+  same-entries : (at n : ℕ) → entriesEnd newer at n ≡ entriesEnd body at n
+  unfolding entriesEnd
+  same-entries at zero = refl
+  same-entries at (suc n) = rw (same-entries at n, same-byte body (entriesEnd body at n))
+
+  same-file : (at : ℕ) → fileEnd newer at ≡ fileEnd body at
+  same-file at = ap (entriesEnd newer (at + 2)) (same-byte body (at + 1)) ∙ same-entries (at + 2) (byte body (at + 1))
+
+  -- ---- selection: behind a base that is the body stands the switch
+
+  module _ (sized : length body ≡ baseLength body) where
+    base-older : baseTail body ≡ Ended (based (length body)) (length body)
+    unfolding baseTail
+    base-older = rw (← sized, le-ltb (length body) (length body) (omega arith))
+
+    base-newer : baseTail newer ≡ Ended (based (length body)) (length body)
+    unfolding baseTail
+    base-newer = rw (same-byte body 3, same-byte body 4, longer, ← sized, le-ltb (length body + 1) (length body) (omega arith))
+
+    switched-off : selectionTail newer (based (length body)) (length body) ≡ Ended (based (length body)) (length body + 1)
+    unfolding selectionTail
+    switched-off = rw (longer, lt-leb (length body + 1) (length body) (omega arith), getD-append-seam body 0 [] 0)
+
+    -- SELECTION OFF
+    pub selection-off : shapeOf 2 newer ≡ shapeOf 1 body
+    unfolding shapeOf tailsOf
+    selection-off = rw (base-older, base-newer, switched-off, longer, eq-eqb (length body) (length body) refl, eq-eqb (length body + 1) (length body + 1) refl)
+
+  -- ---- the syllabus: the tails up to it are the same, or they end past the older body
+
+  data Near : Tails → Tails → Type 0 where
+    same : {t : Tails} → Near t t
+    past : (shape : Shape) → Near (Ended shape (length body + 1)) Wrong
+
+  near-base : Near (baseTail newer) (baseTail body)
+  unfolding baseTail
+  near-base = rw (same-byte body 3, same-byte body 4, longer) (by (ltb (length body) (baseLength body)) (ltb (length body + 1) (baseLength body)) refl refl) where
+    by : (older later : Bool) → ltb (length body) (baseLength body) ≡ older → ltb (length body + 1) (baseLength body) ≡ later
+        → Near (cond later Wrong (Ended (based (baseLength body)) (baseLength body))) (cond older Wrong (Ended (based (baseLength body)) (baseLength body)))
+    by true true h k = same
+    by true false h k =
+        let one : length body + 1 ≡ baseLength body = omega (arith, ltb-true (length body) (baseLength body) h, ltb-false (length body + 1) (baseLength body) k) in
+        subst (λ (at : ℕ). Near (Ended (based (baseLength body)) at) Wrong) one (past (based (baseLength body)))
+    by false true h k = absurd (omega (arith, ltb-false (length body) (baseLength body) h, ltb-true (length body + 1) (baseLength body) k))
+    by false false h k = same
+
+  near-selection : (shape : Shape) (at : ℕ) → Near (selectionTail newer shape at) (selectionTail body shape at)
+  unfolding selectionTail
+  near-selection shape at =
+      rw (same-byte body at, same-byte body (at + 1), same-entries (at + 2) (byte body (at + 1)), longer)
+      (by (leb (length body) at) (leb (length body + 1) at) refl refl (eqb (byte body at) 0) refl (ltb 1 (byte body at)))
+    where
+      ends : (older later : Bool) → ltb (length body) (fileEnd body at) ≡ older → ltb (length body + 1) (fileEnd body at) ≡ later
+          → Near (cond later Wrong (Ended (selects shape (at + 2) (fileEnd body at) (byte body (at + 1))) (fileEnd body at)))
+          (cond older Wrong (Ended (selects shape (at + 2) (fileEnd body at) (byte body (at + 1))) (fileEnd body at)))
+      ends true true h k = same
+      ends true false h k =
+          let one : length body + 1 ≡ fileEnd body at = omega (arith, ltb-true (length body) (fileEnd body at) h, ltb-false (length body + 1) (fileEnd body at) k) in
+          let with-file = selects shape (at + 2) (fileEnd body at) (byte body (at + 1)) in
+          subst (λ (end : ℕ). Near (Ended with-file end) Wrong) one (past with-file)
+      ends false true h k = absurd (omega (arith, ltb-false (length body) (fileEnd body at) h, ltb-true (length body + 1) (fileEnd body at) k))
+      ends false false h k = same
+
+      by : (older later : Bool) → leb (length body) at ≡ older → leb (length body + 1) at ≡ later → (off : Bool) → eqb (byte body at) 0 ≡ off → (above : Bool)
+          → Near (cond later Wrong (cond off (Ended shape (at + 1)) (cond above Wrong (cond (ltb (length body + 1) (fileEnd body at)) Wrong
+          (Ended (selects shape (at + 2) (fileEnd body at) (byte body (at + 1))) (fileEnd body at))))))
+          (cond older Wrong (cond off (Ended shape (at + 1)) (cond above Wrong (cond (ltb (length body) (fileEnd body at)) Wrong
+          (Ended (selects shape (at + 2) (fileEnd body at) (byte body (at + 1))) (fileEnd body at))))))
+      by true true h k off z above = same
+      by true false h k true z above =
+          let here : at ≡ length body = omega (arith, leb-true (length body) at h, leb-false (length body + 1) at k) in
+          rw here (past shape)
+      by true false h k false z above =
+          absurd (eqb-false (byte body at) 0 z (List·getD-eq-default body 0 (leb-true (length body) at h)))
+      by false true h k off z above = absurd (omega (arith, leb-false (length body) at h, leb-true (length body + 1) at k))
+      by false false h k true z above = same
+      by false false h k false z true = same
+      by false false h k false z false = ends (ltb (length body) (fileEnd body at)) (ltb (length body + 1) (fileEnd body at)) refl refl
+
+  missing-selection : (shape : Shape) → selectionTail newer shape (length body + 1) ≡ Wrong
+  unfolding selectionTail
+  missing-selection shape = rw (longer, le-leb (length body + 1) (length body + 1) (omega arith))
+
+  near-behind : {later older : Tails} → Near later older → Near (behind later (selectionTail newer)) (behind older (selectionTail body))
+  near-behind {older = Wrong} same = same
+  near-behind {older = Ended shape at} same = near-selection shape at
+  near-behind (past shape) = rw (missing-selection shape) same
+
+  -- and so far the syllabus is 0
+  abbrev Zero : Tails → Type 0
+  Zero Wrong = Unit
+  Zero (Ended shape at) = shape .syllabus ≡ 0
+
+  zero-base : Zero (baseTail body)
+  unfolding baseTail
+  zero-base = choose Zero (ltb (length body) (baseLength body)) Wrong (Ended (based (baseLength body)) (baseLength body)) (λ _. tt) (λ _. refl)
+
+  zero-selection : (shape : Shape) (at : ℕ) → shape .syllabus ≡ 0 → Zero (selectionTail body shape at)
+  unfolding selectionTail
+  zero-selection shape at z =
+      choose Zero (leb (length body) at) Wrong _ (λ _. tt)
+      (λ _. choose Zero (eqb (byte body at) 0) (Ended shape (at + 1)) _ (λ _. z)
+      (λ _. choose Zero (ltb 1 (byte body at)) Wrong _ (λ _. tt)
+      (λ _. choose Zero (ltb (length body) (fileEnd body at)) Wrong (Ended (selects shape (at + 2) (fileEnd body at) (byte body (at + 1))) (fileEnd body at)) (λ _. tt) (λ _. z))))
+
+  zero-behind : (tails : Tails) → Zero tails → Zero (behind tails (selectionTail body))
+  zero-behind Wrong z = tt
+  zero-behind (Ended shape at) z = zero-selection shape at z
+
+  missing-syllabus : (shape : Shape) → syllabusTail newer shape (length body + 1) ≡ Wrong
+  unfolding syllabusTail
+  missing-syllabus shape = rw (longer, le-leb (length body + 1) (length body + 1) (omega arith))
+
+  -- where the older body ends, it is the byte 00; elsewhere both are refused
+  syllabus-last : (shape : Shape) (at : ℕ) → shape .syllabus ≡ 0 → whole newer (syllabusTail newer shape at) ≡ whole body (Ended shape at)
+  unfolding syllabusTail
+  syllabus-last shape at z =
+      rw (same-byte body at, longer) (by (eqb at (length body)) refl (leb (length body + 1) at) refl (ltb 1 (byte body at)) refl)
+    where
+      by : (ended : Bool) → eqb at (length body) ≡ ended → (missing : Bool) → leb (length body + 1) at ≡ missing → (above : Bool) → ltb 1 (byte body at) ≡ above
+          → whole newer (cond missing Wrong (cond above Wrong (Ended (follows shape (byte body at)) (at + 1)))) ≡ cond ended (Taken shape) (Refused BadSetup)
+      by true h true k above l = absurd (omega (arith, eqb-true at (length body) h, leb-true (length body + 1) at k))
+      by true h false k above l =
+          let here = eqb-true at (length body) h in
+          let none : byte body at ≡ 0 = List·getD-eq-default body 0 (omega arith) in
+          rw (← l, none, longer, eq-eqb (at + 1) (length body + 1) (omega arith)) (ap (λ (y : ℕ). Taken (follows shape y)) (sym z))
+      by false h true k above l = refl
+      by false h false k true l = refl
+      by false h false k false l = rw (longer, ne-eqb (at + 1) (length body + 1) (λ e. eqb-false at (length body) h (omega arith)))
+
+  last : {later older : Tails} → Near later older → Zero older → whole newer (behind later (syllabusTail newer)) ≡ whole body older
+  last {older = Wrong} same z = refl
+  last {older = Ended shape at} same z = syllabus-last shape at z
+  last (past shape) z = rw (missing-syllabus shape)
+
+  -- SYLLABUS 0
+  pub syllabus-off : shapeOf 3 newer ≡ shapeOf 2 body
+  unfolding shapeOf tailsOf
+  syllabus-off = last (near-behind near-base) (zero-behind (baseTail body) zero-base)

@@ -1,0 +1,93 @@
+-- The shape of a paper: what its version adds to a set-up's body, read front to back (docs/PAPERS.md, "How a version adds"; document 02, Three and
+-- Nine). The base of document 01, 52 + 107p + 7c bytes, then a tail for each addition, in the order of the versions, to the body's end.
+use Prim.Native.Nat.{ℕ, zero, suc, _+_, _*_, _≤_}
+use mathlib.Core.Bool.{cond}
+use mathlib.Core.List.{List}
+use lib.Dec.{eqb, ltb, leb}
+use lib.ListN.{length, take}
+use Rattle.wire.specs.Wire.{byte}
+use Rattle.refusal.specs.declared.Refusal.the-variants.{BadSetup}
+use Rattle.refusal.specs.Refusal.{refusalNumber}
+use Rattle.shape.specs.declared.Selecting.{Selecting}
+use Rattle.shape.specs.declared.Selecting.the-variants.{Off, On}
+use Rattle.shape.specs.declared.Shape.{Shape}
+use Rattle.shape.specs.declared.Tails.{Tails}
+use Rattle.shape.specs.declared.Tails.the-variants.{Ended, Wrong}
+use Rattle.shape.specs.declared.ReadShape.{ReadShape}
+use Rattle.shape.specs.declared.ReadShape.the-variants.{Taken, Refused}
+
+-- THE BASE, which is whole; with no tail nothing is selected, and the syllabus is 0
+abbrev pub baseLength : List ℕ → ℕ
+baseLength body = 52 + 107 * byte body 3 + 7 * byte body 4
+
+abbrev pub based : (base : ℕ) → Shape
+based base = record { base = base; selecting = Off; syllabus = 0 }
+
+unfoldable pub baseTail : List ℕ → Tails
+baseTail body = cond (ltb (length body) (baseLength body)) Wrong (Ended (based (baseLength body)) (baseLength body))
+
+-- VERSION 02, the selection: 0 off; 1 on, the number of entries, and then the entries
+-- where so many entries from a place on end: each is its length byte and as many bytes as that says
+unfoldable pub entriesEnd : List ℕ → (at entries : ℕ) → ℕ
+entriesEnd body at zero = at
+entriesEnd body at (suc n) = entriesEnd body at n + 1 + byte body (entriesEnd body at n)
+
+abbrev pub fileEnd : List ℕ → (at : ℕ) → ℕ
+fileEnd body at = entriesEnd body (at + 2) (byte body (at + 1))
+
+abbrev pub selects : Shape → (start end entries : ℕ) → Shape
+selects shape start end entries = record { base = shape .base; selecting = On start end entries; syllabus = shape .syllabus }
+
+unfoldable pub selectionTail : List ℕ → Shape → (at : ℕ) → Tails
+selectionTail body shape at =
+    cond (leb (length body) at) Wrong
+    (cond (eqb (byte body at) 0) (Ended shape (at + 1))
+    (cond (ltb 1 (byte body at)) Wrong
+    (cond (ltb (length body) (fileEnd body at)) Wrong (Ended (selects shape (at + 2) (fileEnd body at) (byte body (at + 1))) (fileEnd body at)))))
+
+-- VERSION 03, the syllabus: 0 or 1
+abbrev pub follows : Shape → (syllabus : ℕ) → Shape
+follows shape syllabus = record { base = shape .base; selecting = shape .selecting; syllabus = syllabus }
+
+unfoldable pub syllabusTail : List ℕ → Shape → (at : ℕ) → Tails
+syllabusTail body shape at =
+    cond (leb (length body) at) Wrong (cond (ltb 1 (byte body at)) Wrong (Ended (follows shape (byte body at)) (at + 1)))
+
+-- one tail behind another; above the paper's version it is off and has no bytes
+abbrev pub behind : Tails → (Shape → ℕ → Tails) → Tails
+behind Wrong tail = Wrong
+behind (Ended shape at) tail = tail shape at
+
+abbrev pub since : (first version : ℕ) → Tails → (Shape → ℕ → Tails) → Tails
+since first version before tail = cond (ltb version first) before (behind before tail)
+
+unfoldable pub tailsOf : (version : ℕ) (body : List ℕ) → Tails
+tailsOf version body = since 3 version (since 2 version (baseTail body) (selectionTail body)) (syllabusTail body)
+
+-- THE SHAPE: the last tail ends where the body does, or refusal 1
+abbrev pub whole : List ℕ → Tails → ReadShape
+whole body Wrong = Refused BadSetup
+whole body (Ended shape at) = cond (eqb at (length body)) (Taken shape) (Refused BadSetup)
+
+unfoldable pub shapeOf : (version : ℕ) (body : List ℕ) → ReadShape
+shapeOf version body = whole body (tailsOf version body)
+
+abbrev pub basePart : Shape → (body : List ℕ) → List ℕ
+basePart shape body = take (shape .base) body
+
+-- the file lies in so many bytes
+abbrev pub Lies : Selecting → (bytes : ℕ) → Type 0
+Lies Off bytes = Unit
+Lies (On start end entries) bytes = (start ≤ end) × (end ≤ bytes)
+
+-- the same, with the file's places those in the paper, where the body stands at a place of it
+abbrev pub selectingAt : (place : ℕ) → Selecting → Selecting
+selectingAt place Off = Off
+selectingAt place (On start end entries) = On (place + start) (place + end) entries
+
+abbrev pub shapeAt : (place : ℕ) → Shape → Shape
+shapeAt place shape = record { base = shape .base; selecting = selectingAt place (shape .selecting); syllabus = shape .syllabus }
+
+abbrev pub shapeNumber : ReadShape → ℕ
+shapeNumber (Taken shape) = 0
+shapeNumber (Refused refusal) = refusalNumber refusal

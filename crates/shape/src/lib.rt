@@ -1,0 +1,159 @@
+// The shape of a paper: what its version adds to a set-up's body. Behind the base stands a tail for
+// each addition, in the order of the versions, each beginning with a byte that can say "off". A
+// tail tells where it ends; the last one ends where the body does. No crate above knows a version.
+ghost use mathlib.Core.Path.{_≡_};
+ghost use Prim.Native.Nat.{_+_, _≤_};
+ghost use lib.ListN.{length};
+ghost use Rattle.shape.specs.Shape.{baseTail, entriesEnd, selectionTail, syllabusTail, tailsOf, shapeOf};
+use refusal::Refusal;
+
+// The first version with a tail that selects profiles, and the first with a syllabus.
+const SELECTION: u8 = 2;
+
+const SYLLABUS: u8 = 3;
+
+// Whether profiles are selected. The Profile Selection File stands from start up to end.
+pub enum Selecting {
+    Off,
+    On {
+        start: usize,
+        end: usize,
+        entries: u8,
+    },
+}
+
+// The base's length, and what the tails say: an older paper's are off.
+pub struct Shape {
+    pub base: usize,
+    pub selecting: Selecting,
+    pub syllabus: u8,
+}
+
+// What tails come to, and where the last of them ends.
+pub enum Tails {
+    Ended { shape: Shape, at: usize },
+    Wrong,
+}
+
+pub enum ReadShape {
+    Taken(Shape),
+    Refused(Refusal),
+}
+
+// The base, which is whole.
+fn read_base(body: &[u8]) -> Tails
+    ensures { λ r. ⌜ r ≡ baseTail (now (body .entry)) ⌝ }
+{
+    let base = 52 + 107 * wire::byte_at(body, 3) as usize + 7 * wire::byte_at(body, 4) as usize;
+    if body.len() < base {
+        return Tails::Wrong;
+    }
+    Tails::Ended {
+        shape: Shape {
+            base,
+            selecting: Selecting::Off,
+            syllabus: 0,
+        },
+        at: base,
+    }
+}
+
+// Where so many entries from a place on end. An entry that is cut short ends past the body.
+fn entries_end(body: &[u8], at: usize, entries: u8) -> usize
+    requires { ⌜ at ≤ length (now body) + 2 ⌝ }
+    ensures { λ r. ⌜ r ≡ entriesEnd (now (body .entry)) at entries ⌝ }
+{
+    let mut end = at;
+    for _ in 0..entries {
+        end = end + 1 + wire::byte_at(body, end) as usize;
+    }
+    end
+}
+
+// Version 02's tail at a place: the switch; where it is on, the number of entries and the entries.
+fn read_selection(body: &[u8], shape: Shape, at: usize) -> Tails
+    ensures { λ r. ⌜ r ≡ selectionTail (now (body .entry)) shape at ⌝ }
+{
+    if body.len() <= at {
+        return Tails::Wrong;
+    }
+    let switch = wire::byte_at(body, at);
+    if switch == 0 {
+        return Tails::Ended { shape, at: at + 1 };
+    }
+    if 1 < switch {
+        return Tails::Wrong;
+    }
+    let start = at + 2;
+    let entries = wire::byte_at(body, at + 1);
+    let end = entries_end(body, start, entries);
+    if body.len() < end {
+        return Tails::Wrong;
+    }
+    Tails::Ended {
+        shape: Shape {
+            base: shape.base,
+            selecting: Selecting::On {
+                start,
+                end,
+                entries,
+            },
+            syllabus: shape.syllabus,
+        },
+        at: end,
+    }
+}
+
+// Version 03's tail at a place: the syllabus, 0 or 1.
+fn read_syllabus(body: &[u8], shape: Shape, at: usize) -> Tails
+    ensures { λ r. ⌜ r ≡ syllabusTail (now (body .entry)) shape at ⌝ }
+{
+    if body.len() <= at {
+        return Tails::Wrong;
+    }
+    let syllabus = wire::byte_at(body, at);
+    if 1 < syllabus {
+        return Tails::Wrong;
+    }
+    let selecting = shape.selecting;
+    Tails::Ended {
+        shape: Shape {
+            base: shape.base,
+            selecting,
+            syllabus,
+        },
+        at: at + 1,
+    }
+}
+
+// The base and the tails of a version, one behind the other.
+fn read_tails(version: u8, body: &[u8]) -> Tails
+    ensures { λ r. ⌜ r ≡ tailsOf version (now (body .entry)) ⌝ }
+{
+    let Tails::Ended { shape, at } = read_base(body) else {
+        return Tails::Wrong;
+    };
+    if version < SELECTION {
+        return Tails::Ended { shape, at };
+    }
+    let Tails::Ended { shape, at } = read_selection(body, shape, at) else {
+        return Tails::Wrong;
+    };
+    if version < SYLLABUS {
+        return Tails::Ended { shape, at };
+    }
+    read_syllabus(body, shape, at)
+}
+
+// The shape of a body, or refusal 1 where bytes are missing or left over, or a tail is out of range.
+pub fn read_shape(version: u8, body: &[u8]) -> ReadShape
+    ensures { λ r. ⌜ r ≡ shapeOf version (now (body .entry)) ⌝ }
+{
+    let Tails::Ended { shape, at } = read_tails(version, body) else {
+        return ReadShape::Refused(Refusal::BadSetup);
+    };
+    if at == body.len() {
+        return ReadShape::Taken(shape);
+    }
+    ReadShape::Refused(Refusal::BadSetup)
+}
