@@ -1,63 +1,84 @@
 -- What the statements say at chosen inputs, worked out. Assumes nothing.
-use mathlib.Core.Path.{_≡_, refl}
+use mathlib.Core.Path.{_≡_}
+use mathlib.Core.Bool.{Bool, true, false, not, _&&_}
 use mathlib.Core.List.{List, [], _∷_, _++_}
 use Prim.Native.Nat.{ℕ}
-use lib.ListN.{length, replicate, length-replicate}
+use lib.Dec.{T, eqb}
+use lib.ListN.{length, replicate}
 use Rattle.wire.specs.Wire.{number}
-use Rattle.rules.specs.Rules.{Rules}
+use Rattle.setup.specs.Setup.{rulesIn, freshIn}
 use Rattle.tail.specs.declared.Selecting.the-variants.{Off}
 use Rattle.paper.specs.Paper.{nextAt, openPaper, openedNumber}
-use Rattle.command.specs.declared.Command.the-variants.{First as FirstCommand, Second as SecondCommand}
+use Rattle.command.specs.declared.Command.the-variants.{Start as StartCommand, First as FirstCommand, Second as SecondCommand}
 use Rattle.command.specs.Command.{firstOf, secondOf, commandOf}
-use Rattle.state.specs.declared.State.{State}
+use Rattle.card.specs.Card.{freshState}
 use Rattle.lines.specs.Lines.{digit, decimal, refusalLine}
 use Rattle.turns.specs.Turns.{commandIn, turnTold}
 use Rattle.turns.specs.Sitting.{linesFrom}
 use Rattle.spelling.specs.Spelling.{big, recordOf, names, first, second, kindOf, bodyOf, spell}
-use Rattle.spelling.specs.Sitting.{refused, command, reading}
+use Rattle.spelling.specs.Sitting.{Reading, over, refused, command, reading}
 
--- a paper over 65,536 bytes, whatever stands behind its set-up's record
-pub over-long : (more : List ℕ) → length more ≡ 65533 → openedNumber (openPaper (1 ∷ 0 ∷ 1 ∷ 1 ∷ more)) ≡ 9
-unfolding openPaper nextAt number
-over-long more e = rw e
+-- `nine-exactly`: a paper ends with 9 before its first command
+abbrev isUnread : List ℕ → Bool
+isUnread s = eqb (openedNumber (openPaper s)) 9
 
-pub over-long-zeros : openedNumber (openPaper (1 ∷ 0 ∷ 1 ∷ 1 ∷ replicate 65533 0)) ≡ 9
-over-long-zeros = over-long (replicate 65533 0) (length-replicate {A = ℕ} 65533 0)
+-- `reads-fault`: what stands there ends the paper with 9
+abbrev isNine : Reading → Bool
+isNine over = false
+isNine (refused n) = eqb n 9
+isNine (command c end) = false
 
--- versions 0 and 4
-pub version-unknown : (openedNumber (openPaper (0 ∷ 0 ∷ 1 ∷ 1 ∷ [])) ≡ 9) × (openedNumber (openPaper (4 ∷ 0 ∷ 1 ∷ 1 ∷ [])) ≡ 9)
-unfolding openPaper nextAt number
-version-unknown = (refl, refl)
+abbrev faults : List ℕ → Bool
+faults s = isNine (reading Off s 0)
 
--- a First of 50.00 in 0978, and what was sent of a Second
-pub first-fields : reading Off (spell (first 1 5000 0x0978 0x22)) 0
-    ≡ command (FirstCommand (record { requested = 1; amount = record { 0 = 5000 }; currency = 0x0978; terminal = 0x22 })) 15
-unfolding reading nextAt number commandIn commandOf firstOf kindOf bodyOf recordOf big
-first-fields = refl
+-- `reads-spelled`: the fields read of a First and of a Second, and where the next record stands
+abbrev isFirst : Reading → (type amount currency terminal end : ℕ) → Bool
+isFirst over type amount currency terminal end = false
+isFirst (refused n) type amount currency terminal end = false
+isFirst (command (StartCommand s) at) type amount currency terminal end = false
+isFirst (command (FirstCommand f) at) type amount currency terminal end =
+    eqb (f .requested) type && eqb (f .amount .0) amount && eqb (f .currency) currency && eqb (f .terminal) terminal && eqb at end
+isFirst (command (SecondCommand s) at) type amount currency terminal end = false
 
-pub second-fields : reading Off (spell (second 1 0x5933 2 0x01020304)) 0
-    ≡ command (SecondCommand (record { requested = 1; code = 0x5933; issuer = 2; csu = 0x01020304 })) 11
-unfolding reading nextAt number commandIn commandOf secondOf kindOf bodyOf recordOf big
-second-fields = refl
+abbrev isSecond : Reading → (type code issuer csu end : ℕ) → Bool
+isSecond over type code issuer csu end = false
+isSecond (refused n) type code issuer csu end = false
+isSecond (command (StartCommand s) at) type code issuer csu end = false
+isSecond (command (FirstCommand f) at) type code issuer csu end = false
+isSecond (command (SecondCommand s) at) type code issuer csu end =
+    eqb (s .requested) type && eqb (s .code) code && eqb (s .issuer) issuer && eqb (s .csu) csu && eqb at end
 
--- a fault ends the paper: what stands behind it is no longer a command
-pub ends-at-nine : (rules : Rules) (state : State) → linesFrom 9 rules Off state (recordOf 1 (1 ∷ []) ++ spell (names 1)) 0 1 ≡ refusalLine 1 9 ∷ []
-unfolding linesFrom turnTold nextAt number commandIn commandOf refusalLine decimal digit kindOf bodyOf recordOf big
-ends-at-nine rules state = refl
+-- `lines-of`: how many lines n turns over a rest say
+abbrev lineCount : List ℕ → ℕ
+lineCount s = length (linesFrom 9 (rulesIn [] 0) Off (freshState (freshIn [])) s 0 1)
 
--- the set-up repeated, an unknown kind, none (length 0), a Start of two bytes
-pub setup-repeated : reading Off (recordOf 1 (1 ∷ [])) 0 ≡ refused 9
-unfolding reading nextAt number commandIn commandOf recordOf big
-setup-repeated = refl
+pub record Samples : Type 0 where
+  -- 4 bytes and any 65,533 more
+  pub over-long : (more : List ℕ) → length more ≡ 65533 → T (isUnread (1 ∷ 0 ∷ 1 ∷ 1 ∷ more))
+  pub version-0 : T (isUnread (0 ∷ 0 ∷ 1 ∷ 1 ∷ []))
+  pub version-4 : T (isUnread (4 ∷ 0 ∷ 1 ∷ 1 ∷ []))
+  pub first-fields : T (isFirst (reading Off (spell (first 1 5000 0x0978 0x22)) 0) 1 5000 0x0978 0x22 15)
+  pub second-fields : T (isSecond (reading Off (spell (second 1 0x5933 2 0x01020304)) 0) 1 0x5933 2 0x01020304 11)
+  -- the set-up repeated, an unknown kind, none (length 0), a Start of two bytes
+  pub setup-repeated : T (faults (recordOf 1 (1 ∷ [])))
+  pub kind-unknown : T (faults (recordOf 5 (replicate 8 0)))
+  pub no-kind : T (faults (0 ∷ 0 ∷ 0 ∷ []))
+  pub start-too-long : T (faults (recordOf 2 (1 ∷ 1 ∷ [])))
+  -- what stands behind a fault is no longer a command
+  pub ends-at-nine : T (eqb (lineCount (recordOf 1 (1 ∷ []) ++ spell (names 1))) 1)
 
-pub kind-unknown : reading Off (recordOf 5 (replicate 8 0)) 0 ≡ refused 9
-unfolding reading nextAt number commandIn commandOf recordOf big
-kind-unknown = refl
-
-pub no-kind : reading Off (0 ∷ 0 ∷ 0 ∷ []) 0 ≡ refused 9
-unfolding reading nextAt number
-no-kind = refl
-
-pub start-too-long : reading Off (recordOf 2 (1 ∷ 1 ∷ [])) 0 ≡ refused 9
-unfolding reading nextAt number commandIn commandOf recordOf big
-start-too-long = refl
+pub samples : Samples
+unfolding openPaper nextAt number reading commandIn commandOf firstOf secondOf kindOf bodyOf recordOf big linesFrom turnTold refusalLine decimal digit
+samples =
+    record {
+      over-long = λ more e. rw e tt;
+      version-0 = tt;
+      version-4 = tt;
+      first-fields = tt;
+      second-fields = tt;
+      setup-repeated = tt;
+      kind-unknown = tt;
+      no-kind = tt;
+      start-too-long = tt;
+      ends-at-nine = tt;
+    }
