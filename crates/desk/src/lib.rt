@@ -44,19 +44,20 @@ fn sit(paper: &[u8], words: &mut Words, room: &mut [u8], to: usize) -> usize {
     let mut at = begun.at;
     let to = reserve(room, to);
     let mut to = lines::put(room, to, 0, event);
-    let mut over = is_over(event);
+    if is_over(event) {
+        return to;
+    }
     let mut number: u16 = 1;
     while number < 65_535 {
-        if over {
-            return to;
-        }
         let taken = conversation::take(words, shape, state, paper, at);
         let event = taken.event;
         state = taken.state;
         at = taken.at;
         to = reserve(room, to);
-        to = lines::put(room, to, number, event);
-        over = is_over(event);
+        let Event::Answered { answer, .. } = event else {
+            return lines::put(room, to, number, event);
+        };
+        to = lines::put_answer(room, to, number, answer);
         number += 1;
     }
     to

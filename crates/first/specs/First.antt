@@ -1,6 +1,6 @@
 -- First GENERATE AC (document 01, "First: the answer", with request One: declines at First count).
 use Prim.Native.Nat.{ℕ}
-use mathlib.Core.Bool.{Bool, cond, _||_}
+use mathlib.Core.Bool.{Bool, true, false, cond, _||_}
 use lib.Dec.{eqb}
 use Rattle.iad.specs.declared.Cvr.{Cvr}
 use Rattle.rules.specs.declared.Masks.{Masks}
@@ -8,7 +8,7 @@ use Rattle.rules.specs.declared.Place.{Place}
 use Rattle.rules.specs.Rules.{Rules, profileAt}
 use Rattle.purchase.specs.declared.Purchase.{Purchase}
 use Rattle.meters.specs.declared.Change.{Change}
-use Rattle.meters.specs.declared.Change.the-variants.{Approve, Decline}
+use Rattle.meters.specs.Meters.{offline}
 use Rattle.meters.specs.Meters.{applied}
 use Rattle.checks.specs.Checks.{decisionBits, meetsMask}
 use Rattle.command.specs.declared.First.{First}
@@ -60,11 +60,20 @@ asked rules state place purchase limits cvr =
       answer = Given Arqc (state .atc) (sentIad rules place (state .values) cvr);
     }
 
--- TC is an offline approval, AAC an offline decline
+abbrev pub isArqc : Kind → Bool
+isArqc Aac = false
+isArqc Tc = false
+isArqc Arqc = true
+
+abbrev pub isTc : Kind → Bool
+isTc Aac = false
+isTc Tc = true
+isTc Arqc = false
+
+-- an ARQC leaves the transaction open; TC, an offline approval, and AAC, an offline decline, settle it
 unfoldable pub concluded : Rules → State → Place → Purchase → ℕ → Cvr → Kind → Outcome
-concluded rules state place purchase limits cvr Tc = settled rules state place cvr Tc (Approve purchase)
-concluded rules state place purchase limits cvr Aac = settled rules state place cvr Aac Decline
-concluded rules state place purchase limits cvr Arqc = asked rules state place purchase limits cvr
+concluded rules state place purchase limits cvr kind =
+    cond (isArqc kind) (asked rules state place purchase limits cvr) (settled rules state place cvr kind (offline (isTc kind) purchase))
 
 abbrev pub purchaseOf : First → Purchase
 purchaseOf first = record { amount = first .amount; currency = first .currency }

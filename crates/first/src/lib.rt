@@ -1,7 +1,7 @@
 // First GENERATE AC.
 ghost use mathlib.Core.Path.{_≡_};
 ghost use Rattle.rules.specs.Rules.{rulesOf};
-ghost use Rattle.first.specs.First.{isOfflineOnly, decision, settled, asked, concluded, firstPerformed};
+ghost use Rattle.first.specs.First.{isArqc, isTc, isOfflineOnly, decision, settled, asked, concluded, firstPerformed};
 use command::First;
 use cryptogram::Issuer;
 use cryptogram::Later;
@@ -115,6 +115,26 @@ fn ask(
     }
 }
 
+fn is_arqc(kind: Kind) -> bool
+    ensures { λ r. ⌜ r ≡ isArqc kind ⌝ }
+{
+    match kind {
+        Kind::Aac => false,
+        Kind::Tc => false,
+        Kind::Arqc => true,
+    }
+}
+
+fn is_tc(kind: Kind) -> bool
+    ensures { λ r. ⌜ r ≡ isTc kind ⌝ }
+{
+    match kind {
+        Kind::Aac => false,
+        Kind::Tc => true,
+        Kind::Arqc => false,
+    }
+}
+
 // What follows from the decision.
 fn conclude(
     words: &Words,
@@ -127,11 +147,11 @@ fn conclude(
 ) -> Outcome
     ensures { λ r. ⌜ r ≡ concluded (rulesOf (now (words .entry))) state place purchase limits cvr kind ⌝ }
 {
-    match kind {
-        Kind::Tc => settle(words, state, place, cvr, kind, Change::Approve(purchase)),
-        Kind::Aac => settle(words, state, place, cvr, kind, Change::Decline),
-        Kind::Arqc => ask(words, state, place, purchase, limits, cvr),
+    if is_arqc(kind) {
+        return ask(words, state, place, purchase, limits, cvr);
     }
+    let change = Change::offline(is_tc(kind), purchase);
+    settle(words, state, place, cvr, kind, change)
 }
 
 pub fn perform(words: &Words, state: State, place: Place, first: First) -> Outcome

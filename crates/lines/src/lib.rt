@@ -161,7 +161,8 @@ fn put_started(room: &mut [u8], at: usize, number: u16, atc: u16, visits: u8) ->
     put_selected(room, at, number, atc, visits)
 }
 
-fn put_answer(room: &mut [u8], at: usize, number: u16, answer: Answer) -> usize
+// The line of an answer.
+pub fn put_answer(room: &mut [u8], at: usize, number: u16, answer: Answer) -> usize
     ensures { λ r. ⌜ (r ≡ placeBehind (length (now (room .entry))) at (answerLine number answer)) × (now (room .exit) ≡ placed (now (room .entry)) at (answerLine number answer)) ⌝ }
 {
     match answer {
