@@ -9,3 +9,4 @@ pub mod Papers
 pub mod Witness
 pub mod Samples
 pub mod Text
+pub mod Shown
