@@ -330,10 +330,12 @@ static void spoil_entry(struct chance *chance, uint8_t *entry, size_t *length)
     }
 }
 
+/* The room has what was written to it before: a byte too many, if the entry is
+ * spoilt so, is one of an entry above it. */
 static void invent_entry(struct chance *chance, const struct world *world,
-                         struct draft_setup *setup, unsigned left)
+                         struct draft_setup *setup, unsigned left,
+                         uint8_t *entry)
 {
-    uint8_t entry[256];
     const size_t room = world->data;
     const size_t most = percent(chance, 60) ? 1 : 3;
     const size_t width = 1 + below(chance, room < most ? room : most);
@@ -360,6 +362,7 @@ static void invent_file(struct chance *chance, struct world *world,
                         struct draft_setup *setup)
 {
     unsigned entries = 1 + (unsigned)below(chance, 12);
+    uint8_t room[256] = {0};
 
     world->data = 1 + below(chance, 6);
     if (percent(chance, 3))
@@ -368,7 +371,7 @@ static void invent_file(struct chance *chance, struct world *world,
         entries = 140 + (unsigned)below(chance, 40);
     setup->file.on = 1;
     while (entries > 0)
-        invent_entry(chance, world, setup, --entries);
+        invent_entry(chance, world, setup, --entries, room);
 }
 
 void invent_version(struct chance *chance, struct world *world,
