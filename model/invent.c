@@ -2,8 +2,6 @@
 
 #include <string.h>
 
-enum { ALL_BITS = (1 << 22) - 1 };
-
 static uint64_t around_thousands(struct chance *chance)
 {
     const uint64_t base = 1 + below(chance, 12);
@@ -81,7 +79,7 @@ static uint8_t invent_count(struct chance *chance)
 
 static uint32_t one_bit(struct chance *chance)
 {
-    return UINT32_C(1) << below(chance, 22);
+    return UINT32_C(1) << below(chance, BITS);
 }
 
 static uint32_t invent_mask(struct chance *chance, unsigned none)
@@ -430,7 +428,7 @@ static uint8_t invent_terminal(struct chance *chance)
     if (percent(chance, 25))
         return PICK(chance, offline);
     if (percent(chance, 50))
-        return 0x22;
+        return ONLINE_TERMINAL;
     if (percent(chance, 70))
         return PICK(chance, others);
     return any_byte(chance);
@@ -470,10 +468,10 @@ static uint8_t invent_first(struct chance *chance, const struct world *world,
 
 static void invent_second(struct chance *chance, struct draft *draft, bool tidy)
 {
-    static const uint16_t codes[] = {0x3030, 0x3035, 0x5931, 0x5A31, 0x5932,
+    static const uint16_t codes[] = {OTHER,  0x3035, 0x5931, 0x5A31, 0x5932,
                                      0x5934, 0x5833, 0x5B33, 0x3359, 0x335A,
-                                     0x0000, 0xFFFF, 0x3331, 0x5A32, 0x5933,
-                                     0x5A33};
+                                     0x0000, 0xFFFF, 0x3331, 0x5A32, Y3,
+                                     Z3};
     uint8_t type = percent(chance, 75);
     uint16_t code = PICK(chance, codes);
     uint8_t data = (uint8_t)below(chance, 3);
@@ -481,9 +479,9 @@ static void invent_second(struct chance *chance, struct draft *draft, bool tidy)
     uint32_t rest = (uint32_t)draw(chance);
 
     if (percent(chance, 20))
-        code = 0x5933;
+        code = Y3;
     if (percent(chance, 15))
-        code = 0x5A33;
+        code = Z3;
     if (percent(chance, 10))
         code = (uint16_t)draw(chance);
     if (percent(chance, 60))
