@@ -68,7 +68,8 @@ by-rounding bits = settled (ofBits binary64 bits) (ofBits-fits binary64 bits)
 -- 0.85, 0.0085 and 1
 pub euro : example 0x3FEB_3333_3333_3333 85 7
 unfolding round ofBits
-euro = by-rounding 0x3FEB_3333_3333_3333 85 2 (record { least = omega arith; most = omega arith; bound = omega arith; rounded = refl }) (inr (λ z. omega arith))
+euro =
+    by-rounding 0x3FEB_3333_3333_3333 85 2 (record { least = omega arith; most = omega arith; bound = omega arith; rounded = refl }) (inr (λ z. omega arith))
 
 pub yen : example 0x3F81_6872_B020_C49C 85 5
 unfolding round ofBits
