@@ -13,4 +13,6 @@ unfolding baseTail
 returns-2 c = simp (← c .before .byte-at2 .ensures, ← c .before .before .byte-at .ensures, le-ltb _ _ (c .if1 .left))
 
 pub read-base-spec : {M : Type 1} → statement M
-read-base-spec = tie.close (tie.spec (search needs) (search needs) (search needs) (search needs) (search needs) (search needs) (search needs) (search needs) returns returns-2)
+read-base-spec =
+    tie.close
+    (tie.spec (search needs) (search needs) (search needs) (search needs) (search needs) (search needs) (search needs) (search needs) returns returns-2)
