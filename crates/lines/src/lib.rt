@@ -2,7 +2,7 @@
 // returned.
 ghost use mathlib.Core.Path.{_≡_};
 ghost use mathlib.Core.List.{[], _∷_, _++_};
-ghost use Prim.Native.Nat.{_+_, _*_, _-_, _≤_, _<_};
+ghost use Prim.Native.Nat.{_+_, _*_, _-_, _/_, _%_, _≤_, _<_};
 ghost use lib.ListN.{length, replicate};
 ghost use Rattle.iad.specs.Iad.{written};
 ghost use Rattle.lines.specs.Lines.{digit, decimal, hexDigit, hexByte, hex};
@@ -63,12 +63,26 @@ fn hex_digit(n: u8) -> u8
     b'0' + n + n / 10 * 7
 }
 
+// The hex digit of a byte's upper half.
+pub fn upper_digit(byte: u8) -> u8
+    ensures { λ r. ⌜ r ≡ hexDigit (byte / 16) ⌝ }
+{
+    hex_digit(byte / 16)
+}
+
+// The hex digit of a byte's lower half.
+pub fn lower_digit(byte: u8) -> u8
+    ensures { λ r. ⌜ r ≡ hexDigit (byte % 16) ⌝ }
+{
+    hex_digit(byte % 16)
+}
+
 fn put_hex_byte(room: &mut [u8], at: usize, byte: u8) -> usize
     requires { ⌜ at + 2 ≤ length (now room) ⌝ }
     ensures { λ r. ⌜ Stored (now (room .entry)) at (hexByte byte) 2 r (now (room .exit)) ⌝ }
 {
-    let at = put_byte(room, at, hex_digit(byte / 16));
-    put_byte(room, at, hex_digit(byte % 16))
+    let at = put_byte(room, at, upper_digit(byte));
+    put_byte(room, at, lower_digit(byte))
 }
 
 // Bytes in hex, and the mark behind them.

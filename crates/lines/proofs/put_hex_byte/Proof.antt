@@ -10,7 +10,7 @@ returns c =
     let digit = low .before in
     let to-high = digit .before .before in
     let high = to-high .before .before in
-    simp (← digit .hex-digit2 .ensures, ← high .before .hex-digit .ensures) (next (high .put-byte .ensures) (low .put-byte2 .ensures))
+    simp (← digit .lower-digit .ensures, ← high .before .upper-digit .ensures) (next (high .put-byte .ensures) (low .put-byte2 .ensures))
 
 pub put-hex-byte-spec : {M : Type 1} → statement M
 put-hex-byte-spec = tie.close (tie.spec (search needs) (search needs) (search needs) (search needs) (search needs) returns)
