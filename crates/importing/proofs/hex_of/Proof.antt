@@ -52,4 +52,4 @@ pub hex-of-spec : {M : Type 1} → statement M
 hex-of-spec =
     tie.close
     (tie.spec Inv-loop μ-loop loop-holds (search needs) (search needs) (search needs) (search needs) (search needs)
-    (search needs) (search needs) (search needs) (search needs) (search needs) loop-again returns)
+    (search needs) (search needs) (search needs) (search needs) (search needs) (search needs) loop-again returns)
