@@ -31,9 +31,9 @@ rateWords s at = number s at 2 ∷ number s (at + layout.to) 2 ∷ number s (at 
 unfoldable pub ratesWords : List ℕ → List ℕ
 ratesWords s = rows 5 (λ i. rateWords s (conversionPlace s i))
 
--- a limit of one byte, or of 8
+-- a limit: of one byte if it is a counter's, else of 8
 unfoldable pub limitIn : List ℕ → ℕ → ℕ → ℕ
-limitIn s at width = cond (eqb width 1) (byte s at) (number s at 8)
+limitIn s at width = cond (eqb width layout.counterLimit) (byte s at) (number s at 8)
 
 -- the rule of an accumulator or a counter: switches, and the lower and the upper limit of a width
 unfoldable pub ruleWords : List ℕ → ℕ → ℕ → List ℕ

@@ -47,11 +47,11 @@ fn load_rates(words: &mut Words, s: &[u8])
     load_rate(words, 4, s);
 }
 
-// A limit of one byte, or of 8.
+// A limit: of one byte if it is a counter's, else of 8.
 fn limit(s: &[u8], at: usize, width: usize) -> u64
     ensures { λ r. ⌜ r ≡ limitIn (now (s .entry)) at width ⌝ }
 {
-    if width == 1 {
+    if width == layout::COUNTER_LIMIT {
         wire::byte_at(s, at) as u64
     } else {
         wire::u64_at(s, at)

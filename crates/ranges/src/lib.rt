@@ -94,11 +94,8 @@ fn is_counter_rule(s: &[u8], at: usize, j: usize) -> bool
     requires { ⌜ (at + profileLength < 2 ^ 64) × (j < 4) ⌝ }
     ensures { λ r. ⌜ r ≡ isCounterRule (now (s .entry)) (at + counterRuleFrom j) ⌝ }
 {
-    wire::byte_at(
-        s,
-        at + (layout::COUNTER_RULES + layout::COUNTER_RULE_LENGTH * j),
-    )
-        <= 15
+    let rule = at + (layout::COUNTER_RULES + layout::COUNTER_RULE_LENGTH * j);
+    wire::byte_at(s, rule) <= 15
 }
 
 fn are_counter_rules(s: &[u8], at: usize) -> bool
