@@ -11,6 +11,7 @@ use lib.Seq.{drop-append-le, take-append-le}
 use Rattle.wire.specs.Wire.{byte}
 use Rattle.refusal.specs.declared.Refusal.the-variants.{BadSetup, Unreadable}
 use Rattle.rules.specs.Rules.{Rules, rulesOf}
+use Rattle.rules.specs.Word.{wordCount}
 use Rattle.ranges.specs.Ranges.{isSetup}
 use Rattle.setup.specs.declared.SetupAnswer.{SetupAnswer}
 use Rattle.setup.specs.declared.SetupAnswer.the-variants.{Done, Refused as SetupRefused}
@@ -117,7 +118,7 @@ module _ (words s : List ℕ) (version : ℕ) (body rest : List ℕ) (o : Opens 
           ∙ rw (behind-head, drop-append-le start body rest (omega (arith, i .0, i .1))) (take-append-le (end - start) (drop start body) rest left) in
           rw file
 
-    module _ (bytes : Bytes s) (lent : length words ≡ 164) where
+    module _ (bytes : Bytes s) (lent : length words ≡ wordCount) where
       rules-are : rulesOf (wordsAfter words base (shape .syllabus)) ≡ rulesFrom shape body
       rules-are =
           let body-bytes : Bytes body = bytes-front body rest (subst Bytes behind-head (bytes-drop 4 s bytes)) in
@@ -183,7 +184,7 @@ one-line words s version body rest o n =
     by (no-base shape t e) = rw t (refused-base (shapeAt 4 shape) (basePart shape body) (4 + length body) e)
 
 -- EVERY BYTE STRING IS ONE OF THE THREE, WITH ITS LINES
-pub every-paper : (words s : List ℕ) → length words ≡ 164 → Bytes s → Sat words s
+pub every-paper : (words s : List ℕ) → length words ≡ wordCount → Bytes s → Sat words s
 every-paper words s lent bytes = by (opens-or-faults s bytes) where
   by-set-up : (o : Opening s) → ((shape : Shape) × SetUp (o .version) (o .body) shape) ⊎ NotSetUp (o .version) (o .body) → Sat words s
   by-set-up o (inl t) =

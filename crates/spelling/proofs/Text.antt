@@ -5,6 +5,7 @@ use Prim.Native.Nat.{ℕ}
 use lib.ListN.{length}
 use Rattle.wire.specs.Wire.{number}
 use Rattle.rules.specs.Rules.{findProfile}
+use Rattle.rules.specs.Word.{wordCount}
 use Rattle.setup.specs.Setup.{rateIn, accumulatorIn, counterIn, profileIn, rulesIn, freshIn}
 use Rattle.shape.specs.Shape.{based}
 use Rattle.money.specs.Money.{rateFor, scaled, convertOf}
@@ -28,5 +29,5 @@ unfolding printed sent printedLines standsFor allStandFor answers answerLine dig
 worked = refl
 
 -- DOCUMENT 01'S SITTING, FROM THE BYTES OF ITS PAPER TO THE BYTES OF ITS LINES
-pub printed-text : (words : List ℕ) → length words ≡ 164 → sittingLines words printed ≡ printedLines
+pub printed-text : (words : List ℕ) → length words ≡ wordCount → sittingLines words printed ≡ printedLines
 printed-text words lent = printed-lines words lent ∙ worked
