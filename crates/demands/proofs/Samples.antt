@@ -36,7 +36,11 @@ setupOf body = record { bytes = body; syllabus = 0 }
 -- p profiles, c conversions, ATC 0; accumulators in 0978 from a number below 65536, in 0840 from 0, in 0978 from 7
 abbrev head : (p c high low : ℕ) → List ℕ
 head p c high low =
-    1 ∷ 3 ∷ 0 ∷ p ∷ c ∷ zeros 3 ++ 0x09 ∷ 0x78 ∷ zeros 6 ++ high ∷ low ∷ 0x08 ∷ 0x40 ∷ zeros 8 ++ 0x09 ∷ 0x78 ∷ zeros 7 ++ 7 ∷ zeros 14
+    1 ∷ 3 ∷ 0 ∷ p ∷ c ∷ zeros 3
+    ++ 0x09 ∷ 0x78 ∷ zeros 6
+    ++ high ∷ low ∷ 0x08 ∷ 0x40 ∷ zeros 8
+    ++ 0x09 ∷ 0x78 ∷ zeros 7
+    ++ 7 ∷ zeros 14
 
 -- switches, lower and upper, each below 65536
 abbrev rule : (switches high low high' low' : ℕ) → List ℕ

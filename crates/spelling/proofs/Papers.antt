@@ -42,7 +42,8 @@ use Rattle.conversation.specs.Events.{eventsFrom, eventsOf}
 use Rattle.lines.specs.Sitting.{linesOf, sittingLines}
 use Rattle.spelling.specs.Spelling.{Bytes, recordOf, paperOf, Sent, spellAll, Choice, choiceIn, AllFit, allStandFor}
 use Rattle.spelling.specs.Faults.{OpenFault, Opens}
-use Rattle.spelling.specs.Sitting.{Lies, SetUp, NotSetUp, no-shape, no-base, answers, Ends, lastLines, rulesFrom, cardFrom, sittingOf, Sat, unread, not-set-up, sat}
+use Rattle.spelling.specs.Sitting.{Lies, SetUp, NotSetUp, no-shape, no-base, answers, Ends, lastLines, rulesFrom, cardFrom, sittingOf}
+use Rattle.spelling.specs.Sitting.{Sat, unread, not-set-up, sat}
 use Rattle.spelling.proofs.Numbers.{byte-small, bytes-take, bytes-drop, bytes-front}
 use Rattle.spelling.proofs.Shapes.{record-is, here-length, part-drop}
 use Rattle.spelling.proofs.Opening.{opens, faults, Opening, opens-or-faults}
@@ -142,7 +143,8 @@ module _ (words s : List ℕ) (version : ℕ) (body rest : List ℕ) (o : Opens 
 
 -- ---- every other paper
 
-ended-at-once : (words s : List ℕ) (refusal : Refusal) → begunOf s .event ≡ Refused refusal → sittingLines words s ≡ refusalLine 0 (refusalNumber refusal) ∷ []
+ended-at-once : (words s : List ℕ) (refusal : Refusal) → begunOf s .event ≡ Refused refusal
+    → sittingLines words s ≡ refusalLine 0 (refusalNumber refusal) ∷ []
 unfolding sittingLines eventsOf linesOf
 ended-at-once words s refusal e = rw e
 
@@ -211,7 +213,9 @@ one-paper s v w b c rest more o p =
     (cc, sym (x .1) ∙ ap (part s 4) end ∙ y .1, sym (x .2) ∙ ap (λ (n : ℕ). drop n s) end ∙ y .2)
 
 pub one-sitting : (s : List ℕ) (v w : ℕ) (b c : List ℕ) (x y : Shape) → SetUp v b x → SetUp w c y
-    → (xs ys : List Sent) (r q : List ℕ) → AllFit (choiceIn (x .selecting) b) xs → AllFit (choiceIn (y .selecting) c) ys → Ends (choiceIn (x .selecting) b) r → Ends (choiceIn (y .selecting) c) q
+    → (xs ys : List Sent) (r q : List ℕ)
+    → AllFit (choiceIn (x .selecting) b) xs → AllFit (choiceIn (y .selecting) c) ys
+    → Ends (choiceIn (x .selecting) b) r → Ends (choiceIn (y .selecting) c) q
     → Opens s v b (spellAll xs ++ r) → Opens s w c (spellAll ys ++ q) → (v ≡ w) × (b ≡ c) × (xs ≡ ys) × (r ≡ q)
 one-sitting s v w b c x y t u xs ys r q h k d e o p =
     let one = one-paper s v w b c (spellAll xs ++ r) (spellAll ys ++ q) o p in

@@ -69,7 +69,8 @@ pub record Samples : Type 0 where
   pub ends-at-nine : T (eqb (lineCount (recordOf 1 (1 ∷ []) ++ spell (names 1))) 1)
 
 pub samples : Samples
-unfolding openPaper nextAt number reading commandIn commandOf firstOf secondOf kindOf bodyOf recordOf big eventsFrom takenOf answeredBy linesOf refusalLine decimal digit
+unfolding openPaper nextAt number reading commandIn commandOf firstOf secondOf kindOf bodyOf recordOf big
+    eventsFrom takenOf answeredBy linesOf refusalLine decimal digit
 samples =
     record {
       over-long = λ more e. rw e tt;

@@ -25,7 +25,11 @@ use Rattle.spelling.specs.Printed.{printed, body, sent, printedLines}
 use Rattle.spelling.proofs.Witness.{printed-lines}
 
 worked : sittingOf (based 159) body {choice = byName} sent {rest = []} (ended refl) ≡ printedLines
-unfolding printed sent printedLines standsFor allStandFor answers answerLine digit decimal hex refusalLine startLine cryptogramLine freshState freshIn number rulesIn rateIn profileIn accumulatorIn counterIn stepOf startStep firstStep secondStep findProfile firstPerformed decision limitsByte settled asked concluded decisionBits accumulatorsLower accumulatorsUpper countersLower countersUpper maximumExceeded worth convertOf rateFor scaled applied verification sentIad pairsOf iadBytes isCvr isWritable writeIad written secondPerformed unablePerformed closed
+unfolding printed sent printedLines standsFor allStandFor answers answerLine digit decimal hex refusalLine startLine cryptogramLine
+    freshState freshIn number rulesIn rateIn profileIn accumulatorIn counterIn stepOf startStep firstStep secondStep findProfile
+    firstPerformed decision limitsByte settled asked concluded decisionBits accumulatorsLower accumulatorsUpper countersLower countersUpper
+    maximumExceeded worth convertOf rateFor scaled applied verification sentIad pairsOf iadBytes isCvr isWritable writeIad written
+    secondPerformed unablePerformed closed
 worked = refl
 
 -- DOCUMENT 01'S SITTING, FROM THE BYTES OF ITS PAPER TO THE BYTES OF ITS LINES
