@@ -1,5 +1,5 @@
 -- THE DEMANDS OVER PAPERS: for every byte string whose set-up is accepted, and wherever its events are cut. Assumes nothing.
-use mathlib.Core.Path.{_≡_, refl, sym, ap, subst₂, subst₃, _∙_}
+use mathlib.Core.Path.{_≡_, sym, ap, subst₂, subst₃, _∙_}
 use mathlib.Core.Bool.{true}
 use mathlib.Core.List.{List, [], _∷_, _++_, append-assoc}
 use Prim.Native.Nat.{ℕ, suc, _+_, _≤_}
@@ -20,7 +20,7 @@ use Rattle.state.specs.declared.Outcome.{Outcome}
 use Rattle.card.specs.Card.{answerNumber}
 use Rattle.readback.specs.WellFormed.{Writable, OfBytes, LaidOut, WellFormed}
 use Rattle.conversation.specs.declared.Event.{Event}
-use Rattle.conversation.specs.declared.Event.the-variants.{SetUp, Answered}
+use Rattle.conversation.specs.declared.Event.the-variants.{Answered}
 use Rattle.lines.specs.Sitting.{answerLine, linesOf, sittingLines}
 use Rattle.demands.specs.Setup.{Setup, AcceptedSetup}
 use Rattle.demands.specs.Conversation.{Exchange, Sitting, rulesBy, sat, next}
@@ -42,7 +42,7 @@ use Rattle.demands.proofs.Answers.{gives}
 use Rattle.demands.proofs.Sendable.{written-out}
 use Rattle.spelling.specs.Spelling.{Bytes}
 use Rattle.papers.specs.Papers.{setupOf, Accepted, walked, commandsOf, faulty}
-use Rattle.papers.specs.Talk.{allAnswered, ending, CutBehind, newest, cardAfter}
+use Rattle.papers.specs.Talk.{allAnswered, CutBehind, newest, cardAfter}
 use Rattle.papers.proofs.Setups.{good, begins}
 use Rattle.papers.proofs.Walk.{walk-cards}
 use Rattle.papers.proofs.Talk.{fresh, run-one, Cut, cut, NextSaid, next-said}
@@ -122,7 +122,9 @@ module _ (words paper : List ℕ) (lent : length words ≡ 164) (bytes : Bytes p
         let whole : commandsOf paper ≡ heard ++ its .behind =
         here .whole ∙ ap (λ (l : List Command). here .heard ++ l) (its .left-is) ∙ sym (append-assoc (here .heard) (command ∷ []) (its .behind)) in
         let size : length heard ≡ suc (length before) = omega (arith, length-append (here .heard) (command ∷ []), here .size) in
-        ap (λ (s : Sitting). s .state) (sym (run-one (fresh setup) (here .heard) command)) ∙ sym (card-is heard (its .behind) whole) ∙ ap (cardAfter words paper) size
+        ap (λ (s : Sitting). s .state) (sym (run-one (fresh setup) (here .heard) command))
+        ∙ sym (card-is heard (its .behind) whole)
+        ∙ ap (cardAfter words paper) size
 
     outcome-is : next setup (here .heard) command ≡ record { state = then; answer = answer }
     outcome-is = let p = then-is in let q = its .answer-is in λ i. record { state = p i; answer = q i }
@@ -136,7 +138,10 @@ module _ (words paper : List ℕ) (lent : length words ≡ 164) (bytes : Bytes p
     -- THE LINE: it has the command's place for its number, and the answer
     pub paper-line : getD (sittingLines words paper) (suc (length before)) [] ≡ answerLine (suc (length before)) answer
     unfolding sittingLines linesOf
-    paper-line = ap (λ (l : List Event). getD (linesOf 0 l) (suc (length before)) []) e ∙ line-at 1 before command answer more ∙ ap (λ (k : ℕ). answerLine k answer) (omega arith)
+    paper-line =
+        ap (λ (l : List Event). getD (linesOf 0 l) (suc (length before)) []) e
+        ∙ line-at 1 before command answer more
+        ∙ ap (λ (k : ℕ). answerLine k answer) (omega arith)
 
     -- DEMAND 3, THE UPPER LIMIT: no offline approval under a guarding profile leaves the value above it
     pub paper-limit : (meter : Meter) → IsMeter meter → Guards (inForce setup log) (placeBy setup log) meter → approves command answer ≡ true

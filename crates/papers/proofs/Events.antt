@@ -8,7 +8,6 @@ use native.Mathlib.Omega.{arith}
 use lib.ListN.{length, replicate}
 use Rattle.refusal.specs.declared.Refusal.{Refusal}
 use Rattle.refusal.specs.declared.Refusal.the-variants.{Unreadable}
-use Rattle.refusal.specs.Refusal.{refusalNumber}
 use Rattle.setup.specs.Setup.{setupNumber}
 use Rattle.shape.specs.declared.Shape.{Shape}
 use Rattle.shape.specs.Shape.{basePart, shapeOf, shapeAt}
@@ -16,7 +15,7 @@ use Rattle.conversation.specs.declared.Begun.{Begun}
 use Rattle.conversation.specs.declared.Event.{Event}
 use Rattle.conversation.specs.declared.Event.the-variants.{SetUp, Refused}
 use Rattle.conversation.specs.Conversation.{begunOf, setupBegun, shapedBegun}
-use Rattle.conversation.specs.Events.{eventsFrom, eventsOf}
+use Rattle.conversation.specs.Events.{eventsOf}
 use Rattle.lines.specs.Lines.{refusalLine}
 use Rattle.lines.specs.Sitting.{answerLine, linesOf, sittingLines}
 use Rattle.demands.specs.Conversation.{Exchange, rulesBy}
@@ -38,12 +37,13 @@ use Rattle.papers.proofs.Talk.{fresh, talk-is, talk-length}
 
 module _ (words paper : List ℕ) (lent : length words ≡ 164) (bytes : Bytes paper) (a : Accepted paper) where
   -- THE EVENTS OF AN ACCEPTED PAPER ARE THOSE OF ITS COMMANDS OVER ITS SET-UP
-  pub happened-there : eventsOf words paper ≡ SetUp ∷ (happened (rulesBy (setupOf paper)) (fresh (setupOf paper) .state) (commandsOf paper) ++ ending (faulty paper))
+  pub happened-there : eventsOf words paper
+      ≡ SetUp ∷ (happened (rulesBy (setupOf paper)) (fresh (setupOf paper) .state) (commandsOf paper) ++ ending (faulty paper))
   unfolding eventsOf walked
   happened-there =
       let b = begins words paper lent bytes a in
-      rw (b .begun-is, b .rules)
-      (ap (λ (l : List Event). SetUp ∷ l) (walk-events (rulesBy (setupOf paper)) (b .shape) paper (b .lies) (length paper) _ (b .at) ∙ rw (b .chosen, b .rest)))
+      let walks = walk-events (rulesBy (setupOf paper)) (b .shape) paper (b .lies) (length paper) (fresh (setupOf paper) .state) (b .at) in
+      rw (b .begun-is, b .rules) (ap (λ (l : List Event). SetUp ∷ l) (walks ∙ rw (b .chosen, b .rest)))
 
   pub events-are : eventsOf words paper ≡ eventsBy paper
   events-are = happened-there ∙ ap (λ (l : List Event). SetUp ∷ (l ++ ending (faulty paper))) (sym (talk-is (setupOf paper) (commandsOf paper)))
@@ -111,7 +111,10 @@ every-paper words paper lent bytes = by (opens-or-faults paper bytes) where
 -- THE FIRST EVENT IS THE SET-UP'S EXACTLY WHERE IT IS ACCEPTED
 pub accepted-exactly : (paper : List ℕ) → Bytes paper → (begunOf paper .event ≡ SetUp) ↔ Accepted paper
 unfolding begunOf
-accepted-exactly paper bytes = (λ e. by e (opens-or-faults paper bytes), λ a. ap (λ (b : Begun). b .event) (begins (replicate 164 0) paper refl bytes a .begun-is)) where
+accepted-exactly paper bytes = (λ e. by e (opens-or-faults paper bytes), begun) where
+  begun : Accepted paper → begunOf paper .event ≡ SetUp
+  begun a = ap (λ (b : Begun). b .event) (begins (replicate 164 0) paper refl bytes a .begun-is)
+
   by-set-up : begunOf paper .event ≡ SetUp → (o : Opening paper)
       → ((shape : Shape) × Sp.SetUp (o .version) (o .body) shape) ⊎ NotSetUp (o .version) (o .body) → Accepted paper
   by-set-up e o (inl t) = accepted-if-taken paper bytes (o .version) (o .body) (o .rest) (o .opens) (t .0) (t .1)

@@ -1,25 +1,25 @@
 -- What the statements say at chosen inputs, worked out. Assumes nothing.
-use mathlib.Core.Bool.{Bool, true, false, not}
+use mathlib.Core.Bool.{not}
 use mathlib.Core.List.{List, [], _∷_, _++_}
-use Prim.Native.Nat.{ℕ, zero, suc}
+use Prim.Native.Nat.{ℕ}
 use lib.Dec.{T, eqb}
 use lib.ListN.{length, replicate, getD}
-use Rattle.wire.specs.Wire.{byte, number}
-use Rattle.rules.specs.Rules.{findProfile}
-use Rattle.setup.specs.Setup.{rateIn, accumulatorIn, counterIn, profileIn, rulesIn, freshIn}
+use Rattle.wire.specs.Wire.{byte}
+use Rattle.setup.specs.Setup.{rulesIn, freshIn}
 use Rattle.shape.specs.declared.ReadShape.{ReadShape}
 use Rattle.shape.specs.declared.ReadShape.the-variants.{Taken, Refused as ShapeRefused}
 use Rattle.shape.specs.Shape.{based, baseTail, selectionTail, syllabusTail, tailsOf, shapeOf}
 use Rattle.paper.specs.Paper.{nextAt, openPaper}
 use Rattle.command.specs.Command.{startOf, commandOf, commandIn}
 use Rattle.state.specs.declared.Answer.the-variants.{Refused as AnswerRefused, Started, Given}
-use Rattle.card.specs.Card.{freshState, startStep, stepOf}
+use Rattle.card.specs.Card.{freshState}
 use Rattle.conversation.specs.declared.Event.{Event}
 use Rattle.conversation.specs.declared.Event.the-variants.{SetUp, End, Refused, Answered}
 use Rattle.conversation.specs.Conversation.{answeredBy, takenOf, begunOf}
 use Rattle.conversation.specs.Events.{eventsFrom, eventsOf}
 use Rattle.lines.specs.Lines.{digit, decimal, refusalLine}
 use Rattle.lines.specs.Sitting.{linesOf, sittingLines}
+use Rattle.demands.proofs.Computed.{computed}
 use Rattle.spelling.specs.Spelling.{big, recordOf, byName, names, kindOf, bodyOf, spell}
 use Rattle.spelling.specs.Printed.{printed, body}
 use Rattle.papers.specs.Papers.{syllabusIn, frontOf, meant, walk}
@@ -59,7 +59,7 @@ pub record Samples : Type 0 where
   pub syllabus-1 : T (eqb (syllabusRead (shapeOf 3 latest)) (syllabusIn 3 latest))
 
 pub samples : Samples
-unfolding printed openPaper nextAt number commandIn commandOf startOf kindOf bodyOf recordOf big eventsFrom eventsOf takenOf answeredBy begunOf sittingLines linesOf refusalLine decimal digit shapeOf tailsOf baseTail selectionTail syllabusTail rulesIn rateIn profileIn accumulatorIn counterIn freshIn freshState stepOf startStep findProfile walk frontOf meant
+unfolding computed printed openPaper nextAt commandIn commandOf startOf kindOf bodyOf recordOf big eventsFrom eventsOf takenOf answeredBy begunOf sittingLines linesOf refusalLine decimal digit shapeOf tailsOf baseTail selectionTail syllabusTail walk frontOf meant
 samples =
     record {
       each-record = tt;

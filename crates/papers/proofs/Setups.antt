@@ -1,12 +1,12 @@
 -- The set-up of an accepted paper: what its bytes say is what was spelled, and the conversation begins by it. Assumes nothing.
-use mathlib.Core.Path.{_≡_, refl, sym, ap, subst, _∙_}
+use mathlib.Core.Path.{_≡_, refl, sym, ap, ap₂, subst, _∙_}
 use mathlib.Core.Bool.{true}
 use mathlib.Core.List.{List, [], _∷_, _++_}
 use Prim.Native.Nat.{ℕ, suc, _+_, _-_}
 use native.Mathlib.Omega.{arith}
-use lib.ListN.{length, take, drop, length-append}
+use lib.ListN.{length, drop, length-append}
 use lib.Seq.{take-all, take-at, drop-append-seam}
-use Rattle.wire.specs.Wire.{byte, number}
+use Rattle.wire.specs.Wire.{number}
 use Rattle.rules.specs.Rules.{rulesOf}
 use Rattle.ranges.specs.Ranges.{isSetup}
 use Rattle.setup.specs.Setup.{readSetup, rulesIn}
@@ -16,11 +16,12 @@ use Rattle.shape.specs.Shape.{basePart, shapeAt}
 use Rattle.card.specs.Card.{freshState}
 use Rattle.conversation.specs.declared.Event.the-variants.{SetUp}
 use Rattle.conversation.specs.Conversation.{begunOf, baseBegun, setupBegun, setupWords, wordsBegun}
-use Rattle.demands.specs.Setup.{Setup, AcceptedSetup}
+use Rattle.demands.specs.Setup.{AcceptedSetup}
 use Rattle.demands.specs.Conversation.{rulesBy}
 use Rattle.rows.specs.Rows.{body as spelledBase}
 use Rattle.rows.specs.Tails as R
-use Rattle.rows.specs.Tails.{Choosing, off, on, fileBytes, Tail, first, second, third, versionOf, tailBytes, choosingOf, syllabusOf, Base, selecting, fileOf, shapeSaid, TailSays}
+use Rattle.rows.specs.Tails.{Choosing, off, on, fileBytes, Tail, first, second, third, versionOf, tailBytes, choosingOf, syllabusOf, Base}
+use Rattle.rows.specs.Tails.{selecting, fileOf, shapeSaid, TailSays}
 use Rattle.rows.specs.Whole.{IsSetup}
 use Rattle.rows.proofs.Behind.{length-kept, third-last}
 use Rattle.rows.proofs.Ranges.{accepted-in-range}
@@ -134,21 +135,18 @@ module _ (version : ℕ) (body : List ℕ) (i : IsSetup version body) where
 -- ---- an accepted paper
 
 module _ (paper : List ℕ) (a : Accepted paper) where
-  abbrev spelled : IsSetup (a .version) (a .body)
-  spelled = a .set-up
+  -- what is read of its version and its set-up's body
+  as-spelled : {A : Type 0} (f : (version : ℕ) (body : List ℕ) → A) → f (versionIn paper) (bodyIn paper) ≡ f (a .version) (a .body)
+  as-spelled f = ap₂ f (version-is paper (a .version) (a .body) (a .rest) (a .opens)) (body-is paper (a .version) (a .body) (a .rest) (a .opens))
 
   -- THE SET-UP AND THE CHOICE THAT ITS BYTES SAY ARE THOSE THAT ARE SPELLED THERE
   pub setup-is : setupOf paper ≡ record { bytes = spelledBase (a .set-up .setup); syllabus = syllabusOf (a .set-up .tail) }
   unfolding setupOf
-  setup-is =
-      rw (version-is paper (a .version) (a .body) (a .rest) (a .opens), body-is paper (a .version) (a .body) (a .rest) (a .opens))
-      (setup-there (a .version) (a .body) (a .set-up))
+  setup-is = as-spelled setupIn ∙ setup-there (a .version) (a .body) (a .set-up)
 
   pub choice-is : choiceOf paper ≡ choiceSaid (choosingOf (a .set-up .tail))
   unfolding choiceOf
-  choice-is =
-      rw (version-is paper (a .version) (a .body) (a .rest) (a .opens), body-is paper (a .version) (a .body) (a .rest) (a .opens))
-      (choice-there (a .version) (a .body) (a .set-up))
+  choice-is = as-spelled (λ version body. choiceBy version (tailIn body)) ∙ choice-there (a .version) (a .body) (a .set-up)
 
   -- it is one of those that the demands speak of
   pub good : Bytes paper → AcceptedSetup (setupOf paper)
@@ -181,7 +179,9 @@ begins words paper lent bytes a =
       shape = shapeAt 4 form;
       at = 4 + length b;
       begun-is = rw (setup-is paper a, r .0, r .1, t .shape-is, base, started _ (good-base v b (a .set-up)));
-      rules = rw (setup-is paper a, r .0, r .1, t .shape-is) (rules-are words paper v b (a .rest) (a .opens) form t bytes lent ∙ ap (λ (s : List ℕ). rulesIn s (form .syllabus)) base);
+      rules =
+          rw (setup-is paper a, r .0, r .1, t .shape-is)
+          (rules-are words paper v b (a .rest) (a .opens) form t bytes lent ∙ ap (λ (s : List ℕ). rulesIn s (form .syllabus)) base);
       lies = lies-there words paper v b (a .rest) (a .opens) form t;
       chosen = chooses words paper v b (a .rest) (a .opens) form t ∙ choice-read v b (a .set-up) ∙ sym (choice-is paper a);
       rest = r .2 ∙ sym (rest-is paper v b (a .rest) (a .opens));

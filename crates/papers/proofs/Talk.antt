@@ -21,9 +21,11 @@ use Rattle.papers.specs.Talk.{answered, allAnswered, turned, talk, endin
 turned-onto : (log others : List Exchange) → turned log others ≡ turned log [] ++ others
 turned-onto [] others = refl
 turned-onto (x ∷ log) others =
-    turned-onto log (x ∷ others) ∙ sym (append-assoc (turned log []) (x ∷ []) others) ∙ ap (λ (l : List Exchange). l ++ others) (sym (turned-onto log (x ∷ [])))
+    turned-onto log (x ∷ others)
+    ∙ sym (append-assoc (turned log []) (x ∷ []) others)
+    ∙ ap (λ (l : List Exchange). l ++ others) (sym (turned-onto log (x ∷ [])))
 
-answered-both : (xs ys : List Exchange) → allAnswered (xs ++ ys) ≡ allAnswered xs ++ allAnswered ys
+pub answered-both : (xs ys : List Exchange) → allAnswered (xs ++ ys) ≡ allAnswered xs ++ allAnswered ys
 answered-both [] ys = refl
 answered-both (x ∷ xs) ys = ap (λ (l : List Event). answered x ∷ l) (answered-both xs ys)
 
@@ -82,6 +84,20 @@ pub record Cut (sitting : Sitting) (commands : List Command) (fault : Bool) (bef
   pub log-is : run sitting heard .log ≡ turned before (sitting .log)
   pub more-is : happened (run sitting heard .rules) (run sitting heard .state) left ++ ending fault ≡ more
 
+-- one exchange further
+cut-on : (sitting : Sitting) (c : Command) (cs : List Command) (fault : Bool) (x : Exchange) (before : List Exchange) (more : List Event)
+    → said sitting c ≡ x → Cut (told sitting c) cs fault before more → Cut sitting (c ∷ cs) fault (x ∷ before) more
+unfolding run
+cut-on sitting c cs fault x before more e rest =
+    record {
+      heard = c ∷ rest .heard;
+      left = rest .left;
+      whole = ap (λ (l : List Command). c ∷ l) (rest .whole);
+      size = ap suc (rest .size);
+      log-is = rest .log-is ∙ ap (λ (y : Exchange). turned before (y ∷ sitting .log)) e;
+      more-is = rest .more-is;
+    }
+
 pub cut : (sitting : Sitting) (commands : List Command) (fault : Bool) (before : List Exchange) (more : List Event)
     → happened (sitting .rules) (sitting .state) commands ++ ending fault ≡ allAnswered before ++ more → Cut sitting commands fault before more
 unfolding run happened
@@ -92,16 +108,7 @@ cut sitting (c ∷ cs) fault (x ∷ before) more e =
     let same-command : c ≡ x .command = cc in
     let same-answer : outcomeOf sitting c .answer ≡ x .answer = cc in
     let behind : happened (sitting .rules) (outcomeOf sitting c .state) cs ++ ending fault ≡ allAnswered before ++ more = cc in
-    let rest = cut (told sitting c) cs fault before more behind in
-    let exchange : said sitting c ≡ x = λ i. record { command = same-command i; answer = same-answer i } in
-    record {
-      heard = c ∷ rest .heard;
-      left = rest .left;
-      whole = ap (λ (l : List Command). c ∷ l) (rest .whole);
-      size = ap suc (rest .size);
-      log-is = rest .log-is ∙ ap (λ (y : Exchange). turned before (y ∷ sitting .log)) exchange;
-      more-is = rest .more-is;
-    }
+    cut-on sitting c cs fault x before more (λ i. record { command = same-command i; answer = same-answer i }) (cut (told sitting c) cs fault before more behind)
 
 -- the command behind the cut
 pub record NextSaid (sitting : Sitting) (left : List Command) (c : Command) (answer : Answer) : Type 0 where
@@ -117,4 +124,8 @@ next-said sitting [] false c answer more e = let z : _≡_ {A = ℕ} 0 1 = cc in
 next-said sitting (b ∷ left) fault c answer more e =
     let same : b ≡ c = cc in
     let answer-same : outcomeOf sitting b .answer ≡ answer = cc in
-    record { behind = left; left-is = ap (λ (x : Command). x ∷ left) same; answer-is = ap (λ (x : Command). outcomeOf sitting x .answer) (sym same) ∙ answer-same }
+    record {
+      behind = left;
+      left-is = ap (λ (x : Command). x ∷ left) same;
+      answer-is = ap (λ (x : Command). outcomeOf sitting x .answer) (sym same) ∙ answer-same;
+    }

@@ -4,9 +4,9 @@ use mathlib.Core.Bool.{Bool, true, false, cond}
 use mathlib.Core.List.{List, [], _∷_, _++_}
 use Prim.Native.Nat.{ℕ, zero, suc, _+_, _-_, _*_}
 use native.Mathlib.Omega.{arith}
-use borrow.Author.Tests.{lt-leb, lt-ltb, le-ltb, ltb-true, ltb-false, ne-eqb, eqb-true, eqb-false}
+use borrow.Author.Tests.{lt-leb, le-ltb, ltb-true, ltb-false, ne-eqb, eqb-true}
 use lib.Dec.{eqb, ltb}
-use lib.ListN.{length, take, drop}
+use lib.ListN.{length, drop}
 use lib.Seq.{drop-drop}
 use Rattle.wire.specs.Wire.{number}
 use Rattle.refusal.specs.declared.Refusal.the-variants.{Unreadable}
@@ -25,7 +25,7 @@ use Rattle.card.specs.Card.{stepOf}
 use Rattle.conversation.specs.declared.Event.{Event}
 use Rattle.conversation.specs.declared.Taken.{Taken}
 use Rattle.conversation.specs.declared.Event.the-variants.{End, Refused, Answered}
-use Rattle.conversation.specs.Conversation.{answeredBy, nextTaken, takenOf}
+use Rattle.conversation.specs.Conversation.{answeredBy, takenOf}
 use Rattle.conversation.specs.Events.{eventsFrom}
 use Rattle.demands.specs.Conversation.{Exchange, Sitting, told as heard, run}
 use Rattle.spelling.specs.Spelling.{Choice, byName, byFile, choiceIn}
@@ -34,7 +34,7 @@ use Rattle.spelling.specs.Sitting.{Lies, happened}
 use Rattle.spelling.proofs.Shapes.{shift, next-drop, part-drop, next-broken}
 use Rattle.spelling.proofs.Commands.{readBy}
 use Rattle.spelling.proofs.Records.{commands-same}
-use Rattle.papers.specs.Papers.{Front, nothing, broken, one, frontBy, frontOf, Meaning, none, means, startMeant, firstMeant, secondMeant, meant}
+use Rattle.papers.specs.Papers.{Front, nothing, broken, one, frontBy, frontOf, Meaning, none, means, meant}
 use Rattle.papers.specs.Papers.{Walked, stopped, goingOn, walkBy, walk}
 use Rattle.papers.specs.Talk.{ending, turns}
 
