@@ -1,5 +1,5 @@
 -- THE DEMANDS OVER PAPERS: for every byte string whose set-up is accepted, and wherever its events are cut. Assumes nothing.
-use mathlib.Core.Path.{_≡_, sym, ap, subst₂, subst₃, _∙_}
+use mathlib.Core.Path.{_≡_, sym, ap, subst, subst₂, subst₃, _∙_}
 use mathlib.Core.Bool.{true}
 use mathlib.Core.List.{List, [], _∷_, _++_, append-assoc}
 use Prim.Native.Nat.{ℕ, suc, _+_, _≤_}
@@ -9,9 +9,10 @@ use Rattle.refusal.specs.declared.Refusal.{Refusal}
 use Rattle.iad.specs.declared.Iad.{Iad}
 use Rattle.iad.specs.Iad.{written}
 use Rattle.purchase.specs.Meter.{Meter, IsMeter, valueOf}
+use Rattle.command.specs.declared.Start.{Start}
 use Rattle.command.specs.declared.First.{First}
 use Rattle.command.specs.declared.Command.{Command}
-use Rattle.command.specs.declared.Command.the-variants.{First as FirstCommand}
+use Rattle.command.specs.declared.Command.the-variants.{Start as StartCommand, First as FirstCommand}
 use Rattle.state.specs.declared.Answer.{Answer}
 use Rattle.state.specs.declared.Answer.the-variants.{Refused, Given}
 use Rattle.state.specs.declared.Kind.{Kind}
@@ -41,11 +42,12 @@ use Rattle.demands.proofs.First.{first-answers}
 use Rattle.demands.proofs.Answers.{gives}
 use Rattle.demands.proofs.Sendable.{written-out}
 use Rattle.spelling.specs.Spelling.{Bytes}
-use Rattle.papers.specs.Papers.{setupOf, Accepted, walked, commandsOf, faulty}
+use Rattle.papers.specs.Papers.{restIn, setupOf, choiceOf, Accepted, walked, commandsOf, faulty, Chosen}
 use Rattle.papers.specs.Talk.{allAnswered, CutBehind, newest, cardAfter}
 use Rattle.papers.proofs.Setups.{good, begins}
 use Rattle.papers.proofs.Walk.{walk-cards}
 use Rattle.papers.proofs.Talk.{fresh, run-one, Cut, cut, NextSaid, next-said}
+use Rattle.papers.proofs.Starts.{Met, all-met, met-start}
 use Rattle.papers.proofs.Events.{happened-there}
 
 line-at : (n : ℕ) (before : List Exchange) (command : Command) (answer : Answer) (more : List Event)
@@ -170,6 +172,14 @@ module _ (words paper : List ℕ) (lent : length words ≡ 164) (bytes : Bytes p
     -- DEMAND 2: what a Start, a First and a Second give, the ATC that is said, the IAD that goes out
     pub paper-gives : Gives setup log command (record { state = then; answer = answer })
     paper-gives = at-turn (λ log card outcome. Gives setup log command outcome) (λ commands. gives setup accepted commands command)
+
+    -- a Start's profile is the one that its record names, or the one that the paper's file gives for the terminal's data in it
+    pub paper-chosen : (start : Start) → command ≡ StartCommand start → Chosen (choiceOf paper) start
+    unfolding walked
+    paper-chosen start is =
+        let whole = here .whole ∙ ap (λ (l : List Command). here .heard ++ l) (its .left-is) in
+        let met = all-met (choiceOf paper) (length paper) (restIn paper) (here .heard) command (its .behind) whole in
+        met-start (choiceOf paper) start (subst (Met (choiceOf paper)) is met)
 
     pub paper-first-answers : (first : First) (kind : Kind) (number : ℕ) (iad : Iad) → command ≡ FirstCommand first → answer ≡ Given kind number iad
         → FirstAnswers (inForce setup log) (placeBy setup log) first

@@ -1,4 +1,5 @@
 -- A paper by its bytes (document 01, "The paper"; docs/PAPERS.md): its set-up, its commands, and how it ends. It uses nothing of the readers.
+use mathlib.Core.Path.{_≡_}
 use mathlib.Core.Bool.{Bool, true, false, cond}
 use mathlib.Core.List.{List, [], _∷_}
 use Prim.Native.Nat.{ℕ, zero, suc, _+_, _-_, _*_}
@@ -7,6 +8,7 @@ use lib.ListN.{length, take, drop}
 use Rattle.wire.specs.Wire.{byte, number}
 use Rattle.selection.specs.declared.Selection.the-variants.{Selected}
 use Rattle.selection.specs.Selection.{selectionOf}
+use Rattle.command.specs.declared.Start.{Start}
 use Rattle.command.specs.declared.Command.{Command}
 use Rattle.command.specs.declared.Command.the-variants.{Start as StartCommand, First as FirstCommand, Second as SecondCommand}
 use Rattle.demands.specs.Setup.{Setup}
@@ -140,3 +142,8 @@ commandsOf paper = walked paper .commands
 
 abbrev pub faulty : (paper : List ℕ) → Bool
 faulty paper = walked paper .fault
+
+-- how a Start came to its profile: it names it, with no entry visited, or the file gives it for the terminal's data
+abbrev pub Chosen : Choice → Start → Type 0
+Chosen byName start = (profile : ℕ) × (start .chosen ≡ Selected profile 0)
+Chosen (byFile file entries) start = (terminal : List ℕ) × (start .chosen ≡ selectionOf file entries terminal)
