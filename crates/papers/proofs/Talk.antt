@@ -108,7 +108,8 @@ cut sitting (c ∷ cs) fault (x ∷ before) more e =
     let same-command : c ≡ x .command = cc in
     let same-answer : outcomeOf sitting c .answer ≡ x .answer = cc in
     let behind : happened (sitting .rules) (outcomeOf sitting c .state) cs ++ ending fault ≡ allAnswered before ++ more = cc in
-    cut-on sitting c cs fault x before more (λ i. record { command = same-command i; answer = same-answer i }) (cut (told sitting c) cs fault before more behind)
+    cut-on sitting c cs fault x before more (λ i. record { command = same-command i; answer = same-answer i })
+    (cut (told sitting c) cs fault before more behind)
 
 -- the command behind the cut
 pub record NextSaid (sitting : Sitting) (left : List Command) (c : Command) (answer : Answer) : Type 0 where

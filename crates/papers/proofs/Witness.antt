@@ -117,7 +117,8 @@ refused-there words lent = cut-behind words lent 7
 -- ---- the paper whose Starts bring the terminal's data
 
 pub brought-accepted : Accepted selection
-brought-accepted = accepted-if-taken selection W.brought-bytes 2 selectionBody (spellAll brought) W.brought-opens (selects (based 266) 268 279 1) W.brought-set-up
+brought-accepted =
+    accepted-if-taken selection W.brought-bytes 2 selectionBody (spellAll brought) W.brought-opens (selects (based 266) 268 279 1) W.brought-set-up
 
 pub brought-choice : choiceOf selection ≡ byFile file 1
 unfolding selection choiceOf number
