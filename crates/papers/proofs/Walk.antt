@@ -93,43 +93,6 @@ front-is (high ∷ low ∷ []) = by (high * 256 + low) refl where
   by (suc n) e = rw (next-broken (high ∷ low ∷ []) (cut-short high low [] refl (omega arith)))
 front-is (high ∷ low ∷ kind ∷ more) = by-size high low kind more (high * 256 + low) refl
 
--- ---- the walk ends: each record goes further, and as many steps as there are bytes say all there is to say
-
-no-front : {A : Type 0} (kind : ℕ) (body behind : List ℕ) → broken ≡ one kind body behind → A
-no-front kind body behind e = let z : _≡_ {A = ℕ} 0 1 = cc in absurd (omega arith)
-
-shorter : (s : List ℕ) (kind : ℕ) (body behind : List ℕ) → frontOf s ≡ one kind body behind → length behind < length s
-unfolding frontOf
-shorter [] kind body behind e = let z : _≡_ {A = ℕ} 0 1 = cc in absurd (omega arith)
-shorter (high ∷ []) kind body behind e = no-front kind body behind e
-shorter (high ∷ low ∷ []) kind body behind e = no-front kind body behind e
-shorter (high ∷ low ∷ k ∷ more) kind body behind e = by (high * 256 + low) e where
-  by-room : (n : ℕ) (short : Bool) → cond short broken (one k (take n more) (drop n more)) ≡ one kind body behind → length behind < 3 + length more
-  by-room n true e = no-front kind body behind e
-  by-room n false e = let same : drop n more ≡ behind = cc in omega (arith, length-drop n more, ap length same)
-
-  by : (size : ℕ) → frontBy size k more ≡ one kind body behind → length behind < suc (suc (suc (length more)))
-  by zero e = no-front kind body behind e
-  by (suc n) e = let l = by-room n (ltb (length more) n) e in omega arith
-
-module _ (choice : Choice) where
-  settled-by : (n m : ℕ) (s : List ℕ) → length s ≤ suc n → (front : Front) → frontOf s ≡ front
-      → ((behind : List ℕ) → length behind ≤ n → walk m choice behind ≡ walk n choice behind)
-      → walkBy choice front (walk m choice) ≡ walkBy choice front (walk n choice)
-  settled-by n m s l nothing e then = refl
-  settled-by n m s l broken e then = refl
-  settled-by n m s l (one kind body behind) e then =
-      let less = shorter s kind body behind e in
-      ap (goingOn (meant choice kind body)) (then behind (omega arith))
-
-  pub walk-settled : (n m : ℕ) (s : List ℕ) → length s ≤ n → n ≤ m → walk m choice s ≡ walk n choice s
-  unfolding walk frontOf
-  walk-settled zero zero s l k = refl
-  walk-settled zero (suc m) [] l k = refl
-  walk-settled zero (suc m) (b ∷ s) l k = absurd (omega arith)
-  walk-settled (suc n) zero s l k = absurd (omega arith)
-  walk-settled (suc n) (suc m) s l k = settled-by n m s l (frontOf s) refl (λ behind h. walk-settled n m behind h (omega arith))
-
 -- ---- the command in a record
 
 abbrev asRead : Meaning → ReadCommand
@@ -253,3 +216,40 @@ module _ (rules : Rules) (form : Shape) (s : List ℕ) (lies : Lies (form .selec
   walk-cards n [] state log at after e = refl
   walk-cards zero (c ∷ before) state log at after e = not-met c (before ++ after) e
   walk-cards (suc n) (c ∷ before) state log at after e = card-on n c before (walk-cards n before) state log at after e (turn state at)
+
+-- ---- the walk ends: each record goes further, and as many steps as there are bytes say all there is to say
+
+no-front : {A : Type 0} (kind : ℕ) (body behind : List ℕ) → broken ≡ one kind body behind → A
+no-front kind body behind e = let z : _≡_ {A = ℕ} 0 1 = cc in absurd (omega arith)
+
+shorter : (s : List ℕ) (kind : ℕ) (body behind : List ℕ) → frontOf s ≡ one kind body behind → length behind < length s
+unfolding frontOf
+shorter [] kind body behind e = let z : _≡_ {A = ℕ} 0 1 = cc in absurd (omega arith)
+shorter (high ∷ []) kind body behind e = no-front kind body behind e
+shorter (high ∷ low ∷ []) kind body behind e = no-front kind body behind e
+shorter (high ∷ low ∷ k ∷ more) kind body behind e = by (high * 256 + low) e where
+  by-room : (n : ℕ) (short : Bool) → cond short broken (one k (take n more) (drop n more)) ≡ one kind body behind → length behind < 3 + length more
+  by-room n true e = no-front kind body behind e
+  by-room n false e = let same : drop n more ≡ behind = cc in omega (arith, length-drop n more, ap length same)
+
+  by : (size : ℕ) → frontBy size k more ≡ one kind body behind → length behind < suc (suc (suc (length more)))
+  by zero e = no-front kind body behind e
+  by (suc n) e = let l = by-room n (ltb (length more) n) e in omega arith
+
+module _ (choice : Choice) where
+  settled-by : (n m : ℕ) (s : List ℕ) → length s ≤ suc n → (front : Front) → frontOf s ≡ front
+      → ((behind : List ℕ) → length behind ≤ n → walk m choice behind ≡ walk n choice behind)
+      → walkBy choice front (walk m choice) ≡ walkBy choice front (walk n choice)
+  settled-by n m s l nothing e then = refl
+  settled-by n m s l broken e then = refl
+  settled-by n m s l (one kind body behind) e then =
+      let less = shorter s kind body behind e in
+      ap (goingOn (meant choice kind body)) (then behind (omega arith))
+
+  pub walk-settled : (n m : ℕ) (s : List ℕ) → length s ≤ n → n ≤ m → walk m choice s ≡ walk n choice s
+  unfolding walk frontOf
+  walk-settled zero zero s l k = refl
+  walk-settled zero (suc m) [] l k = refl
+  walk-settled zero (suc m) (b ∷ s) l k = absurd (omega arith)
+  walk-settled (suc n) zero s l k = absurd (omega arith)
+  walk-settled (suc n) (suc m) s l k = settled-by n m s l (frontOf s) refl (λ behind h. walk-settled n m behind h (omega arith))
