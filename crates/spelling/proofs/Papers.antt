@@ -102,13 +102,13 @@ module _ (words s : List ℕ) (version : ℕ) (body rest : List ℕ) (o : Opens 
     abbrev base : List ℕ
     base = basePart shape body
 
-    lies-there : Lies (shapeAt 4 shape .selecting) s
+    pub lies-there : Lies (shapeAt 4 shape .selecting) s
     lies-there = by (shape .selecting) (inside body version shape (t .shape-is) .file) where
       by : (x : Selecting) → Sh.Lies x (length body) → Lies (selectingAt 4 x) s
       by Off i = tt
       by (On start end entries) i = (omega (arith, i .0), omega (arith, size, i .1))
 
-    chooses : choiceIn (shapeAt 4 shape .selecting) s ≡ choiceIn (shape .selecting) body
+    pub chooses : choiceIn (shapeAt 4 shape .selecting) s ≡ choiceIn (shape .selecting) body
     chooses = by (shape .selecting) (inside body version shape (t .shape-is) .file) where
       by : (x : Selecting) → Sh.Lies x (length body) → choiceIn (selectingAt 4 x) s ≡ choiceIn x body
       by Off i = refl
@@ -120,7 +120,7 @@ module _ (words s : List ℕ) (version : ℕ) (body rest : List ℕ) (o : Opens 
           rw file
 
     module _ (bytes : Bytes s) (lent : length words ≡ wordCount) where
-      rules-are : rulesOf (wordsAfter words base (shape .syllabus)) ≡ rulesFrom shape body
+      pub rules-are : rulesOf (wordsAfter words base (shape .syllabus)) ≡ rulesFrom shape body
       rules-are =
           let body-bytes : Bytes body = bytes-front body rest (subst Bytes behind-head (bytes-drop 4 s bytes)) in
           let base-bytes : Bytes base = bytes-take (shape .base) body body-bytes in
@@ -159,11 +159,11 @@ pub record One (event : Event) : Type 0 where
   pub is : event ≡ Refused refusal
   pub one : refusalNumber refusal ≡ 1
 
-refused-shape : (body : List ℕ) (place end : ℕ) (t : ReadShape) → shapeNumber t ≡ 1 → One (shapedBegun body place end t .event)
+pub refused-shape : (body : List ℕ) (place end : ℕ) (t : ReadShape) → shapeNumber t ≡ 1 → One (shapedBegun body place end t .event)
 refused-shape body place end (ShapeRefused refusal) e = record { refusal = refusal; is = refl; one = e }
 refused-shape body place end (Taken shape) e = absurd (omega arith)
 
-refused-base : (shape : Shape) (base : List ℕ) (end : ℕ) → setupNumber (readSetup base .answer) ≡ 1 → One (baseBegun shape base end .event)
+pub refused-base : (shape : Shape) (base : List ℕ) (end : ℕ) → setupNumber (readSetup base .answer) ≡ 1 → One (baseBegun shape base end .event)
 unfolding baseBegun
 refused-base shape base end e = by (readSetup base .answer) e where
   by : (a : SetupAnswer) → setupNumber a ≡ 1 → One (setUpEvent a)
