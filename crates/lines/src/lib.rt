@@ -101,7 +101,7 @@ fn put_done(room: &mut [u8], at: usize) -> usize
 }
 
 // Record number, refusal.
-fn put_refusal(room: &mut [u8], at: usize, number: u16, refusal: u8) -> usize
+pub fn put_refusal(room: &mut [u8], at: usize, number: u16, refusal: u8) -> usize
     ensures { λ r. ⌜ (r ≡ placeBehind (length (now (room .entry))) at (refusalLine number refusal)) × (now (room .exit) ≡ placed (now (room .entry)) at (refusalLine number refusal)) ⌝ }
 {
     if bytes_left(room.len(), at) < LONGEST {
