@@ -14,21 +14,14 @@ use Rattle.refusal.specs.declared.Refusal.{Refusal}
 use Rattle.refusal.specs.Refusal.{refusalNumber}
 use Rattle.rules.specs.Rules.{Rules, rulesOf}
 use Rattle.shape.specs.declared.Shape.{Shape}
-use Rattle.paper.specs.declared.Next.{Next}
-use Rattle.paper.specs.declared.Next.the-variants.{Record, Fault, End as PaperEnd}
-use Rattle.paper.specs.Paper.{nextAt}
-use Rattle.paper.specs.Walk.{part}
 use Rattle.command.specs.declared.Command.{Command}
-use Rattle.command.specs.declared.ReadCommand.{ReadCommand}
-use Rattle.command.specs.declared.ReadCommand.the-variants.{Taken as CommandTaken, Refused as NotTaken}
-use Rattle.command.specs.Command.{commandIn}
 use Rattle.state.specs.declared.Answer.{Answer}
 use Rattle.state.specs.declared.State.{State}
 use Rattle.conversation.specs.declared.Begun.{Begun}
 use Rattle.conversation.specs.declared.Taken.{Taken}
 use Rattle.conversation.specs.declared.Event.{Event}
 use Rattle.conversation.specs.declared.Event.the-variants.{SetUp, End, Refused, Answered}
-use Rattle.conversation.specs.Conversation.{answeredBy, nextTaken, takenOf, begunOf, wordsBegun}
+use Rattle.conversation.specs.Conversation.{takenOf, begunOf, wordsBegun}
 use Rattle.conversation.proofs.Events.{GoesOn, further}
 use Rattle.conversation.proofs.Event as E
 use Rattle.lines.specs.Lines.{longest, refusalLine, placed, placeBehind}
@@ -54,19 +47,6 @@ sets-on room (v ∷ a) b at =
     ap (λ (k : ℕ). sets (sets room at (v ∷ a)) k b) (add-suc at (length a) ∙ sym (suc-add at (length a))) ∙ sets-on (set room at v) a b (suc at)
 
 -- ---- the loop
-
--- no record is a set-up
-never-set-up : (rules : Rules) (shape : Shape) (state : State) (paper : List ℕ) (at : ℕ) → takenOf rules shape state paper at .event ≡ SetUp → ⊥
-unfolding takenOf answeredBy
-never-set-up rules shape state paper at = by (nextAt paper at) where
-  by-read : (end : ℕ) (read : ReadCommand) → answeredBy rules state end read .event ≡ SetUp → ⊥
-  by-read end (NotTaken refusal) e = let z : _≡_ {A = ℕ} 0 1 = cc in omega arith
-  by-read end (CommandTaken command) e = let z : _≡_ {A = ℕ} 0 1 = cc in omega arith
-
-  by : (next : Next) → nextTaken rules shape state paper at next .event ≡ SetUp → ⊥
-  by PaperEnd e = let z : _≡_ {A = ℕ} 0 1 = cc in omega arith
-  by Fault e = let z : _≡_ {A = ℕ} 0 1 = cc in omega arith
-  by (Record kind start end) e = by-read end (commandIn shape paper kind (part paper start end)) e
 
 pub record Going (rules : Rules) (shape : Shape) (paper whole : List ℕ) (before : List ℕ) (to : ℕ) (room : List ℕ) (state : State)
     (at end number : ℕ) : Type 0 where
@@ -115,7 +95,7 @@ module _ {rules : Rules} {shape : Shape} {paper whole before room : List ℕ} {t
   -- a record that is not answered has the last line, or none
   pub last-is : (event : Event) → at < length paper → taken .event ≡ event → OneOf (0 ∷ 1 ∷ 2 ∷ []) (tagOf E.the-type event)
       → restOf rules shape state paper at number ≡ lastLine number event
-  last-is SetUp h e n = absurd (never-set-up rules shape state paper at e)
+  last-is SetUp h e n = absurd (Steps.never-set-up rules shape state paper at e)
   last-is End h e n = Steps.none rules shape state paper at number h e
   last-is (Refused refusal) h e n = Steps.last rules shape state paper at number h refusal e
   last-is (Answered command answer) h e (inl z) = absurd (omega arith)

@@ -30,13 +30,16 @@ use Rattle.paper.specs.Paper.{latest, nextAt, setupIn, isUnreadable, openPaper}
 use Rattle.paper.specs.Walk.{part}
 use Rattle.paper.proofs.Walk.{inside}
 use Rattle.command.specs.declared.Command.{Command}
+use Rattle.command.specs.declared.ReadCommand.{ReadCommand}
+use Rattle.command.specs.declared.ReadCommand.the-variants.{Taken as CommandTaken, Refused as NotTaken}
+use Rattle.command.specs.Command.{commandIn}
 use Rattle.state.specs.declared.Answer.{Answer}
 use Rattle.state.specs.declared.State.{State}
 use Rattle.conversation.specs.declared.Begun.{Begun}
 use Rattle.conversation.specs.declared.Taken.{Taken}
 use Rattle.conversation.specs.declared.Event.{Event}
 use Rattle.conversation.specs.declared.Event.the-variants.{SetUp, End, Refused, Answered}
-use Rattle.conversation.specs.Conversation.{setUpEvent, baseBegun, shapedBegun, setupBegun, openedBegun, begunOf, takenOf, wordsBegun}
+use Rattle.conversation.specs.Conversation.{setUpEvent, baseBegun, shapedBegun, setupBegun, openedBegun, begunOf, answeredBy, nextTaken, takenOf, wordsBegun}
 use Rattle.conversation.specs.Events.{following, eventsFrom, eventsOf}
 use Rattle.conversation.proofs.Events.{GoesOn, further, settled}
 use Rattle.conversation.proofs.Event as E
@@ -45,6 +48,19 @@ use Rattle.lines.specs.Sitting.{answerLine, linesOf, sittingLines}
 use Rattle.transcript.specs.Transcript.{joined, transcriptOf, restOf}
 
 -- ---- a record
+
+-- no record is a set-up
+pub never-set-up : (rules : Rules) (shape : Shape) (state : State) (paper : List ℕ) (at : ℕ) → takenOf rules shape state paper at .event ≡ SetUp → ⊥
+unfolding takenOf answeredBy
+never-set-up rules shape state paper at = by (nextAt paper at) where
+  by-read : (end : ℕ) (read : ReadCommand) → answeredBy rules state end read .event ≡ SetUp → ⊥
+  by-read end (NotTaken refusal) e = let z : _≡_ {A = ℕ} 0 1 = cc in omega arith
+  by-read end (CommandTaken command) e = let z : _≡_ {A = ℕ} 0 1 = cc in omega arith
+
+  by : (next : Next) → nextTaken rules shape state paper at next .event ≡ SetUp → ⊥
+  by PaperEnd e = let z : _≡_ {A = ℕ} 0 1 = cc in omega arith
+  by Fault e = let z : _≡_ {A = ℕ} 0 1 = cc in omega arith
+  by (Record kind start end) e = by-read end (commandIn shape paper kind (part paper start end)) e
 
 module _ (rules : Rules) (shape : Shape) (state : State) (paper : List ℕ) (at number : ℕ) where
   abbrev taken : Taken
