@@ -8,7 +8,7 @@ use lib.Seq.{sets}
 use Rattle.conversation.specs.Conversation.{wordsBegun}
 use Rattle.transcript.specs.declared.Transcript.{Transcript}
 use Rattle.transcript.specs.declared.Transcript.the-variants.{Whole, NoRoom}
-use Rattle.transcript.specs.Transcript.{roomFor}
+use Rattle.transcript.specs.Transcript.{roomFor, hasRoom}
 use Rattle.pages.specs.declared.Turned.{Turned}
 use Rattle.pages.specs.declared.Wants.{Wants}
 use Rattle.pages.specs.declared.Wants.the-variants.{Turn, Input, Room}
@@ -25,6 +25,20 @@ longestPaper = 65536
 unfoldable pub owed : (skip : ℕ) (words stack : List ℕ) → List ℕ
 owed skip words stack =
     cond (eqb skip 0) (stackOf words stack) (cond (ltb (length stack) skip) cutShort (tooLong ++ stackOf words (drop skip stack)))
+
+-- a text in the room, and where it ends
+abbrev pub placedText : (room to : ℕ) (text : List ℕ) → Transcript
+placedText room to text = cond (leb (to + length text) room) (Whole (to + length text)) NoRoom
+
+abbrev pub textRoom : (room : List ℕ) (to : ℕ) (text : List ℕ) → List ℕ
+textRoom room to text = cond (leb (to + length text) (length room)) (sets room to text) room
+
+-- a page likewise, where its paper has the room that it is asked
+abbrev pub pagePut : (words paper : List ℕ) (room to : ℕ) → Transcript
+pagePut words paper room to = cond (hasRoom room to (length paper)) (Whole (to + length (pageOf words paper))) NoRoom
+
+abbrev pub pageRoom : (words paper room : List ℕ) (to : ℕ) → List ℕ
+pageRoom words paper room to = cond (hasRoom (length room) to (length paper)) (sets room to (pageOf words paper)) room
 
 -- a turn prints nothing, or it prints a page if the room that it asks is there
 pub data Deal : Type 0 where
@@ -72,10 +86,3 @@ wordsBy room to words (page taken asks text words′) = cond (leb (to + asks) ro
 -- the stack has ended with so many bytes at hand: nothing is begun, or it is cut short
 abbrev pub lastText : (left skip : ℕ) → List ℕ
 lastText left skip = cond (eqb left 0 && eqb skip 0) [] cutShort
-
--- a text in the room, and where it ends
-abbrev pub placedText : (room to : ℕ) (text : List ℕ) → Transcript
-placedText room to text = cond (leb (to + length text) room) (Whole (to + length text)) NoRoom
-
-abbrev pub textRoom : (room : List ℕ) (to : ℕ) (text : List ℕ) → List ℕ
-textRoom room to text = cond (leb (to + length text) (length room)) (sets room to text) room

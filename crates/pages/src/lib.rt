@@ -1,17 +1,12 @@
 // A stack of papers, each behind its 4-byte length, taken block by block from the bytes at hand.
 // The page of a paper is its lines and an empty one.
 ghost use mathlib.Core.Path.{_≡_};
-ghost use mathlib.Core.Bool.{cond};
 ghost use mathlib.Core.List.{[]};
 ghost use Prim.Native.Nat.{_+_, _≤_};
-ghost use lib.Dec.{leb};
 ghost use lib.ListN.{length};
 ghost use lib.Seq.{sets};
-ghost use Rattle.conversation.specs.Conversation.{wordsBegun};
-ghost use Rattle.transcript.specs.declared.Transcript.the-variants.{Whole, NoRoom};
-ghost use Rattle.transcript.specs.Transcript.{roomFor};
-ghost use Rattle.pages.specs.Stack.{pageOf};
-ghost use Rattle.pages.specs.Turn.{waiting, turnedOver, passing, dealOf, saidBy, roomBy, wordsBy, lastText, placedText, textRoom};
+ghost use Rattle.transcript.specs.Transcript.{wordsAfter};
+ghost use Rattle.pages.specs.Turn.{placedText, textRoom, pagePut, pageRoom, waiting, turnedOver, passing, dealOf, saidBy, roomBy, wordsBy, lastText};
 use rules::Words;
 use transcript::Transcript;
 
@@ -45,8 +40,13 @@ fn put_text(room: &mut [u8], at: usize, text: &[u8]) -> usize
 }
 
 // The same, or that there is no room for it.
-fn place_text(room: &mut [u8], at: usize, text: &[u8]) -> Transcript {
-    if (room.len() < at) | (room.len() - at < text.len()) {
+fn place_text(room: &mut [u8], at: usize, text: &[u8]) -> Transcript
+    ensures { λ r. ⌜ (r ≡ placedText (length (now (room .entry))) at (now (text .entry))) × (now (room .exit) ≡ textRoom (now (room .entry)) at (now (text .entry))) ⌝ }
+{
+    if room.len() < at {
+        return Transcript::NoRoom;
+    }
+    if room.len() - at < text.len() {
         return Transcript::NoRoom;
     }
     Transcript::Whole {
@@ -55,7 +55,9 @@ fn place_text(room: &mut [u8], at: usize, text: &[u8]) -> Transcript {
 }
 
 // The page of a paper.
-fn put_page(paper: &[u8], words: &mut Words, room: &mut [u8], at: usize) -> Transcript {
+fn put_page(paper: &[u8], words: &mut Words, room: &mut [u8], at: usize) -> Transcript
+    ensures { λ r. ⌜ (r ≡ pagePut (now (words .entry)) (now (paper .entry)) (length (now (room .entry))) at) × (now (room .exit) ≡ pageRoom (now (words .entry)) (now (paper .entry)) (now (room .entry)) at) × (now (words .exit) ≡ wordsAfter (now (words .entry)) (now (paper .entry)) (now (room .entry)) at) ⌝ }
+{
     let Transcript::Whole { end } = transcript::transcribe(paper, words, room, at) else {
         return Transcript::NoRoom;
     };
