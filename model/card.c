@@ -2,8 +2,6 @@
 #include <string.h>
 
 #include "card.h"
-#include "observe.h"
-#include "reached.h"
 
 /* "Conversion", its fraction by the syllabus. The largest product, MAX x 9,999
  * x 1,000, is below 2^64. */
@@ -13,10 +11,8 @@ static struct converted convert(const struct setup *setup, uint64_t amount,
     static const uint64_t ten_to[] = {1, 10, 100, 1000, 10000, 100000, 1000000,
                                       10000000, 100000000, 1000000000};
 
-    if (from == to) {
-        reached(CONVERT_SAME);
+    if (from == to)
         return (struct converted){CONVERTED, amount};
-    }
     for (unsigned i = 0; i < setup->conversions; i++) {
         const struct conversion *entry = &setup->conversion[i];
         if (entry->from != from || entry->to != to)
@@ -32,12 +28,10 @@ static struct converted convert(const struct setup *setup, uint64_t amount,
                 && product % divisor != 0)
                 result++;
         }
-        observe_conversion(setup, i, amount, result);
         if (result > AMOUNT_MAX)
             return (struct converted){OVER, 0};
         return (struct converted){CONVERTED, result};
     }
-    reached(CONVERT_NONE);
     return (struct converted){NO_ENTRY, 0};
 }
 
@@ -101,13 +95,7 @@ static uint32_t check_limits(const struct card *card)
             adr |= (uint32_t)COUNTER_UPPER << i;
     }
 
-    observe_checks(card);
     return adr;
-}
-
-static bool has(uint8_t switches, unsigned wanted)
-{
-    return (switches & wanted) == wanted;
 }
 
 static void count_one(uint8_t *counter)
@@ -122,10 +110,9 @@ static void approve_offline(struct card *card)
     const struct transaction *open = &card->open;
     const struct profile *profile = open->profile;
 
-    observe_approval(card);
     for (unsigned i = 0; i < ACCUMULATORS; i++) {
         const struct converted added = open->for_accumulator[i];
-        if (!has(profile->accumulator[i].switches, ACTIVE | ALLOW)
+        if (!counts_approvals(profile->accumulator[i].switches)
             || added.how == NO_ENTRY)
             continue;
         if (added.how == OVER
@@ -135,7 +122,7 @@ static void approve_offline(struct card *card)
             card->accumulator[i] += added.amount;
     }
     for (unsigned i = 0; i < COUNTERS; i++)
-        if (has(profile->counter[i].switches, ACTIVE | ALLOW))
+        if (counts_approvals(profile->counter[i].switches))
             count_one(&card->counter[i]);
 }
 
@@ -145,10 +132,8 @@ static void count_decline(struct card *card)
 {
     const struct profile *profile = card->open.profile;
 
-    observe_decline(card);
     for (unsigned i = 0; i < COUNTERS; i++)
-        if (has(profile->counter[i].switches,
-                ACTIVE | ALLOW | INCLUDE_DECLINES))
+        if (counts_declines(profile->counter[i].switches))
             count_one(&card->counter[i]);
 }
 
@@ -157,7 +142,6 @@ static void update_as_ordered(struct card *card, unsigned order)
 {
     const struct profile *profile = card->open.profile;
 
-    observe_order(card, order);
     switch (order) {
     case 0:
         break;
@@ -200,7 +184,6 @@ static void give(const struct card *card, unsigned type, struct answer *answer)
     const uint8_t *sent = profile->counter_sent;
     uint8_t *iad = answer->iad;
 
-    observe_sent(card);
     answer->cid = (uint8_t)(type << 6);
     memset(iad, 0, IAD_BYTES);
     iad[0] = 0x0F;
@@ -240,13 +223,13 @@ static void set_cvr(struct card *card, unsigned type)
         cvr[1] |= 0x01;
 
     cvr[2] = 0;
-    if (adr & 15 * COUNTER_LOWER)
+    if (adr & COUNTERS_LOWER)
         cvr[2] |= 0x80;
-    if (adr & 15 * COUNTER_UPPER)
+    if (adr & COUNTERS_UPPER)
         cvr[2] |= 0x40;
-    if (adr & 15 * ACCUMULATOR_LOWER)
+    if (adr & ACCUMULATORS_LOWER)
         cvr[2] |= 0x20;
-    if (adr & 15 * ACCUMULATOR_UPPER)
+    if (adr & ACCUMULATORS_UPPER)
         cvr[2] |= 0x10;
 
     cvr[3] = adr & GO_ONLINE_NEXT ? 0x02 : 0;
@@ -293,12 +276,10 @@ unsigned card_start(struct card *card, const struct start *start,
         number = start->data[0];
     } else if (!select_profile(&card->setup.selection, start, &number,
                                visits)) {
-        observe_unselected(card);
         return 12;
     }
     while (profile < end && profile->number != number)
         profile++;
-    observe_start(card, profile, number);
     if (profile == end)
         return 3;
     if (card->atc == ATC_MAX)
@@ -315,7 +296,6 @@ unsigned card_first(struct card *card, const struct first *first,
 {
     struct transaction *open = &card->open;
 
-    observe_first_refusal(card, first);
     if (card->due != FIRST_DUE)
         return 2;
     if (first->type > ARQC)
@@ -326,7 +306,6 @@ unsigned card_first(struct card *card, const struct first *first,
     convert_amount(card, first->amount, first->currency);
     open->adr = card->history | check_limits(card);
     const unsigned type = decide(open->profile, open->adr, first);
-    observe_first(card, first, type);
 
     set_cvr(card, type);
     switch (type) {
@@ -400,7 +379,6 @@ unsigned card_second(struct card *card, const struct second *second,
 {
     unsigned type;
 
-    observe_second_refusal(card, second);
     if (card->due != SECOND_DUE)
         return 2;
     if (second->type > TC)
@@ -408,8 +386,7 @@ unsigned card_second(struct card *card, const struct second *second,
     if (second->issuer_data > ISSUER_FAILED)
         return 6;
 
-    observe_second(card, second);
-    if (second->code == 0x5933 || second->code == 0x5A33)
+    if (is_unable(second->code))
         type = second_unable(card, second);
     else if (second->issuer_data == ISSUER_VERIFIED)
         type = second_verified(card, second);
@@ -420,7 +397,6 @@ unsigned card_second(struct card *card, const struct second *second,
 
     card->open.cvr[0] = (uint8_t)(type << 6 | (card->open.cvr[0] & 0x3F));
     card->due = NOTHING_DUE;
-    observe_second_answer(card, second, type);
     give(card, type, answer);
     return 0;
 }

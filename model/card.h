@@ -37,8 +37,15 @@ enum {
     COUNTER_LOWER = 1 << 14,
     COUNTER_UPPER = 1 << 18,
 
-    HISTORY_BITS = (1 << 5) - 1,
-    ADR_BITS = (1 << 22) - 1
+    ACCUMULATORS_LOWER = 15 * ACCUMULATOR_LOWER, /* all four */
+    ACCUMULATORS_UPPER = 15 * ACCUMULATOR_UPPER,
+    COUNTERS_LOWER = 15 * COUNTER_LOWER,
+    COUNTERS_UPPER = 15 * COUNTER_UPPER,
+
+    HISTORY = 5, /* how many bits */
+    DECISIONS = 22,
+    HISTORY_BITS = (1 << HISTORY) - 1,
+    ADR_BITS = (1 << DECISIONS) - 1
 };
 
 /* Switches of an accumulator or a counter in a profile. */
@@ -52,8 +59,14 @@ enum {
     COUNTER_SWITCHES = 15
 };
 
+/* Kinds of record. */
+enum { KIND_SETUP = 1, KIND_START = 2, KIND_FIRST = 3, KIND_SECOND = 4 };
+
 /* Type of a cryptogram, as requested and as given. */
 enum { AAC = 0, TC = 1, ARQC = 2 };
+
+/* Codes of a Second: the terminal could not reach the issuer. */
+enum { UNABLE_Y3 = 0x5933, UNABLE_Z3 = 0x5A33 };
 
 /* Issuer data of a Second. */
 enum { ISSUER_ABSENT = 0, ISSUER_VERIFIED = 1, ISSUER_FAILED = 2 };
@@ -164,6 +177,26 @@ struct answer {
 static inline bool is_currency(uint16_t code)
 {
     return code <= 0x0999 && (code & 0xF0) <= 0x90 && (code & 0x0F) <= 9;
+}
+
+static inline bool is_unable(uint16_t code)
+{
+    return code == UNABLE_Y3 || code == UNABLE_Z3;
+}
+
+static inline bool has_all(uint8_t switches, unsigned wanted)
+{
+    return (switches & wanted) == wanted;
+}
+
+static inline bool counts_approvals(uint8_t switches)
+{
+    return has_all(switches, ACTIVE | ALLOW);
+}
+
+static inline bool counts_declines(uint8_t switches)
+{
+    return has_all(switches, ACTIVE | ALLOW | INCLUDE_DECLINES);
 }
 
 /* Reads the set-up's body of a paper of a known version into a fresh card;

@@ -4,44 +4,26 @@
 #include <stdio.h>
 #include <string.h>
 
-#include "draft.h"
-#include "sitting.h"
-
-enum { EUR = 0x0978, USD = 0x0840 };
-enum { Y3 = 0x5933, Z3 = 0x5A33, OTHER = 0x3030 };
-enum { ABSENT = 0, VERIFIED = 1, FAILED = 2 };
+#include "answers.h"
+#include "script.h"
 
 /* An IAD of key 01 and profile 1: CVR, accumulator, counters. */
 #define IAD(cvr, accumulator, counters)                                        \
     "0FA501" cvr accumulator counters "0F01" ZEROS "\n"
 #define ZEROS "0000000000000000000000000000"
 
-static struct draft draft;
-static struct draft_setup setup;
 static struct draft_profile *const profile = &setup.profile[0];
-static struct sitting sitting;
+static char lines[1 << 18];
 static unsigned cases, wrong;
 
 static void expect(const char *name, const char *expected)
 {
-    static char lines[1 << 16];
-    size_t used = 0;
-
-    sitting_open(&sitting, draft.bytes, draft.length);
-    for (size_t n; (n = sitting_line(&sitting, lines + used)) > 0;)
-        used += n;
-    lines[used] = '\0';
+    answers(draft->bytes, draft->length, lines);
     cases++;
     if (strcmp(lines, expected) != 0) {
         wrong++;
         printf("%s: expected\n%sbut got\n%s\n", name, expected, lines);
     }
-}
-
-static void begin(void)
-{
-    draft_begin(&draft);
-    draft_setup(&draft, &setup);
 }
 
 static void printed(void)
@@ -58,36 +40,12 @@ static void lenient(void)
     profile->by_default = 0;
 }
 
-static void start(void)
-{
-    draft_start(&draft, 1);
-}
-
-static void first(uint8_t type, uint64_t amount)
-{
-    draft_first(&draft, type, amount, EUR, 0x22);
-}
-
-static void second(uint8_t type, uint16_t code, uint8_t data, unsigned status)
-{
-    draft_second(&draft, type, code, data, (uint32_t)status << 16);
-}
-
 static void sitting_in_full(void)
 {
-    printed();
-    begin();
-    start();
-    first(1, 5000);
-    start();
-    first(1, 1);
-    second(1, Y3, ABSENT, 0);
-    start();
-    first(1, 5000);
-    second(1, Y3, ABSENT, 0);
-    if (draft.length != 242) {
+    printed_sitting();
+    if (draft->length != 242) {
         wrong++;
-        printf("the printed paper has %zu bytes\n", draft.length);
+        printf("the printed paper has %zu bytes\n", draft->length);
     }
     expect("printed",
            "0 0\n"
@@ -133,8 +91,8 @@ static void conversion(const char *name, uint64_t amount, uint16_t digits,
 
     at_rate(digits, shift);
     begin();
-    start();
-    draft_first(&draft, 1, amount, USD, 0x22);
+    start(1);
+    first_in(TC, amount, USD);
     snprintf(lines, sizeof lines,
              "0 0\n1 0 1\n2 0 40 1 0FA5019030000000%s01000F01" ZEROS "\n",
              expected);
@@ -147,8 +105,8 @@ static void conversion_over(const char *name, uint64_t amount, uint16_t digits,
 {
     at_rate(digits, shift);
     begin();
-    start();
-    draft_first(&draft, 1, amount, USD, 0x22);
+    start(1);
+    first_in(TC, amount, USD);
     expect(name, "0 0\n1 0 1\n2 0 40 1 "
                  IAD("9030300000", "999999999999", "0100"));
 }
@@ -157,13 +115,13 @@ static void edges(void)
 {
     printed();
     begin();
-    start();
-    first(1, 5000);
+    start(1);
+    first(TC, 5000);
     expect("a and l", "0 0\n1 0 1\n2 0 40 1 "
                       IAD("9030000000", "000000005000", "0100"));
     begin();
-    start();
-    first(1, 5001);
+    start(1);
+    first(TC, 5001);
     expect("b", "0 0\n1 0 1\n2 0 80 1 "
                 IAD("A030200000", "000000000000", "0000"));
 
@@ -174,8 +132,8 @@ static void edges(void)
     printed();
     setup.counter[0] = 255;
     begin();
-    start();
-    first(1, 1);
+    start(1);
+    first(TC, 1);
     expect("f", "0 0\n1 0 1\n2 0 40 1 "
                 IAD("9030000000", "000000000001", "FF00"));
 
@@ -185,34 +143,34 @@ static void edges(void)
     profile->accumulator[0].lower = MOST;
     profile->accumulator[0].upper = MOST;
     begin();
-    start();
-    first(1, 1);
+    start(1);
+    first(TC, 1);
     expect("g", "0 0\n1 0 1\n2 0 40 1 "
                 IAD("9030000000", "999999999999", "0100"));
     profile->accumulator[0].switches = 7;
     begin();
-    start();
-    first(1, 1);
+    start(1);
+    first(TC, 1);
     expect("h", "0 0\n1 0 1\n2 0 00 1 "
                 IAD("8030300000", "999999999999", "0000"));
 
     printed();
     begin();
-    start();
-    first(1, 10001);
+    start(1);
+    first(TC, 10001);
     expect("i", "0 0\n1 0 1\n2 0 00 1 "
                 IAD("8030300000", "000000000000", "0000"));
 
     lenient();
-    profile->by_default = 1024;
+    profile->by_default = UPPER_1;
     begin();
-    start();
-    draft_first(&draft, 1, 10001, EUR, 0x23);
+    start(1);
+    first_offline(TC, 10001);
     expect("j", "0 0\n1 0 1\n2 0 00 1 "
                 IAD("8030300000", "000000000000", "0000"));
     begin();
-    start();
-    draft_first(&draft, 1, 10001, EUR, 0x22);
+    start(1);
+    first(TC, 10001);
     expect("k", "0 0\n1 0 1\n2 0 40 1 "
                 IAD("9030300000", "000000010001", "0100"));
 }
@@ -278,10 +236,10 @@ static void roundings(void)
         profile->mta_on = 1;
         profile->mta_currency = EUR;
         profile->mta = 15233;
-        profile->decline = 32;
+        profile->decline = MTA_EXCEEDED;
         begin();
-        start();
-        draft_first(&draft, 1, 12345, USD, 0x22);
+        start(1);
+        first_in(TC, 12345, USD);
         if (syllabus)
             expect("rounded above the MTA",
                    "0 0\n1 0 1\n2 0 00 1 "
@@ -299,22 +257,22 @@ static void history(void)
 {
     lenient();
     begin();
-    start();
-    first(2, 7);
-    second(1, OTHER, FAILED, 0x83);
-    start();
-    first(1, 7);
-    start();
-    first(2, 7);
-    second(1, OTHER, ABSENT, 0x83);
-    start();
-    first(2, 7);
-    second(1, OTHER, VERIFIED, 0x8B);
-    start();
-    first(0, 7);
-    start();
-    first(2, 0);
-    second(0, Z3, VERIFIED, 0x83);
+    start(1);
+    first(ARQC, 7);
+    second(TC, OTHER, FAILED, 0x83);
+    start(1);
+    first(TC, 7);
+    start(1);
+    first(ARQC, 7);
+    second(TC, OTHER, ABSENT, 0x83);
+    start(1);
+    first(ARQC, 7);
+    second(TC, OTHER, VERIFIED, 0x8B);
+    start(1);
+    first(AAC, 7);
+    start(1);
+    first(ARQC, 0);
+    second(AAC, Z3, VERIFIED, 0x83);
     expect("history",
            "0 0\n"
            "1 0 1\n"
@@ -337,11 +295,11 @@ static void history(void)
     lenient(); /* required: AAC, and the last online stays not completed */
     setup.required = 1;
     begin();
-    start();
-    first(2, 7);
-    second(1, OTHER, ABSENT, 0);
-    start();
-    first(0, 7);
+    start(1);
+    first(ARQC, 7);
+    second(TC, OTHER, ABSENT, 0);
+    start(1);
+    first(AAC, 7);
     expect("absent, required",
            "0 0\n"
            "1 0 1\n"
@@ -359,18 +317,18 @@ static void orders(void)
     setup.counter[1] = 9;
     profile->counter_sent[1] = 2;
     begin();
-    start();
-    first(2, 7);
-    second(1, OTHER, VERIFIED, 0x01);
-    start();
-    first(2, 7);
-    second(0, OTHER, VERIFIED, 0x82);
-    start();
-    first(2, 7);
-    second(1, OTHER, VERIFIED, 0x03);
-    start();
-    first(2, 7);
-    second(1, OTHER, VERIFIED, 0x80);
+    start(1);
+    first(ARQC, 7);
+    second(TC, OTHER, VERIFIED, 0x01);
+    start(1);
+    first(ARQC, 7);
+    second(AAC, OTHER, VERIFIED, 0x82);
+    start(1);
+    first(ARQC, 7);
+    second(TC, OTHER, VERIFIED, 0x03);
+    start(1);
+    first(ARQC, 7);
+    second(TC, OTHER, VERIFIED, 0x80);
     expect("orders",
            "0 0\n"
            "1 0 1\n"
@@ -392,14 +350,14 @@ static void orders(void)
 static void unable(void)
 {
     lenient();
-    profile->by_default = 8;
+    profile->by_default = UNABLE;
     profile->counter[0].switches = 11;
     begin();
-    start();
-    first(2, 7);
-    second(1, Y3, VERIFIED, 0x80);
-    start();
-    draft_first(&draft, 1, 7, EUR, 0x36);
+    start(1);
+    first(ARQC, 7);
+    second(TC, Y3, VERIFIED, 0x80);
+    start(1);
+    draft_first(draft, 1, 7, EUR, 0x36);
     expect("unable, Default has bit 3",
            "0 0\n"
            "1 0 1\n"
@@ -411,12 +369,12 @@ static void unable(void)
     profile->by_default = 0;
     profile->counter[0].switches = 9; /* not allowed */
     begin();
-    start();
-    first(2, 7);
-    second(0, Y3, ABSENT, 0);
-    start();
-    first(2, 7);
-    second(1, Z3, FAILED, 0);
+    start(1);
+    first(ARQC, 7);
+    second(AAC, Y3, ABSENT, 0);
+    start(1);
+    first(ARQC, 7);
+    second(TC, Z3, FAILED, 0);
     expect("unable, counting not allowed",
            "0 0\n"
            "1 0 1\n"
@@ -438,11 +396,11 @@ static void declined(uint8_t switches, uint8_t value, uint8_t expected)
         setup.counter[0] = value;
         setup.go_online = 1;
         profile->counter[0].switches = switches;
-        profile->decline = i == 1 ? 2 : 0;
-        profile->by_default = i == 2 ? 2 : 0;
+        profile->decline = i == 1 ? GO_ONLINE : 0;
+        profile->by_default = i == 2 ? GO_ONLINE : 0;
         begin();
-        start();
-        draft_first(&draft, i > 0, 7, EUR, i == 2 ? 0x23 : 0x22);
+        start(1);
+        draft_first(draft, i > 0, 7, EUR, i == 2 ? 0x23 : 0x22);
         snprintf(lines, sizeof lines,
                  "0 0\n1 0 1\n2 0 00 1 "
                  "0FA5018030000200000000000000%02X000F01" ZEROS "\n",
@@ -468,10 +426,10 @@ static void declines(void)
     profile->counter[0].switches = 11;
     profile->counter[0].lower = 4;
     begin();
-    start();
-    first(0, 7);
-    start();
-    first(0, 7);
+    start(1);
+    first(AAC, 7);
+    start(1);
+    first(AAC, 7);
     expect("declines and a limit",
            "0 0\n"
            "1 0 1\n"
@@ -482,15 +440,15 @@ static void declines(void)
     lenient(); /* an AAC after going online is no offline decline */
     profile->counter[0].switches = 15;
     begin();
-    start();
-    first(2, 7);
-    second(1, OTHER, FAILED, 0);
-    start();
-    first(2, 7);
-    second(0, OTHER, ABSENT, 0);
-    start();
-    first(2, 7);
-    second(0, OTHER, VERIFIED, 0x80);
+    start(1);
+    first(ARQC, 7);
+    second(TC, OTHER, FAILED, 0);
+    start(1);
+    first(ARQC, 7);
+    second(AAC, OTHER, ABSENT, 0);
+    start(1);
+    first(ARQC, 7);
+    second(AAC, OTHER, VERIFIED, 0x80);
     expect("declined online",
            "0 0\n"
            "1 0 1\n"
@@ -508,40 +466,40 @@ static void declines(void)
 static void unconverted(void)
 {
     lenient();
-    profile->decline = 1024 | 32;
+    profile->decline = UPPER_1 | MTA_EXCEEDED;
     profile->mta_on = 1;
     profile->mta_currency = EUR;
     setup.accumulator[0].value = 10000;
     begin();
-    start();
-    draft_first(&draft, 1, MOST, USD, 0x22);
+    start(1);
+    first_in(TC, MOST, USD);
     expect("no conversion, value at the limit",
            "0 0\n1 0 1\n2 0 40 1 "
            IAD("9030200000", "000000010000", "0100"));
     setup.accumulator[0].value = 10001;
     begin();
-    start();
-    draft_first(&draft, 1, 0, USD, 0x22);
+    start(1);
+    first_in(TC, 0, USD);
     expect("no conversion, value above it",
            "0 0\n1 0 1\n2 0 00 1 "
            IAD("8030300000", "000000010001", "0000"));
     profile->accumulator[0].switches = 6;
     begin();
-    start();
-    draft_first(&draft, 1, 0, USD, 0x22);
+    start(1);
+    first_in(TC, 0, USD);
     expect("inactive",
            "0 0\n1 0 1\n2 0 40 1 "
            IAD("9030000000", "000000010001", "0100"));
     begin();
-    start();
-    first(1, 1);
+    start(1);
+    first(TC, 1);
     expect("MTA exceeded",
            "0 0\n1 0 1\n2 0 00 1 "
            IAD("8030000000", "000000010001", "0000"));
     profile->mta = 1;
     begin();
-    start();
-    first(1, 1);
+    start(1);
+    first(TC, 1);
     expect("MTA met",
            "0 0\n1 0 1\n2 0 40 1 "
            IAD("9030000000", "000000010001", "0100"));
@@ -554,13 +512,13 @@ static void over(void)
     profile->mta_on = 1;
     profile->mta_currency = EUR;
     profile->mta = MOST;
-    profile->decline = 32;
+    profile->decline = MTA_EXCEEDED;
     profile->accumulator[0].switches = 0;
     begin();
-    start();
-    draft_first(&draft, 1, 1000000000, USD, 0x22);
-    start();
-    draft_first(&draft, 1, 999999999, USD, 0x22);
+    start(1);
+    first_in(TC, 1000000000, USD);
+    start(1);
+    first_in(TC, 999999999, USD);
     expect("over, MTA at MAX",
            "0 0\n"
            "1 0 1\n"
@@ -572,10 +530,10 @@ static void over(void)
     profile->accumulator[0].switches = 3;
     profile->accumulator[0].lower = 0;
     begin();
-    start();
-    draft_first(&draft, 1, 1000000000, USD, 0x22);
-    start();
-    draft_first(&draft, 1, 1000000000, USD, 0x22);
+    start(1);
+    first_in(TC, 1000000000, USD);
+    start(1);
+    first_in(TC, 1000000000, USD);
     expect("over, not included",
            "0 0\n"
            "1 0 1\n"
@@ -585,13 +543,13 @@ static void over(void)
 
     at_rate(1, 3); /* not allowed: tested, and kept */
     profile->accumulator[0].switches = 5;
-    profile->decline = 1024;
+    profile->decline = UPPER_1;
     setup.accumulator[0].value = 5;
     begin();
-    start();
-    draft_first(&draft, 1, 1000000000, USD, 0x22);
-    start();
-    draft_first(&draft, 1, 999999999, USD, 0x22);
+    start(1);
+    first_in(TC, 1000000000, USD);
+    start(1);
+    first_in(TC, 999999999, USD);
     expect("over, not allowed",
            "0 0\n"
            "1 0 1\n"
@@ -602,9 +560,9 @@ static void over(void)
     at_rate(1, 3); /* by the issuer's order */
     profile->accumulator[0].upper = 7;
     begin();
-    start();
-    draft_first(&draft, 2, 1000000000, USD, 0x22);
-    second(0, OTHER, VERIFIED, 0x03);
+    start(1);
+    first_in(ARQC, 1000000000, USD);
+    second(AAC, OTHER, VERIFIED, 0x03);
     expect("over, added by order",
            "0 0\n"
            "1 0 1\n"
@@ -620,16 +578,16 @@ static void counters(void)
     setup.counter[0] = 255;
     profile->counter[0].switches = 5;
     begin();
-    start();
-    first(1, 1);
+    start(1);
+    first(TC, 1);
     expect("counter at 255, included",
            "0 0\n1 0 1\n2 0 40 1 "
            IAD("9002C00000", "000000000001", "FF00"));
     profile->counter[0].switches = 3;
     profile->counter[0].lower = 254;
     begin();
-    start();
-    first(1, 1);
+    start(1);
+    first(TC, 1);
     expect("counter above lower",
            "0 0\n1 0 1\n2 0 40 1 "
            IAD("9002800000", "000000000001", "FF00"));
@@ -685,8 +643,8 @@ static void select_case(const char *data, unsigned refusal, unsigned number,
     char lines[200];
 
     begin();
-    draft_data(&draft, bytes.at, bytes.length);
-    first(1, 7);
+    draft_data(draft, bytes.at, bytes.length);
+    first(TC, 7);
     if (refusal > 0)
         snprintf(lines, sizeof lines, "0 0\n1 %u\n2 2\n", refusal);
     else
@@ -781,16 +739,16 @@ static void selection(void)
     profile->number = 3;
     setup.atc = 65533;
     begin();
-    draft_data(&draft, (const uint8_t[]){0x0F, 1, 2}, 3);
-    draft_data(&draft, NULL, 0);
-    first(2, 7);
-    draft_data(&draft, NULL, 0);
-    draft_start(&draft, 0x10);
-    second(1, OTHER, VERIFIED, 0x83);
-    draft_start(&draft, 0x0F);
-    draft_start(&draft, 0x0F);
-    draft_start(&draft, 0x10);
-    draft_data(&draft, NULL, 0);
+    draft_data(draft, (const uint8_t[]){0x0F, 1, 2}, 3);
+    draft_data(draft, NULL, 0);
+    first(ARQC, 7);
+    draft_data(draft, NULL, 0);
+    start(0x10);
+    second(TC, OTHER, VERIFIED, 0x83);
+    start(0x0F);
+    start(0x0F);
+    start(0x10);
+    draft_data(draft, NULL, 0);
     expect("12, 3, 4",
            "0 0\n"
            "1 0 65534 1\n"
@@ -819,10 +777,10 @@ static void tail_case(uint8_t version, const char *tail, const char *more,
     length += bytes.length;
     memcpy(body + length, last.at, last.length);
     length += last.length;
-    draft_begin(&draft);
-    draft_record(&draft, 1, body, length);
-    draft.bytes[0] = version;
-    start();
+    draft_begin(draft);
+    draft_record(draft, KIND_SETUP, body, length);
+    draft->bytes[0] = version;
+    start(1);
     expect(tail, lines);
 }
 
@@ -868,24 +826,24 @@ static void refusals(void)
     printed();
     setup.atc = 65534;
     begin();
-    first(1, 1);
-    second(1, Y3, ABSENT, 0);
-    draft_start(&draft, 2);
-    start();
-    second(1, Y3, ABSENT, 0);
-    start();
-    draft_start(&draft, 0);
+    first(TC, 1);
+    second(TC, Y3, ABSENT, 0);
+    start(2);
+    start(1);
+    second(TC, Y3, ABSENT, 0);
+    start(1);
+    start(0);
     first(3, MOST + 1);
-    first(1, MOST + 1);
-    draft_first(&draft, 1, 1, 0x097A, 0x22);
-    draft_first(&draft, 1, 1, 0x1978, 0x22);
-    first(2, 1);
+    first(TC, MOST + 1);
+    first_in(TC, 1, 0x097A);
+    first_in(TC, 1, 0x1978);
+    first(ARQC, 1);
     first(9, MOST + 1);
-    second(2, Y3, 3, 0);
-    second(1, Y3, 3, 0);
-    start();
-    second(1, OTHER, VERIFIED, 0x83);
-    second(1, OTHER, VERIFIED, 0x83);
+    second(ARQC, Y3, 3, 0);
+    second(TC, Y3, 3, 0);
+    start(1);
+    second(TC, OTHER, VERIFIED, 0x83);
+    second(TC, OTHER, VERIFIED, 0x83);
     expect("refusals",
            "0 0\n"
            "1 2\n"
@@ -909,13 +867,13 @@ static void refusals(void)
 
     setup.atc = 0;
     begin();
-    start();
-    start();
-    first(2, 1);
-    start();
-    second(1, OTHER, VERIFIED, 0x80);
-    first(0, 0);
-    first(0, 0);
+    start(1);
+    start(1);
+    first(ARQC, 1);
+    start(1);
+    second(TC, OTHER, VERIFIED, 0x80);
+    first(AAC, 0);
+    first(AAC, 0);
     expect("Start drops",
            "0 0\n"
            "1 0 1\n"
@@ -930,75 +888,74 @@ static void refusals(void)
 static void papers(void)
 {
     printed();
-    draft.length = 0;
+    draft->length = 0;
     expect("empty", "0 9\n");
-    draft_begin(&draft);
+    draft_begin(draft);
     expect("bare", "0 9\n");
-    draft_start(&draft, 1);
+    start(1);
     expect("no set-up", "0 9\n");
     begin();
     expect("a set-up alone", "0 0\n");
-    draft.bytes[0] = 0;
+    draft->bytes[0] = 0;
     expect("version 00", "0 9\n");
-    draft.bytes[0] = 2;
+    draft->bytes[0] = 2;
     expect("version 02 without a tail", "0 1\n");
-    draft.bytes[0] = 3;
+    draft->bytes[0] = 3;
     expect("version 03 without a tail", "0 1\n");
-    draft.bytes[0] = 4;
+    draft->bytes[0] = 4;
     expect("version 04", "0 9\n");
     begin();
-    draft.length--;
+    draft->length--;
     expect("set-up cut short", "0 9\n");
     begin();
-    draft.bytes[2]--;
+    draft->bytes[2]--;
     expect("set-up a byte short", "0 1\n");
     setup.pin = 16;
     begin();
-    start();
+    start(1);
     expect("set-up out of range", "0 1\n");
     setup.pin = 15;
     begin();
-    start();
-    draft_insert(&draft, draft.length, (const uint8_t[]){0}, 1);
+    start(1);
+    draft_insert(draft, draft->length, (const uint8_t[]){0}, 1);
     expect("one byte more", "0 0\n1 0 1\n2 9\n");
     begin();
-    draft_record(&draft, 2, (const uint8_t[]){1, 1}, 2);
-    start();
+    draft_record(draft, 2, (const uint8_t[]){1, 1}, 2);
+    start(1);
     expect("Start too long", "0 0\n1 9\n");
     setup.version = 2;
     begin();
-    start();
-    draft_data(&draft, NULL, 0);
-    start();
+    start(1);
+    draft_data(draft, NULL, 0);
+    start(1);
     expect("Start too short, selection off", "0 0\n1 0 1\n2 9\n");
     setup.version = 1;
     begin();
-    start();
-    draft_setup(&draft, &setup);
-    start();
+    start(1);
+    draft_setup(draft, &setup);
+    start(1);
     expect("set-up again", "0 0\n1 0 1\n2 9\n");
     begin();
-    draft_insert(&draft, draft.length, (const uint8_t[]){0, 0}, 2);
-    start();
+    draft_insert(draft, draft->length, (const uint8_t[]){0, 0}, 2);
+    start(1);
     expect("length 0", "0 0\n1 9\n");
 
     begin(); /* Starts of profile 0 to the full length, then one byte more */
-    while (draft.length + 4 <= PAPER_MAX)
-        draft_start(&draft, 0);
-    const size_t starts = draft.records - 1;
-    draft.bytes[draft.length] = 0;
-    draft.length = PAPER_MAX;
-    sitting_open(&sitting, draft.bytes, draft.length);
-    char line[LINE_MAX_BYTES + 1] = "", end[LINE_MAX_BYTES];
-    for (size_t n; (n = sitting_line(&sitting, line)) > 0;)
-        line[n] = '\0';
-    snprintf(end, sizeof end, "%zu 9\n", starts + 1);
+    while (draft->length + 4 <= PAPER)
+        start(0);
+    const size_t starts = draft->records - 1;
+    draft->bytes[draft->length] = 0;
+    draft->length = PAPER;
+    answers(draft->bytes, draft->length, lines);
+    char end[32];
+    const int length = snprintf(end, sizeof end, "\n%zu 9\n", starts + 1);
+    const char *last = lines + strlen(lines) - length;
     cases++;
-    if (strcmp(line, end) != 0) {
+    if (strcmp(last, end) != 0) {
         wrong++;
-        printf("a full paper ends in %s", line);
+        printf("a full paper ends in %s", last);
     }
-    draft.length = PAPER_MAX + 1;
+    draft->length = PAPER + 1;
     expect("over 65,536 bytes", "0 9\n");
 }
 

@@ -184,7 +184,7 @@ void fill_up(struct draft *draft, size_t length)
     while ((length - draft->length) % 15 != 0)
         draft_start(draft, 0);
     while (draft->length < length)
-        draft_first(draft, 1, 1, 0x0978, 0x22);
+        draft_first(draft, TC, 1, EUR, ONLINE_TERMINAL);
 }
 
 /* About as long as a paper may be: just so, or over. */
@@ -192,7 +192,7 @@ static void damage_size(struct chance *chance, struct draft *draft)
 {
     const size_t more = below(chance, 3);
 
-    fill_up(draft, 65536 + (more == 1));
+    fill_up(draft, PAPER + (more == 1));
     if (more == 2) {
         const size_t count = 1 + below(chance, 40000);
         memset(draft->bytes + draft->length, 0, count);

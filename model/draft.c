@@ -112,18 +112,18 @@ void draft_setup(struct draft *draft, const struct draft_setup *setup)
     uint8_t body[SETUP_ROOM];
     const size_t length = draft_setup_body(setup, body);
 
-    draft_record(draft, 1, body, length);
+    draft_record(draft, KIND_SETUP, body, length);
     draft->bytes[0] = setup->version;
 }
 
 void draft_start(struct draft *draft, uint8_t profile)
 {
-    draft_record(draft, 2, &profile, 1);
+    draft_record(draft, KIND_START, &profile, 1);
 }
 
 void draft_data(struct draft *draft, const uint8_t *data, size_t length)
 {
-    draft_record(draft, 2, data, length);
+    draft_record(draft, KIND_START, data, length);
 }
 
 void draft_first(struct draft *draft, uint8_t type, uint64_t amount,
@@ -135,7 +135,7 @@ void draft_first(struct draft *draft, uint8_t type, uint64_t amount,
     put64(body + 1, amount);
     put16(body + 9, currency);
     body[11] = terminal;
-    draft_record(draft, 3, body, sizeof body);
+    draft_record(draft, KIND_FIRST, body, sizeof body);
 }
 
 void draft_second(struct draft *draft, uint8_t type, uint16_t code,
@@ -147,7 +147,7 @@ void draft_second(struct draft *draft, uint8_t type, uint16_t code,
     put16(body + 1, code);
     body[3] = issuer_data;
     put32(body + 4, csu);
-    draft_record(draft, 4, body, sizeof body);
+    draft_record(draft, KIND_SECOND, body, sizeof body);
 }
 
 void draft_insert(struct draft *draft, size_t place, const uint8_t *bytes,
@@ -176,11 +176,11 @@ void draft_printed_setup(struct draft_setup *setup)
     setup->key = 1;
     setup->pin = 3;
     setup->profiles = 1;
-    setup->accumulator[0].currency = 0x0978;
+    setup->accumulator[0].currency = EUR;
     profile->number = 1;
-    profile->online = 64;
-    profile->decline = 1024;
-    profile->by_default = 1024;
+    profile->online = LOWER_1;
+    profile->decline = UPPER_1;
+    profile->by_default = UPPER_1;
     profile->accumulator[0].switches = 7;
     profile->accumulator[0].lower = 5000;
     profile->accumulator[0].upper = 10000;

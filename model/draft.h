@@ -10,6 +10,27 @@
 
 #define MOST UINT64_C(999999999999)
 
+enum { PAPER = 65536 };
+
+enum { KIND_SETUP = 1, KIND_START = 2, KIND_FIRST = 3, KIND_SECOND = 4 };
+enum { AAC = 0, TC = 1, ARQC = 2 };
+enum { EUR = 0x0978, USD = 0x0840 };
+enum { ONLINE_TERMINAL = 0x22, OFFLINE_TERMINAL = 0x23 };
+enum { Y3 = 0x5933, Z3 = 0x5A33, OTHER = 0x3030 };
+enum { ABSENT = 0, VERIFIED = 1, FAILED = 2 };
+
+/* Bits of a mask: those that are asked for by name. */
+enum {
+    GO_ONLINE = 1 << 1,
+    UNABLE = 1 << 3,
+    MTA_EXCEEDED = 1 << 5,
+    LOWER_1 = 1 << 6, /* of accumulator 1 */
+    UPPER_1 = 1 << 10,
+
+    BITS = 22,
+    ALL_BITS = (1 << BITS) - 1
+};
+
 enum {
     DRAFT_BYTES = 1 << 17,
     DRAFT_RECORDS = 1 << 15,

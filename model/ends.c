@@ -5,38 +5,18 @@
 #include <string.h>
 
 #include "bytes.h"
-#include "draft.h"
+#include "script.h"
 
-enum { TC = 1, EUR = 0x0978, TERMINAL = 0x22, Y3 = 0x5933 };
-enum { TOO_LONG = 65537, FAR_TOO_LONG = 0x2FFFF };
+enum { TOO_LONG = PAPER + 1, FAR_TOO_LONG = 0x2FFFF };
 
-static struct draft draft;
-static struct draft_setup setup;
-
-/* Document 01's sitting. */
-static void printed(void)
-{
-    draft_printed_setup(&setup);
-    draft_begin(&draft);
-    draft_setup(&draft, &setup);
-    draft_start(&draft, 1);
-    draft_first(&draft, TC, 5000, EUR, TERMINAL);
-    draft_start(&draft, 1);
-    draft_first(&draft, TC, 1, EUR, TERMINAL);
-    draft_second(&draft, TC, Y3, 0, 0);
-    draft_start(&draft, 1);
-    draft_first(&draft, TC, 5000, EUR, TERMINAL);
-    draft_second(&draft, TC, Y3, 0, 0);
-}
-
-/* The same with commands behind it, good but for its size. */
+/* The printed sitting with commands behind it, good but for its size. */
 static void too_long(void)
 {
-    printed();
-    while ((TOO_LONG - draft.length) % 15 != 0)
-        draft_start(&draft, 1);
-    while (draft.length < TOO_LONG)
-        draft_first(&draft, TC, 1, EUR, TERMINAL);
+    printed_sitting();
+    while ((TOO_LONG - draft->length) % 15 != 0)
+        start(1);
+    while (draft->length < TOO_LONG)
+        first(TC, 1);
 }
 
 static void put(const uint8_t *bytes, size_t count)
@@ -49,37 +29,34 @@ static void put_paper(size_t count)
 {
     uint8_t length[4];
 
-    put32(length, (uint32_t)draft.length);
+    put32(length, (uint32_t)draft->length);
     put(length, sizeof length);
-    put(draft.bytes, count);
+    put(draft->bytes, count);
 }
 
 static void put_printed(void)
 {
-    printed();
-    put_paper(draft.length);
+    printed_sitting();
+    put_paper(draft->length);
 }
 
 static void put_too_long(void)
 {
     too_long();
-    put_paper(draft.length);
+    put_paper(draft->length);
 }
 
 /* Selection on, and behind a Start one byte that is no record. The length of
  * the paper behind it would serve as the rest of a Start. */
 static void put_stray_byte(void)
 {
-    static const uint8_t always[] = {1, 1, 2, 0, 0, 0, 1, 1};
-
     draft_printed_setup(&setup);
     setup.version = 2;
-    draft_entry(&setup.file, always, sizeof always);
-    draft_begin(&draft);
-    draft_setup(&draft, &setup);
-    draft_start(&draft, 1);
-    draft_insert(&draft, draft.length, (const uint8_t[]){0x0A}, 1);
-    put_paper(draft.length);
+    simple_entry(0x00, 0x00, 0, 1, 1);
+    begin();
+    start(1);
+    draft_insert(draft, draft->length, (const uint8_t[]){0x0A}, 1);
+    put_paper(draft->length);
 }
 
 /* What is to be skipped looks like a stack itself, and goes on beyond what a
@@ -88,14 +65,14 @@ static void put_far_too_long(void)
 {
     uint8_t length[4];
 
-    printed();
+    printed_sitting();
     put32(length, FAR_TOO_LONG);
     put(length, sizeof length);
     for (size_t left = FAR_TOO_LONG; left > 0;) {
-        const size_t size = 4 + draft.length;
+        const size_t size = 4 + draft->length;
         uint8_t bytes[4 + 1024];
-        put32(bytes, (uint32_t)draft.length);
-        memcpy(bytes + 4, draft.bytes, draft.length);
+        put32(bytes, (uint32_t)draft->length);
+        memcpy(bytes + 4, draft->bytes, draft->length);
         put(bytes, size < left ? size : left);
         left -= size < left ? size : left;
     }
@@ -105,10 +82,10 @@ static void put_far_too_long(void)
  * length, 0100A001, and what follows would serve as a paper themselves. */
 static void put_empty_and_cut(void)
 {
-    printed();
+    printed_sitting();
     put((const uint8_t[]){0, 0, 0, 0}, 4);
     put((const uint8_t[]){1, 0}, 2);
-    put(draft.bytes + 2, draft.length - 2);
+    put(draft->bytes + 2, draft->length - 2);
 }
 
 int main(int argc, char **argv)
@@ -117,7 +94,7 @@ int main(int argc, char **argv)
 
     if (strcmp(which, "sitting_long") == 0) {
         too_long();
-        put(draft.bytes, draft.length);
+        put(draft->bytes, draft->length);
     } else if (strcmp(which, "stack_long") == 0) {
         put_printed();
         put_too_long();
@@ -127,8 +104,8 @@ int main(int argc, char **argv)
         put_empty_and_cut();
     } else if (strcmp(which, "stack_cut") == 0) {
         put_printed();
-        printed(); /* not whole */
-        put_paper(draft.length - 1);
+        printed_sitting(); /* not whole */
+        put_paper(draft->length - 1);
     } else {
         fprintf(stderr, "usage: ends sitting_long|stack_long|stack_cut\n");
         return 2;

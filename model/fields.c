@@ -42,7 +42,7 @@ const struct field *fields(void)
 
     add(IN_PROFILE, 0, 1, 1, 124);
     for (size_t i = 0; i < 3; i++) /* masks */
-        add(IN_PROFILE, 1 + 4 * i, 4, 0, 0x3FFFFF);
+        add(IN_PROFILE, 1 + 4 * i, 4, 0, ALL_BITS);
     add(IN_PROFILE, 13, 1, 0, 1); /* MTA */
     add_currency(IN_PROFILE, 14);
     add(IN_PROFILE, 16, 8, 0, MOST);

@@ -2,8 +2,6 @@
 
 #include <string.h>
 
-enum { ALL_BITS = (1 << 22) - 1 };
-
 static uint64_t around_thousands(struct chance *chance)
 {
     const uint64_t base = 1 + below(chance, 12);
@@ -81,7 +79,7 @@ static uint8_t invent_count(struct chance *chance)
 
 static uint32_t one_bit(struct chance *chance)
 {
-    return UINT32_C(1) << below(chance, 22);
+    return UINT32_C(1) << below(chance, BITS);
 }
 
 static uint32_t invent_mask(struct chance *chance, unsigned none)
@@ -330,10 +328,12 @@ static void spoil_entry(struct chance *chance, uint8_t *entry, size_t *length)
     }
 }
 
+/* The room has what was written to it before: a byte too many, if the entry is
+ * spoilt so, is one of an entry above it. */
 static void invent_entry(struct chance *chance, const struct world *world,
-                         struct draft_setup *setup, unsigned left)
+                         struct draft_setup *setup, unsigned left,
+                         uint8_t *entry)
 {
-    uint8_t entry[256];
     const size_t room = world->data;
     const size_t most = percent(chance, 60) ? 1 : 3;
     const size_t width = 1 + below(chance, room < most ? room : most);
@@ -360,6 +360,7 @@ static void invent_file(struct chance *chance, struct world *world,
                         struct draft_setup *setup)
 {
     unsigned entries = 1 + (unsigned)below(chance, 12);
+    uint8_t room[256] = {0};
 
     world->data = 1 + below(chance, 6);
     if (percent(chance, 3))
@@ -368,7 +369,7 @@ static void invent_file(struct chance *chance, struct world *world,
         entries = 140 + (unsigned)below(chance, 40);
     setup->file.on = 1;
     while (entries > 0)
-        invent_entry(chance, world, setup, --entries);
+        invent_entry(chance, world, setup, --entries, room);
 }
 
 void invent_version(struct chance *chance, struct world *world,
@@ -427,7 +428,7 @@ static uint8_t invent_terminal(struct chance *chance)
     if (percent(chance, 25))
         return PICK(chance, offline);
     if (percent(chance, 50))
-        return 0x22;
+        return ONLINE_TERMINAL;
     if (percent(chance, 70))
         return PICK(chance, others);
     return any_byte(chance);
@@ -467,10 +468,10 @@ static uint8_t invent_first(struct chance *chance, const struct world *world,
 
 static void invent_second(struct chance *chance, struct draft *draft, bool tidy)
 {
-    static const uint16_t codes[] = {0x3030, 0x3035, 0x5931, 0x5A31, 0x5932,
+    static const uint16_t codes[] = {OTHER,  0x3035, 0x5931, 0x5A31, 0x5932,
                                      0x5934, 0x5833, 0x5B33, 0x3359, 0x335A,
-                                     0x0000, 0xFFFF, 0x3331, 0x5A32, 0x5933,
-                                     0x5A33};
+                                     0x0000, 0xFFFF, 0x3331, 0x5A32, Y3,
+                                     Z3};
     uint8_t type = percent(chance, 75);
     uint16_t code = PICK(chance, codes);
     uint8_t data = (uint8_t)below(chance, 3);
@@ -478,9 +479,9 @@ static void invent_second(struct chance *chance, struct draft *draft, bool tidy)
     uint32_t rest = (uint32_t)draw(chance);
 
     if (percent(chance, 20))
-        code = 0x5933;
+        code = Y3;
     if (percent(chance, 15))
-        code = 0x5A33;
+        code = Z3;
     if (percent(chance, 10))
         code = (uint16_t)draw(chance);
     if (percent(chance, 60))

@@ -6,43 +6,12 @@
 #include "damage.h"
 #include "fields.h"
 #include "invent.h"
+#include "script.h"
 
-enum { AAC = 0, TC = 1, ARQC = 2 };
-enum { EUR = 0x0978, ONLINE_TERMINAL = 0x22, OFFLINE_TERMINAL = 0x23 };
-enum { Y3 = 0x5933, Z3 = 0x5A33, OTHER = 0x3030 };
-enum { ABSENT = 0, VERIFIED = 1, FAILED = 2 };
-
-static struct draft *draft;
-static void (*emit_paper)(struct draft *draft);
 static struct chance chance;
-static struct draft_setup setup;
 
-static void emit(void)
-{
-    emit_paper(draft);
-}
-
-static void start(uint8_t profile)
-{
-    draft_start(draft, profile);
-}
-
-static void first(uint8_t type, uint64_t amount)
-{
-    draft_first(draft, type, amount, EUR, ONLINE_TERMINAL);
-}
-
-static void second(uint8_t type, uint16_t code, uint8_t data, unsigned status)
-{
-    draft_second(draft, type, code, data, (uint32_t)status << 16);
-}
-
-/* The paper so far has the set-up and no command. */
-static void begin(void)
-{
-    draft_begin(draft);
-    draft_setup(draft, &setup);
-}
+/* Currencies to convert from, as many as a set-up has room for. */
+static const uint16_t foreign[] = {0x0001, 0x0010, 0x0100, USD, 0x0999};
 
 static void invent(unsigned profiles, unsigned conversions)
 {
@@ -98,7 +67,7 @@ static void setup_of_length(unsigned profiles, unsigned conversions,
     invent(profiles, conversions);
     draft_setup_body(&setup, body);
     draft_begin(draft);
-    draft_record(draft, 1, body, length);
+    draft_record(draft, KIND_SETUP, body, length);
     start(setup.profile[0].number);
     emit();
 }
@@ -186,8 +155,8 @@ static void setup_twins(void)
     /* There and back is no pair twice, nor is a shared end. */
     invent(1, 3);
     setup.conversion[0].from = EUR;
-    setup.conversion[0].to = 0x0840;
-    setup.conversion[1].from = 0x0840;
+    setup.conversion[0].to = USD;
+    setup.conversion[1].from = USD;
     setup.conversion[1].to = EUR;
     setup.conversion[2].from = EUR;
     setup.conversion[2].to = 0x0826;
@@ -298,7 +267,7 @@ static void records_unreadable(void)
 /* The largest paper and one byte more. */
 static void papers_large(void)
 {
-    for (size_t length = 65536; length <= 65537; length++) {
+    for (size_t length = PAPER; length <= PAPER + 1; length++) {
         draft_printed_setup(&setup);
         begin();
         fill_up(draft, length);
@@ -307,21 +276,6 @@ static void papers_large(void)
 }
 
 /* Commands -------------------------------------------------------------- */
-
-static void printed_sitting(void)
-{
-    draft_printed_setup(&setup);
-    begin();
-    start(1);
-    first(TC, 5000);
-    start(1);
-    first(TC, 1);
-    second(TC, Y3, ABSENT, 0);
-    start(1);
-    first(TC, 5000);
-    second(TC, Y3, ABSENT, 0);
-    emit();
-}
 
 /* Start at every ATC near the end, refused with and without a transaction
  * open, and profiles that are not there. */
@@ -375,8 +329,7 @@ static void refused_commands(void)
             for (size_t a = 0; a < 3; a++)
                 for (size_t c = 0; c < 6; c++)
                     if (state != 1 || types[t] > 2 || a > 0 || c > 0)
-                        draft_first(draft, types[t], amounts[a], currencies[c],
-                                    ONLINE_TERMINAL);
+                        first_in(types[t], amounts[a], currencies[c]);
         for (size_t t = 0; t < sizeof types; t++)
             for (size_t d = 0; d < sizeof datas; d++)
                 for (size_t c = 0; c < 3; c++)
@@ -393,19 +346,17 @@ static void refused_commands(void)
  * the history, profiles 1 to 3 have everything exceeded. */
 static void masks_bit_by_bit(void)
 {
-    for (unsigned bit = 0; bit < 22; bit++) {
+    for (unsigned bit = 0; bit < BITS; bit++) {
         const uint32_t mask = UINT32_C(1) << bit;
         draft_printed_setup(&setup);
         setup.required = 1;
         setup.go_online = 1;
-        setup.profiles = 4;
+        profiles_blank(4);
         for (unsigned i = 0; i < 4; i++) {
             struct draft_profile *profile = &setup.profile[i];
             setup.accumulator[i].currency = EUR;
             setup.accumulator[i].value = 1;
             setup.counter[i] = 1;
-            memset(profile, 0, sizeof *profile);
-            profile->number = (uint8_t)(i + 1);
             for (unsigned j = 0; j < 4; j++) {
                 profile->accumulator[j].switches = 1;
                 profile->counter[j].switches = 1;
@@ -435,7 +386,7 @@ static void masks_bit_by_bit(void)
         start(3);
         first(TC, 1);
         start(3);
-        draft_first(draft, TC, 1, EUR, OFFLINE_TERMINAL);
+        first_offline(TC, 1);
         start(3);
         first(ARQC, 1);
         second(TC, Y3, ABSENT, 0);
@@ -447,16 +398,15 @@ static void masks_bit_by_bit(void)
  * other bit stands in the masks. */
 static void masks_but_one(void)
 {
-    for (unsigned bit = 5; bit < 22; bit++) {
-        const uint32_t mask = 0x3FFFFF & ~(UINT32_C(1) << bit);
+    for (unsigned bit = 5; bit < BITS; bit++) {
+        const uint32_t mask = ALL_BITS & ~(UINT32_C(1) << bit);
         const unsigned i = (bit - 6) % 4;
         struct draft_profile *profile = &setup.profile[0];
         draft_printed_setup(&setup);
-        memset(profile, 0, sizeof *profile);
-        profile->number = 1;
+        profiles_blank(1);
         profile->online = mask;
         profile->decline = mask;
-        profile->by_default = mask & ~UINT32_C(8);
+        profile->by_default = mask & ~(uint32_t)UNABLE;
         for (unsigned j = 0; j < 4; j++) {
             setup.accumulator[j].currency = EUR;
             profile->accumulator[j].switches = 5;
@@ -483,7 +433,7 @@ static void masks_but_one(void)
         start(1);
         first(TC, 5);
         start(1);
-        draft_first(draft, TC, 5, EUR, OFFLINE_TERMINAL);
+        first_offline(TC, 5);
         start(1);
         first(ARQC, 5);
         second(TC, Y3, ABSENT, 0);
@@ -496,22 +446,22 @@ static void terminals(void)
 {
     draft_printed_setup(&setup);
     setup.go_online = 1;
-    setup.profile[0].online = 2;
+    setup.profile[0].online = GO_ONLINE;
     setup.profile[0].decline = 0;
-    setup.profile[0].by_default = 2;
+    setup.profile[0].by_default = GO_ONLINE;
     begin();
     for (unsigned i = 0; i < 256; i++) {
         start(1);
         draft_first(draft, TC, 0, EUR, (uint8_t)i);
     }
     start(1);
-    draft_first(draft, ARQC, 0, EUR, OFFLINE_TERMINAL);
+    first_offline(ARQC, 0);
     emit();
 
     static const uint8_t offline[] = {0x13, 0x16, 0x23, 0x26, 0x36};
     draft_printed_setup(&setup);
     setup.go_online = 1;
-    setup.profile[0].online = 2;
+    setup.profile[0].online = GO_ONLINE;
     setup.profile[0].decline = 0;
     setup.profile[0].by_default = 0;
     begin();
@@ -614,10 +564,10 @@ static void histories(void)
  * above and beyond their limits, with and without a conversion. */
 static void switches(unsigned round, unsigned variant)
 {
-    const uint16_t currency = variant == 4 ? 0x0840 : EUR;
+    const uint16_t currency = variant == 4 ? USD : EUR;
 
     draft_printed_setup(&setup);
-    setup.profiles = 4;
+    profiles_blank(4);
     for (unsigned j = 0; j < 4; j++) {
         uint64_t value = 0;
         setup.accumulator[j].currency = EUR;
@@ -644,8 +594,6 @@ static void switches(unsigned round, unsigned variant)
     }
     for (unsigned p = 0; p < 4; p++) {
         struct draft_profile *profile = &setup.profile[p];
-        memset(profile, 0, sizeof *profile);
-        profile->number = (uint8_t)(p + 1);
         profile->accumulator_sent = (uint8_t)((round + p) % 4 + 1);
         profile->counter_sent[0] = (uint8_t)((round + p) % 4 + 1);
         profile->counter_sent[1] = (uint8_t)((round + p + variant) % 4 + 1);
@@ -664,14 +612,14 @@ static void switches(unsigned round, unsigned variant)
     begin();
     for (uint8_t p = 1; p <= 4; p++) { /* the tests, and declines */
         start(p);
-        draft_first(draft, AAC, 100, currency, ONLINE_TERMINAL);
+        first_in(AAC, 100, currency);
     }
     for (uint8_t p = 1; p <= 4; p++) {
         start(p);
-        draft_first(draft, TC, 100, currency, ONLINE_TERMINAL);
+        first_in(TC, 100, currency);
         for (unsigned order = 0; order < 6; order++) {
             start(p);
-            draft_first(draft, ARQC, 100, currency, ONLINE_TERMINAL);
+            first_in(ARQC, 100, currency);
             if (order < 4)
                 second(order & 1, OTHER, VERIFIED, order);
             else
@@ -680,13 +628,13 @@ static void switches(unsigned round, unsigned variant)
     }
     for (uint8_t p = 1; p <= 4; p++) { /* from the upper limits on */
         start(p);
-        draft_first(draft, ARQC, MOST, currency, ONLINE_TERMINAL);
+        first_in(ARQC, MOST, currency);
         second(TC, OTHER, VERIFIED, 0x81);
         start(p);
-        draft_first(draft, ARQC, MOST, currency, ONLINE_TERMINAL);
+        first_in(ARQC, MOST, currency);
         second(AAC, Z3, ABSENT, 0);
         start(p);
-        draft_first(draft, ARQC, MOST, currency, ONLINE_TERMINAL);
+        first_in(ARQC, MOST, currency);
         second(TC, OTHER, VERIFIED, 0x83);
     }
     emit();
@@ -706,13 +654,11 @@ static void declines_from(const uint8_t *values, uint8_t switches,
 {
     draft_printed_setup(&setup);
     setup.required = 1;
-    setup.profiles = 4;
+    profiles_blank(4);
     for (unsigned i = 0; i < 4; i++)
         setup.counter[i] = values[i];
     for (unsigned p = 0; p < 4; p++) {
         struct draft_profile *profile = &setup.profile[p];
-        memset(profile, 0, sizeof *profile);
-        profile->number = (uint8_t)(p + 1);
         profile->mta_on = 1;
         profile->mta_currency = EUR;
         profile->counter_sent[0] = p & 1 ? 3 : 1;
@@ -723,14 +669,14 @@ static void declines_from(const uint8_t *values, uint8_t switches,
             profile->counter[i].upper = limit;
         }
     }
-    setup.profile[0].decline = 32;
-    setup.profile[1].by_default = 32;
+    setup.profile[0].decline = MTA_EXCEEDED;
+    setup.profile[1].by_default = MTA_EXCEEDED;
     begin();
     for (unsigned round = 0; round < 2; round++) {
         start(1);
         first(TC, 1);
         start(2);
-        draft_first(draft, TC, 1, EUR, OFFLINE_TERMINAL);
+        first_offline(TC, 1);
         start(3);
         first(AAC, 0);
         for (uint8_t data = ABSENT; data <= FAILED; data++) {
@@ -766,26 +712,22 @@ static void conversions(unsigned papers, uint8_t syllabus)
     static const uint64_t amounts[] = {MOST, 12345, 1, 999999999, 1000000000,
                                        111111111111, 55555};
     static const uint16_t digits[] = {9999, 1234, 4, 1, 9, 85};
-    static const uint16_t codes[] = {0x0001, 0x0010, 0x0100, 0x0840, 0x0999};
 
     for (unsigned paper = 0; paper < papers; paper++) {
         draft_printed_setup(&setup);
         setup.version = syllabus == 0 ? 1 : 3;
         setup.syllabus = syllabus;
-        setup.accumulator[1].currency = 0x0840;
+        setup.accumulator[1].currency = USD;
         setup.profile[0].accumulator[1].switches = 3;
         setup.profile[0].decline = 0;
-        setup.profile[0].online = 32;
+        setup.profile[0].online = MTA_EXCEEDED;
         setup.profile[0].mta_on = 1;
         setup.profile[0].mta_currency = EUR;
         setup.profile[0].mta = paper % 2 == 0 ? MOST : MOST - 1;
         setup.conversions = 5;
         for (unsigned i = 0; i < 5; i++) {
             const unsigned turn = 5 * paper + i;
-            setup.conversion[i].from = codes[i];
-            setup.conversion[i].to = EUR;
-            setup.conversion[i].digits = digits[turn % 6];
-            setup.conversion[i].shift = (uint8_t)(turn % 13);
+            rate(i, foreign[i], digits[turn % 6], (uint8_t)(turn % 13));
         }
         begin();
         for (size_t a = 0; a < sizeof amounts / sizeof *amounts; a++)
@@ -794,10 +736,10 @@ static void conversions(unsigned papers, uint8_t syllabus)
                 first(ARQC, 0);
                 second(TC, OTHER, VERIFIED, 0x82);
                 start(1);
-                draft_first(draft, TC, amounts[a], codes[i], ONLINE_TERMINAL);
+                first_in(TC, amounts[a], foreign[i]);
             }
         start(1);
-        draft_first(draft, TC, MOST, 0x0123, ONLINE_TERMINAL);
+        first_in(TC, MOST, 0x0123);
         emit();
     }
 }
@@ -808,24 +750,17 @@ static void conversions(unsigned papers, uint8_t syllabus)
 static void over_at(const uint8_t *switches, unsigned from, unsigned which)
 {
     static const uint64_t amounts[] = {333333333333, 625000000000, MOST};
-    static const uint16_t codes[] = {0x0001, 0x0010, 0x0100};
     static const uint16_t digits[] = {3, 16, 9999};
     static const uint8_t shifts[] = {9, 8, 12};
 
     draft_printed_setup(&setup);
-    setup.profiles = 4;
+    profiles_blank(4);
     setup.conversions = 3;
-    for (unsigned i = 0; i < 3; i++) {
-        setup.conversion[i].from = codes[i];
-        setup.conversion[i].to = EUR;
-        setup.conversion[i].digits = digits[i];
-        setup.conversion[i].shift = shifts[i];
-    }
+    for (unsigned i = 0; i < 3; i++)
+        rate(i, foreign[i], digits[i], shifts[i]);
     for (unsigned i = 0; i < 4; i++) {
         struct draft_profile *profile = &setup.profile[i];
         const uint32_t mask = UINT32_C(1) << (from + i);
-        memset(profile, 0, sizeof *profile);
-        profile->number = (uint8_t)(i + 1);
         setup.accumulator[i].currency = EUR;
         profile->decline = which == 0 ? mask : 0;
         profile->online = which == 1 ? mask : 0;
@@ -848,16 +783,16 @@ static void over_at(const uint8_t *switches, unsigned from, unsigned which)
     for (unsigned i = 0; i < 3; i++)
         for (uint8_t p = 1; p <= 4; p++) {
             start(p);
-            draft_first(draft, TC, amounts[i], codes[i],
+            draft_first(draft, TC, amounts[i], foreign[i],
                         which == 2 ? OFFLINE_TERMINAL : ONLINE_TERMINAL);
             start(p);
-            draft_first(draft, ARQC, amounts[i], codes[i], ONLINE_TERMINAL);
+            first_in(ARQC, amounts[i], foreign[i]);
             second(TC, Y3, ABSENT, 0);
             start(p); /* from zero again */
             first(ARQC, 0);
             second(TC, OTHER, VERIFIED, 0x82);
             start(p);
-            draft_first(draft, ARQC, amounts[i], codes[i], ONLINE_TERMINAL);
+            first_in(ARQC, amounts[i], foreign[i]);
             second(TC, OTHER, VERIFIED, 0x83);
             start(p);
             first(ARQC, 0);
@@ -895,25 +830,18 @@ struct rounding {
 static void rounding(uint8_t version, uint8_t syllabus,
                      const struct rounding *rates, uint64_t limit)
 {
-    static const uint16_t codes[] = {0x0001, 0x0010, 0x0100, 0x0840, 0x0999};
 
     draft_printed_setup(&setup);
     setup.version = version;
     setup.syllabus = syllabus;
-    setup.profiles = 4;
+    profiles_alike(4);
     setup.conversions = 5;
-    for (unsigned i = 0; i < 5; i++) {
-        setup.conversion[i].from = codes[i];
-        setup.conversion[i].to = EUR;
-        setup.conversion[i].digits = rates[i].digits;
-        setup.conversion[i].shift = rates[i].shift;
-    }
+    for (unsigned i = 0; i < 5; i++)
+        rate(i, foreign[i], rates[i].digits, rates[i].shift);
     for (unsigned i = 0; i < 4; i++) {
         struct draft_profile *profile = &setup.profile[i];
-        *profile = setup.profile[0];
-        profile->number = (uint8_t)(i + 1);
-        profile->online = i == 1 || i == 2 ? 1024 : 0;
-        profile->decline = i == 0 ? 32 : 0;
+        profile->online = i == 1 || i == 2 ? UPPER_1 : 0;
+        profile->decline = i == 0 ? MTA_EXCEEDED : 0;
         profile->mta_on = i == 0;
         profile->mta_currency = EUR;
         profile->mta = limit;
@@ -925,11 +853,11 @@ static void rounding(uint8_t version, uint8_t syllabus,
     for (unsigned i = 0; i < 6; i++)
         for (uint8_t p = 1; p <= 4; p++) {
             const uint64_t amount = i < 5 ? rates[i].amount : limit;
-            const uint16_t code = i < 5 ? codes[i] : EUR;
+            const uint16_t code = i < 5 ? foreign[i] : EUR;
             start(p);
-            draft_first(draft, TC, amount, code, ONLINE_TERMINAL);
+            first_in(TC, amount, code);
             start(p);
-            draft_first(draft, ARQC, amount, code, ONLINE_TERMINAL);
+            first_in(ARQC, amount, code);
             second(TC, OTHER, VERIFIED, 0x83);
             start(p);
             first(ARQC, 0);
@@ -976,15 +904,10 @@ static void mta(void)
     static const uint16_t codes[] = {0x0000, EUR, 0x0001, 0x0999};
 
     draft_printed_setup(&setup);
-    setup.profiles = 4;
-    for (unsigned i = 0; i < 4; i++) {
-        struct draft_profile *profile = &setup.profile[i];
-        memset(profile, 0, sizeof *profile);
-        profile->number = (uint8_t)(i + 1);
-    }
-    setup.profile[0].decline = 32;
-    setup.profile[1].online = 32;
-    setup.profile[2].by_default = 32;
+    profiles_blank(4);
+    setup.profile[0].decline = MTA_EXCEEDED;
+    setup.profile[1].online = MTA_EXCEEDED;
+    setup.profile[2].by_default = MTA_EXCEEDED;
     for (unsigned on = 0; on < 2; on++) {
         for (unsigned i = 0; i < 4; i++) {
             for (unsigned j = 0; j < 4; j++) {
@@ -1009,23 +932,15 @@ static void mta(void)
  * neither its transaction, nor its history, profiles and conversions. */
 static void leftovers(void)
 {
-    static const uint16_t codes[] = {0x0001, 0x0010, 0x0100, 0x0840, 0x0999};
 
     for (unsigned less = 0; less < 5; less++) {
         for (unsigned full = 0; full < 2; full++) {
             draft_printed_setup(&setup);
             setup.go_online = (uint8_t)!full;
             setup.profile[0].decline = 0;
-            for (unsigned i = 0; i < 4; i++) {
-                setup.profile[i] = setup.profile[0];
-                setup.profile[i].number = (uint8_t)(i + 1);
-            }
-            for (unsigned i = 0; i < 5; i++) {
-                setup.conversion[i].from = codes[i];
-                setup.conversion[i].to = EUR;
-                setup.conversion[i].digits = 2;
-                setup.conversion[i].shift = 9;
-            }
+            profiles_alike(4);
+            for (unsigned i = 0; i < 5; i++)
+                rate(i, foreign[i], 2, 9);
             setup.profiles = (uint8_t)(full || less == 4 ? 4 : 1 + less);
             setup.conversions = (uint8_t)(full ? 5 : less);
             begin();
@@ -1033,10 +948,10 @@ static void leftovers(void)
             second(TC, OTHER, VERIFIED, 0x83);
             for (uint8_t i = 1; i <= 4; i++) {
                 start(i);
-                draft_first(draft, TC, 1, codes[i], ONLINE_TERMINAL);
+                first_in(TC, 1, foreign[i]);
             }
             start(1);
-            draft_first(draft, TC, 1, codes[0], ONLINE_TERMINAL);
+            first_in(TC, 1, foreign[0]);
             start(1);
             first(ARQC, 1);
             second(TC, OTHER, FAILED, 0);
@@ -1074,9 +989,9 @@ static void extremes(void)
             setup.accumulator[i].value = most ? MOST : 0;
             setup.counter[i] = (uint8_t)(most ? 255 : 0);
             profile->number = (uint8_t)(most ? 124 - i : 1);
-            profile->online = most ? 0x3FFFFF : 0;
-            profile->decline = most ? 0x3FFFFF : 0;
-            profile->by_default = most ? 0x3FFFFF : 0;
+            profile->online = most ? ALL_BITS : 0;
+            profile->decline = most ? ALL_BITS : 0;
+            profile->by_default = most ? ALL_BITS : 0;
             profile->mta_on = (uint8_t)most;
             profile->mta_currency = most ? 0x0999 : 0;
             profile->mta = most ? MOST : 0;
@@ -1109,14 +1024,13 @@ static void extremes(void)
     }
 }
 
-void listed_papers(uint64_t seed, struct draft *to,
-                   void (*then)(struct draft *draft))
+void listed_papers(uint64_t seed, void (*then)(struct draft *draft))
 {
-    draft = to;
-    emit_paper = then;
+    emit_to(then);
     chance = chance_of(seed, UINT64_MAX);
 
     printed_sitting();
+    emit();
     fields_out_of_range();
     setup_lengths();
     setup_counts();
@@ -1141,8 +1055,8 @@ void listed_papers(uint64_t seed, struct draft *to,
     roundings();
     mta();
     leftovers();
-    listed_selection(to, then);
-    listed_blocks(to, then);
-    listed_closing(to, then);
-    listed_bounds(to, then);
+    listed_selection();
+    listed_blocks();
+    listed_closing();
+    listed_bounds();
 }

@@ -9,21 +9,20 @@
 
 /* Writes them one after the other, calling emit at the end of each. The seed
  * chooses what they say where it does not matter to what they are for. */
-void listed_papers(uint64_t seed, struct draft *draft,
-                   void (*emit)(struct draft *draft));
+void listed_papers(uint64_t seed, void (*emit)(struct draft *draft));
 
 /* Those about profile selection and the tails of a set-up, the same for any
  * seed. */
-void listed_selection(struct draft *draft, void (*emit)(struct draft *draft));
+void listed_selection(void);
 
 /* Its blocks of some bytes and its many values, each check. */
-void listed_blocks(struct draft *draft, void (*emit)(struct draft *draft));
+void listed_blocks(void);
 
 /* Every way a transaction closes, what closed it sent again, and Starts over
  * what is open. */
-void listed_closing(struct draft *draft, void (*emit)(struct draft *draft));
+void listed_closing(void);
 
 /* Every version and kind that is none, and the largest of everything. */
-void listed_bounds(struct draft *draft, void (*emit)(struct draft *draft));
+void listed_bounds(void);
 
 #endif

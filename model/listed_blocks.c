@@ -1,9 +1,7 @@
 #include <string.h>
 
 #include "listed.h"
-
-static struct draft *draft;
-static void (*emit_paper)(struct draft *draft);
+#include "script.h"
 
 enum { WIDTH_MAX = 9, DATA = WIDTH_MAX + 2 };
 
@@ -33,7 +31,7 @@ static void set_mask(unsigned which)
 }
 
 /* A Start whose data have the block from their second byte on. */
-static void start(const uint8_t *block)
+static void start_by(const uint8_t *block)
 {
     uint8_t data[DATA] = {0x50};
 
@@ -50,7 +48,7 @@ static void starts_around(unsigned k)
     uint8_t value[WIDTH_MAX], block[WIDTH_MAX];
 
     put_value(value, k);
-    start(value);
+    start_by(value);
     for (unsigned p = 0; p < 3; p++) {
         const unsigned at = places[p];
         const uint8_t other[] = {(uint8_t)(value[at] - 1),
@@ -58,7 +56,7 @@ static void starts_around(unsigned k)
         for (unsigned i = 0; i < sizeof other; i++) {
             memcpy(block, value, sizeof block);
             block[at] = other[i];
-            start(block);
+            start_by(block);
         }
         for (unsigned q = p + 1; q < 3; q++)
             for (unsigned up = 0; up < 2; up++) {
@@ -66,7 +64,7 @@ static void starts_around(unsigned k)
                 block[at] = (uint8_t)(value[at] + (up ? 1 : -1));
                 block[places[q]] =
                     (uint8_t)(value[places[q]] + (up ? -1 : 1));
-                start(block);
+                start_by(block);
             }
     }
 }
@@ -74,8 +72,6 @@ static void starts_around(unsigned k)
 /* Whether the test is met shows in how many entries are visited. */
 static void blocks(unsigned check, unsigned masked)
 {
-    static const uint8_t always[] = {1, 1, 2, 0, 0, 0, 1, 1};
-    static struct draft_setup setup;
     const unsigned some[] = {0, 1, values / 2, values - 1};
     uint8_t entry[255] = {2, (uint8_t)width, (uint8_t)(values + 1)};
     uint8_t *at = entry + 3;
@@ -91,21 +87,18 @@ static void blocks(unsigned check, unsigned masked)
     *at++ = 1;
     *at++ = 0x81;
     draft_entry(&setup.file, entry, (size_t)(at - entry));
-    draft_entry(&setup.file, always, sizeof always);
-    draft_begin(draft);
-    draft_setup(draft, &setup);
+    simple_entry(0x00, 0x00, 0, 1, 1);
+    begin();
     for (unsigned i = 0; i < 4; i++)
         starts_around(some[i]);
-    draft_first(draft, 1, 1, 0x0978, 0x22);
-    emit_paper(draft);
+    first(TC, 1);
+    emit();
 }
 
-void listed_blocks(struct draft *to, void (*then)(struct draft *draft))
+void listed_blocks(void)
 {
     static const uint8_t widths[] = {3, 8, 9};
 
-    draft = to;
-    emit_paper = then;
     for (unsigned w = 0; w < sizeof widths; w++)
         for (unsigned check = 0; check < 3; check++) {
             width = widths[w];

@@ -2,33 +2,11 @@
 #include <string.h>
 
 #include "listed.h"
+#include "script.h"
 
-enum { TC = 1, ARQC = 2 };
-enum { EUR = 0x0978, TERMINAL = 0x22, OTHER = 0x3030, VERIFIED = 1 };
-enum { KIND_SETUP = 1, KIND_START = 2, KIND_FIRST = 3, KIND_SECOND = 4 };
-enum { PAPER = 65536, ENTRY = 255, ENTRIES = 255 };
-
-static struct draft *draft;
-static void (*emit_paper)(struct draft *draft);
-static struct draft_setup setup;
+enum { ENTRY = 255, ENTRIES = 255 };
 
 static uint8_t many[PAPER];
-
-static void begin(void)
-{
-    draft_begin(draft);
-    draft_setup(draft, &setup);
-}
-
-static void first(uint8_t type, uint64_t amount)
-{
-    draft_first(draft, type, amount, EUR, TERMINAL);
-}
-
-static void emit(void)
-{
-    emit_paper(draft);
-}
 
 /* All bytes that are no version, before a paper that is good in itself. */
 static void versions(void)
@@ -40,7 +18,7 @@ static void versions(void)
             continue;
         begin();
         draft->bytes[0] = (uint8_t)version;
-        draft_start(draft, 1);
+        start(1);
         emit();
     }
 }
@@ -49,9 +27,9 @@ static void versions(void)
  * with that of a Start, a First and a Second where one of these is due. */
 static void kinds(void)
 {
-    static const uint8_t start[] = {1};
+    static const uint8_t start_body[] = {1};
     static const uint8_t first_body[] = {1, 0, 0, 0, 0, 0, 0, 0, 1, 9, 0x78,
-                                         TERMINAL};
+                                         ONLINE_TERMINAL};
     static const uint8_t second_body[] = {1, 0x59, 0x33, 0, 0, 0, 0, 0};
 
     draft_printed_setup(&setup);
@@ -60,17 +38,17 @@ static void kinds(void)
             continue;
         begin();
         draft->bytes[SETUP_BODY - 1] = (uint8_t)kind;
-        draft_start(draft, 1);
+        start(1);
         emit();
         begin();
-        draft_record(draft, (uint8_t)kind, start, sizeof start);
+        draft_record(draft, (uint8_t)kind, start_body, sizeof start_body);
         emit();
         begin();
-        draft_start(draft, 1);
+        start(1);
         draft_record(draft, (uint8_t)kind, first_body, sizeof first_body);
         emit();
         begin();
-        draft_start(draft, 1);
+        start(1);
         first(ARQC, 1);
         draft_record(draft, (uint8_t)kind, second_body, sizeof second_body);
         emit();
@@ -86,12 +64,8 @@ static void largest_file(void)
 
     draft_printed_setup(&setup);
     setup.conversions = 5;
-    for (unsigned i = 0; i < 5; i++) {
-        setup.conversion[i].from = (uint16_t)(0x0001 + i);
-        setup.conversion[i].to = EUR;
-        setup.conversion[i].digits = 15;
-        setup.conversion[i].shift = 8;
-    }
+    for (unsigned i = 0; i < 5; i++)
+        rate(i, (uint16_t)(0x0001 + i), 15, 8);
     uint8_t *at = body + draft_setup_body(&setup, body);
     *at++ = 1;
     *at++ = ENTRIES;
@@ -111,10 +85,10 @@ static void largest_file(void)
     draft_begin(draft);
     draft->bytes[0] = 3;
     draft_record(draft, KIND_SETUP, body, (size_t)(at - body));
-    draft_data(draft, (const uint8_t[]){0xAA}, 1);
-    draft_first(draft, ARQC, 1, 0x0005, TERMINAL);
-    draft_second(draft, TC, OTHER, VERIFIED, 0x83 << 16);
-    draft_data(draft, (const uint8_t[]){0xAB}, 1);
+    start(0xAA);
+    first_in(ARQC, 1, 0x0005);
+    second(TC, OTHER, VERIFIED, 0x83);
+    start(0xAB);
     draft_data(draft, (const uint8_t[]){0xAA, 0, 0}, 3);
     first(TC, 1);
     assert(draft->length == PAPER);
@@ -158,7 +132,7 @@ static void largest_records(void)
     many[0] = 1;
     for (uint8_t kind = KIND_START; kind <= KIND_FIRST; kind++) {
         begin();
-        draft_start(draft, 1);
+        start(1);
         draft_record(draft, kind, many, PAPER - 3 - draft->length);
         emit();
     }
@@ -172,10 +146,10 @@ static void most_records(void)
     draft_printed_setup(&setup);
     setup.atc = 49535;
     begin();
-    draft_start(draft, 1);
+    start(1);
     first(ARQC, 1);
     while (draft->length < PAPER - 2 * 15)
-        draft_start(draft, 1);
+        start(1);
     first(TC, 1);
     first(TC, 1);
     assert(draft->length == PAPER);
@@ -183,7 +157,7 @@ static void most_records(void)
 
     draft_printed_setup(&setup);
     setup.version = 2;
-    draft_entry(&setup.file, (const uint8_t[]){1, 1, 2, 0, 0, 0, 1, 1}, 8);
+    simple_entry(0x00, 0x00, 0, 1, 1);
     begin();
     draft_data(draft, many, 1);
     while (draft->length < PAPER - 15)
@@ -193,11 +167,8 @@ static void most_records(void)
     emit();
 }
 
-void listed_bounds(struct draft *to, void (*then)(struct draft *draft))
+void listed_bounds(void)
 {
-    draft = to;
-    emit_paper = then;
-
     versions();
     kinds();
     largest_file();

@@ -1,18 +1,10 @@
 #include "bytes.h"
 #include "listed.h"
-
-enum { AAC = 0, TC = 1, ARQC = 2 };
-enum { EUR = 0x0978, ONLINE_TERMINAL = 0x22, OFFLINE_TERMINAL = 0x23 };
-enum { Y3 = 0x5933, Z3 = 0x5A33, OTHER = 0x3030 };
-enum { ABSENT = 0, VERIFIED = 1, FAILED = 2 };
+#include "script.h"
 
 /* The MTA declines, the lower limit of accumulator 1 makes profile 2 go
  * online, the upper one is what Default looks at. */
 enum { SMALL = 100, UPPER = 500, ABOVE_UPPER = 600, MTA = 1000 };
-
-static struct draft *draft;
-static void (*emit_paper)(struct draft *draft);
-static struct draft_setup setup;
 
 struct first {
     uint8_t type;
@@ -27,35 +19,27 @@ struct second {
     unsigned status;
 };
 
-static void first(const struct first *command)
+static void send_first(const struct first *command)
 {
     draft_first(draft, command->type, command->amount, EUR, command->terminal);
 }
 
-static void second(const struct second *command)
+static void send_second(const struct second *command)
 {
-    draft_second(draft, command->type, command->code, command->data,
-                 (uint32_t)command->status << 16);
+    second(command->type, command->code, command->data, command->status);
 }
 
-static void start(uint8_t profile)
-{
-    draft_start(draft, profile);
-}
-
-static void begin(uint8_t required, uint16_t atc)
+static void begin_with(uint8_t required, uint16_t atc)
 {
     draft_printed_setup(&setup);
     setup.required = required;
     setup.atc = atc;
-    setup.profiles = 2;
+    profiles_alike(2);
     for (unsigned i = 0; i < 2; i++) {
         struct draft_profile *profile = &setup.profile[i];
-        *profile = setup.profile[0];
-        profile->number = (uint8_t)(i + 1);
-        profile->online = i == 0 ? 0 : 1 << 6;
-        profile->decline = 1 << 5;
-        profile->by_default = 1 << 10;
+        profile->online = i == 0 ? 0 : LOWER_1;
+        profile->decline = MTA_EXCEEDED;
+        profile->by_default = UPPER_1;
         profile->mta_on = 1;
         profile->mta_currency = EUR;
         profile->mta = MTA;
@@ -64,15 +48,14 @@ static void begin(uint8_t required, uint16_t atc)
         profile->counter[0].switches = 15;
         profile->counter[0].upper = 99;
     }
-    draft_begin(draft);
-    draft_setup(draft, &setup);
+    begin();
 }
 
 /* Asked for, or by the Online mask. */
 static void open_online(unsigned round, uint64_t amount)
 {
     start((uint8_t)(1 + round % 2));
-    first(&(struct first){round % 2 ? TC : ARQC, amount, ONLINE_TERMINAL});
+    first(round % 2 ? TC : ARQC, amount);
 }
 
 /* Commands that nothing asked for. */
@@ -90,8 +73,8 @@ static void all_refused(void)
 
     for (size_t i = 0; i < sizeof seconds / sizeof *seconds; i++) {
         if (i < sizeof firsts / sizeof *firsts)
-            first(&firsts[i]);
-        second(&seconds[i]);
+            send_first(&firsts[i]);
+        send_second(&seconds[i]);
     }
 }
 
@@ -99,37 +82,37 @@ static void all_refused(void)
  * that is refused. */
 static void closed_by_first(const struct first *command)
 {
-    begin(0, 0);
+    begin_with(0, 0);
     for (unsigned round = 0; round < 2; round++) {
         start(1);
         for (unsigned i = 0; i < 3; i++)
-            first(command);
+            send_first(command);
         all_refused();
         start(3);
-        first(command);
-        second(&(struct second){TC, Y3, ABSENT, 0});
+        send_first(command);
+        second(TC, Y3, ABSENT, 0);
     }
     open_online(0, 1);
-    second(&(struct second){TC, OTHER, VERIFIED, 0x82});
-    emit_paper(draft);
+    second(TC, OTHER, VERIFIED, 0x82);
+    emit();
 }
 
 static void closed_by_second(uint8_t required, uint64_t amount,
                              const struct second *command)
 {
-    begin(required, 0);
+    begin_with(required, 0);
     for (unsigned round = 0; round < 2; round++) {
         open_online(round, amount);
         for (unsigned i = 0; i < 3; i++)
-            second(command);
+            send_second(command);
         all_refused();
         start(3);
-        second(command);
-        first(&(struct first){TC, SMALL, ONLINE_TERMINAL});
+        send_second(command);
+        first(TC, SMALL);
     }
     open_online(0, 1);
-    second(&(struct second){TC, OTHER, VERIFIED, 0x82});
-    emit_paper(draft);
+    second(TC, OTHER, VERIFIED, 0x82);
+    emit();
 }
 
 /* Every way to close. */
@@ -179,9 +162,8 @@ static void start_over(unsigned open, uint8_t profile, uint16_t atc,
                                             {TC, OTHER, VERIFIED, 0x83},
                                             {TC, OTHER, FAILED, 0},
                                             {TC, OTHER, ABSENT, 0}};
-    const struct first approved = {TC, 1, ONLINE_TERMINAL};
 
-    begin(0, atc);
+    begin_with(0, atc);
     if (open == 0)
         start(2);
     else
@@ -189,63 +171,57 @@ static void start_over(unsigned open, uint8_t profile, uint16_t atc,
     start(profile);
     start(profile);
     if (turned)
-        first(&approved);
+        first(TC, 1);
     for (size_t i = 0; i < sizeof seconds / sizeof *seconds; i++)
-        second(&seconds[i]);
-    first(&approved);
-    second(&seconds[1]);
-    first(&approved);
+        send_second(&seconds[i]);
+    first(TC, 1);
+    send_second(&seconds[1]);
+    first(TC, 1);
     start(1);
     open_online(0, 1);
-    second(&(struct second){TC, OTHER, VERIFIED, 0x82});
-    emit_paper(draft);
+    second(TC, OTHER, VERIFIED, 0x82);
+    emit();
 }
 
 /* Default looks at nothing but that the terminal could not go online: for the
  * first time, with a history that says so already, and cleared again. */
 static void unable_by_default(void)
 {
-    begin(0, 0);
+    begin_with(0, 0);
     for (unsigned i = 0; i < 2; i++)
         put32(draft->bytes + SETUP_BODY + SETUP_HEAD + i * SETUP_PROFILE + 9,
-              1 << 3);
+              UNABLE);
     for (unsigned round = 0; round < 2; round++) {
         for (unsigned i = 0; i < 2; i++) {
             open_online(round, SMALL);
-            second(&(struct second){TC, i == 0 ? Y3 : Z3, ABSENT, 0});
+            second(TC, i == 0 ? Y3 : Z3, ABSENT, 0);
         }
         open_online(round, SMALL);
-        second(&(struct second){TC, OTHER, VERIFIED, 0x82});
+        second(TC, OTHER, VERIFIED, 0x82);
     }
-    emit_paper(draft);
+    emit();
 }
 
 /* A profile without an MTA after one that exceeds its own: the amount of then
  * counts for nothing. */
 static void without_mta(void)
 {
-    const struct first small = {TC, 1, ONLINE_TERMINAL};
-    const struct first large = {TC, MTA + 1, ONLINE_TERMINAL};
-
-    begin(0, 0);
+    begin_with(0, 0);
     draft->bytes[SETUP_BODY + SETUP_HEAD + SETUP_PROFILE + 13] = 0;
     for (unsigned round = 0; round < 2; round++) {
         start(1);
-        first(round == 0 ? &large : &small);
+        first(TC, round == 0 ? MTA + 1 : 1);
         start(2);
-        first(&small);
+        first(TC, 1);
         start(2);
-        first(&large);
-        second(&(struct second){TC, Z3, ABSENT, 0});
+        first(TC, MTA + 1);
+        second(TC, Z3, ABSENT, 0);
     }
-    emit_paper(draft);
+    emit();
 }
 
-void listed_closing(struct draft *to, void (*then)(struct draft *draft))
+void listed_closing(void)
 {
-    draft = to;
-    emit_paper = then;
-
     closings();
     for (unsigned open = 0; open < 3; open++)
         for (unsigned turned = 0; turned < 2; turned++) {

@@ -1,34 +1,16 @@
 #include <string.h>
 
 #include "listed.h"
-
-enum { TC = 1, ARQC = 2 };
-enum { EUR = 0x0978, TERMINAL = 0x22 };
-enum { Y3 = 0x5933, OTHER = 0x3030 };
-
-static struct draft *draft;
-static void (*emit_paper)(struct draft *draft);
-static struct draft_setup setup;
+#include "script.h"
 
 struct bytes {
     size_t length;
     uint8_t at[24];
 };
 
-static void first(uint8_t type, uint64_t amount)
-{
-    draft_first(draft, type, amount, EUR, TERMINAL);
-}
-
 static void data(const struct bytes *bytes)
 {
     draft_data(draft, bytes->at, bytes->length);
-}
-
-/* One byte of data. */
-static void start(uint8_t byte)
-{
-    draft_data(draft, &byte, 1);
 }
 
 static void entry(const struct bytes *bytes)
@@ -36,19 +18,10 @@ static void entry(const struct bytes *bytes)
     draft_entry(&setup.file, bytes->at, bytes->length);
 }
 
-/* An entry that looks at byte 1 of the data. */
-static void simple(uint8_t mask, uint8_t value, uint8_t type, uint8_t positive,
-                   uint8_t negative)
-{
-    const uint8_t bytes[] = {1, 1, 2, mask, value, type, positive, negative};
-
-    draft_entry(&setup.file, bytes, sizeof bytes);
-}
-
 /* Whatever the data, if there is any. */
 static void always(uint8_t action)
 {
-    simple(0x00, 0x00, 0, action, 0x00);
+    simple_entry(0x00, 0x00, 0, action, 0x00);
 }
 
 /* The printed set-up with profiles 1 to 4 alike, version 02, no file yet. */
@@ -56,22 +29,7 @@ static void fresh(void)
 {
     draft_printed_setup(&setup);
     setup.version = 2;
-    setup.profiles = 4;
-    for (unsigned i = 1; i < 4; i++) {
-        setup.profile[i] = setup.profile[0];
-        setup.profile[i].number = (uint8_t)(i + 1);
-    }
-}
-
-static void begin(void)
-{
-    draft_begin(draft);
-    draft_setup(draft, &setup);
-}
-
-static void emit(void)
-{
-    emit_paper(draft);
+    profiles_alike(4);
 }
 
 /* Document 01's sitting, each Start by these data. */
@@ -82,10 +40,10 @@ static void sitting(const struct bytes *bytes)
     first(TC, 5000);
     data(bytes);
     first(TC, 1);
-    draft_second(draft, TC, Y3, 0, 0);
+    second(TC, Y3, ABSENT, 0);
     data(bytes);
     first(TC, 5000);
-    draft_second(draft, TC, Y3, 0, 0);
+    second(TC, Y3, ABSENT, 0);
     emit();
 }
 
@@ -207,7 +165,7 @@ static void bad_visited(void)
 {
     fresh();
     for (unsigned i = 0; i < BAD; i++) {
-        simple(0xFF, (uint8_t)i, 0, 0x81, 0x82);
+        simple_entry(0xFF, (uint8_t)i, 0, 0x81, 0x82);
         entry(&bad[i]);
     }
     always(3);
@@ -220,14 +178,14 @@ static void bad_visited(void)
         data(&there);
         first(ARQC, 1);
         data(&there);
-        draft_second(draft, TC, OTHER, 1, 0x82 << 16);
+        second(TC, OTHER, VERIFIED, 0x82);
         data(&there);
         first(TC, 1);
     }
     emit();
 
     fresh(); /* below the last visited */
-    simple(0xFF, 0x10, 0, 2, 4);
+    simple_entry(0xFF, 0x10, 0, 2, 4);
     for (unsigned i = 0; i < BAD; i++)
         entry(&bad[i]);
     begin();
@@ -265,7 +223,8 @@ static void actions(void)
 
     for (unsigned i = 0; i < sizeof untaken; i++) {
         fresh();
-        simple(0xFF, 0x10, 0, i & 1 ? untaken[i] : 2, i & 1 ? 2 : untaken[i]);
+        simple_entry(0xFF, 0x10, 0, i & 1 ? untaken[i] : 2,
+                     i & 1 ? 2 : untaken[i]);
         begin();
         start(0x10);
         first(TC, 1);
@@ -277,7 +236,7 @@ static void actions(void)
         fresh();
         setup.atc = full ? 65535 : 65530;
         for (unsigned i = 0; i < sizeof taken; i++)
-            simple(0xFF, (uint8_t)i, 0, taken[i], 0x81);
+            simple_entry(0xFF, (uint8_t)i, 0, taken[i], 0x81);
         begin();
         for (unsigned i = 0; i <= sizeof taken; i++)
             start((uint8_t)i);
@@ -481,7 +440,7 @@ static void moves(void)
     }
     fresh(); /* from entry k, k down, if the data say k */
     for (uint8_t i = 1; i < 7; i++)
-        simple(0xFF, i, 0, (uint8_t)(0x80 + i), 0x81);
+        simple_entry(0xFF, i, 0, (uint8_t)(0x80 + i), 0x81);
     always(1);
     begin();
     for (uint8_t i = 0; i < 9; i++)
@@ -499,7 +458,7 @@ static void tail(uint8_t version, const struct bytes *bytes)
     draft_setup_body(&setup, body);
     memcpy(body + base, bytes->at, bytes->length);
     draft_begin(draft);
-    draft_record(draft, 1, body, base + bytes->length);
+    draft_record(draft, KIND_SETUP, body, base + bytes->length);
     draft->bytes[0] = version;
     start(1);
     first(TC, 1);
@@ -586,11 +545,8 @@ static void off(void)
     sitting(&(const struct bytes){1, {1}});
 }
 
-void listed_selection(struct draft *to, void (*then)(struct draft *draft))
+void listed_selection(void)
 {
-    draft = to;
-    emit_paper = then;
-
     simple_example();
     off();
     complex_example();

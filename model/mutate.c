@@ -56,12 +56,6 @@ static bool is_any(size_t i, const char *const *texts)
     return *texts;
 }
 
-static bool begins(size_t i, const char *text)
-{
-    return i < tokens
-        && strncmp(source + token[i].begin, text, strlen(text)) == 0;
-}
-
 /* Tokens ---------------------------------------------------------------- */
 
 static size_t operator_length(const char *at)
@@ -162,7 +156,7 @@ static void mark_counting(void)
                                         "_Static_assert", NULL};
 
     for (size_t i = 0; i + 1 < tokens; i++)
-        if ((is_any(i, calls) || begins(i, "observe_")) && is(i + 1, "("))
+        if (is_any(i, calls) && is(i + 1, "("))
             for (size_t j = i, end = match(i + 1); j <= end; j++)
                 token[j].counts = true;
 }

@@ -10,11 +10,11 @@
 #include "damage.h"
 #include "invent.h"
 #include "listed.h"
+#include "script.h"
 
 /* So that the longest set-up and so many Firsts still make a paper. */
 enum { COMMANDS_MAX = 4000 };
 
-static struct draft draft;
 static uint64_t count, seed, written;
 
 static void fail(const char *what)
@@ -52,18 +52,16 @@ static void write_invented(void)
 {
     struct chance chance = chance_of(seed, written);
     struct world world;
-    struct draft_setup setup;
 
     invent_setup(&chance, &world, &setup, 0, 6);
     invent_version(&chance, &world, &setup);
-    draft_begin(&draft);
-    draft_setup(&draft, &setup);
+    begin();
     const size_t most = percent(&chance, 80) ? 12 : 40;
     const size_t commands = below(&chance, most + 1);
-    invent_commands(&chance, &world, &setup, &draft, commands, false);
+    invent_commands(&chance, &world, &setup, draft, commands, false);
     if (percent(&chance, 30))
-        damage(&chance, &setup, &draft);
-    write_paper(&draft);
+        damage(&chance, &setup, draft);
+    write_paper(draft);
 }
 
 /* No paper runs out of transactions. */
@@ -71,14 +69,12 @@ static void write_timed(size_t commands)
 {
     struct chance chance = chance_of(seed, written);
     struct world world;
-    struct draft_setup setup;
 
     invent_setup(&chance, &world, &setup, 0, 6);
     setup.atc %= 60000;
-    draft_begin(&draft);
-    draft_setup(&draft, &setup);
-    invent_commands(&chance, &world, &setup, &draft, commands, true);
-    write_paper(&draft);
+    begin();
+    invent_commands(&chance, &world, &setup, draft, commands, true);
+    write_paper(draft);
 }
 
 static uint64_t number(const char *text)
@@ -114,7 +110,7 @@ int main(int argc, char **argv)
         finish();
     }
     if (count > 0)
-        listed_papers(seed, &draft, write_listed);
+        listed_papers(seed, write_listed);
     while (written < count)
         write_invented();
     finish();

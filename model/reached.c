@@ -6,8 +6,8 @@
 #include <string.h>
 
 #include "bundle.h"
+#include "observe.h"
 #include "reached.h"
-#include "sitting.h"
 
 uint64_t reached_count[REACHED_ALL];
 
@@ -31,7 +31,16 @@ static struct bundle bundle;
 static struct sitting sitting;
 static uint64_t missed, total;
 
-static void see_line(const char *line, size_t length)
+/* The second number of a line. */
+static unsigned refusal_of(const char *line)
+{
+    unsigned refusal = 0;
+
+    sscanf(line, "%*u %u", &refusal);
+    return refusal;
+}
+
+static void see_cvr(const char *line, size_t length)
 {
     /* "n 0 CID ATC IAD": only an answer to First or Second is so long. */
     if (length < 64)
@@ -49,6 +58,25 @@ static void see_line(const char *line, size_t length)
             cvr_set[second][i]++;
         else
             cvr_clear[second][i]++;
+}
+
+/* Every line of a paper, each with the sitting before it and after. */
+static void see_paper(const uint8_t *paper, size_t length)
+{
+    char line[LINE_MAX_BYTES + 1];
+
+    sitting_open(&sitting, paper, length);
+    for (;;) {
+        const struct sitting before = sitting;
+        const size_t count = sitting_line(&sitting, line);
+        if (count == 0)
+            break;
+        line[count] = '\0';
+        observe(&before, &sitting, refusal_of(line));
+        see_cvr(line, count);
+    }
+    reached_count[LARGEST + 0] += length == PAPER_MAX;
+    reached_count[LARGEST + 1] += sitting.record > 21000;
 }
 
 static void print_count(uint64_t count)
@@ -115,7 +143,6 @@ int main(int argc, char **argv)
     const uint8_t *paper;
     size_t length;
     uint64_t papers = 0;
-    char line[LINE_MAX_BYTES + 1];
     enum bundle_next next;
 
     if (argc > 2) {
@@ -135,13 +162,7 @@ int main(int argc, char **argv)
         }
         if (next != BUNDLE_PAPER)
             break;
-        sitting_open(&sitting, paper, length);
-        for (size_t count; (count = sitting_line(&sitting, line)) > 0;) {
-            line[count] = '\0';
-            see_line(line, count);
-        }
-        reached_count[LARGEST + 0] += length == PAPER_MAX;
-        reached_count[LARGEST + 1] += sitting.record > 21000;
+        see_paper(paper, length);
     }
     if (next != BUNDLE_END) {
         fprintf(stderr, "reached: the stack is not whole\n");

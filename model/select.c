@@ -4,7 +4,6 @@
 #include <string.h>
 
 #include "card.h"
-#include "observe.h"
 #include "reached.h"
 
 enum { ENTRY_MIN = 6 }; /* E without any block */
@@ -46,8 +45,6 @@ static bool read_entry(struct entry *entry, const uint8_t *at, size_t data)
     const size_t stretch_end = (size_t)entry->position - 1 + entry->width;
     if (stretch_end > data)
         return fault(ENTRY_PAST + (data > 0));
-    if (stretch_end == data)
-        reached(DATA_TO_END);
     return true;
 }
 
@@ -61,8 +58,6 @@ static bool test(const struct entry *entry, const uint8_t *data)
 
     for (size_t i = 0; i < width; i++)
         masked[i] = data[entry->position - 1 + i] & entry->mask[i];
-    observe_test(entry->type, entry->blocks - 1u, width,
-                 data + entry->position - 1, entry->mask, value);
     switch (entry->type) {
     case LESS:
         return memcmp(masked, value, width) < 0;
@@ -84,7 +79,6 @@ bool select_profile(const struct selection *selection,
     unsigned left = selection->entries; /* the one at hand and all below */
     struct entry entry;
 
-    observe_file(selection, start);
     if (left == 0)
         return fault(FILE_EMPTY);
     for (*visits = 1;; ++*visits) {
@@ -100,14 +94,11 @@ bool select_profile(const struct selection *selection,
             return fault(ACTION_7F + !positive);
         if (action < 0x80) {
             *profile = action;
-            observe_selected(at, left, *visits,
-                             positive ? entry.negative : entry.positive);
             return true;
         }
         const unsigned move = action & 0x7F;
         if (move >= left)
             return fault(MOVE_PAST + (move > left));
-        observe_move(at, left, move);
         left -= move;
         for (unsigned i = 0; i < move; i++)
             at += 1 + at[0];

@@ -2,7 +2,6 @@
  * them what the paper's version adds. */
 #include "bytes.h"
 #include "card.h"
-#include "observe.h"
 #include "reached.h"
 
 enum { HEAD_BYTES = 52, PROFILE_BYTES = 107, CONVERSION_BYTES = 7 };
@@ -210,6 +209,5 @@ bool card_set_up(struct card *card, unsigned version, const uint8_t *body,
     if (at != body + length)
         return fault(TAIL_LONG + (version > VERSION_SELECTION ? 2 : 0)
                      + setup->selection.on);
-    observe_setup(setup, version);
     return true;
 }

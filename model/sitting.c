@@ -3,19 +3,21 @@
 #include "bytes.h"
 #include "reached.h"
 
-enum { KIND_SETUP = 1, KIND_START = 2, KIND_FIRST = 3, KIND_SECOND = 4 };
 enum { START_BYTES = 1, FIRST_BYTES = 12, SECOND_BYTES = 8 };
-
-struct record {
-    const uint8_t *body;
-    size_t length; /* of the body */
-    uint8_t kind;
-};
 
 static unsigned unreadable(unsigned cause)
 {
     reached(cause);
     return 9;
+}
+
+struct record record_at(const uint8_t *at)
+{
+    return (struct record){
+        .kind = at[2],
+        .body = at + 3,
+        .length = get16(at) - 1u,
+    };
 }
 
 /* Takes the next record, which must be whole and of a known kind. */
@@ -32,9 +34,7 @@ static bool take(struct sitting *sitting, struct record *record)
         return fault((left == 2 ? CUT_AFTER_LENGTH : CUT_IN_BODY) + later);
     if (length == 0)
         return fault(KIND_NONE + later);
-    record->kind = at[2];
-    record->body = at + 3;
-    record->length = length - 1;
+    *record = record_at(at);
     if (record->kind == 0)
         return fault(KIND_ZERO + later);
     if (record->kind > KIND_SECOND)
@@ -114,11 +114,39 @@ void sitting_open(struct sitting *sitting, const uint8_t *paper, size_t length)
     sitting->over = false;
 }
 
+struct start read_start(const struct record *record)
+{
+    return (struct start){.data = record->body, .length = record->length};
+}
+
+struct first read_first(const struct record *record)
+{
+    const uint8_t *body = record->body;
+
+    return (struct first){
+        .type = body[0],
+        .amount = get64(body + 1),
+        .currency = get16(body + 9),
+        .terminal = body[11],
+    };
+}
+
+struct second read_second(const struct record *record)
+{
+    const uint8_t *body = record->body;
+
+    return (struct second){
+        .type = body[0],
+        .code = get16(body + 1),
+        .issuer_data = body[3],
+        .csu = body + 4,
+    };
+}
+
 /* Answers a command record; *rest is what follows the 0 of a done one. */
 static unsigned command(struct card *card, const struct record *record,
                         char **rest)
 {
-    const uint8_t *body = record->body;
     struct answer answer;
     unsigned refusal;
 
@@ -127,7 +155,7 @@ static unsigned command(struct card *card, const struct record *record,
         const bool selects = card->setup.selection.on;
         if (!selects && record->length != START_BYTES)
             return unreadable(START_LENGTH + (record->length > START_BYTES));
-        const struct start start = {.data = body, .length = record->length};
+        const struct start start = read_start(record);
         unsigned visits;
         refusal = card_start(card, &start, &visits);
         if (refusal > 0)
@@ -143,24 +171,14 @@ static unsigned command(struct card *card, const struct record *record,
     case KIND_FIRST: {
         if (record->length != FIRST_BYTES)
             return unreadable(FIRST_LENGTH + (record->length > FIRST_BYTES));
-        const struct first first = {
-            .type = body[0],
-            .amount = get64(body + 1),
-            .currency = get16(body + 9),
-            .terminal = body[11],
-        };
+        const struct first first = read_first(record);
         refusal = card_first(card, &first, &answer);
         break;
     }
     case KIND_SECOND: {
         if (record->length != SECOND_BYTES)
             return unreadable(SECOND_LENGTH + (record->length > SECOND_BYTES));
-        const struct second second = {
-            .type = body[0],
-            .code = get16(body + 1),
-            .issuer_data = body[3],
-            .csu = body + 4,
-        };
+        const struct second second = read_second(record);
         refusal = card_second(card, &second, &answer);
         break;
     }

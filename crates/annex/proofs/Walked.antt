@@ -13,7 +13,7 @@ use Rattle.entry.specs.declared.Action.the-variants.{Profile, Move, Refused}
 use Rattle.selection.specs.Selection.{firstEntry, follow, oneMore, selectionOf, selectionNumber, skipped}
 use Rattle.selection.specs.declared.Selection.{Selection}
 use Rattle.selection.specs.declared.Selection.the-variants.{Selected, NotSelected}
-use Rattle.selection.proofs.Moves.{none, step, moves-on}
+use Rattle.selection.proofs.Moves.{Visit, none, step, moves-on}
 use Rattle.annex.specs.Annex.{Bytes, place, Acts, passed, failed, Leads, Moves, Walks, names, moves, Stops}
 use Rattle.annex.specs.Annex.{profile-zero, move-zero, past-the-end, profile-7F, empty-file, ill-formed, reaches-past, onward}
 use Rattle.annex.proofs.Places.{skipped-is, skipped-more}
@@ -41,26 +41,22 @@ module _ (file : List ℕ) (entries : ℕ) (d : List ℕ) (fs : Bytes file) (ds 
   abbrev does : ℕ → Action
   does k = actionTaken (entry file (place file k)) d
 
-  first-does : (k : ℕ) (a : Action) → does k ≡ a → actionTaken (firstEntry (skipped file k)) d ≡ a
-  first-does k a e = ap (λ (s : List ℕ). actionTaken (firstEntry s) d) (skipped-is file k) ∙ e
-
   module _ (k : ℕ) (h : k < entries) where
-    left : entries - k ≡ 0 → ⊥
-    left z = omega arith
+    here : Visit (skipped file k) d (entries - k) (does k)
+    here = record { some = λ z. omega arith; does = sym (ap (λ (s : List ℕ). actionTaken (firstEntry s) d) (skipped-is file k)) }
 
     from-profile : (p : ℕ) → does k ≡ Profile p → from k ≡ Selected p 1
     unfolding follow
-    from-profile p e = step (skipped file k) d (entries - k) left (Profile p) (first-does k (Profile p) e)
+    from-profile p e = step here (Profile p) e
 
     from-refused : does k ≡ Refused → from k ≡ NotSelected
     unfolding follow
-    from-refused e = step (skipped file k) d (entries - k) left Refused (first-does k Refused e)
+    from-refused e = step here Refused e
 
     from-move : (m : ℕ) → does k ≡ Move m → from k ≡ oneMore (from (k + m))
     from-move m e =
         let z : entries - k - m ≡ entries - (k + m) = omega arith in
-        sym (moves-on (skipped file k) d (entries - k) left m (first-does k (Move m) e) (skipped file (k + m)) (sym (skipped-more file k m)) (from (k + m))
-        (ap (λ (n : ℕ). selectionOf (skipped file (k + m)) n d) (sym z)))
+        sym (moves-on here e (sym (skipped-more file k m)) (ap (λ (n : ℕ). selectionOf (skipped file (k + m)) n d) (sym z)) refl)
 
   acted : (k a : ℕ) (r : Action) → Leads file entries d k a → actionOf a ≡ r → does k ≡ r
   acted k a r c e = acts-as file (place file k) d fs ds a (c .1) ∙ e

@@ -118,7 +118,8 @@ fn refuse(refusal: Refusal, at: usize) -> Begun
 
 // The set-up's base, read into lent words.
 fn take_base(shape: Shape, base: &[u8], end: usize, words: &mut Words) -> Begun
-    ensures { λ r. ⌜ (r ≡ baseBegun shape (now (base .entry)) end) × (now (words .exit) ≡ wordsAfter (now (words .entry)) (now (base .entry)) (shape .syllabus)) ⌝ }
+    ensures { λ r. ⌜ (r ≡ baseBegun shape (now (base .entry)) end)
+        × (now (words .exit) ≡ wordsAfter (now (words .entry)) (now (base .entry)) (shape .syllabus)) ⌝ }
 {
     let read = setup::read_setup(base, shape.syllabus, words);
     let fresh = read.fresh;
@@ -153,7 +154,8 @@ fn select_in(selecting: Selecting, place: usize, bytes: usize) -> Selecting
 // The set-up: its shape is read and then its base, or refused.
 fn take_setup(version: u8, body: &[u8], place: usize, end: usize, words: &mut Words) -> Begun
     requires { ⌜ place + length (now body) < 2 ^ 63 ⌝ }
-    ensures { λ r. ⌜ (r ≡ setupBegun version (now (body .entry)) place end) × (now (words .exit) ≡ setupWords (now (words .entry)) version (now (body .entry))) ⌝ }
+    ensures { λ r. ⌜ (r ≡ setupBegun version (now (body .entry)) place end)
+        × (now (words .exit) ≡ setupWords (now (words .entry)) version (now (body .entry))) ⌝ }
 {
     match shape::read_shape(version, body) {
         ReadShape::Refused(refusal) => refuse(refusal, end),

@@ -1,14 +1,14 @@
--- A number that is none of 1 to 4 sends nothing. Assumes nothing.
+-- A number that is neither 0 nor above 4 is one of four. Assumes nothing.
 use mathlib.Core.Path.{_≡_, refl}
-use mathlib.Core.List.{List}
-use Prim.Native.Nat.{ℕ, zero, suc}
-use Rattle.cryptogram.specs.Cryptogram.{sentOf}
+use mathlib.Core.Bool.{Bool, true, false, _||_}
+use Prim.Native.Nat.{ℕ, _≤_}
+use native.Mathlib.Omega.{arith}
+use borrow.Author.Tests.{ltb-false, eqb-false}
+use lib.Dec.{eqb, ltb}
 
-pub none-sent : {A : Type 0} (values : List A) (none : A) (n : ℕ) → (n ≡ 1 → ⊥) → (n ≡ 2 → ⊥) → (n ≡ 3 → ⊥) → (n ≡ 4 → ⊥)
-    → sentOf values none n ≡ none
-none-sent values none zero one two three four = refl
-none-sent values none (suc zero) one two three four = absurd (one refl)
-none-sent values none (suc (suc zero)) one two three four = absurd (two refl)
-none-sent values none (suc (suc (suc zero))) one two three four = absurd (three refl)
-none-sent values none (suc (suc (suc (suc zero)))) one two three four = absurd (four refl)
-none-sent values none (suc (suc (suc (suc (suc n))))) one two three four = refl
+pub one-of-four : (n : ℕ) → (eqb n 0 || ltb 4 n) ≡ false → (1 ≤ n) × (n ≤ 4)
+one-of-four n e = by (eqb n 0) (ltb 4 n) refl refl e where
+  by : (none over : Bool) → eqb n 0 ≡ none → ltb 4 n ≡ over → (none || over) ≡ false → (1 ≤ n) × (n ≤ 4)
+  by false false h k e = let some = eqb-false n 0 h in (omega arith, ltb-false 4 n k)
+  by false true h k e = let z : _≡_ {A = ℕ} 0 1 = cc in (omega arith, omega arith)
+  by true over h k e = let z : _≡_ {A = ℕ} 0 1 = cc in (omega arith, omega arith)

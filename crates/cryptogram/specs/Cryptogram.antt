@@ -1,9 +1,9 @@
 -- What goes out with a cryptogram (document 01, "CVR and IAD").
-use Prim.Native.Nat.{ℕ, zero, suc, _+_, _*_}
-use mathlib.Core.Bool.{false, _||_}
+use Prim.Native.Nat.{ℕ, _+_, _-_, _*_}
+use mathlib.Core.Bool.{false, cond, _||_}
 use mathlib.Core.List.{List}
 use lib.ListN.{getD}
-use lib.Dec.{eqb}
+use lib.Dec.{eqb, ltb}
 use Rattle.money.specs.declared.AccumulatorAmount.{AccumulatorAmount}
 use Rattle.iad.specs.declared.Cvr.{Cvr}
 use Rattle.iad.specs.declared.Iad.{Iad}
@@ -56,12 +56,7 @@ issuerBefore history = record { unperformed = history .unable || history .missin
 
 -- what is sent of four: the one of a number from 1 to 4, or none
 abbrev pub sentOf : {A : Type 0} → List A → A → ℕ → A
-sentOf values none zero = none
-sentOf values none (suc zero) = getD values 0 none
-sentOf values none (suc (suc zero)) = getD values 1 none
-sentOf values none (suc (suc (suc zero))) = getD values 2 none
-sentOf values none (suc (suc (suc (suc zero)))) = getD values 3 none
-sentOf values none (suc (suc (suc (suc (suc n))))) = none
+sentOf values none number = cond (eqb number 0 || ltb 4 number) none (getD values (number - 1) none)
 
 -- "none sent" is zeros
 abbrev pub sentAmount : List AccumulatorAmount → ℕ → AccumulatorAmount

@@ -84,37 +84,19 @@ pub fn verify(
 fn sent_amount(values: [AccumulatorAmount; 4], number: u8) -> AccumulatorAmount
     ensures { λ r. ⌜ r ≡ sentAmount values number ⌝ }
 {
-    if number == 1 {
-        return values[0];
+    if (number == 0) | (4 < number) {
+        return AccumulatorAmount(0);
     }
-    if number == 2 {
-        return values[1];
-    }
-    if number == 3 {
-        return values[2];
-    }
-    if number == 4 {
-        return values[3];
-    }
-    AccumulatorAmount(0)
+    values[number as usize - 1]
 }
 
 fn sent_counter(values: [u8; 4], number: u8) -> u8
     ensures { λ r. ⌜ r ≡ sentCount values number ⌝ }
 {
-    if number == 1 {
-        return values[0];
+    if (number == 0) | (4 < number) {
+        return 0;
     }
-    if number == 2 {
-        return values[1];
-    }
-    if number == 3 {
-        return values[2];
-    }
-    if number == 4 {
-        return values[3];
-    }
-    0
+    values[number as usize - 1]
 }
 
 // The fields of the IAD, with the values after the step.

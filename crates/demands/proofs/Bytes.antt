@@ -25,7 +25,8 @@ use Rattle.purchase.specs.Meter.{worthTo as cardWorth}
 use Rattle.meters.specs.Meters.{addition}
 use Rattle.demands.specs.Setup.{Setup, byteAt, numberAt, AcceptedSetup}
 use Rattle.demands.specs.Conversation.{rulesBy}
-use Rattle.demands.specs.Audit.{placeFrom, placeOf, Conversion, comesTo, over, none, whole, upToMax, byEntry, converted, adds, isActive, isAllowed, isIncluded, countsDeclines, upperOf, worthTo}
+use Rattle.demands.specs.Audit.{placeFrom, placeOf, Conversion, comesTo, over, none, whole, upToMax, byEntry, converted, adds}
+use Rattle.demands.specs.Audit.{isActive, isAllowed, isIncluded, countsDeclines, upperOf, worthTo}
 use Rattle.demands.specs.Decision.{lowerOf}
 use Rattle.demands.proofs.Found.{Holds, below-four}
 

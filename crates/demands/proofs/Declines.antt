@@ -22,7 +22,10 @@ zeros n = replicate n 0
 -- a set-up of zeros but for profile 1 and its counter 1, which is sent
 abbrev body : (value switches lower : ℕ) → Setup
 body value switches lower =
-    record { bytes = zeros 3 ++ 1 ∷ zeros 44 ++ value ∷ zeros 3 ++ 1 ∷ zeros 91 ++ switches ∷ lower ∷ 255 ∷ zeros 9 ++ 0 ∷ 1 ∷ 0 ∷ []; syllabus = 0 }
+    record {
+      bytes = zeros 3 ++ 1 ∷ zeros 44 ++ value ∷ zeros 3 ++ 1 ∷ zeros 91 ++ switches ∷ lower ∷ 255 ∷ zeros 9 ++ 0 ∷ 1 ∷ 0 ∷ [];
+      syllabus = 0;
+    }
 
 abbrev start : Command
 start = StartCommand (record { chosen = Selected 1 0 })

@@ -48,7 +48,11 @@ card upper =
                 ∷ blankAccumulator
                 ∷ [];
             counters =
-                record { lower = 0; upper = 0; active = true; allow = true; include = true; declines = true } ∷ blankCounter ∷ blankCounter ∷ blankCounter ∷ [];
+                record { lower = 0; upper = 0; active = true; allow = true; include = true; declines = true }
+                ∷ blankCounter
+                ∷ blankCounter
+                ∷ blankCounter
+                ∷ [];
             sent = blankProfile .sent;
           }
           ∷ blankProfile

@@ -57,7 +57,8 @@ flags-same setup profile purchase f g history h =
     )
 
 -- a concluded First answers with the kind that was decided
-pub concluded-kind : (rules : Rules) (state : State) (place : Place) (purchase : Purchase) (limits : ℕ) (cvr : Cvr) (decided kind : Kind) (atc : ℕ) (iad : Iad)
+pub concluded-kind : (rules : Rules) (state : State) (place : Place) (purchase : Purchase) (limits : ℕ) (cvr : Cvr)
+    (decided kind : Kind) (atc : ℕ) (iad : Iad)
     → concluded rules state place purchase limits cvr decided .answer ≡ Given kind atc iad → decided ≡ kind
 unfolding settled asked concluded
 concluded-kind rules state place purchase limits cvr Aac kind atc iad e = cc

@@ -49,7 +49,8 @@ use Rattle.demands.proofs.Run.{always-ruled}
 use Rattle.demands.proofs.Bytes.{fits, number-in, number-out}
 use Rattle.demands.proofs.Ends.{accepted-in-kind, first-concludes, second-closes, due-is}
 use Rattle.demands.proofs.Past.{atc}
-use Rattle.demands.specs.Rows.{InSetup, InRules, NoStart, NoArqc, Unselected, StartRow, not-selected, not-in-setup, used-up, FirstRow, no-start, type-three}
+use Rattle.demands.specs.Rows.{InSetup, InRules, NoStart, NoArqc, Unselected}
+use Rattle.demands.specs.Rows.{StartRow, not-selected, not-in-setup, used-up, FirstRow, no-start, type-three}
 use Rattle.demands.specs.Rows.{above-max, not-digits, SecondRow, no-arqc, type-two, issuer-data, Applies, rank, Numbered, done, refused}
 
 -- what is taken is answered, and no answer to it is a refusal
@@ -74,7 +75,8 @@ never e = let z : _≡_ {A = ℕ} 0 1 = cc in omega arith
 pub in-rules : (rules : Rules) (number : ℕ) (place : Place) → Holds rules number place → InRules rules number
 in-rules rules number place h = record { index = indexOf place; below = below-four place; some = h .some; its = h .its }
 
-opening-ruled : (rules : Rules) (atc : ℕ) (start : Start) → (Unselected (start .chosen) → ⊥) → (found : Found) → Known rules (profileOf (start .chosen)) found
+opening-ruled : (rules : Rules) (atc : ℕ) (start : Start) → (Unselected (start .chosen) → ⊥)
+    → (found : Found) → Known rules (profileOf (start .chosen)) found
     → Ruled (StartRow (InRules rules) atc start) (ruleOpening atc found)
 opening-ruled rules atc start selected Nothing missing = (
   not-in-setup refl (λ i. missing (i .some) (i .index) (i .below) (i .its)),
@@ -114,7 +116,8 @@ first-ruled (Opened place) first = by-type (ltb 2 (first .requested)) refl where
   by-currency : first .requested ≤ 2 → first .amount .0 ≤ max → (c : Bool) → isCurrency (first .currency) ≡ c
       → Ruled (FirstRow aFirst first) (cond c (take place) (refuse OutOfRange))
   by-currency t a true e =
-      λ m. elim [ no-start n h ↦ h | type-three n h ↦ omega arith | above-max n h ↦ omega arith | not-digits n h ↦ h (currency (first .currency) .0 e) ]
+      let digits = currency (first .currency) .0 e in
+      λ m. elim [ no-start n h ↦ h | type-three n h ↦ omega arith | above-max n h ↦ omega arith | not-digits n h ↦ h digits ]
   by-currency t a false e =
       (not-digits refl (λ c. never (sym e ∙ currency (first .currency) .1 c)), λ m l row. omega (arith, first-least row .2 (λ none. none) t))
 

@@ -4,6 +4,7 @@ use mathlib.Core.Path.{_≡_, refl, sym, ap, _∙_, subst}
 use mathlib.Core.List.{List, [], _∷_}
 use Prim.Native.Nat.{ℕ}
 use lib.ListN.{length}
+use Rattle.rules.specs.Word.{wordCount}
 use Rattle.setup.proofs.Faithful.{faithful}
 use Rattle.command.specs.declared.Command.{Command}
 use Rattle.command.specs.declared.Command.the-variants.{Start as StartCommand, First as FirstCommand, Second as SecondCommand}
@@ -67,7 +68,7 @@ pin-stays setup (exchange ∷ older) = by (exchange .command) (exchange .answer)
   by (SecondCommand second) answer = refl
 
 -- OVER THE WORDS THAT A CARD WAS LENT, whatever they held, the conversation is the one over the set-up's bytes
-pub heard-over-words : (setup : Setup) → AcceptedSetup setup → (words : List ℕ) → length words ≡ 164 → (commands : List Command)
+pub heard-over-words : (setup : Setup) → AcceptedSetup setup → (words : List ℕ) → length words ≡ wordCount → (commands : List Command)
     → satOver words setup commands ≡ sat setup commands
 heard-over-words setup good words size commands =
     ap (λ rules. satBy rules setup commands) (faithful (setup .bytes) (good .bytes) (setup .syllabus) words size (good .taken))

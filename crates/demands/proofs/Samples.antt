@@ -1,11 +1,12 @@
 -- The statements of `demands`, computed for a few sittings: what a card holds and what the auditor finds, value by value. They follow
--- from `total`, `history`, `atc`, `due-is`, `in-kind` and `first-answers`; said apart, they show of a wrong card that the statement itself is
--- false of it. Assumes nothing.
-use mathlib.Core.Bool.{Bool, true, false, not, _&&_}
+-- from `total`, `history`, `atc`, `due-is`, `in-kind`, `first-answers`, `gives` and `written-out`; said apart, they show of a wrong card that
+-- the statement itself is false of it. Assumes nothing.
+use mathlib.Core.Bool.{Bool, true, false, not, _&&_, _||_}
 use mathlib.Core.List.{List, [], _∷_, _++_}
-use Prim.Native.Nat.{ℕ, _*_}
+use Prim.Native.Nat.{ℕ, _+_, _*_}
 use lib.Dec.{T, eqb}
 use lib.ListN.{replicate}
+use Rattle.iad.specs.Iad.{isCvr, isWritable}
 use Rattle.ranges.specs.Ranges.{isSetup}
 use Rattle.state.specs.declared.History.{History}
 use Rattle.state.specs.declared.Answer.{Answer}
@@ -16,12 +17,13 @@ use Rattle.cryptogram.specs.Cryptogram.{kindCode}
 use Rattle.selection.specs.declared.Selection.the-variants.{Selected}
 use Rattle.command.specs.declared.Command.{Command}
 use Rattle.command.specs.declared.Command.the-variants.{Start as StartCommand, First as FirstCommand, Second as SecondCommand}
-use Rattle.demands.specs.Setup.{Setup}
+use Rattle.demands.specs.Setup.{Setup, byteAt}
 use Rattle.purchase.specs.Meter.{Meter, accumulator, counter, valueOf}
 use Rattle.demands.specs.Conversation.{Exchange, Sitting, sat, next}
-use Rattle.demands.specs.Audit.{audited}
+use Rattle.demands.specs.Audit.{named, placeBy, audited}
 use Rattle.demands.specs.Past.{past, atcBy}
 use Rattle.demands.specs.Due.{Due, nothing, aFirst, aSecond, due, dueIn}
+use Rattle.demands.specs.Verification.{sentOf}
 use Rattle.demands.proofs.Computed.{computed}
 
 abbrev zeros : ℕ → List ℕ
@@ -36,7 +38,11 @@ setupOf body = record { bytes = body; syllabus = 0 }
 -- p profiles, c conversions, ATC 0; accumulators in 0978 from a number below 65536, in 0840 from 0, in 0978 from 7
 abbrev head : (p c high low : ℕ) → List ℕ
 head p c high low =
-    1 ∷ 3 ∷ 0 ∷ p ∷ c ∷ zeros 3 ++ 0x09 ∷ 0x78 ∷ zeros 6 ++ high ∷ low ∷ 0x08 ∷ 0x40 ∷ zeros 8 ++ 0x09 ∷ 0x78 ∷ zeros 7 ++ 7 ∷ zeros 14
+    1 ∷ 3 ∷ 0 ∷ p ∷ c ∷ zeros 3
+    ++ 0x09 ∷ 0x78 ∷ zeros 6
+    ++ high ∷ low ∷ 0x08 ∷ 0x40 ∷ zeros 8
+    ++ 0x09 ∷ 0x78 ∷ zeros 7
+    ++ 7 ∷ zeros 14
 
 -- switches, lower and upper, each below 65536
 abbrev rule : (switches high low high' low' : ℕ) → List ℕ
@@ -69,6 +75,12 @@ unfoldable pub full : Setup
 full =
     let masks = zeros 6 ++ 0x04 ∷ zeros 16 in
     setupOf (1 ∷ 3 ∷ 0 ∷ 1 ∷ 0 ∷ zeros 3 ++ 0x09 ∷ 0x78 ∷ most ++ zeros 34 ++ 1 ∷ masks ++ 5 ∷ zeros 8 ++ most ++ zeros 66)
+
+-- one profile, nothing active; accumulator 1 and counters 2 and 3 sent, 9, 6 and 7
+unfoldable pub sending : (n : ℕ) → Setup
+sending n =
+    let values = 0x09 ∷ 0x78 ∷ zeros 7 ++ 9 ∷ zeros 30 ++ 5 ∷ 6 ∷ 7 ∷ 8 ∷ [] in
+    setupOf (1 ∷ 3 ∷ 0 ∷ 1 ∷ zeros 4 ++ values ++ n ∷ zeros 103 ++ 1 ∷ 2 ∷ 3 ∷ [])
 
 -- ---- sittings
 
@@ -179,12 +191,39 @@ answersTo setup currency kind = isOf (next setup (start 1 ∷ []) (first 1 curre
 abbrev answers : (switches high low currency : ℕ) → Kind → Bool
 answers switches high low currency kind = answersTo (limiting switches high low) currency kind
 
+-- `gives`: what the newest answer sends, and what the auditor finds
+abbrev isSending : Setup → List Exchange → Answer → Bool
+isSending setup log (Refused refusal) = false
+isSending setup log (Started atc visits) = false
+isSending setup log (Given kind atc iad) =
+    let profile = placeBy setup log in
+    let value = audited setup log in
+    eqb (iad .profile) (named log) && eqb (iad .accumulator .0) (sentOf value accumulator (byteAt setup (profile + 104)))
+    && eqb (iad .first) (sentOf value counter (byteAt setup (profile + 105)))
+    && eqb (iad .second) (sentOf value counter (byteAt setup (profile + 106)))
+
+abbrev areSending : Setup → List Exchange → Bool
+areSending setup [] = false
+areSending setup (exchange ∷ older) = isSending setup (exchange ∷ older) (exchange .answer)
+
+unfoldable pub sends : Setup → List Command → Bool
+sends setup commands = areSending setup (sat setup commands .log)
+
+-- `written-out`: under the one profile of a set-up that is accepted, the IAD of an AAC can be written
+abbrev canWrite : Answer → Bool
+canWrite (Refused refusal) = false
+canWrite (Started atc visits) = false
+canWrite (Given kind atc iad) = isWritable iad
+
+unfoldable pub writes : (n : ℕ) → Bool
+writes n = not (isSetup (sending n .bytes)) || canWrite (next (sending n) (start n ∷ []) (first 1 0x0978 0) .answer)
+
 abbrev areSetups : List Setup → Bool
 areSetups [] = true
 areSetups (setup ∷ setups) = isSetup (setup .bytes) && areSetups setups
 
 pub record Samples : Type 0 where
-  pub accepted : T (areSetups (counting ∷ limiting 1 0x07 0xD0 ∷ limiting 1 0x17 0x70 ∷ limiting 5 0x17 0x70 ∷ defaulting ∷ full ∷ []))
+  pub accepted : T (areSetups (counting ∷ limiting 1 0x07 0xD0 ∷ limiting 1 0x17 0x70 ∷ limiting 5 0x17 0x70 ∷ defaulting ∷ full ∷ sending 124 ∷ []))
   pub approvals-agree : T (agrees counting approvals)
   pub limits-agree : T (agrees counting limits)
   pub resets-agree : T (agrees counting resets)
@@ -209,9 +248,13 @@ pub record Samples : Type 0 where
   pub default-unasked : T (answersTo defaulting 0x0978 Tc)
   -- the sum that is tested isn't stopped at MAX
   pub sum-unstopped : T (answersTo full 0x0978 Aac)
+  -- what is sent is what the profile names
+  pub sent-named : T (sends (sending 1) (answered 0))
+  -- a profile that a set-up may have is one that an IAD may: 124, and not 125
+  pub profile-written : T (writes 124 && writes 125)
 
 pub samples : Samples
-unfolding counting limiting defaulting full approvals limits resets answered online agrees duly kindly answersTo computed
+unfolding counting limiting defaulting full sending approvals limits resets answered online agrees duly kindly answersTo sends writes isWritable isCvr computed
 samples =
     record {
       accepted = tt;
@@ -234,4 +277,6 @@ samples =
       upper-included-declined = tt;
       default-unasked = tt;
       sum-unstopped = tt;
+      sent-named = tt;
+      profile-written = tt;
     }

@@ -1,5 +1,5 @@
 -- The first byte in which two runs of bytes differ says how their big-endian numbers stand. Assumes nothing.
-use mathlib.Core.Path.{_≡_, refl, sym, ap₂, _∙_}
+use mathlib.Core.Path.{_≡_, refl, sym, ap, ap₂, _∙_}
 use mathlib.Core.Bool.{Bool, true, false, _||_}
 use mathlib.Core.List.{List}
 use Prim.Native.Nat.{ℕ, zero, suc, _+_, _*_, _-_, _≤_, _<_}
@@ -11,10 +11,12 @@ use lib.Dec.{ltb, eqb}
 use borrow.Author.Tests.{lt-ltb, le-ltb, eq-eqb, ne-eqb, ltb-true, ltb-false}
 use Rattle.wire.specs.Wire.{byte, number}
 use Rattle.entry.specs.Entry.{position, blockLength, blockPlace, block, masked, isAnyOf, orderOf, isLess, isEqual, isGreater}
+use Rattle.entry.specs.declared.Order.{Order}
 use Rattle.entry.specs.declared.Order.the-variants.{Less, Equal, Greater}
 
 -- x and y: numbers that grow by a byte at each step
-module _ (x y : ℕ → ℕ) (a b : ℕ → ℕ) (x-more : (i : ℕ) → x (suc i) ≡ x i * 256 + a i) (y-more : (i : ℕ) → y (suc i) ≡ y i * 256 + b i) (small : (i : ℕ) → a i < 256) where
+module _ (x y a b : ℕ → ℕ) (x-more : (i : ℕ) → x (suc i) ≡ x i * 256 + a i) (y-more : (i : ℕ) → y (suc i) ≡ y i * 256 + b i)
+    (small : (i : ℕ) → a i < 256) where
   pub less-on : (i k : ℕ) → x i < y i → x (i + k) < y (i + k)
   less-on i zero h = rw (add-zero i) h
   less-on i (suc k) h =
@@ -51,7 +53,9 @@ module _ (d e : List ℕ) (p m : ℕ) (ds : (k : ℕ) → byte d k < 256) (es : 
   module _ (v i n : ℕ) (h : i < n) (same : maskedTo i ≡ number e v i) where
     pub is-less : maskedByte i < byte e (v + i) → orderOf (maskedTo n) (number e v n) ≡ Less
     unfolding orderOf
-    is-less g = simp (lt-ltb (maskedTo n) (number e v n) (less-at maskedTo (number e v) maskedByte (λ k. byte e (v + k)) masked-more (number-more v) masked-small i n h same g))
+    is-less g =
+        let l = less-at maskedTo (number e v) maskedByte (λ k. byte e (v + k)) masked-more (number-more v) masked-small i n h same g in
+        simp (lt-ltb (maskedTo n) (number e v n) l)
 
     pub is-greater : byte e (v + i) < maskedByte i → orderOf (maskedTo n) (number e v n) ≡ Greater
     unfolding orderOf
@@ -67,7 +71,8 @@ unfolding orderOf
 is-equal x y e = simp (le-ltb x y (omega arith), le-ltb y x (omega arith))
 
 -- what the order says of two numbers
-by-order : (x y : ℕ) (s t : Bool) → ltb x y ≡ s → ltb y x ≡ t → (isLess (orderOf x y) ≡ ltb x y) × (isEqual (orderOf x y) ≡ eqb x y) × (isGreater (orderOf x y) ≡ ltb y x)
+by-order : (x y : ℕ) (s t : Bool) → ltb x y ≡ s → ltb y x ≡ t
+    → (isLess (orderOf x y) ≡ ltb x y) × (isEqual (orderOf x y) ≡ eqb x y) × (isGreater (orderOf x y) ≡ ltb y x)
 unfolding orderOf
 by-order x y true t e f =
     let l = ltb-true x y e in
@@ -90,27 +95,48 @@ module _ (x y : ℕ) where
   pub greater-is : isGreater (orderOf x y) ≡ ltb y x
   greater-is = by-order x y (ltb x y) (ltb y x) refl refl .2
 
--- a turn of the comparison with block i, at byte k: r, l and p are the position, the length and the block's place as they were read,
--- and x, m and y the byte of the data, of the mask and of the block
-module _ (e d : List ℕ) (es : (k : ℕ) → byte e k < 256) (ds : (k : ℕ) → byte d k < 256) (i r l p : ℕ) (hr : r ≡ position e) (hl : l ≡ blockLength e) (hp : p ≡ blockPlace e i) where
-  whole : orderOf (maskedTo d e (r - 1) 4 ds es l) (number e p l) ≡ orderOf (masked e d) (block e i)
-  unfolding masked block
-  whole = rw (hr, hl, hp)
+-- the comparison with block i: its start in the data, its length and its place as they were read, and up to byte k no difference
+pub record Same (e : List ℕ) (i : ℕ) (d : List ℕ) (start length place k : ℕ) : Type 0 where
+  pub bytes : (n : ℕ) → byte e n < 256
+  pub told : (n : ℕ) → byte d n < 256
+  pub starts : start ≡ position e - 1
+  pub long : length ≡ blockLength e
+  pub placed : place ≡ blockPlace e i
+  pub within : k ≤ length
+  pub same : bitAnd (number d start k) (number e 4 k) ≡ number e place k
 
-  pub turn : (k x m y : ℕ) → k < l → maskedTo d e (r - 1) 4 ds es k ≡ number e p k → x ≡ byte d (r - 1 + k) → m ≡ byte e (4 + k) → y ≡ byte e (p + k)
+module _ (e : List ℕ) (i : ℕ) (d : List ℕ) (start length place k : ℕ) (s : Same e i d start length place k) where
+  whole : orderOf (bitAnd (number d start length) (number e 4 length)) (number e place length) ≡ orderOf (masked e d) (block e i)
+  unfolding masked block
+  whole = rw (s .starts, s .long, s .placed)
+
+  -- a turn, with the byte of the data, of the mask and of the block as they were read
+  pub turn : (x m y : ℕ) → k < length → x ≡ byte d (start + k) → m ≡ byte e (4 + k) → y ≡ byte e (place + k)
       → (bitAnd x m < y → Less ≡ orderOf (masked e d) (block e i))
       × (y < bitAnd x m → Greater ≡ orderOf (masked e d) (block e i))
-      × (bitAnd x m ≡ y → maskedTo d e (r - 1) 4 ds es (k + 1) ≡ number e p (k + 1))
-  turn k x m y h same hx hm hy = rw (hx, hm, hy) (
-    (λ g. sym (is-less d e (r - 1) 4 ds es p k l h same g) ∙ whole),
-    (λ g. sym (is-greater d e (r - 1) 4 ds es p k l h same g) ∙ whole),
-    (λ g. still-same d e (r - 1) 4 ds es p k l h same g),
+      × (bitAnd x m ≡ y → Same e i d start length place (k + 1))
+  turn x m y h hx hm hy = rw (hx, hm, hy) (
+    (λ g. sym (is-less d e start 4 (s .told) (s .bytes) place k length h (s .same) g) ∙ whole),
+    (λ g. sym (is-greater d e start 4 (s .told) (s .bytes) place k length h (s .same) g) ∙ whole),
+    (λ g. record {
+      bytes = s .bytes;
+      told = s .told;
+      starts = s .starts;
+      long = s .long;
+      placed = s .placed;
+      within = omega arith;
+      same = still-same d e start 4 (s .told) (s .bytes) place k length h (s .same) g;
+    }),
   )
 
-  pub ended : (k : ℕ) → k ≤ l → l ≤ k → maskedTo d e (r - 1) 4 ds es k ≡ number e p k → Equal ≡ orderOf (masked e d) (block e i)
-  ended k h g same =
-      let z : k ≡ l = omega arith in
-      sym (is-equal _ _ (rw z at same)) ∙ whole
+  pub ended : length ≤ k → Equal ≡ orderOf (masked e d) (block e i)
+  ended g =
+      let z : k ≡ length = omega (arith, s .within) in
+      sym (is-equal _ _ (rw z at (s .same))) ∙ whole
+
+-- what a comparison answered
+pub is-told : (x y : ℕ) (o : Order) (b : Bool) → o ≡ orderOf x y → b ≡ isEqual o → eqb x y ≡ b
+is-told x y o b e f = sym (equal-is x y) ∙ ap isEqual (sym e) ∙ sym f
 
 -- the comparison values from value i on, of n blocks
 pub none-left : (x : ℕ) (e : List ℕ) (i n : ℕ) → n ≤ i → isAnyOf x e i (n - i) ≡ false

@@ -5,10 +5,12 @@ use mathlib.Core.List.{List}
 use Prim.Native.Nat.{ℕ, _+_, _*_, _-_, _≤_, _<_}
 use native.Mathlib.Nat.{mul-le-mul}
 use native.Mathlib.Omega.{arith}
+use lib.ListN.{length}
 use lib.Dec.{ltb, leb, eqb}
 use borrow.Author.Tests.{lt-ltb, le-ltb, ltb-true, ltb-false, eqb-false}
 use Rattle.wire.proofs.Pairs.{both}
-use Rattle.entry.specs.Entry.{position, blockLength, checkType, positiveAction, negativeAction, isWhole, isWellFormed, reachesPast, passes, actionOf, actionTaken}
+use Rattle.entry.specs.Entry.{position, blockLength, blocks, blocksEnd, checkType, positiveAction, negativeAction}
+use Rattle.entry.specs.Entry.{isWhole, isWellFormed, reachesPast, passes, actionOf, actionTaken}
 use Rattle.entry.specs.declared.Action.the-variants.{Profile, Move, Refused}
 
 module _ (e : List ℕ) (h : isWellFormed e ≡ true) where
@@ -29,8 +31,12 @@ by a b c d f g false e = sym (le-ltb c d (g (ltb-false a b e)))
 pub same-test : (a b c d : ℕ) → (a < b → c < d) → (b ≤ a → d ≤ c) → ltb a b ≡ ltb c d
 same-test a b c d f g = by a b c d f g (ltb a b) refl
 
-pub past-test : (n p l : ℕ) → ltb (n + 1) (p + l) ≡ ltb n (p + l - 1)
-past-test n p l = same-test (n + 1) (p + l) n (p + l - 1) (λ h. omega arith) (λ h. omega arith)
+pub past-test : (e d : List ℕ) (p l : ℕ) → p ≡ position e → l ≡ blockLength e → ltb (length d + 1) (p + l) ≡ reachesPast e d
+unfolding reachesPast
+past-test e d p l hp hl = rw (← hp, ← hl) (same-test (length d + 1) (p + l) (length d) (p + l - 1) (λ h. omega arith) (λ h. omega arith))
+
+pub ends : (e : List ℕ) (r : ℕ) → r ≡ blocksEnd e → r + 2 ≡ blocks e * blockLength e + 6
+ends e r h = omega arith
 
 pub product : (a b : ℕ) → a < 256 → b < 256 → a * b ≤ 65025
 product a b ha hb = mul-le-mul {n₁ = a} {m₁ = b} {n₂ = 255} {m₂ = 255} (omega arith) (omega arith)

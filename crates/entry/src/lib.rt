@@ -3,7 +3,8 @@
 use wire::byte_at;
 ghost use mathlib.Core.Path.{_≡_};
 ghost use Prim.Native.Nat.{_-_, _<_};
-ghost use Rattle.entry.specs.Entry.{position, blockPlace, blocksEnd, checkType, positiveAction, negativeAction, isWellFormed, reachesPast, masked, block, orderOf, isLess, isEqual, isGreater, isAnyOf, blocks, passes, actionOf, actionTaken};
+ghost use Rattle.entry.specs.Entry.{position, blocks, blockPlace, blocksEnd, checkType, positiveAction, negativeAction, isWellFormed};
+ghost use Rattle.entry.specs.Entry.{reachesPast, masked, block, orderOf, isLess, isEqual, isGreater, isAnyOf, passes, actionOf, actionTaken};
 
 // What an action byte says. No action is zero, and profile 7F is none.
 pub enum Action {

@@ -1,6 +1,7 @@
 // The Issuer Application Data: 32 bytes from its fields, and back.
 ghost use mathlib.Core.Path.{_≡_};
-ghost use Rattle.iad.specs.Iad.{iadBytes, cvrOf, pairsValue, iadOf, areZeros, hasFixedBytes, isCvr, arePairs, isProfile, isIad, readIad, isWritable, writeIad, written};
+ghost use Rattle.iad.specs.Iad.{iadBytes, cvrOf, pairsValue, iadOf, areZeros, hasFixedBytes, isCvr, arePairs, isProfile};
+ghost use Rattle.iad.specs.Iad.{isIad, readIad, isWritable, writeIad, written};
 use money::AccumulatorAmount;
 use refusal::Refusal;
 

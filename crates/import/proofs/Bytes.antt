@@ -14,4 +14,11 @@ pub eight : (n : ℕ)
     ∷ []
 unfolding bytesOf
 eight n =
-    rw (div-div-eq-div-mul n 256 256, div-div-eq-div-mul n 65536 256, div-div-eq-div-mul n 16777216 256, div-div-eq-div-mul n 4294967296 256, div-div-eq-div-mul n 1099511627776 256, div-div-eq-div-mul n 281474976710656 256)
+    rw (
+      div-div-eq-div-mul n 256 256,
+      div-div-eq-div-mul n 65536 256,
+      div-div-eq-div-mul n 16777216 256,
+      div-div-eq-div-mul n 4294967296 256,
+      div-div-eq-div-mul n 1099511627776 256,
+      div-div-eq-div-mul n 281474976710656 256,
+    )

@@ -131,7 +131,8 @@ fn encode(new: NewRecord) -> [u8; NEW_LENGTH]
 
 // Sets the first 15 bytes of the room to an old record's new bytes, or refuses and sets none.
 pub fn import_record(old: &[u8], room: &mut [u8]) -> Imported
-    ensures { λ r. ⌜ (r ≡ importRecord (now (old .entry)) (now (room .entry))) × (now (room .exit) ≡ imported (now (old .entry)) (now (room .entry))) ⌝ }
+    ensures { λ r. ⌜ (r ≡ importRecord (now (old .entry)) (now (room .entry)))
+        × (now (room .exit) ≡ imported (now (old .entry)) (now (room .entry))) ⌝ }
 {
     if old.len() != OLD_LENGTH {
         return Imported::Refused(Refusal::Unreadable);

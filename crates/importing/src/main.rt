@@ -1,18 +1,9 @@
 // Old records on standard input, one after the other. For each a line on standard output: its
 // number, then 0 and the new record's bytes in hex, or the refusal.
 ghost use mathlib.Core.Path.{_≡_};
-ghost use Prim.Native.Nat.{_<_};
 ghost use lib.ListN.{length};
-ghost use Rattle.lines.specs.Lines.{hexDigit, hex};
+ghost use Rattle.lines.specs.Lines.{hex};
 use import::Imported;
-
-// "0" to "9", then "A" to "F", whose codes begin 7 further on.
-fn hex_digit(n: u8) -> u8
-    requires { ⌜ n < 16 ⌝ }
-    ensures { λ r. ⌜ r ≡ hexDigit n ⌝ }
-{
-    b'0' + n + n / 10 * 7
-}
 
 // The bytes of a new record in hex.
 fn hex_of(bytes: &[u8]) -> [u8; 30]
@@ -21,8 +12,8 @@ fn hex_of(bytes: &[u8]) -> [u8; 30]
 {
     let mut text = [0u8; 30];
     for i in 0..15 {
-        text[2 * i] = hex_digit(bytes[i] / 16);
-        text[2 * i + 1] = hex_digit(bytes[i] % 16);
+        text[2 * i] = lines::upper_digit(bytes[i]);
+        text[2 * i + 1] = lines::lower_digit(bytes[i]);
     }
     text
 }

@@ -5,5 +5,4 @@ pub mod Decimal
 pub mod Hex
 pub mod Fields
 pub mod Laws
-pub mod Nothing
 pub mod Sitting

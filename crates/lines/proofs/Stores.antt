@@ -1,5 +1,5 @@
 -- Texts stored one behind the other are one text; one that fits is placed. Assumes nothing.
-use mathlib.Core.Path.{_≡_, ap, sym, _∙_}
+use mathlib.Core.Path.{_≡_, refl, ap, sym, _∙_}
 use mathlib.Core.List.{List, [], _∷_, _++_}
 use Prim.Native.Nat.{ℕ, suc, _+_, _≤_, _<_}
 use native.Mathlib.Nat.{add-zero, add-suc, suc-add}
@@ -22,6 +22,9 @@ next {l} {w} {v} {a} {b} {i} {j} {k} {m} {n} p q =
       behind = omega arith;
       short = omega arith;
     }
+
+pub within : {l w a : List ℕ} {i j m o : ℕ} → Stored l i a m j w → m ≤ o → Stored l i a o j w
+within p h = record { is = p .is; behind = p .behind; short = omega arith }
 
 pub place : {room after text : List ℕ} {at end most : ℕ} → Stored room at text most end after → most ≤ longest → at + longest ≤ length room
     → (end ≡ placeBehind (length room) at text) × (after ≡ placed room at text)

@@ -2,13 +2,13 @@
 // returned.
 ghost use mathlib.Core.Path.{_≡_};
 ghost use mathlib.Core.List.{[], _∷_, _++_};
-ghost use Prim.Native.Nat.{_+_, _*_, _-_, _≤_, _<_};
+ghost use Prim.Native.Nat.{_+_, _*_, _-_, _/_, _%_, _≤_, _<_};
 ghost use lib.ListN.{length, replicate};
 ghost use Rattle.iad.specs.Iad.{written};
-ghost use Rattle.lines.specs.Lines.{digit, decimal, hexDigit, hexByte, hex, refusalLine, startLine, selectedLine, cryptogramLine, placed, placeBehind};
-ghost use Rattle.lines.specs.Sitting.{startedLine, answerLine, eventLine};
+ghost use Rattle.lines.specs.Lines.{digit, decimal, hexDigit, hexByte, hex};
+ghost use Rattle.lines.specs.Lines.{refusalLine, cryptogramLine, placed, placeBehind};
+ghost use Rattle.lines.specs.Sitting.{startedLine, answerLine};
 ghost use Rattle.lines.specs.Stored.{Stored};
-use conversation::Event;
 use iad::Iad;
 use state::Answer;
 
@@ -62,18 +62,33 @@ fn hex_digit(n: u8) -> u8
     b'0' + n + n / 10 * 7
 }
 
+// The hex digit of a byte's upper half.
+pub fn upper_digit(byte: u8) -> u8
+    ensures { λ r. ⌜ r ≡ hexDigit (byte / 16) ⌝ }
+{
+    hex_digit(byte / 16)
+}
+
+// The hex digit of a byte's lower half.
+pub fn lower_digit(byte: u8) -> u8
+    ensures { λ r. ⌜ r ≡ hexDigit (byte % 16) ⌝ }
+{
+    hex_digit(byte % 16)
+}
+
 fn put_hex_byte(room: &mut [u8], at: usize, byte: u8) -> usize
     requires { ⌜ at + 2 ≤ length (now room) ⌝ }
     ensures { λ r. ⌜ Stored (now (room .entry)) at (hexByte byte) 2 r (now (room .exit)) ⌝ }
 {
-    let at = put_byte(room, at, hex_digit(byte / 16));
-    put_byte(room, at, hex_digit(byte % 16))
+    let at = put_byte(room, at, upper_digit(byte));
+    put_byte(room, at, lower_digit(byte))
 }
 
 // Bytes in hex, and the mark behind them.
 fn put_hex(room: &mut [u8], at: usize, bytes: &[u8], mark: u8) -> usize
     requires { ⌜ at + 2 * length (now bytes) + 1 ≤ length (now room) ⌝ }
-    ensures { λ r. ⌜ Stored (now (room .entry)) at (hex (now (bytes .entry)) ++ mark ∷ []) (2 * length (now (bytes .entry)) + 1) r (now (room .exit)) ⌝ }
+    ensures { λ r. ⌜ Stored (now (room .entry)) at (hex (now (bytes .entry)) ++ mark ∷ [])
+        (2 * length (now (bytes .entry)) + 1) r (now (room .exit)) ⌝ }
 {
     let mut end = at;
     for i in 0..bytes.len() {
@@ -101,48 +116,33 @@ fn put_done(room: &mut [u8], at: usize) -> usize
 }
 
 // Record number, refusal.
-pub fn put_refusal(room: &mut [u8], at: usize, number: u16, refusal: u8) -> usize
-    ensures { λ r. ⌜ (r ≡ placeBehind (length (now (room .entry))) at (refusalLine number refusal)) × (now (room .exit) ≡ placed (now (room .entry)) at (refusalLine number refusal)) ⌝ }
+fn store_refusal(room: &mut [u8], at: usize, number: u16, refusal: u8) -> usize
+    requires { ⌜ at + 12 ≤ length (now room) ⌝ }
+    ensures { λ r. ⌜ Stored (now (room .entry)) at (refusalLine number refusal) 12 r (now (room .exit)) ⌝ }
 {
-    if bytes_left(room.len(), at) < LONGEST {
-        return at;
-    }
     let at = put_decimal(room, at, number, b' ');
     put_decimal(room, at, refusal as u16, b'\n')
 }
 
-// After Start: record number, 0, ATC.
-fn put_start(room: &mut [u8], at: usize, number: u16, atc: u16) -> usize
-    ensures { λ r. ⌜ (r ≡ placeBehind (length (now (room .entry))) at (startLine number atc)) × (now (room .exit) ≡ placed (now (room .entry)) at (startLine number atc)) ⌝ }
+// After Start: record number, 0, ATC, and where a profile was selected the entries visited.
+fn put_started(room: &mut [u8], at: usize, number: u16, atc: u16, visits: u8) -> usize
+    requires { ⌜ at + 20 ≤ length (now room) ⌝ }
+    ensures { λ r. ⌜ Stored (now (room .entry)) at (startedLine number atc visits) 20 r (now (room .exit)) ⌝ }
 {
-    if bytes_left(room.len(), at) < LONGEST {
-        return at;
-    }
     let at = put_decimal(room, at, number, b' ');
     let at = put_done(room, at);
-    put_decimal(room, at, atc, b'\n')
-}
-
-// After a Start that selected its profile: record number, 0, ATC, the entries visited.
-fn put_selected(room: &mut [u8], at: usize, number: u16, atc: u16, visits: u8) -> usize
-    ensures { λ r. ⌜ (r ≡ placeBehind (length (now (room .entry))) at (selectedLine number atc visits)) × (now (room .exit) ≡ placed (now (room .entry)) at (selectedLine number atc visits)) ⌝ }
-{
-    if bytes_left(room.len(), at) < LONGEST {
-        return at;
+    if visits == 0 {
+        return put_decimal(room, at, atc, b'\n');
     }
-    let at = put_decimal(room, at, number, b' ');
-    let at = put_done(room, at);
     let at = put_decimal(room, at, atc, b' ');
     put_decimal(room, at, visits as u16, b'\n')
 }
 
 // After First or Second: record number, 0, CID, ATC, IAD.
 fn put_cryptogram(room: &mut [u8], at: usize, number: u16, cid: u8, atc: u16, iad: Iad) -> usize
-    ensures { λ r. ⌜ (r ≡ placeBehind (length (now (room .entry))) at (cryptogramLine number cid atc iad)) × (now (room .exit) ≡ placed (now (room .entry)) at (cryptogramLine number cid atc iad)) ⌝ }
+    requires { ⌜ at + 82 ≤ length (now room) ⌝ }
+    ensures { λ r. ⌜ Stored (now (room .entry)) at (cryptogramLine number cid atc iad) 82 r (now (room .exit)) ⌝ }
 {
-    if bytes_left(room.len(), at) < LONGEST {
-        return at;
-    }
     let bytes = iad_bytes(iad);
     let at = put_decimal(room, at, number, b' ');
     let at = put_done(room, at);
@@ -151,22 +151,13 @@ fn put_cryptogram(room: &mut [u8], at: usize, number: u16, cid: u8, atc: u16, ia
     put_hex(room, at, &bytes, b'\n')
 }
 
-// The visits show where a profile was selected.
-fn put_started(room: &mut [u8], at: usize, number: u16, atc: u16, visits: u8) -> usize
-    ensures { λ r. ⌜ (r ≡ placeBehind (length (now (room .entry))) at (startedLine number atc visits)) × (now (room .exit) ≡ placed (now (room .entry)) at (startedLine number atc visits)) ⌝ }
-{
-    if visits == 0 {
-        return put_start(room, at, number, atc);
-    }
-    put_selected(room, at, number, atc, visits)
-}
-
-// The line of an answer.
-pub fn put_answer(room: &mut [u8], at: usize, number: u16, answer: Answer) -> usize
-    ensures { λ r. ⌜ (r ≡ placeBehind (length (now (room .entry))) at (answerLine number answer)) × (now (room .exit) ≡ placed (now (room .entry)) at (answerLine number answer)) ⌝ }
+// The line of an answer, where the longest fits.
+fn store_answer(room: &mut [u8], at: usize, number: u16, answer: Answer) -> usize
+    requires { ⌜ at + 82 ≤ length (now room) ⌝ }
+    ensures { λ r. ⌜ Stored (now (room .entry)) at (answerLine number answer) 82 r (now (room .exit)) ⌝ }
 {
     match answer {
-        Answer::Refused(refusal) => put_refusal(room, at, number, refusal::number_of(refusal)),
+        Answer::Refused(refusal) => store_refusal(room, at, number, refusal::number_of(refusal)),
         Answer::Started { atc, visits } => put_started(room, at, number, atc, visits),
         Answer::Given { kind, atc, iad } => put_cryptogram(
             room,
@@ -179,14 +170,24 @@ pub fn put_answer(room: &mut [u8], at: usize, number: u16, answer: Answer) -> us
     }
 }
 
-// The line of an event. A paper's end has none.
-pub fn put(room: &mut [u8], at: usize, number: u16, event: Event) -> usize
-    ensures { λ r. ⌜ (r ≡ placeBehind (length (now (room .entry))) at (eventLine number event)) × (now (room .exit) ≡ placed (now (room .entry)) at (eventLine number event)) ⌝ }
+// The line of an answer.
+pub fn put_answer(room: &mut [u8], at: usize, number: u16, answer: Answer) -> usize
+    ensures { λ r. ⌜ (r ≡ placeBehind (length (now (room .entry))) at (answerLine number answer))
+        × (now (room .exit) ≡ placed (now (room .entry)) at (answerLine number answer)) ⌝ }
 {
-    match event {
-        Event::SetUp => put_refusal(room, at, number, 0),
-        Event::End => at,
-        Event::Refused(refusal) => put_refusal(room, at, number, refusal::number_of(refusal)),
-        Event::Answered { answer, .. } => put_answer(room, at, number, answer),
+    if bytes_left(room.len(), at) < LONGEST {
+        return at;
     }
+    store_answer(room, at, number, answer)
+}
+
+// The line of a set-up, or of a refusal that ends the paper.
+pub fn put_refusal(room: &mut [u8], at: usize, number: u16, refusal: u8) -> usize
+    ensures { λ r. ⌜ (r ≡ placeBehind (length (now (room .entry))) at (refusalLine number refusal))
+        × (now (room .exit) ≡ placed (now (room .entry)) at (refusalLine number refusal)) ⌝ }
+{
+    if bytes_left(room.len(), at) < LONGEST {
+        return at;
+    }
+    store_refusal(room, at, number, refusal)
 }

@@ -3,7 +3,34 @@ use mathlib.Core.Path.{_≡_, refl}
 use mathlib.Core.List.{List}
 use Prim.Native.Nat.{ℕ}
 use lib.ListN.{length}
-use Rattle.load.specs.Load.{headWords, rateWords, ratesWords, amountWords, threeBytes, profileHeadWords, accumulatorsWords, countersWords, profileWords, profilesWords, loaded}
+use Rattle.rules.specs.Word.{wordCount}
+use Rattle.load.specs.Load.{headWords, rateWords, ratesWords, loaded}
+use Rattle.load.specs.Load.{ruleWords, rulesWords, profileHeadWords, sentWords, profileWords, profilesWords}
+
+module _ (s : List ℕ) (at : ℕ) where
+  pub rate-size : length (rateWords s at) ≡ 4
+  unfolding rateWords
+  rate-size = refl
+
+  pub rule-size : (width : ℕ) → length (ruleWords s at width) ≡ 3
+  unfolding ruleWords
+  rule-size width = refl
+
+  pub rules-size : (width : ℕ) → length (rulesWords s at width) ≡ 12
+  unfolding rulesWords ruleWords
+  rules-size width = refl
+
+  pub profile-head-size : length (profileHeadWords s at) ≡ 7
+  unfolding profileHeadWords
+  profile-head-size = refl
+
+  pub sent-size : length (sentWords s at) ≡ 3
+  unfolding sentWords
+  sent-size = refl
+
+  pub profile-size : length (profileWords s at) ≡ 34
+  unfolding profileWords profileHeadWords rulesWords ruleWords sentWords
+  profile-size = refl
 
 module _ (s : List ℕ) where
   pub head-size : length (headWords s) ≡ 7
@@ -14,39 +41,10 @@ module _ (s : List ℕ) where
   unfolding ratesWords rateWords
   rates-size = refl
 
-  pub loaded-size : (syllabus : ℕ) → length (loaded s syllabus) ≡ 164
-  unfolding loaded headWords ratesWords rateWords profilesWords profileWords profileHeadWords accumulatorsWords amountWords countersWords threeBytes
-  loaded-size syllabus = refl
-
   pub profiles-size : length (profilesWords s) ≡ 136
-  unfolding profilesWords profileWords profileHeadWords accumulatorsWords amountWords countersWords threeBytes
+  unfolding profilesWords profileWords profileHeadWords rulesWords ruleWords sentWords
   profiles-size = refl
 
-module _ (s : List ℕ) (at : ℕ) where
-  pub rate-size : length (rateWords s at) ≡ 4
-  unfolding rateWords
-  rate-size = refl
-
-  pub amount-size : length (amountWords s at) ≡ 3
-  unfolding amountWords
-  amount-size = refl
-
-  pub three-size : length (threeBytes s at) ≡ 3
-  unfolding threeBytes
-  three-size = refl
-
-  pub profile-head-size : length (profileHeadWords s at) ≡ 7
-  unfolding profileHeadWords
-  profile-head-size = refl
-
-  pub accumulators-size : length (accumulatorsWords s at) ≡ 12
-  unfolding accumulatorsWords amountWords
-  accumulators-size = refl
-
-  pub counters-size : length (countersWords s at) ≡ 12
-  unfolding countersWords threeBytes
-  counters-size = refl
-
-  pub profile-size : length (profileWords s at) ≡ 34
-  unfolding profileWords profileHeadWords accumulatorsWords amountWords countersWords threeBytes
-  profile-size = refl
+  pub loaded-size : (syllabus : ℕ) → length (loaded s syllabus) ≡ wordCount
+  unfolding loaded headWords ratesWords rateWords profilesWords profileWords profileHeadWords rulesWords ruleWords sentWords
+  loaded-size syllabus = refl

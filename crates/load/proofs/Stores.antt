@@ -1,11 +1,12 @@
 -- Runs of stores one behind the other are one run of stores. Assumes nothing.
-use mathlib.Core.Path.{_≡_, ap, sym, _∙_}
+use mathlib.Core.Path.{_≡_, refl, ap, sym, _∙_}
 use mathlib.Core.List.{List, [], _∷_, _++_, append-nil}
-use Prim.Native.Nat.{ℕ, suc, _+_}
+use Prim.Native.Nat.{ℕ, zero, suc, _+_, _*_}
 use native.Mathlib.Nat.{add-zero, add-suc, suc-add, zero-add}
 use native.Mathlib.Omega.{arith}
 use lib.ListN.{length, drop, drop-of-length-le, length-append}
 use lib.Seq.{sets, sets-eq}
+use Rattle.load.specs.Load.{rows}
 
 joined : (l a b : List ℕ) (i j : ℕ) → j ≡ i + length a → sets (sets l i a) j b ≡ sets l i (a ++ b)
 joined l [] b i j e = ap (λ (k : ℕ). sets l k b) (e ∙ add-zero i)
@@ -24,6 +25,28 @@ behind l a b {w} {v} i j m n r e s p =
       is = e ∙ ap (λ (x : List ℕ). sets x j b) (r .is) ∙ joined l a b i j (omega arith);
       size = length-append a b ∙ omega arith;
     }
+
+-- n rows of m words each, one behind the other from place i on, row by row
+module _ (l : List ℕ) (i m : ℕ) (row : ℕ → List ℕ) (size : (k : ℕ) → length (row k) ≡ m) where
+  rows-size : (n : ℕ) → length (rows n row) ≡ m * n
+  rows-size zero = omega arith
+  rows-size (suc n) = simp (length-append, rows-size n, size n) (omega arith)
+
+  next : (n j : ℕ) {w v : List ℕ} → w ≡ sets l i (rows n row) → v ≡ sets w j (row n) → j ≡ i + m * n → v ≡ sets l i (rows (suc n) row)
+  next n j e f p =
+      f ∙ ap (λ (x : List ℕ). sets x j (row n)) e ∙ joined l (rows n row) (row n) i j (omega (arith, rows-size n))
+
+  pub four-rows : {a b c d : List ℕ} → a ≡ sets l i (row 0) → b ≡ sets a (i + m) (row 1) → c ≡ sets b (i + m * 2) (row 2)
+      → d ≡ sets c (i + m * 3) (row 3)
+      → d ≡ sets l i (rows 4 row)
+  four-rows a b c d =
+      next 3 (i + m * 3) (next 2 (i + m * 2) (next 1 (i + m) (next 0 i refl a (omega arith)) b (omega arith)) c refl) d refl
+
+  pub five-rows : {a b c d e : List ℕ} → a ≡ sets l i (row 0) → b ≡ sets a (i + m) (row 1) → c ≡ sets b (i + m * 2) (row 2)
+      → d ≡ sets c (i + m * 3) (row 3)
+      → e ≡ sets d (i + m * 4) (row 4)
+      → e ≡ sets l i (rows 5 row)
+  five-rows a b c d e = next 4 (i + m * 4) (four-rows a b c d) e refl
 
 -- as many stores as there are words leave nothing of what was there
 pub all : (l w : List ℕ) → length w ≡ length l → sets l 0 w ≡ w

@@ -1,58 +1,73 @@
 -- The words that a set-up's body is loaded into (document 01, "The paper"; what the words mean is said in `rules`).
-use Prim.Native.Nat.{ℕ, _+_}
+use Prim.Native.Nat.{ℕ, zero, suc, _+_}
+use mathlib.Core.Bool.{cond}
 use mathlib.Core.List.{List, [], _∷_, _++_}
 use lib.Seq.{sets}
+use lib.Dec.{eqb}
 use Rattle.wire.specs.Wire.{byte, number}
-use Rattle.body.specs.Body.{profilePlace, conversionPlace}
+use Rattle.layout.specs.Layout.{profilePlace, conversionPlace}
+use Rattle.layout.specs.Layout as layout
+use Rattle.rules.specs.Rules.{four}
+
+-- n rows, one behind the other
+abbrev pub rows : ℕ → (ℕ → List ℕ) → List ℕ
+rows zero row = []
+rows (suc n) row = rows n row ++ row n
+
+-- the place so many steps on
+abbrev pub onward : ℕ → ℕ → ℕ → ℕ
+onward step at zero = at
+onward step at (suc j) = onward step at j + step
 
 -- key index, PIN tries, issuer authentication required, the currencies of the four accumulators
 unfoldable pub headWords : List ℕ → List ℕ
 headWords s =
-    byte s 0 ∷ byte s 1 ∷ byte s 2 ∷ number s 8 2 ∷ number s 18 2 ∷ number s 28 2 ∷ number s 38 2 ∷ []
+    byte s layout.keyIndex ∷ byte s layout.pinTries ∷ byte s layout.required ∷ four (λ i. number s (layout.accumulatorFrom i) 2)
 
 -- from, to, digits, s + 9
 unfoldable pub rateWords : List ℕ → ℕ → List ℕ
-rateWords s at = number s at 2 ∷ number s (at + 2) 2 ∷ number s (at + 4) 2 ∷ byte s (at + 6) ∷ []
+rateWords s at = number s at 2 ∷ number s (at + layout.to) 2 ∷ number s (at + layout.digits) 2 ∷ byte s (at + layout.shift) ∷ []
 
 unfoldable pub ratesWords : List ℕ → List ℕ
-ratesWords s =
-    (((rateWords s (conversionPlace s 0) ++ rateWords s (conversionPlace s 1)) ++ rateWords s (conversionPlace s 2))
-    ++ rateWords s (conversionPlace s 3))
-    ++ rateWords s (conversionPlace s 4)
+ratesWords s = rows 5 (λ i. rateWords s (conversionPlace s i))
 
--- an accumulator's switches, lower, upper
-unfoldable pub amountWords : List ℕ → ℕ → List ℕ
-amountWords s at = byte s at ∷ number s (at + 1) 8 ∷ number s (at + 9) 8 ∷ []
+-- a limit: of one byte if it is a counter's, else of 8
+unfoldable pub limitIn : List ℕ → ℕ → ℕ → ℕ
+limitIn s at width = cond (eqb width layout.counterLimit) (byte s at) (number s at 8)
 
-unfoldable pub accumulatorsWords : List ℕ → ℕ → List ℕ
-accumulatorsWords s at =
-    ((amountWords s at ++ amountWords s (at + 17)) ++ amountWords s (at + 34)) ++ amountWords s (at + 51)
+-- the rule of an accumulator or a counter: switches, and the lower and the upper limit of a width
+unfoldable pub ruleWords : List ℕ → ℕ → ℕ → List ℕ
+ruleWords s at width = byte s at ∷ limitIn s (at + layout.lower) width ∷ limitIn s (at + layout.upper width) width ∷ []
 
--- a counter's switches, lower, upper; or the accumulator and the two counters sent
-unfoldable pub threeBytes : List ℕ → ℕ → List ℕ
-threeBytes s at = byte s at ∷ byte s (at + 1) ∷ byte s (at + 2) ∷ []
-
-unfoldable pub countersWords : List ℕ → ℕ → List ℕ
-countersWords s at = ((threeBytes s at ++ threeBytes s (at + 3)) ++ threeBytes s (at + 6)) ++ threeBytes s (at + 9)
+unfoldable pub rulesWords : List ℕ → ℕ → ℕ → List ℕ
+rulesWords s at width = rows 4 (λ j. ruleWords s (onward (layout.ruleLength width) at j) width)
 
 -- number, masks Online, Decline, Default, MTA on, its currency, MTA
 unfoldable pub profileHeadWords : List ℕ → ℕ → List ℕ
 profileHeadWords s at =
-    byte s at ∷ number s (at + 1) 4 ∷ number s (at + 5) 4 ∷ number s (at + 9) 4 ∷ byte s (at + 13) ∷ number s (at + 14) 2 ∷ number s (at + 16) 8 ∷ []
+    byte s at ∷ number s (at + layout.online) 4 ∷ number s (at + layout.decline) 4 ∷ number s (at + layout.default) 4
+    ∷ byte s (at + layout.maximumOn)
+    ∷ number s (at + layout.maximumCurrency) 2
+    ∷ number s (at + layout.maximum) 8
+    ∷ []
+
+-- the accumulator and the two counters sent
+unfoldable pub sentWords : List ℕ → ℕ → List ℕ
+sentWords s at = byte s (at + layout.accumulatorSent) ∷ byte s (at + layout.firstSent) ∷ byte s (at + layout.secondSent) ∷ []
 
 unfoldable pub profileWords : List ℕ → ℕ → List ℕ
 profileWords s at =
-    ((profileHeadWords s at ++ accumulatorsWords s (at + 24)) ++ countersWords s (at + 92)) ++ threeBytes s (at + 104)
+    ((profileHeadWords s at ++ rulesWords s (at + layout.accumulatorRules) layout.accumulatorLimit)
+    ++ rulesWords s (at + layout.counterRules) layout.counterLimit)
+    ++ sentWords s at
 
 unfoldable pub profilesWords : List ℕ → List ℕ
-profilesWords s =
-    ((profileWords s (profilePlace s 0) ++ profileWords s (profilePlace s 1)) ++ profileWords s (profilePlace s 2))
-    ++ profileWords s (profilePlace s 3)
+profilesWords s = rows 4 (λ i. profileWords s (profilePlace s i))
 
 -- and last the syllabus
 unfoldable pub loaded : List ℕ → ℕ → List ℕ
 loaded s syllabus = ((headWords s ++ ratesWords s) ++ profilesWords s) ++ syllabus ∷ []
 
--- the words after a load: all 164 of them are stored
+-- the words after a load: all of them are stored
 abbrev pub stored : List ℕ → List ℕ → ℕ → List ℕ
 stored words s syllabus = sets words 0 (loaded s syllabus)

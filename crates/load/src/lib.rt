@@ -2,38 +2,43 @@
 ghost use mathlib.Core.Path.{_≡_};
 ghost use Prim.Native.Nat.{_+_, _*_, _≤_, _<_, _^_};
 ghost use lib.Seq.{sets};
-ghost use Rattle.body.specs.Body.{profilePlace, conversionPlace};
-ghost use Rattle.load.specs.Load.{headWords, rateWords, amountWords, threeBytes, profileHeadWords, accumulatorsWords, countersWords, profileWords, ratesWords, profilesWords, stored};
+ghost use Rattle.layout.specs.Layout.{profilePlace, conversionPlace, profileLength as profileBytes};
+ghost use Rattle.rules.specs.Word.{wordCount, rates, profiles, rateFrom, profileFrom, profileLength, accumulatorSent, ruleLength};
+ghost use Rattle.load.specs.Load.{headWords, rateWords, ratesWords, stored};
+ghost use Rattle.load.specs.Load.{limitIn, ruleWords, rulesWords, profileHeadWords, sentWords, profileWords, profilesWords};
 use rules::Words;
+use rules::word;
 
 // Key index, PIN tries, issuer authentication required, and the accumulators' currencies.
 fn load_head(words: &mut Words, s: &[u8])
     ensures { λ _. ⌜ now (words .exit) ≡ sets (now (words .entry)) 0 (headWords (now (s .entry))) ⌝ }
 {
-    words[0] = wire::byte_at(s, 0) as u64;
-    words[1] = wire::byte_at(s, 1) as u64;
-    words[2] = wire::byte_at(s, 2) as u64;
-    words[3] = wire::u16_at(s, 8) as u64;
-    words[4] = wire::u16_at(s, 18) as u64;
-    words[5] = wire::u16_at(s, 28) as u64;
-    words[6] = wire::u16_at(s, 38) as u64;
+    words[word::KEY_INDEX] = wire::byte_at(s, layout::KEY_INDEX) as u64;
+    words[word::PIN_TRIES] = wire::byte_at(s, layout::PIN_TRIES) as u64;
+    words[word::REQUIRED] = wire::byte_at(s, layout::REQUIRED) as u64;
+    let first = layout::ACCUMULATORS;
+    let length = layout::ACCUMULATOR_LENGTH;
+    words[word::CURRENCIES] = wire::u16_at(s, first) as u64;
+    words[word::CURRENCIES + 1] = wire::u16_at(s, first + length) as u64;
+    words[word::CURRENCIES + 2] = wire::u16_at(s, first + 2 * length) as u64;
+    words[word::CURRENCIES + 3] = wire::u16_at(s, first + 3 * length) as u64;
 }
 
 // Conversion i + 1: from, to, digits, s + 9.
 fn load_rate(words: &mut Words, i: usize, s: &[u8])
     requires { ⌜ i < 5 ⌝ }
-    ensures { λ _. ⌜ now (words .exit) ≡ sets (now (words .entry)) (7 + 4 * i) (rateWords (now (s .entry)) (conversionPlace (now (s .entry)) i)) ⌝ }
+    ensures { λ _. ⌜ now (words .exit) ≡ sets (now (words .entry)) (rateFrom i) (rateWords (now (s .entry)) (conversionPlace (now (s .entry)) i)) ⌝ }
 {
-    let at = body::conversion_place(s, i);
-    let to = 7 + 4 * i;
+    let at = layout::conversion_place(s, i);
+    let to = word::RATES + word::RATE_LENGTH * i;
     words[to] = wire::u16_at(s, at) as u64;
-    words[to + 1] = wire::u16_at(s, at + 2) as u64;
-    words[to + 2] = wire::u16_at(s, at + 4) as u64;
-    words[to + 3] = wire::byte_at(s, at + 6) as u64;
+    words[to + word::TO] = wire::u16_at(s, at + layout::TO) as u64;
+    words[to + word::DIGITS] = wire::u16_at(s, at + layout::DIGITS) as u64;
+    words[to + word::SHIFT] = wire::byte_at(s, at + layout::SHIFT) as u64;
 }
 
 fn load_rates(words: &mut Words, s: &[u8])
-    ensures { λ _. ⌜ now (words .exit) ≡ sets (now (words .entry)) 7 (ratesWords (now (s .entry))) ⌝ }
+    ensures { λ _. ⌜ now (words .exit) ≡ sets (now (words .entry)) rates (ratesWords (now (s .entry))) ⌝ }
 {
     load_rate(words, 0, s);
     load_rate(words, 1, s);
@@ -42,75 +47,95 @@ fn load_rates(words: &mut Words, s: &[u8])
     load_rate(words, 4, s);
 }
 
-// An accumulator's rule: switches, lower, upper.
-fn load_accumulator(words: &mut Words, to: usize, s: &[u8], at: usize)
-    requires { ⌜ (to + 3 ≤ 164) × (at + 17 < 2 ^ 64) ⌝ }
-    ensures { λ _. ⌜ now (words .exit) ≡ sets (now (words .entry)) to (amountWords (now (s .entry)) at) ⌝ }
+// A limit: of one byte if it is a counter's, else of 8.
+fn limit(s: &[u8], at: usize, width: usize) -> u64
+    ensures { λ r. ⌜ r ≡ limitIn (now (s .entry)) at width ⌝ }
+{
+    if width == layout::COUNTER_LIMIT {
+        wire::byte_at(s, at) as u64
+    } else {
+        wire::u64_at(s, at)
+    }
+}
+
+// A rule: switches, and the lower and the upper limit of a width.
+fn load_rule(words: &mut Words, to: usize, s: &[u8], at: usize, width: usize)
+    requires { ⌜ (to + ruleLength ≤ wordCount) × (at + profileBytes < 2 ^ 64) × (width ≤ 8) ⌝ }
+    ensures { λ _. ⌜ now (words .exit) ≡ sets (now (words .entry)) to (ruleWords (now (s .entry)) at width) ⌝ }
 {
     words[to] = wire::byte_at(s, at) as u64;
-    words[to + 1] = wire::u64_at(s, at + 1);
-    words[to + 2] = wire::u64_at(s, at + 9);
+    words[to + word::LOWER] = limit(s, at + layout::LOWER, width);
+    words[to + word::UPPER] = limit(s, at + (layout::LOWER + width), width);
 }
 
-fn load_accumulators(words: &mut Words, to: usize, s: &[u8], at: usize)
-    requires { ⌜ (to + 12 ≤ 164) × (at + 68 < 2 ^ 64) ⌝ }
-    ensures { λ _. ⌜ now (words .exit) ≡ sets (now (words .entry)) to (accumulatorsWords (now (s .entry)) at) ⌝ }
+// The rules of the four accumulators, or of the four counters.
+fn load_rules(words: &mut Words, to: usize, s: &[u8], at: usize, width: usize)
+    requires { ⌜ (to + 4 * ruleLength ≤ wordCount) × (at + 2 * profileBytes < 2 ^ 64) × (width ≤ 8) ⌝ }
+    ensures { λ _. ⌜ now (words .exit) ≡ sets (now (words .entry)) to (rulesWords (now (s .entry)) at width) ⌝ }
 {
-    load_accumulator(words, to, s, at);
-    load_accumulator(words, to + 3, s, at + 17);
-    load_accumulator(words, to + 6, s, at + 34);
-    load_accumulator(words, to + 9, s, at + 51);
-}
-
-// Three bytes: a counter's switches, lower, upper; or what is sent.
-fn load_bytes(words: &mut Words, to: usize, s: &[u8], at: usize)
-    requires { ⌜ (to + 3 ≤ 164) × (at + 3 < 2 ^ 64) ⌝ }
-    ensures { λ _. ⌜ now (words .exit) ≡ sets (now (words .entry)) to (threeBytes (now (s .entry)) at) ⌝ }
-{
-    words[to] = wire::byte_at(s, at) as u64;
-    words[to + 1] = wire::byte_at(s, at + 1) as u64;
-    words[to + 2] = wire::byte_at(s, at + 2) as u64;
-}
-
-fn load_counters(words: &mut Words, to: usize, s: &[u8], at: usize)
-    requires { ⌜ (to + 12 ≤ 164) × (at + 12 < 2 ^ 64) ⌝ }
-    ensures { λ _. ⌜ now (words .exit) ≡ sets (now (words .entry)) to (countersWords (now (s .entry)) at) ⌝ }
-{
-    load_bytes(words, to, s, at);
-    load_bytes(words, to + 3, s, at + 3);
-    load_bytes(words, to + 6, s, at + 6);
-    load_bytes(words, to + 9, s, at + 9);
+    let length = layout::LOWER + 2 * width;
+    let second = at + length;
+    let third = second + length;
+    let fourth = third + length;
+    load_rule(words, to, s, at, width);
+    load_rule(words, to + word::RULE_LENGTH, s, second, width);
+    load_rule(words, to + word::RULE_LENGTH * 2, s, third, width);
+    load_rule(words, to + word::RULE_LENGTH * 3, s, fourth, width);
 }
 
 // A profile's number, masks and maximum transaction amount.
 fn load_profile_head(words: &mut Words, to: usize, s: &[u8], at: usize)
-    requires { ⌜ (to + 7 ≤ 164) × (at + 24 < 2 ^ 64) ⌝ }
+    requires { ⌜ (to + profileLength ≤ wordCount) × (at + profileBytes < 2 ^ 64) ⌝ }
     ensures { λ _. ⌜ now (words .exit) ≡ sets (now (words .entry)) to (profileHeadWords (now (s .entry)) at) ⌝ }
 {
     words[to] = wire::byte_at(s, at) as u64;
-    words[to + 1] = wire::u32_at(s, at + 1) as u64;
-    words[to + 2] = wire::u32_at(s, at + 5) as u64;
-    words[to + 3] = wire::u32_at(s, at + 9) as u64;
-    words[to + 4] = wire::byte_at(s, at + 13) as u64;
-    words[to + 5] = wire::u16_at(s, at + 14) as u64;
-    words[to + 6] = wire::u64_at(s, at + 16);
+    words[to + word::ONLINE] = wire::u32_at(s, at + layout::ONLINE) as u64;
+    words[to + word::DECLINE] = wire::u32_at(s, at + layout::DECLINE) as u64;
+    words[to + word::DEFAULT] = wire::u32_at(s, at + layout::DEFAULT) as u64;
+    words[to + word::MAXIMUM_ON] = wire::byte_at(s, at + layout::MAXIMUM_ON) as u64;
+    words[to + word::MAXIMUM_CURRENCY] = wire::u16_at(s, at + layout::MAXIMUM_CURRENCY) as u64;
+    words[to + word::MAXIMUM] = wire::u64_at(s, at + layout::MAXIMUM);
+}
+
+// Which accumulator and which two counters a profile sends.
+fn load_sent(words: &mut Words, to: usize, s: &[u8], at: usize)
+    requires { ⌜ (to + profileLength ≤ wordCount) × (at + profileBytes < 2 ^ 64) ⌝ }
+    ensures { λ _. ⌜ now (words .exit) ≡ sets (now (words .entry)) (to + accumulatorSent) (sentWords (now (s .entry)) at) ⌝ }
+{
+    words[to + word::ACCUMULATOR_SENT] = wire::byte_at(s, at + layout::ACCUMULATOR_SENT) as u64;
+    words[to + word::FIRST_SENT] = wire::byte_at(s, at + layout::FIRST_SENT) as u64;
+    words[to + word::SECOND_SENT] = wire::byte_at(s, at + layout::SECOND_SENT) as u64;
 }
 
 // Profile i + 1.
 fn load_profile(words: &mut Words, i: usize, s: &[u8])
     requires { ⌜ i < 4 ⌝ }
-    ensures { λ _. ⌜ now (words .exit) ≡ sets (now (words .entry)) (27 + 34 * i) (profileWords (now (s .entry)) (profilePlace (now (s .entry)) i)) ⌝ }
+    ensures { λ _. ⌜ now (words .exit) ≡ sets (now (words .entry)) (profileFrom i) (profileWords (now (s .entry)) (profilePlace (now (s .entry)) i)) ⌝ }
 {
-    let at = body::profile_place(s, i);
-    let to = 27 + 34 * i;
+    let at = layout::profile_place(s, i);
+    let to = word::PROFILES + word::PROFILE_LENGTH * i;
+    let accumulators = at + layout::ACCUMULATOR_RULES;
+    let counters = at + layout::COUNTER_RULES;
     load_profile_head(words, to, s, at);
-    load_accumulators(words, to + 7, s, at + 24);
-    load_counters(words, to + 19, s, at + 92);
-    load_bytes(words, to + 31, s, at + 104);
+    load_rules(
+        words,
+        to + word::ACCUMULATORS,
+        s,
+        accumulators,
+        layout::ACCUMULATOR_LIMIT,
+    );
+    load_rules(
+        words,
+        to + word::COUNTERS,
+        s,
+        counters,
+        layout::COUNTER_LIMIT,
+    );
+    load_sent(words, to, s, at);
 }
 
 fn load_profiles(words: &mut Words, s: &[u8])
-    ensures { λ _. ⌜ now (words .exit) ≡ sets (now (words .entry)) 27 (profilesWords (now (s .entry))) ⌝ }
+    ensures { λ _. ⌜ now (words .exit) ≡ sets (now (words .entry)) profiles (profilesWords (now (s .entry))) ⌝ }
 {
     load_profile(words, 0, s);
     load_profile(words, 1, s);
@@ -125,5 +150,5 @@ pub fn load(words: &mut Words, s: &[u8], syllabus: u8)
     load_head(words, s);
     load_rates(words, s);
     load_profiles(words, s);
-    words[163] = syllabus as u64;
+    words[word::SYLLABUS] = syllabus as u64;
 }

@@ -14,7 +14,7 @@ use Rattle.money.specs.declared.TransactionAmount.{TransactionAmount}
 use Rattle.money.specs.declared.Converted.{Converted}
 use Rattle.money.specs.declared.Converted.the-variants.{Amount, Over, NoEntry}
 use Rattle.money.specs.Money.{max, stopped, blank, isFor, rateFor, isRate, rounded, scaled, amountOf, amountOrOver, convertOf}
-use Rattle.money.proofs.Power.{ten-pos, divides, multiplies, stopped-most}
+use Rattle.money.proofs.Power.{ten-pos, divides, multiplies, stays, stopped-most}
 
 -- an entry leads from the one currency to the other
 abbrev pub Leads : Rate → ℕ → ℕ → Type 0
@@ -54,9 +54,6 @@ module _ (entries : List Rate) (from to : ℕ) where
   unfolding rateFor
   missed i zero h m = refl
   missed i (suc n) h m = rw (leads-not (getD entries i blank) from to (m i (omega arith))) (missed (suc i) n (omega arith) m)
-
-stays : (n : ℕ) → n ≤ max → stopped n ≡ n
-stays n h = simp (le-ltb max n h)
 
 -- the amount itself in its own currency
 pub same-currency : (rates : Rates) (currency a : ℕ) → a ≤ max
@@ -163,11 +160,11 @@ module _ (rates : Rates) (from to k a : ℕ) (other : from ≡ to → ⊥) (smal
 
   by-quotient : t ≤ 9 → answer ≡ amountOrOver (rounded up n (10 ^ (9 - t)))
   unfolding scaled
-  by-quotient h = by-entry ∙ ap amountOrOver (sym (divides up n t h))
+  by-quotient h = by-entry ∙ ap amountOrOver (sym (divides up n t (9 - t) (omega arith)))
 
   by-product : 9 ≤ t → answer ≡ amountOrOver (n * 10 ^ (t - 9))
   unfolding scaled
-  by-product h = by-entry ∙ ap amountOrOver (sym (multiplies up n t h))
+  by-product h = by-entry ∙ ap amountOrOver (sym (multiplies up n t (t - 9) (omega arith)))
 
   pub divided : t ≤ 9 → Quotient up n (9 - t) answer
   divided h = subst (Quotient up n (9 - t)) (sym (by-quotient h)) (quotient up n (9 - t))
@@ -203,7 +200,8 @@ never-above-max amount from to rates q e = by (eqb from to) (isRate rate) e wher
   rate : Rate
   rate = rateFor (rates .entries) from to 0 5
 
-  by : (same good : Bool) → cond same (amountOf (stopped (amount .0))) (cond good (amountOrOver (scaled (rates .up) (stopped (amount .0)) rate)) NoEntry) ≡ amountOf q
+  by : (same good : Bool)
+      → cond same (amountOf (stopped (amount .0))) (cond good (amountOrOver (scaled (rates .up) (stopped (amount .0)) rate)) NoEntry) ≡ amountOf q
       → q ≤ max
   by true good e = let s : stopped (amount .0) ≡ q = ap value e in rw (← s) (stopped-most (amount .0))
   by false true e = let w = amount-within (scaled (rates .up) (stopped (amount .0)) rate) q e in rw (← w .0) (w .1)

@@ -1,12 +1,13 @@
 -- Laws of powers of ten, for conversion. Assumes nothing.
-use mathlib.Core.Path.{_≡_, refl, sym, ap, _∙_}
+use mathlib.Core.Path.{_≡_, refl, sym, ap, ap₂, _∙_}
 use Prim.Native.Nat.{ℕ, zero, suc, _+_, _-_, _*_, _/_, _^_, _≤_, _<_}
-use native.Mathlib.Nat.{add-zero, add-mul, suc-mul, one-mul, mul-comm, mul-assoc, mul-le-mul, mul-div-mul-right, div-one, div-div-eq-div-mul, pow-le-pow-right, lt-of-le-of-lt}
+use native.Mathlib.Nat.{add-zero, add-mul, suc-mul, one-mul, mul-comm, mul-assoc, mul-le-mul, mul-div-mul-right, div-one, div-div-eq-div-mul}
+use native.Mathlib.Nat.{pow-le-pow-right, lt-of-le-of-lt}
 use native.Mathlib.Omega.{arith}
 use lib.Pow.{pow-add}
 use lib.Arith.{digits-div}
 use lib.Dec.{ltb, leb, lit<}
-use borrow.Author.Tests.{ltb-false, leb-true}
+use borrow.Author.Tests.{le-ltb, ltb-false, leb-true}
 use mathlib.Core.Bool.{Bool, true, false, cond, _&&_}
 use Rattle.money.specs.Money.{max, stopped, isRate, rounded}
 use Rattle.money.specs.declared.Rate.{Rate}
@@ -36,17 +37,16 @@ rounded-one true n = rw add-zero (div-one n)
 rounded-one false n = rw add-zero (div-one n)
 
 -- below the ninth power the shift divides
-pub divides : (up : Bool) (n t : ℕ) → t ≤ 9 → rounded up n (10 ^ (9 - t)) ≡ rounded up (n * 10 ^ t) (10 ^ 9)
-divides up n t h =
-    let e : (9 - t) + t ≡ 9 = omega arith in
-    sym (ap (λ (m : ℕ). rounded up (n * 10 ^ t) (10 ^ m)) (sym e) ∙ ap (rounded up (n * 10 ^ t)) (pow-add 10 (9 - t) t) ∙ rounded-scaled up n (10 ^ (9 - t)) (10 ^ t) (ten-pos (9 - t)) (ten-pos t))
+pub divides : (up : Bool) (n t k : ℕ) → k + t ≡ 9 → rounded up n (10 ^ k) ≡ rounded up (n * 10 ^ t) (10 ^ 9)
+divides up n t k e =
+    sym (rounded-scaled up n (10 ^ k) (10 ^ t) (ten-pos k) (ten-pos t)) ∙ ap (rounded up (n * 10 ^ t)) (sym (pow-add 10 k t) ∙ ap (_^_ 10) e)
 
 -- from the ninth power on it multiplies
-pub multiplies : (up : Bool) (n t : ℕ) → 9 ≤ t → n * 10 ^ (t - 9) ≡ rounded up (n * 10 ^ t) (10 ^ 9)
-multiplies up n t h =
-    let e : (t - 9) + 9 ≡ t = omega arith in
-    let m = n * 10 ^ (t - 9) in
-    sym (ap (λ (x : ℕ). rounded up (n * 10 ^ x) (10 ^ 9)) (sym e) ∙ ap (λ (x : ℕ). rounded up (n * x) (10 ^ 9)) (pow-add 10 (t - 9) 9) ∙ ap (λ (x : ℕ). rounded up x (10 ^ 9)) (sym (mul-assoc n (10 ^ (t - 9)) (10 ^ 9))) ∙ ap (rounded up (m * 10 ^ 9)) (sym (one-mul (10 ^ 9))) ∙ rounded-scaled up m 1 (10 ^ 9) (omega arith) (ten-pos 9) ∙ rounded-one up m)
+pub multiplies : (up : Bool) (n t k : ℕ) → k + 9 ≡ t → n * 10 ^ k ≡ rounded up (n * 10 ^ t) (10 ^ 9)
+multiplies up n t k e =
+    sym (rounded-one up (n * 10 ^ k))
+    ∙ sym (rounded-scaled up (n * 10 ^ k) 1 (10 ^ 9) (omega arith) (ten-pos 9))
+    ∙ ap₂ (rounded up) (mul-assoc n (10 ^ k) (10 ^ 9) ∙ ap (_*_ n) (sym (pow-add 10 k 9) ∙ ap (_^_ 10) e)) (one-mul (10 ^ 9))
 
 -- the products of conversion fit 64 bits, with what rounding adds
 pub product-most : {a d : ℕ} → a ≤ max → d ≤ 9999 → a * d ≤ 9998999999990001
@@ -55,9 +55,11 @@ product-most ha hd = mul-le-mul ha hd
 pub power-most : {k : ℕ} → k ≤ 9 → 10 ^ k ≤ 1000000000
 power-most {k = k} hk = pow-le-pow-right {n = 10} (lit< tt) {i = k} {j = 9} hk
 
-pub shift-fits : {a d k : ℕ} → a ≤ max → d ≤ 9999 → k ≤ 3 → a * d * 10 ^ k < 2 ^ 64
-shift-fits {k = k} ha hd hk =
-    lt-of-le-of-lt (mul-le-mul (mul-le-mul ha hd) (pow-le-pow-right {n = 10} (lit< tt) {i = k} {j = 3} hk)) (lit< tt)
+pub shift-fits : {n k : ℕ} → n ≤ 9998999999990001 → k ≤ 3 → n * 10 ^ k < 2 ^ 64
+shift-fits {k = k} hn hk = lt-of-le-of-lt (mul-le-mul hn (pow-le-pow-right {n = 10} (lit< tt) {i = k} {j = 3} hk)) (lit< tt)
+
+pub stays : (n : ℕ) → n ≤ max → stopped n ≡ n
+stays n h = simp (le-ltb max n h)
 
 pub stopped-most : (n : ℕ) → stopped n ≤ max
 stopped-most n = by (ltb max n) refl where

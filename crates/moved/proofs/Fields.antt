@@ -98,7 +98,8 @@ module _ {from to : ℕ} {rate mta : Float} where
   field-place n (not-whole e h) = at-place n 11 e refl
 
 -- only one number is the first
-pub only : {cause : ℕ → Type 0} → ((n : ℕ) → cause n → n ≡ numberAt (rank n)) → (n m : ℕ) → Numbered cause n → Numbered cause m → n ≡ m
+pub only : {cause : ℕ → Type 0} → ((n : ℕ) → cause n → n ≡ numberAt (rank n))
+    → (n m : ℕ) → Numbered cause n → Numbered cause m → n ≡ m
 only place n m (done p f) (done q g) = p ∙ sym q
 only place n m (done p f) (refused a g) = absurd (f m a)
 only place n m (refused a f) (done q g) = absurd (g n a)

@@ -40,11 +40,13 @@ module _ (old : OldRecord) (new : NewRecord) (rate-held : T (fits binary64 (old 
       subst (λ (n : NewRecord). Moved old n) is
       (record { codes = codes; from = refl; to = refl; taken = rate-taken (old .rate) rate-held digits shift found; same = whole .0; most = whole .1 })
 
-  by-rate : areCurrencies (old .from) (old .to) ≡ true → (found : Found) → rateOf (old .rate) ≡ found → withRate old found ≡ Record new → Moved old new
+  by-rate : areCurrencies (old .from) (old .to) ≡ true → (found : Found) → rateOf (old .rate) ≡ found → withRate old found ≡ Record new
+      → Moved old new
   by-rate codes NoPair e h = absurd (differ BadRate new h)
   by-rate codes (Pair digits shift) e h = by-mta digits shift codes e (mtaOf (old .mta)) refl h
 
-  by-codes : (codes : Bool) → areCurrencies (old .from) (old .to) ≡ codes → cond codes (withRate old (rateOf (old .rate))) (Refused OutOfRange) ≡ Record new → Moved old new
+  by-codes : (codes : Bool) → areCurrencies (old .from) (old .to) ≡ codes
+      → cond codes (withRate old (rateOf (old .rate))) (Refused OutOfRange) ≡ Record new → Moved old new
   by-codes true e h = by-rate e (rateOf (old .rate)) refl h
   by-codes false e h = absurd (differ OutOfRange new h)
 
@@ -60,5 +62,6 @@ module _ (old : OldRecord) (new : NewRecord) (rate-held : T (fits binary64 (old 
   pub never-through : (T (positive (old .rate)) → ⊥) → takeOver old ≡ Record new → ⊥
   unfolding takeOver
   never-through low h =
-      through (areCurrencies (old .from) (old .to))
-      (subst (λ (found : Found). cond (areCurrencies (old .from) (old .to)) (withRate old found) (Refused OutOfRange) ≡ Record new) (never (old .rate) rate-held low) h)
+      let codes = areCurrencies (old .from) (old .to) in
+      through codes
+      (subst (λ (found : Found). cond codes (withRate old found) (Refused OutOfRange) ≡ Record new) (never (old .rate) rate-held low) h)

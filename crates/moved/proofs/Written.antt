@@ -76,17 +76,23 @@ module _ (new : NewRecord) (rest : List ℕ) where
   size-is = omega arith
 
   module _ (old : OldRecord) (m : Moved old new) where
-    codes : (isCurrency (new .conversion .from) ≡ true) × (isCurrency (new .conversion .to) ≡ true) × (not (eqb (new .conversion .from) (new .conversion .to)) ≡ true)
+    abbrev from : ℕ
+    from = new .conversion .from
+
+    abbrev to : ℕ
+    to = new .conversion .to
+
+    codes : (isCurrency from ≡ true) × (isCurrency to ≡ true) × (not (eqb from to) ≡ true)
     codes =
-        let all : areCurrencies (new .conversion .from) (new .conversion .to) ≡ true = rw (m .from, m .to) (m .codes) in
-        let (digits, apart) = both (isCurrency (new .conversion .from) && isCurrency (new .conversion .to)) (not (eqb (new .conversion .from) (new .conversion .to))) all in
-        let (one, two) = both (isCurrency (new .conversion .from)) (isCurrency (new .conversion .to)) digits in
+        let all : areCurrencies from to ≡ true = rw (m .from, m .to) (m .codes) in
+        let (digits, apart) = both (isCurrency from && isCurrency to) (not (eqb from to)) all in
+        let (one, two) = both (isCurrency from) (isCurrency to) digits in
         (one, two, apart)
 
-    backs : (number whole 0 2 ≡ new .conversion .from) × (number whole 2 2 ≡ new .conversion .to) × (number whole 4 2 ≡ new .conversion .digits)
+    backs : (number whole 0 2 ≡ from) × (number whole 2 2 ≡ to) × (number whole 4 2 ≡ new .conversion .digits)
     backs =
         let most = in-range (m .taken) .most in
-        (from-back (code-below (new .conversion .from) (codes .0)), to-back (code-below (new .conversion .to) (codes .1)), digits-back (omega arith))
+        (from-back (code-below from (codes .0)), to-back (code-below to (codes .1)), digits-back (omega arith))
 
     conversion-back : rateIn whole 0 ≡ new .conversion
     unfolding rateIn
@@ -97,7 +103,7 @@ module _ (new : NewRecord) (rest : List ℕ) where
     accepted-back =
         let range = in-range (m .taken) in
         rw (backs .0, backs .1, backs .2, shift-back)
-        (simp (codes .0, codes .1, codes .2, le-leb 1 (new .conversion .digits) (range .least), le-leb (new .conversion .digits) 9999 (range .most), le-leb (new .conversion .shift) 12 (range .bound)))
+        (simp (codes .0, codes .1, codes .2, le-leb 1 _ (range .least), le-leb _ 9999 (range .most), le-leb _ 12 (range .bound)))
 
 -- ---- the theorems
 module _ (old room : List ℕ) where
@@ -106,7 +112,8 @@ module _ (old room : List ℕ) where
   unfolding imported
   refusal-keeps refusal h = rw h
 
-  pub room-is : (new : NewRecord) → importRecord old room ≡ Done → takeOver (oldRecord old) ≡ Record new → imported old room ≡ newBytes new ++ drop 15 room
+  pub room-is : (new : NewRecord) → importRecord old room ≡ Done → takeOver (oldRecord old) ≡ Record new
+      → imported old room ≡ newBytes new ++ drop 15 room
   unfolding imported
   room-is new h t = rw (h, t)
 
@@ -114,12 +121,14 @@ module _ (old room : List ℕ) where
   differ refusal e = let z : _≡_ {A = ℕ} 0 1 = cc in omega arith
 
   module _ (done : importRecord old room ≡ Done) where
-    by-room : (new : NewRecord) → takeOver (oldRecord old) ≡ Record new → (small : Bool) → ltb (length room) 15 ≡ small → cond small (ImportRefused RoomTooSmall) Done ≡ Done → Read old room
+    by-room : (new : NewRecord) → takeOver (oldRecord old) ≡ Record new → (small : Bool) → ltb (length room) 15 ≡ small
+        → cond small (ImportRefused RoomTooSmall) Done ≡ Done → Read old room
     by-room new t true e h = absurd (differ RoomTooSmall h)
     by-room new t false e h =
         let rest = drop 15 room in
         let large : 15 ≤ length room = ltb-false (length room) 15 e in
-        let m : Moved (oldRecord old) new = (unfold oldRecord in kept (oldRecord old) new (ofBits-fits binary64 (number old 4 8)) (ofBits-fits binary64 (number old 12 8)) t) in
+        let m : Moved (oldRecord old) new =
+        (unfold oldRecord in kept (oldRecord old) new (ofBits-fits binary64 (number old 4 8)) (ofBits-fits binary64 (number old 12 8)) t) in
         let is = room-is new done t in
         record {
           new = new;

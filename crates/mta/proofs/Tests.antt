@@ -135,7 +135,8 @@ in-float n h = le→leb n 9007199254740992 (omega arith)
 forth : (x : Float) (n : ℕ) → T (fits binary64 x) → n ≡ toUnsigned 64 x → n ≤ max → T (exactly n x) → T (inUnsigned binary64 64 x)
 forth x n f h l t =
     let y = ofInt binary64 (pos n) in
-    let e : x ≡ y = equal-of x y n (has-value n (omega arith)) (ofInt-fits binary64 (pos n)) f (and-l (eq y x) (not (eqb n 0) || above-zero x) t) (sign-of x n h t) in
+    let same = and-l (eq y x) (not (eqb n 0) || above-zero x) t in
+    let e : x ≡ y = equal-of x y n (has-value n (omega arith)) (ofInt-fits binary64 (pos n)) f same (sign-of x n h t) in
     subst (λ (z : Float). T (inUnsigned binary64 64 z)) (sym e) (unsigned-back binary64 64 n (in-float n l) (omega arith) .0)
 
 last-test : (n : ℕ) (x : Float) → ofInt binary64 (pos n) ≡ x → T (not (eqb n 0) || above-zero x)

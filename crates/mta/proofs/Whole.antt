@@ -26,12 +26,14 @@ abbrev inside : Mta → ℕ
 inside (Amount amount) = amount .0
 inside NotWhole = 0
 
-pick : (a b : Bool) (k n : ℕ) → cond (a && b) (Amount (record { 0 = k })) NotWhole ≡ Amount (record { 0 = n }) → (a ≡ true) × (b ≡ true) × (k ≡ n)
+pick : (a b : Bool) (k n : ℕ) → cond (a && b) (Amount (record { 0 = k })) NotWhole ≡ Amount (record { 0 = n })
+    → (a ≡ true) × (b ≡ true) × (k ≡ n)
 pick true true k n e = (refl, refl, ap inside e)
-pick true false k n e = let z : _≡_ {A = ℕ} 0 1 = cc in let never : ⊥ = omega arith in absurd never
-pick false b k n e = let z : _≡_ {A = ℕ} 0 1 = cc in let never : ⊥ = omega arith in absurd never
+pick true false k n e = let z : _≡_ {A = ℕ} 0 1 = cc in absurd (omega arith)
+pick false b k n e = let z : _≡_ {A = ℕ} 0 1 = cc in absurd (omega arith)
 
-pub taken-whole : (mta : Float) → T (fits binary64 mta) → (n : ℕ) → mtaOf mta ≡ Amount (record { 0 = n }) → (mta ≡ ofInt binary64 (pos n)) × (n ≤ max)
+pub taken-whole : (mta : Float) → T (fits binary64 mta) → (n : ℕ) → mtaOf mta ≡ Amount (record { 0 = n })
+    → (mta ≡ ofInt binary64 (pos n)) × (n ≤ max)
 unfolding mtaOf
 taken-whole mta f n h =
     let k = pick (inUnsigned binary64 64 mta) (leb (toUnsigned 64 mta) max) (toUnsigned 64 mta) n h in (

@@ -8,7 +8,12 @@ use lib.ListN.{length, List·getD-eq-default}
 use Rattle.wire.specs.Wire.{byte, number, isCurrency}
 use Rattle.wire.proofs.Numbers.{past, split}
 use Rattle.money.specs.Money.{max}
-use Rattle.ranges.specs.Ranges.{hasLength, isHead, isAccumulator, areAccumulators, areMasks, isMaximumAmount, isAccumulatorRule, areAccumulatorRules, areCounterRules, areSent, isProfile, isProfileOrAbsent, areProfiles, isConversion, isConversionOrAbsent, areConversions, profileNumber, areNumbersApart, conversionPair, arePairsApart, isSetup}
+use Rattle.layout.specs.Layout.{profileFrom, conversionFrom, baseLength}
+use Rattle.layout.specs.Layout as layout
+use Rattle.ranges.specs.Ranges.{hasLength, isHead, isAccumulator, areAccumulators, isSetup}
+use Rattle.ranges.specs.Ranges.{areMasks, isMaximumAmount, isAccumulatorRule, areAccumulatorRules, areCounterRules, areSent}
+use Rattle.ranges.specs.Ranges.{isProfile, isProfileOrAbsent, areProfiles, isConversion, isConversionOrAbsent, areConversions}
+use Rattle.ranges.specs.Ranges.{profileNumber, areNumbersApart, conversionPair, arePairsApart}
 use Rattle.ranges.proofs.Decides.{Decides, _and_, _with_, at-most, below, equal, denied, each, itself, stated, if-there, different}
 
 -- three decimal digits in two bytes
@@ -24,68 +29,62 @@ pub record Currency (code : ℕ) : Type 0 where
 -- an accumulator of the head, at its place
 pub record AccumulatorRanges (s : List ℕ) (at : ℕ) : Type 0 where
   pub currency : Currency (number s at 2)
-  pub value : number s (at + 2) 8 ≤ max
+  pub value : number s (at + layout.value) 8 ≤ max
 
 -- an accumulator's rule in a profile, at its place
 pub record AccumulatorRuleRanges (s : List ℕ) (at : ℕ) : Type 0 where
   pub switches : byte s at ≤ 7
-  pub lower : number s (at + 1) 8 ≤ max
-  pub upper : number s (at + 9) 8 ≤ max
+  pub lower : number s (at + layout.lower) 8 ≤ max
+  pub upper : number s (at + layout.upper layout.accumulatorLimit) 8 ≤ max
 
 -- a profile, at its place
 pub record ProfileRanges (s : List ℕ) (at : ℕ) : Type 0 where
   pub number-least : 1 ≤ byte s at
   pub number-most : byte s at ≤ 124
-  pub online : number s (at + 1) 4 < 2 ^ 22
-  pub decline : number s (at + 5) 4 < 2 ^ 22
-  pub default : number s (at + 9) 4 < 2 ^ 22
-  pub maximum-on : byte s (at + 13) ≤ 1
-  pub maximum-currency : Currency (number s (at + 14) 2)
-  pub maximum : number s (at + 16) 8 ≤ max
-  pub accumulators : (j : ℕ) → j < 4 → AccumulatorRuleRanges s (at + (24 + 17 * j))
-  pub counters : (j : ℕ) → j < 4 → byte s (at + (92 + 3 * j)) ≤ 15
-  pub accumulator-sent : byte s (at + 104) ≤ 4
-  pub first-sent : byte s (at + 105) ≤ 4
-  pub second-sent : byte s (at + 106) ≤ 4
+  pub online : number s (at + layout.online) 4 < 2 ^ 22
+  pub decline : number s (at + layout.decline) 4 < 2 ^ 22
+  pub default : number s (at + layout.default) 4 < 2 ^ 22
+  pub maximum-on : byte s (at + layout.maximumOn) ≤ 1
+  pub maximum-currency : Currency (number s (at + layout.maximumCurrency) 2)
+  pub maximum : number s (at + layout.maximum) 8 ≤ max
+  pub accumulators : (j : ℕ) → j < 4 → AccumulatorRuleRanges s (at + layout.accumulatorRuleFrom j)
+  pub counters : (j : ℕ) → j < 4 → byte s (at + layout.counterRuleFrom j) ≤ 15
+  pub accumulator-sent : byte s (at + layout.accumulatorSent) ≤ 4
+  pub first-sent : byte s (at + layout.firstSent) ≤ 4
+  pub second-sent : byte s (at + layout.secondSent) ≤ 4
 
 -- a conversion, at its place
 pub record ConversionRanges (s : List ℕ) (at : ℕ) : Type 0 where
   pub from : Currency (number s at 2)
-  pub to : Currency (number s (at + 2) 2)
-  pub other : number s at 2 ≡ number s (at + 2) 2 → ⊥
-  pub digits-least : 1 ≤ number s (at + 4) 2
-  pub digits-most : number s (at + 4) 2 ≤ 9999
-  pub shift : byte s (at + 6) ≤ 12
-
-abbrev pub profile-at : ℕ → ℕ
-profile-at i = 52 + 107 * i
-
-abbrev pub conversion-at : List ℕ → ℕ → ℕ
-conversion-at s i = 52 + 107 * byte s 3 + 7 * i
+  pub to : Currency (number s (at + layout.to) 2)
+  pub other : number s at 2 ≡ number s (at + layout.to) 2 → ⊥
+  pub digits-least : 1 ≤ number s (at + layout.digits) 2
+  pub digits-most : number s (at + layout.digits) 2 ≤ 9999
+  pub shift : byte s (at + layout.shift) ≤ 12
 
 -- profiles are numbered all different
 abbrev pub NumbersDiffer : List ℕ → Type 0
-NumbersDiffer s = (i j : ℕ) → i < j → j < byte s 3 → byte s (profile-at i) ≡ byte s (profile-at j) → ⊥
+NumbersDiffer s = (i j : ℕ) → i < j → j < byte s layout.profiles → byte s (profileFrom i) ≡ byte s (profileFrom j) → ⊥
 
 -- no pair of from and to is there twice
 abbrev pub PairsDiffer : List ℕ → Type 0
 PairsDiffer s =
-    (i j : ℕ) → i < j → j < byte s 4 → number s (conversion-at s i) 2 ≡ number s (conversion-at s j) 2
-    → number s (conversion-at s i + 2) 2 ≡ number s (conversion-at s j + 2) 2
+    (i j : ℕ) → i < j → j < byte s layout.conversions → number s (conversionFrom s i) 2 ≡ number s (conversionFrom s j) 2
+    → number s (conversionFrom s i + layout.to) 2 ≡ number s (conversionFrom s j + layout.to) 2
     → ⊥
 
 pub record Accepted (s : List ℕ) : Type 0 where
-  pub size : length s ≡ 52 + 107 * byte s 3 + 7 * byte s 4
-  pub pin : byte s 1 ≤ 15
-  pub required : byte s 2 ≤ 1
-  pub profiles-least : 1 ≤ byte s 3
-  pub profiles-most : byte s 3 ≤ 4
-  pub conversions-most : byte s 4 ≤ 5
-  pub online : byte s 7 ≤ 1
-  pub accumulators : (i : ℕ) → i < 4 → AccumulatorRanges s (8 + 10 * i)
-  pub profiles : (i : ℕ) → i < byte s 3 → ProfileRanges s (profile-at i)
+  pub size : length s ≡ baseLength s
+  pub pin : byte s layout.pinTries ≤ 15
+  pub required : byte s layout.required ≤ 1
+  pub profiles-least : 1 ≤ byte s layout.profiles
+  pub profiles-most : byte s layout.profiles ≤ 4
+  pub conversions-most : byte s layout.conversions ≤ 5
+  pub online : byte s layout.onlineNext ≤ 1
+  pub accumulators : (i : ℕ) → i < 4 → AccumulatorRanges s (layout.accumulatorFrom i)
+  pub profiles : (i : ℕ) → i < byte s layout.profiles → ProfileRanges s (profileFrom i)
   pub numbers : NumbersDiffer s
-  pub conversions : (i : ℕ) → i < byte s 4 → ConversionRanges s (conversion-at s i)
+  pub conversions : (i : ℕ) → i < byte s layout.conversions → ConversionRanges s (conversionFrom s i)
   pub pairs : PairsDiffer s
 
 pub currency : (code : ℕ) → Decides (isCurrency code) (Currency code)
@@ -119,8 +118,8 @@ module _ (s : List ℕ) where
   profile at =
       stated
       (at-most _ _ and at-most _ _ and (below _ _ and below _ _ and below _ _) and (at-most _ _ and currency _ and at-most _ _)
-      and each 4 (λ j. accumulator-rule (at + (24 + 17 * j)))
-      and each 4 (λ j. at-most (byte s (at + (92 + 3 * j))) 15)
+      and each 4 (λ j. accumulator-rule (at + layout.accumulatorRuleFrom j))
+      and each 4 (λ j. at-most (byte s (at + layout.counterRuleFrom j)) 15)
       and (at-most _ _ and at-most _ _ and at-most _ _))
       (λ ((((((least, most), ((online, decline), default)), ((on, code), amount)), accumulators), counters), ((accumulator, first), second)).
       record {
@@ -153,37 +152,39 @@ module _ (s : List ℕ) where
       record { from = from; to = to; other = other; digits-least = least; digits-most = most; shift = shift })
       (λ c. c .from with c .to with c .other with c .digits-least with c .digits-most with c .shift)
 
-  profile-or-absent : (i : ℕ) → Decides (isProfileOrAbsent s i) (i < byte s 3 → ProfileRanges s (profile-at i))
+  profile-or-absent : (i : ℕ) → Decides (isProfileOrAbsent s i) (i < byte s layout.profiles → ProfileRanges s (profileFrom i))
   unfolding isProfileOrAbsent
-  profile-or-absent = if-there (byte s 3) profile-at (length s) profile
+  profile-or-absent = if-there (byte s layout.profiles) profileFrom (length s) profile
 
-  conversion-or-absent : (i : ℕ) → Decides (isConversionOrAbsent s i) (i < byte s 4 → ConversionRanges s (conversion-at s i))
+  conversion-or-absent : (i : ℕ) → Decides (isConversionOrAbsent s i) (i < byte s layout.conversions → ConversionRanges s (conversionFrom s i))
   unfolding isConversionOrAbsent
-  conversion-or-absent = if-there (byte s 4) (conversion-at s) (length s) conversion
+  conversion-or-absent = if-there (byte s layout.conversions) (conversionFrom s) (length s) conversion
 
-  numbers-apart : byte s 3 ≤ 4 → ((i : ℕ) → i < byte s 3 → ProfileRanges s (profile-at i)) → Decides (areNumbersApart s) (NumbersDiffer s)
+  numbers-apart : byte s layout.profiles ≤ 4 → ((i : ℕ) → i < byte s layout.profiles → ProfileRanges s (profileFrom i))
+      → Decides (areNumbersApart s) (NumbersDiffer s)
   unfolding areNumbersApart profileNumber
   numbers-apart few profiles =
-      different (byte s 3) profile-at (length s) 4 (byte s) few (List·getD-eq-default s 0 (omega arith))
+      different (byte s layout.profiles) profileFrom (length s) 4 (byte s) few (List·getD-eq-default s 0 (omega arith))
       (λ i l z. omega (arith, profiles i l .number-least))
 
   -- from and to side by side
-  joined : (at : ℕ) → number s at 4 ≡ number s at 2 * 65536 + number s (at + 2) 2
+  joined : (at : ℕ) → number s at 4 ≡ number s at 2 * 65536 + number s (at + layout.to) 2
   joined at = split s at 2 2
 
-  pairs-apart : byte s 4 ≤ 5 → ((i : ℕ) → i < byte s 4 → ConversionRanges s (conversion-at s i)) → Decides (arePairsApart s) (PairsDiffer s)
+  pairs-apart : byte s layout.conversions ≤ 5 → ((i : ℕ) → i < byte s layout.conversions → ConversionRanges s (conversionFrom s i))
+      → Decides (arePairsApart s) (PairsDiffer s)
   unfolding arePairsApart conversionPair
   pairs-apart few conversions =
       stated
-      (different (byte s 4) (conversion-at s) (length s) 5 (λ at. number s at 4) few (past s (length s) 4 (omega arith))
-      (λ i l z. let a = joined (conversion-at s i) in conversions i l .other (omega arith)))
+      (different (byte s layout.conversions) (conversionFrom s) (length s) 5 (λ at. number s at 4) few (past s (length s) 4 (omega arith))
+      (λ i l z. let a = joined (conversionFrom s i) in conversions i l .other (omega arith)))
       (λ f i j l m e g.
-      let a = joined (conversion-at s i) in
-      let b = joined (conversion-at s j) in
+      let a = joined (conversionFrom s i) in
+      let b = joined (conversionFrom s j) in
       f i j l m (omega arith))
       (λ f i j l m e.
-      let a = joined (conversion-at s i) in
-      let b = joined (conversion-at s j) in
+      let a = joined (conversionFrom s i) in
+      let b = joined (conversionFrom s j) in
       let x = conversions i (omega arith) .to in
       let y = conversions j m .to in
       f i j l m (omega arith) (omega arith))
@@ -193,14 +194,14 @@ module _ (s : List ℕ) where
   decided =
       stated
       (equal _ _ and (at-most _ _ and at-most _ _ and at-most _ _ and at-most _ _ and at-most _ _ and at-most _ _)
-      and each 4 (λ i. accumulator (8 + 10 * i))
+      and each 4 (λ i. accumulator (layout.accumulatorFrom i))
       and each 4 profile-or-absent
       and itself (areNumbersApart s)
       and each 5 conversion-or-absent
       and itself (arePairsApart s))
       (λ ((((((size, (((((pin, required), least), most), conversions-most), online)), accumulators), profiles), numbers), conversions), pairs).
-      let there : (i : ℕ) → i < byte s 3 → ProfileRanges s (profile-at i) = λ i l. profiles i (omega arith) l in
-      let listed : (i : ℕ) → i < byte s 4 → ConversionRanges s (conversion-at s i) = λ i l. conversions i (omega arith) l in
+      let there : (i : ℕ) → i < byte s layout.profiles → ProfileRanges s (profileFrom i) = λ i l. profiles i (omega arith) l in
+      let listed : (i : ℕ) → i < byte s layout.conversions → ConversionRanges s (conversionFrom s i) = λ i l. conversions i (omega arith) l in
       record {
         size = size;
         pin = pin;

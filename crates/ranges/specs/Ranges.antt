@@ -1,13 +1,14 @@
 -- The bytes of a set-up's body: how many, and the range of each field (document 01, "Numbers" and "The paper"), in document 01's order.
 -- Key index, ATC, and a counter's value and limits may be any. Ranges hold for inactive entries too.
-use Prim.Native.Nat.{ℕ, zero, suc, _+_, _*_, _^_}
+use Prim.Native.Nat.{ℕ, zero, suc, _+_, _^_}
 use mathlib.Core.Bool.{Bool, true, not, _&&_, _||_}
 use mathlib.Core.List.{List}
 use lib.ListN.{length, getD}
 use lib.Dec.{leb, ltb, eqb}
 use Rattle.wire.specs.Wire.{byte, number, isCurrency}
 use Rattle.money.specs.Money.{max}
-use Rattle.body.specs.Body.{profilePlace, conversionPlace}
+use Rattle.layout.specs.Layout.{baseLength, profilePlace, conversionPlace}
+use Rattle.layout.specs.Layout as layout
 
 -- the test holds of each number below n
 abbrev pub all : ℕ → (ℕ → Bool) → Bool
@@ -16,45 +17,53 @@ all (suc n) test = all n test && test n
 
 -- 52 + 107p + 7c bytes
 unfoldable pub hasLength : List ℕ → Bool
-hasLength s = eqb (length s) (52 + 107 * byte s 3 + 7 * byte s 4)
+hasLength s = eqb (length s) (baseLength s)
 
 -- PIN tries (0 to 15); issuer authentication required (0/1); p (1 to 4); c (0 to 5); go online next (0/1)
 unfoldable pub isHead : List ℕ → Bool
 isHead s =
-    leb (byte s 1) 15 && leb (byte s 2) 1 && leb 1 (byte s 3) && leb (byte s 3) 4 && leb (byte s 4) 5 && leb (byte s 7) 1
+    leb (byte s layout.pinTries) 15 && leb (byte s layout.required) 1 && leb 1 (byte s layout.profiles) && leb (byte s layout.profiles) 4
+    && leb (byte s layout.conversions) 5
+    && leb (byte s layout.onlineNext) 1
 
 -- an accumulator at a place: currency (2) and value (8)
 unfoldable pub isAccumulator : List ℕ → ℕ → Bool
-isAccumulator s at = isCurrency (number s at 2) && leb (number s (at + 2) 8) max
+isAccumulator s at = isCurrency (number s at 2) && leb (number s (at + layout.value) 8) max
 
 unfoldable pub areAccumulators : List ℕ → Bool
-areAccumulators s = all 4 (λ i. isAccumulator s (8 + 10 * i))
+areAccumulators s = all 4 (λ i. isAccumulator s (layout.accumulatorFrom i))
 
 -- of the profile at a place: masks Online, Decline, Default (4 each), bits 0 to 21 of which are named
 unfoldable pub areMasks : List ℕ → ℕ → Bool
-areMasks s at = ltb (number s (at + 1) 4) (2 ^ 22) && ltb (number s (at + 5) 4) (2 ^ 22) && ltb (number s (at + 9) 4) (2 ^ 22)
+areMasks s at =
+    ltb (number s (at + layout.online) 4) (2 ^ 22) && ltb (number s (at + layout.decline) 4) (2 ^ 22)
+    && ltb (number s (at + layout.default) 4) (2 ^ 22)
 
 -- MTA on (0/1), its currency (2), MTA (8)
 unfoldable pub isMaximumAmount : List ℕ → ℕ → Bool
-isMaximumAmount s at = leb (byte s (at + 13)) 1 && isCurrency (number s (at + 14) 2) && leb (number s (at + 16) 8) max
+isMaximumAmount s at =
+    leb (byte s (at + layout.maximumOn)) 1 && isCurrency (number s (at + layout.maximumCurrency) 2)
+    && leb (number s (at + layout.maximum) 8) max
 
 -- an accumulator's rule at a place: switches (1, 2, 4), lower (8), upper (8)
 unfoldable pub isAccumulatorRule : List ℕ → ℕ → Bool
-isAccumulatorRule s at = leb (byte s at) 7 && leb (number s (at + 1) 8) max && leb (number s (at + 9) 8) max
+isAccumulatorRule s at =
+    leb (byte s at) 7 && leb (number s (at + layout.lower) 8) max && leb (number s (at + layout.upper layout.accumulatorLimit) 8) max
 
 unfoldable pub areAccumulatorRules : List ℕ → ℕ → Bool
-areAccumulatorRules s at = all 4 (λ j. isAccumulatorRule s (at + (24 + 17 * j)))
+areAccumulatorRules s at = all 4 (λ j. isAccumulatorRule s (at + layout.accumulatorRuleFrom j))
 
 -- a counter's rule at a place: switches (1, 2, 4, 8)
 abbrev pub isCounterRule : List ℕ → ℕ → Bool
 isCounterRule s at = leb (byte s at) 15
 
 unfoldable pub areCounterRules : List ℕ → ℕ → Bool
-areCounterRules s at = all 4 (λ j. isCounterRule s (at + (92 + 3 * j)))
+areCounterRules s at = all 4 (λ j. isCounterRule s (at + layout.counterRuleFrom j))
 
 -- the accumulator sent (0 to 4); the two counters sent (0 to 4)
 unfoldable pub areSent : List ℕ → ℕ → Bool
-areSent s at = leb (byte s (at + 104)) 4 && leb (byte s (at + 105)) 4 && leb (byte s (at + 106)) 4
+areSent s at =
+    leb (byte s (at + layout.accumulatorSent)) 4 && leb (byte s (at + layout.firstSent)) 4 && leb (byte s (at + layout.secondSent)) 4
 
 -- a profile at a place: number (1 to 124), and the parts above
 unfoldable pub isProfile : List ℕ → ℕ → Bool
@@ -64,7 +73,7 @@ isProfile s at =
 
 -- profile i + 1, if it is one of the p
 unfoldable pub isProfileOrAbsent : List ℕ → ℕ → Bool
-isProfileOrAbsent s i = not (ltb i (byte s 3)) || isProfile s (profilePlace s i)
+isProfileOrAbsent s i = not (ltb i (byte s layout.profiles)) || isProfile s (profilePlace s i)
 
 unfoldable pub areProfiles : List ℕ → Bool
 areProfiles s = all 4 (isProfileOrAbsent s)
@@ -72,14 +81,14 @@ areProfiles s = all 4 (isProfileOrAbsent s)
 -- a conversion at a place: from, to (2 each), not equal; d (1 to 9,999); s + 9 (0 to 12)
 unfoldable pub isConversion : List ℕ → ℕ → Bool
 isConversion s at =
-    isCurrency (number s at 2) && isCurrency (number s (at + 2) 2) && not (eqb (number s at 2) (number s (at + 2) 2))
-    && leb 1 (number s (at + 4) 2)
-    && leb (number s (at + 4) 2) 9999
-    && leb (byte s (at + 6)) 12
+    isCurrency (number s at 2) && isCurrency (number s (at + layout.to) 2) && not (eqb (number s at 2) (number s (at + layout.to) 2))
+    && leb 1 (number s (at + layout.digits) 2)
+    && leb (number s (at + layout.digits) 2) 9999
+    && leb (byte s (at + layout.shift)) 12
 
 -- conversion i + 1, if it is one of the c
 unfoldable pub isConversionOrAbsent : List ℕ → ℕ → Bool
-isConversionOrAbsent s i = not (ltb i (byte s 4)) || isConversion s (conversionPlace s i)
+isConversionOrAbsent s i = not (ltb i (byte s layout.conversions)) || isConversion s (conversionPlace s i)
 
 unfoldable pub areConversions : List ℕ → Bool
 areConversions s = all 5 (isConversionOrAbsent s)

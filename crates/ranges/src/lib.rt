@@ -3,7 +3,11 @@
 ghost use mathlib.Core.Path.{_≡_};
 ghost use mathlib.Core.List.{[], _∷_};
 ghost use Prim.Native.Nat.{_+_, _<_, _^_};
-ghost use Rattle.ranges.specs.Ranges.{hasLength, isHead, isAccumulator, areAccumulators, areMasks, isMaximumAmount, isAccumulatorRule, areAccumulatorRules, areCounterRules, areSent, isProfile, isProfileOrAbsent, areProfiles, isConversion, isConversionOrAbsent, areConversions, apart, listed, profileNumber, areNumbersApart, conversionPair, arePairsApart, isSetup};
+ghost use Rattle.layout.specs.Layout.{accumulatorFrom, accumulatorRuleFrom, counterRuleFrom, profileLength, conversionLength};
+ghost use Rattle.ranges.specs.Ranges.{hasLength, isHead, isAccumulator, areAccumulators, isSetup};
+ghost use Rattle.ranges.specs.Ranges.{areMasks, isMaximumAmount, isAccumulatorRule, areAccumulatorRules, isCounterRule, areCounterRules, areSent};
+ghost use Rattle.ranges.specs.Ranges.{isProfile, isProfileOrAbsent, areProfiles, isConversion, isConversionOrAbsent, areConversions};
+ghost use Rattle.ranges.specs.Ranges.{apart, listed, profileNumber, areNumbersApart, conversionPair, arePairsApart};
 use money::MAX;
 
 // Bit 22, the first mask bit without a name.
@@ -13,100 +17,110 @@ const UNNAMED: u32 = 4_194_304;
 fn has_length(s: &[u8]) -> bool
     ensures { λ r. ⌜ r ≡ hasLength (now (s .entry)) ⌝ }
 {
-    s.len() == 52 + 107 * wire::byte_at(s, 3) as usize + 7 * wire::byte_at(s, 4) as usize
+    s.len() == layout::base_length(s)
 }
 
 // PIN tries, issuer authentication required, p, c and go online next.
 fn is_head(s: &[u8]) -> bool
     ensures { λ r. ⌜ r ≡ isHead (now (s .entry)) ⌝ }
 {
-    let p = wire::byte_at(s, 3);
-    (wire::byte_at(s, 1) <= 15)
-        & (wire::byte_at(s, 2) <= 1)
+    let p = wire::byte_at(s, layout::PROFILES);
+    (wire::byte_at(s, layout::PIN_TRIES) <= 15)
+        & (wire::byte_at(s, layout::REQUIRED) <= 1)
         & (1 <= p)
         & (p <= 4)
-        & (wire::byte_at(s, 4) <= 5)
-        & (wire::byte_at(s, 7) <= 1)
+        & (wire::byte_at(s, layout::CONVERSIONS) <= 5)
+        & (wire::byte_at(s, layout::ONLINE_NEXT) <= 1)
 }
 
-// Currency and value of an accumulator.
-fn is_accumulator(s: &[u8], at: usize) -> bool
-    requires { ⌜ at + 10 < 2 ^ 64 ⌝ }
-    ensures { λ r. ⌜ r ≡ isAccumulator (now (s .entry)) at ⌝ }
+// Currency and value of accumulator i + 1.
+fn is_accumulator(s: &[u8], i: usize) -> bool
+    requires { ⌜ i < 4 ⌝ }
+    ensures { λ r. ⌜ r ≡ isAccumulator (now (s .entry)) (accumulatorFrom i) ⌝ }
 {
-    wire::is_currency(wire::u16_at(s, at)) & (wire::u64_at(s, at + 2) <= MAX)
+    let at = layout::ACCUMULATORS + layout::ACCUMULATOR_LENGTH * i;
+    wire::is_currency(wire::u16_at(s, at)) & (wire::u64_at(s, at + layout::VALUE) <= MAX)
 }
 
 fn are_accumulators(s: &[u8]) -> bool
     ensures { λ r. ⌜ r ≡ areAccumulators (now (s .entry)) ⌝ }
 {
-    is_accumulator(s, 8) & is_accumulator(s, 18) & is_accumulator(s, 28) & is_accumulator(s, 38)
+    is_accumulator(s, 0) & is_accumulator(s, 1) & is_accumulator(s, 2) & is_accumulator(s, 3)
 }
 
 // Online, Decline and Default of the profile at a place: unnamed bits are zero.
 fn are_masks(s: &[u8], at: usize) -> bool
-    requires { ⌜ at + 107 < 2 ^ 64 ⌝ }
+    requires { ⌜ at + profileLength < 2 ^ 64 ⌝ }
     ensures { λ r. ⌜ r ≡ areMasks (now (s .entry)) at ⌝ }
 {
-    (wire::u32_at(s, at + 1) < UNNAMED)
-        & (wire::u32_at(s, at + 5) < UNNAMED)
-        & (wire::u32_at(s, at + 9) < UNNAMED)
+    (wire::u32_at(s, at + layout::ONLINE) < UNNAMED)
+        & (wire::u32_at(s, at + layout::DECLINE) < UNNAMED)
+        & (wire::u32_at(s, at + layout::DEFAULT) < UNNAMED)
 }
 
 // MTA on, its currency, and the MTA of the profile at a place.
 fn is_maximum_amount(s: &[u8], at: usize) -> bool
-    requires { ⌜ at + 107 < 2 ^ 64 ⌝ }
+    requires { ⌜ at + profileLength < 2 ^ 64 ⌝ }
     ensures { λ r. ⌜ r ≡ isMaximumAmount (now (s .entry)) at ⌝ }
 {
-    (wire::byte_at(s, at + 13) <= 1)
-        & wire::is_currency(wire::u16_at(s, at + 14))
-        & (wire::u64_at(s, at + 16) <= MAX)
+    (wire::byte_at(s, at + layout::MAXIMUM_ON) <= 1)
+        & wire::is_currency(wire::u16_at(s, at + layout::MAXIMUM_CURRENCY))
+        & (wire::u64_at(s, at + layout::MAXIMUM) <= MAX)
 }
 
-// Switches, lower and upper limit of an accumulator.
-fn is_accumulator_rule(s: &[u8], at: usize) -> bool
-    requires { ⌜ at + 17 < 2 ^ 64 ⌝ }
-    ensures { λ r. ⌜ r ≡ isAccumulatorRule (now (s .entry)) at ⌝ }
+// Switches, lower and upper limit of accumulator j + 1.
+fn is_accumulator_rule(s: &[u8], at: usize, j: usize) -> bool
+    requires { ⌜ (at + profileLength < 2 ^ 64) × (j < 4) ⌝ }
+    ensures { λ r. ⌜ r ≡ isAccumulatorRule (now (s .entry)) (at + accumulatorRuleFrom j) ⌝ }
 {
-    (wire::byte_at(s, at) <= 7)
-        & (wire::u64_at(s, at + 1) <= MAX)
-        & (wire::u64_at(s, at + 9) <= MAX)
+    let rule = at + (layout::ACCUMULATOR_RULES + layout::ACCUMULATOR_RULE_LENGTH * j);
+    (wire::byte_at(s, rule) <= 7)
+        & (wire::u64_at(s, rule + layout::LOWER) <= MAX)
+        & (wire::u64_at(s, rule + layout::ACCUMULATOR_UPPER) <= MAX)
 }
 
 fn are_accumulator_rules(s: &[u8], at: usize) -> bool
-    requires { ⌜ at + 107 < 2 ^ 64 ⌝ }
+    requires { ⌜ at + profileLength < 2 ^ 64 ⌝ }
     ensures { λ r. ⌜ r ≡ areAccumulatorRules (now (s .entry)) at ⌝ }
 {
-    is_accumulator_rule(s, at + 24)
-        & is_accumulator_rule(s, at + 41)
-        & is_accumulator_rule(s, at + 58)
-        & is_accumulator_rule(s, at + 75)
+    is_accumulator_rule(s, at, 0)
+        & is_accumulator_rule(s, at, 1)
+        & is_accumulator_rule(s, at, 2)
+        & is_accumulator_rule(s, at, 3)
 }
 
-// The switches of each counter. Its limits may be any.
+// The switches of counter j + 1. Its limits may be any.
+fn is_counter_rule(s: &[u8], at: usize, j: usize) -> bool
+    requires { ⌜ (at + profileLength < 2 ^ 64) × (j < 4) ⌝ }
+    ensures { λ r. ⌜ r ≡ isCounterRule (now (s .entry)) (at + counterRuleFrom j) ⌝ }
+{
+    let rule = at + (layout::COUNTER_RULES + layout::COUNTER_RULE_LENGTH * j);
+    wire::byte_at(s, rule) <= 15
+}
+
 fn are_counter_rules(s: &[u8], at: usize) -> bool
-    requires { ⌜ at + 107 < 2 ^ 64 ⌝ }
+    requires { ⌜ at + profileLength < 2 ^ 64 ⌝ }
     ensures { λ r. ⌜ r ≡ areCounterRules (now (s .entry)) at ⌝ }
 {
-    (wire::byte_at(s, at + 92) <= 15)
-        & (wire::byte_at(s, at + 95) <= 15)
-        & (wire::byte_at(s, at + 98) <= 15)
-        & (wire::byte_at(s, at + 101) <= 15)
+    is_counter_rule(s, at, 0)
+        & is_counter_rule(s, at, 1)
+        & is_counter_rule(s, at, 2)
+        & is_counter_rule(s, at, 3)
 }
 
 // The accumulator sent and the two counters sent: 1 to 4, or 0 for none.
 fn are_sent(s: &[u8], at: usize) -> bool
-    requires { ⌜ at + 107 < 2 ^ 64 ⌝ }
+    requires { ⌜ at + profileLength < 2 ^ 64 ⌝ }
     ensures { λ r. ⌜ r ≡ areSent (now (s .entry)) at ⌝ }
 {
-    (wire::byte_at(s, at + 104) <= 4)
-        & (wire::byte_at(s, at + 105) <= 4)
-        & (wire::byte_at(s, at + 106) <= 4)
+    (wire::byte_at(s, at + layout::ACCUMULATOR_SENT) <= 4)
+        & (wire::byte_at(s, at + layout::FIRST_SENT) <= 4)
+        & (wire::byte_at(s, at + layout::SECOND_SENT) <= 4)
 }
 
-// The 107 bytes of a profile at a place.
+// A profile at a place.
 fn is_profile(s: &[u8], at: usize) -> bool
-    requires { ⌜ at + 107 < 2 ^ 64 ⌝ }
+    requires { ⌜ at + profileLength < 2 ^ 64 ⌝ }
     ensures { λ r. ⌜ r ≡ isProfile (now (s .entry)) at ⌝ }
 {
     let number = wire::byte_at(s, at);
@@ -123,10 +137,10 @@ fn is_profile(s: &[u8], at: usize) -> bool
 fn is_profile_or_absent(s: &[u8], i: usize) -> bool
     ensures { λ r. ⌜ r ≡ isProfileOrAbsent (now (s .entry)) i ⌝ }
 {
-    if wire::byte_at(s, 3) as usize <= i {
+    if wire::byte_at(s, layout::PROFILES) as usize <= i {
         return true;
     }
-    is_profile(s, body::profile_place(s, i))
+    is_profile(s, layout::profile_place(s, i))
 }
 
 fn are_profiles(s: &[u8]) -> bool
@@ -140,28 +154,28 @@ fn are_profiles(s: &[u8]) -> bool
 
 // From, to, d and s + 9 of the conversion at a place. From is not to.
 fn is_conversion(s: &[u8], at: usize) -> bool
-    requires { ⌜ at + 7 < 2 ^ 64 ⌝ }
+    requires { ⌜ at + conversionLength < 2 ^ 64 ⌝ }
     ensures { λ r. ⌜ r ≡ isConversion (now (s .entry)) at ⌝ }
 {
     let from = wire::u16_at(s, at);
-    let to = wire::u16_at(s, at + 2);
-    let digits = wire::u16_at(s, at + 4);
+    let to = wire::u16_at(s, at + layout::TO);
+    let digits = wire::u16_at(s, at + layout::DIGITS);
     wire::is_currency(from)
         & wire::is_currency(to)
         & (from != to)
         & (1 <= digits)
         & (digits <= 9_999)
-        & (wire::byte_at(s, at + 6) <= 12)
+        & (wire::byte_at(s, at + layout::SHIFT) <= 12)
 }
 
 // Conversion i + 1, if it is there.
 fn is_conversion_or_absent(s: &[u8], i: usize) -> bool
     ensures { λ r. ⌜ r ≡ isConversionOrAbsent (now (s .entry)) i ⌝ }
 {
-    if wire::byte_at(s, 4) as usize <= i {
+    if wire::byte_at(s, layout::CONVERSIONS) as usize <= i {
         return true;
     }
-    is_conversion(s, body::conversion_place(s, i))
+    is_conversion(s, layout::conversion_place(s, i))
 }
 
 fn are_conversions(s: &[u8]) -> bool
@@ -187,7 +201,7 @@ fn are_apart(a: u32, b: u32, c: u32, d: u32) -> bool
 fn profile_number(s: &[u8], i: usize) -> u32
     ensures { λ r. ⌜ r ≡ profileNumber (now (s .entry)) i ⌝ }
 {
-    wire::byte_at(s, body::profile_place(s, i)) as u32
+    wire::byte_at(s, layout::profile_place(s, i)) as u32
 }
 
 // No two profiles have the same number.
@@ -206,7 +220,7 @@ fn are_numbers_apart(s: &[u8]) -> bool
 fn conversion_pair(s: &[u8], i: usize) -> u32
     ensures { λ r. ⌜ r ≡ conversionPair (now (s .entry)) i ⌝ }
 {
-    wire::u32_at(s, body::conversion_place(s, i))
+    wire::u32_at(s, layout::conversion_place(s, i))
 }
 
 // No two conversions are for the same pair.

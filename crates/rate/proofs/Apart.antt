@@ -53,7 +53,8 @@ module _ (b k : ℕ) (some : 0 < b) (fine : b + b ≤ 2 ^ k) (bound : k ≤ 1074
       let s-pos : 0 < s = pow-pos k in
       omega arith
 
-  pub same-dividend : (a a' : ℕ) → a * 2 ^ k + 2 < 9007199254740992 → T (positive (round binary64 false a b)) → round binary64 false a b ≡ round binary64 false a' b → a ≡ a'
+  pub same-dividend : (a a' : ℕ) → a * 2 ^ k + 2 < 9007199254740992 → T (positive (round binary64 false a b))
+      → round binary64 false a b ≡ round binary64 false a' b → a ≡ a'
   same-dividend a a' small p same = by (ltb a a') (ltb a' a) refl refl where
     by : (less more : Bool) → ltb a a' ≡ less → ltb a' a ≡ more → a ≡ a'
     by true more e f = absurd (gap a a' (ltb-true a a' e) small p same)

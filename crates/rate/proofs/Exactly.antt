@@ -43,8 +43,8 @@ no-pair rate digits shift h n =
 not-passed : (rate : Float) (digits shift : ℕ) → Names rate digits shift → shiftAt shift < place rate → ⊥
 not-passed rate digits shift n h =
     let there = placed shift (n .range .bound) in
-    no-pair rate digits shift
-    (leb-false (digitsAt rate shift) 9999 (ap (λ (t : ℕ). leb (digitsAt rate t) 9999) (sym (there .back)) ∙ place-first rate .missed (shiftAt shift) (omega arith) h)) n
+    let none = ap (λ (t : ℕ). leb (digitsAt rate t) 9999) (sym (there .back)) ∙ place-first rate .missed (shiftAt shift) (omega arith) h in
+    no-pair rate digits shift (leb-false (digitsAt rate shift) 9999 none) n
 
 -- ---- what the answer tells of the place
 differ : (digits shift : ℕ) → Pair digits shift ≡ NoPair → ⊥
@@ -89,14 +89,16 @@ taken rate f digits shift h =
     let search = digits-first rate shift in
     let low = search .low in
     let same = t .first-digits in
-    let range : InRange digits shift = record { least = omega arith; most = omega arith; bound = rw (t .first-place) (placed (place rate) (omega arith) .bound) } in
+    let bound : shift ≤ 12 = rw (t .first-place) (placed (place rate) (omega arith) .bound) in
+    let range : InRange digits shift = record { least = omega arith; most = omega arith; bound = bound } in
     record { range = range; rounded = rounds digits shift range rate f (rw same (search .passes (omega arith))) }
 
 unless : (a b : ℕ) → (b < a → ⊥) → (t : Bool) → ltb b a ≡ t → a ≤ b
 unless a b h true e = absurd (h (ltb-true b a e))
 unless a b h false e = ltb-false b a e
 
-pub earliest : (rate : Float) (digits shift : ℕ) → rateOf rate ≡ Pair digits shift → (digits' shift' : ℕ) → Names rate digits' shift' → shiftAt shift ≤ shiftAt shift'
+pub earliest : (rate : Float) (digits shift : ℕ) → rateOf rate ≡ Pair digits shift → (digits' shift' : ℕ) → Names rate digits' shift'
+    → shiftAt shift ≤ shiftAt shift'
 earliest rate digits shift h digits' shift' n =
     let t = told rate digits shift h in
     let early = t .early in

@@ -60,7 +60,8 @@ module _ (digits shift : ℕ) (in-range : InRange digits shift) where
   passes rate e =
       ap (λ (z : Float). eq z rate) (is-nearest ∙ e) ∙ is-true (eq rate rate) (self rate (subst (λ (z : Float). T (positive z)) e nearest-positive))
 
-  pub rounds : (rate : Float) → T (fits binary64 rate) → roundsTo rate (10 ^ (shift - 9)) (10 ^ (9 - shift)) digits ≡ true → nearest digits shift ≡ rate
+  pub rounds : (rate : Float) → T (fits binary64 rate) → roundsTo rate (10 ^ (shift - 9)) (10 ^ (9 - shift)) digits ≡ true
+      → nearest digits shift ≡ rate
   rounds rate f e =
       equal-is (nearest digits shift) rate nearest-positive (round-fits binary64 false (dividend digits shift) (divisor shift)) f
       (subst T (sym e ∙ ap (λ (z : Float). eq z rate) is-nearest) tt)

@@ -87,4 +87,6 @@ equal-is (fin false m e) (fin true n d) p f g t =
 equal-is (fin false m e) (fin false n d) p f g t =
     let a = m * up e * down d in
     let b = n * up d * down e in
-    sym (ofBits-toBits binary64 (fin false m e) f) ∙ ap (ofBits binary64) (same-bits m n e d (eqb→eq a b (and-l (eqb a b) true t))) ∙ ofBits-toBits binary64 (fin false n d) g
+    sym (ofBits-toBits binary64 (fin false m e) f)
+    ∙ ap (ofBits binary64) (same-bits m n e d (eqb→eq a b (and-l (eqb a b) true t)))
+    ∙ ofBits-toBits binary64 (fin false n d) g

@@ -41,7 +41,7 @@ module _ (test : ℕ → Bool) where
   by : (n at : ℕ) → First n (suc at) (first test n (suc at)) → (b : Bool) → test at ≡ b → First (suc n) at (first test (suc n) at)
   by n at rest true e =
       rw (hit n at e)
-      (record { low = omega arith; high = omega arith; missed = λ j l u. (let never : ⊥ = omega arith in absurd never); passes = λ u. e })
+      (record { low = omega arith; high = omega arith; missed = λ j l u. absurd (omega arith); passes = λ u. e })
   by n at rest false e =
       let low = rest .low in
       let high = rest .high in
@@ -55,5 +55,5 @@ module _ (test : ℕ → Bool) where
 
   pub is-first : (n at : ℕ) → First n at (first test n at)
   unfolding first
-  is-first zero at = record { low = omega arith; high = omega arith; missed = λ j l u. (let never : ⊥ = omega arith in absurd never); passes = λ u. (let never : ⊥ = omega arith in absurd never) }
+  is-first zero at = record { low = omega arith; high = omega arith; missed = λ j l u. absurd (omega arith); passes = λ u. absurd (omega arith) }
   is-first (suc n) at = by n at (is-first n (suc at)) (test at) refl

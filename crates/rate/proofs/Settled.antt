@@ -21,10 +21,13 @@ use Rattle.rate.proofs.Request.{place-quotient, quotient-names}
 
 -- d' * 10 ^ (u + t) = d * 10 ^ t
 cut : (d' d u t : ℕ) → d' * 10 ^ (u + t) ≡ d * 10 ^ t → d' * 10 ^ u ≡ d
-cut d' d u t e = eq-of-mul-eq-mul-right (10 ^ t) (ten-pos t) (d' * 10 ^ u) d (mul-assoc d' (10 ^ u) (10 ^ t) ∙ ap (λ (z : ℕ). d' * z) (sym (pow-add 10 u t)) ∙ e)
+cut d' d u t e =
+    eq-of-mul-eq-mul-right (10 ^ t) (ten-pos t) (d' * 10 ^ u) d
+    (mul-assoc d' (10 ^ u) (10 ^ t) ∙ ap (λ (z : ℕ). d' * z) (sym (pow-add 10 u t)) ∙ e)
 
 ends-in-zero : (d' d u : ℕ) → d' * 10 ^ suc u ≡ d → d % 10 ≡ 0
-ends-in-zero d' d u e = ap (λ (z : ℕ). z % 10) (sym e ∙ ap (λ (z : ℕ). d' * z) (pow-suc 10 u) ∙ sym (mul-assoc d' (10 ^ u) 10)) ∙ mul-mod-left (d' * 10 ^ u) 10
+ends-in-zero d' d u e =
+    ap (λ (z : ℕ). z % 10) (sym e ∙ ap (λ (z : ℕ). d' * z) (pow-suc 10 u) ∙ sym (mul-assoc d' (10 ^ u) 10)) ∙ mul-mod-left (d' * 10 ^ u) 10
 
 same-pair : (d' d t u : ℕ) → (0 < u → d % 10 ≡ 0 → ⊥) → d' * 10 ^ u ≡ d → Pair d' (u + t) ≡ Pair d t
 same-pair d' d t zero c e =
@@ -59,15 +62,19 @@ module _ (rate : Float) (held : T (fits binary64 rate)) where
 abbrev example : ℕ → ℕ → ℕ → Type 0
 example bits digits shift = rateOf (ofBits binary64 bits) ≡ Pair digits shift
 
+by-rounding : (bits digits e : ℕ) → Quotient (ofBits binary64 bits) digits e → (e ≡ 0) ⊎ (digits % 10 ≡ 0 → ⊥) → example bits digits (9 - e)
+by-rounding bits = settled (ofBits binary64 bits) (ofBits-fits binary64 bits)
+
 -- 0.85, 0.0085 and 1
 pub euro : example 0x3FEB_3333_3333_3333 85 7
 unfolding round ofBits
-euro = settled (ofBits binary64 0x3FEB_3333_3333_3333) (ofBits-fits binary64 0x3FEB_3333_3333_3333) 85 2 (record { least = omega arith; most = omega arith; bound = omega arith; rounded = refl }) (inr (λ z. omega arith))
+euro =
+    by-rounding 0x3FEB_3333_3333_3333 85 2 (record { least = omega arith; most = omega arith; bound = omega arith; rounded = refl }) (inr (λ z. omega arith))
 
 pub yen : example 0x3F81_6872_B020_C49C 85 5
 unfolding round ofBits
-yen = settled (ofBits binary64 0x3F81_6872_B020_C49C) (ofBits-fits binary64 0x3F81_6872_B020_C49C) 85 4 (record { least = omega arith; most = omega arith; bound = omega arith; rounded = refl }) (inr (λ z. omega arith))
+yen = by-rounding 0x3F81_6872_B020_C49C 85 4 (record { least = omega arith; most = omega arith; bound = omega arith; rounded = refl }) (inr (λ z. omega arith))
 
 pub one : example 0x3FF0_0000_0000_0000 1 9
 unfolding round ofBits
-one = settled (ofBits binary64 0x3FF0_0000_0000_0000) (ofBits-fits binary64 0x3FF0_0000_0000_0000) 1 0 (record { least = omega arith; most = omega arith; bound = omega arith; rounded = refl }) (inl refl)
+one = by-rounding 0x3FF0_0000_0000_0000 1 0 (record { least = omega arith; most = omega arith; bound = omega arith; rounded = refl }) (inl refl)

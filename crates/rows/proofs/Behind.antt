@@ -13,14 +13,16 @@ use Rattle.shape.specs.declared.Tails.the-variants.{Ended}
 use Rattle.shape.specs.declared.ReadShape.the-variants.{Taken}
 use Rattle.shape.specs.Shape.{based, baseTail, entriesEnd, selectionTail, follows, syllabusTail, tailsOf, shapeOf}
 use Rattle.shape.proofs.Files.{file-ends}
-use Rattle.rows.specs.Tails.{Choosing, off, on, fileBytes, choosingBytes, Tail, first, second, third, versionOf, tailBytes, choosingOf, syllabusOf, Fine, baseLength, Base, selecting, fileIn, fileOf, shapeSaid, TailSays}
+use Rattle.rows.specs.Tails.{Choosing, off, on, fileBytes, choosingBytes, Tail, first, second, third, versionOf, tailBytes, choosingOf, syllabusOf}
+use Rattle.rows.specs.Tails.{Fine, baseLength, Base, selecting, fileIn, fileOf, shapeSaid, TailSays}
 use Rattle.rows.proofs.Entries.{file-read}
 
 file-there : (base : List ℕ) (c : Choosing) (rest : List ℕ) → fileIn (selecting c (length base)) (base ++ (choosingBytes c ++ rest)) ≡ fileOf c
 file-there base off rest = refl
 file-there base (on es) rest =
     let size : length base + 2 + length (fileBytes es) - (length base + 2) ≡ length (fileBytes es) = omega arith in
-    let there : drop (length base + 2) (base ++ (1 ∷ length es ∷ fileBytes es ++ rest)) ≡ fileBytes es ++ rest = drop-append-add base (1 ∷ length es ∷ fileBytes es ++ rest) 2 in
+    let behind : List ℕ = 1 ∷ length es ∷ fileBytes es ++ rest in
+    let there : drop (length base + 2) (base ++ behind) ≡ fileBytes es ++ rest = drop-append-add base behind 2 in
     rw (size, there) (take-at (fileBytes es) rest (length (fileBytes es)) refl)
 
 module _ (base : List ℕ) (sized : length base ≡ baseLength base) (tail : List ℕ) where
@@ -81,7 +83,12 @@ second-says base c sized =
     let nothing = ap (λ (t : List ℕ). base ++ t) (append-nil (choosingBytes c)) in
     let ends : choosingEnd base c ≡ length (base ++ choosingBytes c) = sym (length-append base (choosingBytes c)) in
     record {
-      read = rw (base-read base sized (choosingBytes c), rw nothing at (choosing-read base c []), eq-eqb (choosingEnd base c) (length (base ++ choosingBytes c)) ends);
+      read =
+          rw (
+            base-read base sized (choosingBytes c),
+            rw nothing at (choosing-read base c []),
+            eq-eqb (choosingEnd base c) (length (base ++ choosingBytes c)) ends,
+          );
       base-is = base-there base sized (choosingBytes c);
       file = rw nothing at (file-there base c []);
     }
@@ -111,7 +118,13 @@ module _ (base : List ℕ) (c : Choosing) (y : ℕ) (sized : length base ≡ bas
   third-says low =
       let ends : choosingEnd base c + 1 ≡ length (base ++ tail) = sym third-size in
       record {
-        read = rw (base-read base sized tail, choosing-read base c (y ∷ []), syllabus-read low (chosen base c), eq-eqb (choosingEnd base c + 1) (length (base ++ tail)) ends);
+        read =
+            rw (
+              base-read base sized tail,
+              choosing-read base c (y ∷ []),
+              syllabus-read low (chosen base c),
+              eq-eqb (choosingEnd base c + 1) (length (base ++ tail)) ends,
+            );
         base-is = base-there base sized tail;
         file = file-there base c (y ∷ []);
       }

@@ -23,7 +23,9 @@ use Rattle.shape.specs.Shape.{based, baseTail, fileEnd, selects, selectionTail,
 use Rattle.shape.specs.Shape as Sh
 use Rattle.shape.proofs.Files.{file-ends}
 use Rattle.shape.proofs.Inside.{not-before}
-use Rattle.rows.specs.Tails.{Choosing, off, on, fileBytes, choosingBytes, Tail, first, second, third, versionOf, tailBytes, FineChoosing, Fine, baseLength, Base, IsSpelled, BadChoosing, missing, above, behind-off, no-number, entries, butLast, BadTail, other-length, choosing, no-syllabus, syllabus-above, between}
+use Rattle.rows.specs.Tails.{Choosing, off, on, fileBytes, choosingBytes, Tail, first, second, third, versionOf, tailBytes, FineChoosing, Fine}
+use Rattle.rows.specs.Tails.{baseLength, Base, IsSpelled, BadChoosing, missing, above, behind-off, no-number, entries, butLast}
+use Rattle.rows.specs.Tails.{BadTail, other-length, choosing, no-syllabus, syllabus-above, between}
 use Rattle.rows.proofs.Entries.{file-read, Small, small-drop, small-take, Entries, file-spelled, file-bad, bad-file}
 use Rattle.rows.proofs.Behind.{length-kept, third-size, third-last, reads-tails}
 
@@ -229,32 +231,36 @@ module _ (body : List ℕ) (small : Small body) where
 
   third-spelled : (shape : Shape) → shapeOf 3 body ≡ Taken shape → IsSpelled 3 body
   unfolding shapeOf tailsOf baseTail
-  third-spelled shape e = by (ltb (length body) (baseLength body)) refl (ended (Sh.behind (Sh.behind (baseTail body) (selectionTail body)) (syllabusTail body)) shape e) where
-    spelled : baseLength body ≤ length body → (at : ℕ) → Passed (baseLength body) at → Followed at (length body) → IsSpelled 3 body
-    spelled more at p f =
-        record {
-          base = base;
-          tail = third (p .choice) (f .syllabus);
-          version-is = refl;
-          sized = base-sized more;
-          fine = (p .fine, f .low);
-          joined =
-              sym (append-assoc base (choosingBytes (p .choice)) (f .syllabus ∷ [])) ∙ ap (λ (t : List ℕ). t ++ f .syllabus ∷ []) (sym (p .joined))
-              ∙ sym (f .joined) ∙ all;
-        }
+  third-spelled shape e =
+      by (ltb (length body) (baseLength body)) refl
+      (ended (Sh.behind (Sh.behind (baseTail body) (selectionTail body)) (syllabusTail body)) shape e)
+    where
+      spelled : baseLength body ≤ length body → (at : ℕ) → Passed (baseLength body) at → Followed at (length body) → IsSpelled 3 body
+      spelled more at p f =
+          record {
+            base = base;
+            tail = third (p .choice) (f .syllabus);
+            version-is = refl;
+            sized = base-sized more;
+            fine = (p .fine, f .low);
+            joined =
+                sym (append-assoc base (choosingBytes (p .choice)) (f .syllabus ∷ [])) ∙ ap (λ (t : List ℕ). t ++ f .syllabus ∷ []) (sym (p .joined))
+                ∙ sym (f .joined) ∙ all;
+          }
 
-    by-selection : baseLength body ≤ length body → (t : Tails) → selectionTail body (based (baseLength body)) (baseLength body) ≡ t
-        → Sh.behind t (syllabusTail body) ≡ Ended shape (length body) → IsSpelled 3 body
-    by-selection more Wrong s e = never cc
-    by-selection more (Ended sh at) s e =
-        spelled more at (selection-passed (based (baseLength body)) sh (baseLength body) at s) (syllabus-passed sh shape at (length body) e)
+      by-selection : baseLength body ≤ length body → (t : Tails) → selectionTail body (based (baseLength body)) (baseLength body) ≡ t
+          → Sh.behind t (syllabusTail body) ≡ Ended shape (length body) → IsSpelled 3 body
+      by-selection more Wrong s e = never cc
+      by-selection more (Ended sh at) s e =
+          spelled more at (selection-passed (based (baseLength body)) sh (baseLength body) at s) (syllabus-passed sh shape at (length body) e)
 
-    by : (c : Bool) → ltb (length body) (baseLength body) ≡ c
-        → Sh.behind (Sh.behind (cond c Wrong (Ended (based (baseLength body)) (baseLength body))) (selectionTail body)) (syllabusTail body) ≡ Ended shape (length body)
-        → IsSpelled 3 body
-    by true a e = never cc
-    by false a e =
-        by-selection (ltb-false (length body) (baseLength body) a) (selectionTail body (based (baseLength body)) (baseLength body)) refl e
+      by : (c : Bool) → ltb (length body) (baseLength body) ≡ c
+          → Sh.behind (Sh.behind (cond c Wrong (Ended (based (baseLength body)) (baseLength body))) (selectionTail body)) (syllabusTail body)
+          ≡ Ended shape (length body)
+          → IsSpelled 3 body
+      by true a e = never cc
+      by false a e =
+          by-selection (ltb-false (length body) (baseLength body) a) (selectionTail body (based (baseLength body)) (baseLength body)) refl e
 
   spelled-if-taken : (version : ℕ) → 1 ≤ version → version ≤ 3 → (shape : Shape) → shapeOf version body ≡ Taken shape → IsSpelled version body
   spelled-if-taken zero l m = absurd (omega arith)
@@ -286,8 +292,8 @@ module _ (body : List ℕ) (small : Small body) where
   last-joins : baseLength body < length body → butLast behind ++ last ∷ [] ≡ behind
   last-joins more =
       let size = length-drop (baseLength body) body in
-      let there : getD behind (length behind - 1) 0 ≡ last =
-      getD-drop (baseLength body) body (length behind - 1) 0 ∙ ap (byte body) (let e : baseLength body + (length behind - 1) ≡ length body - 1 = omega arith in e) in
+      let place : baseLength body + (length behind - 1) ≡ length body - 1 = omega arith in
+      let there : getD behind (length behind - 1) 0 ≡ last = getD-drop (baseLength body) body (length behind - 1) 0 ∙ ap (byte body) place in
       let all : take (suc (length behind - 1)) behind ≡ behind = take-all (suc (length behind - 1)) behind (omega arith) in
       ap (λ n. butLast behind ++ n ∷ []) (sym there) ∙ sym (take-suc behind (length behind - 1) 0 (omega arith)) ∙ all
 
@@ -337,7 +343,8 @@ excluded base first sized fine (syllabus-above v l) = omega arith
 excluded base first sized fine (between v b) = omega arith
 excluded base (second c) sized fine (other-length v n) = omega arith
 excluded base (second c) sized fine (choosing v b) =
-    no-cause c (subst (λ (t : List ℕ). BadChoosing t) (drop-at base (choosingBytes c) (baseLength (base ++ choosingBytes c)) (sym (length-kept base sized (choosingBytes c)))) b)
+    let there = drop-at base (choosingBytes c) (baseLength (base ++ choosingBytes c)) (sym (length-kept base sized (choosingBytes c))) in
+    no-cause c (subst (λ (t : List ℕ). BadChoosing t) there b)
 excluded base (second c) sized fine (no-syllabus v l) = omega arith
 excluded base (second c) sized fine (syllabus-above v l) = omega arith
 excluded base (second c) sized fine (between v b) = omega arith

@@ -7,7 +7,9 @@ use Prim.Native.Nat.{ℕ, _+_}
 use lib.ListN.{length, getD}
 use Rattle.rules.specs.Rules.{blankProfile, blankCounter}
 use Rattle.wire.specs.Wire.{byte, number}
-use Rattle.ranges.specs.Ranges.{isSetup, hasLength, isHead, areAccumulators, isAccumulator, areProfiles, isProfileOrAbsent, isProfile, areMasks, isMaximumAmount, areAccumulatorRules, isAccumulatorRule, areCounterRules, areSent, areNumbersApart, profileNumber, areConversions, isConversionOrAbsent, isConversion, conversionPair, arePairsApart}
+use Rattle.ranges.specs.Ranges.{isSetup, hasLength, isHead, areAccumulators, isAccumulator, areProfiles, isProfileOrAbsent, isProfile}
+use Rattle.ranges.specs.Ranges.{areMasks, isMaximumAmount, areAccumulatorRules, isAccumulatorRule, areCounterRules, areSent}
+use Rattle.ranges.specs.Ranges.{areNumbersApart, profileNumber, areConversions, isConversionOrAbsent, isConversion, conversionPair, arePairsApart}
 use Rattle.setup.specs.Setup.{rateIn, accumulatorIn, counterIn, profileIn, rulesIn, freshIn, readSetup, setupNumber}
 use Rattle.shape.specs.declared.ReadShape.{ReadShape}
 use Rattle.shape.specs.declared.ReadShape.the-variants.{Taken, Refused}
@@ -64,7 +66,8 @@ counted =
 
 -- what is read of it
 pub rules-read : rulesIn (body counted) 1 ≡ rulesSaid counted 1
-unfolding counted setupRow headRow profileRow conversionRow spelled written rulesIn rateIn profileIn accumulatorIn counterIn number rulesSaid profileSaid conversionSaid
+unfolding counted setupRow headRow profileRow conversionRow spelled written rulesIn rateIn profileIn accumulatorIn counterIn number
+    rulesSaid profileSaid conversionSaid
 rules-read = refl
 
 pub fresh-read : freshIn (body counted) ≡ freshSaid counted
@@ -116,7 +119,10 @@ pub record Samples : Type 0 where
   pub syllabus-above : T (isRefused 3 (0 ∷ 2 ∷ []))
 
 pub samples : Samples
-unfolding counted printed printedBytes setupRow headRow profileRow conversionRow spelled written rulesIn rateIn profileIn accumulatorIn counterIn number readSetup isSetup hasLength isHead areAccumulators isAccumulator areProfiles isProfileOrAbsent isProfile areMasks isMaximumAmount areAccumulatorRules isAccumulatorRule areCounterRules areSent areNumbersApart profileNumber areConversions isConversionOrAbsent isConversion conversionPair arePairsApart shapeOf tailsOf baseTail selectionTail entriesEnd syllabusTail
+unfolding counted printed printedBytes setupRow headRow profileRow conversionRow spelled written rulesIn rateIn profileIn accumulatorIn
+    counterIn number readSetup isSetup hasLength isHead areAccumulators isAccumulator areProfiles isProfileOrAbsent isProfile areMasks
+    isMaximumAmount areAccumulatorRules isAccumulatorRule areCounterRules areSent areNumbersApart profileNumber areConversions
+    isConversionOrAbsent isConversion conversionPair arePairsApart shapeOf tailsOf baseTail selectionTail entriesEnd syllabusTail
 samples =
     record {
       counter-limits = tt;

@@ -10,6 +10,7 @@ use Rattle.money.specs.Money.{blank}
 use Rattle.rules.specs.declared.AccumulatorRule.{AccumulatorRule}
 use Rattle.rules.specs.declared.CounterRule.{CounterRule}
 use Rattle.rules.specs.Rules.{Rules, Profile as ProfileRules, blankProfile, rulesOf}
+use Rattle.rules.specs.Word.{wordCount}
 use Rattle.ranges.specs.Ranges.{isSetup}
 use Rattle.setup.specs.declared.Fresh.{Fresh}
 use Rattle.setup.specs.declared.SetupAnswer.the-variants.{Done}
@@ -110,11 +111,11 @@ freshSaid x =
     }
 
 -- What every reader of a body makes of it, where it says x: its length, the rules and the fresh card in its bytes; and once it is accepted, what
--- reading it answers, and the rules in the 164 words that it was loaded into, whatever they held before.
+-- reading it answers, and the rules in the words that it was loaded into, whatever they held before.
 pub record Says (x : Setup) (s : List ℕ) : Type 0 where
   pub size : length s ≡ 52 + 107 * length (x .profiles) + 7 * length (x .conversions)
   pub rules : (syllabus : ℕ) → rulesIn s syllabus ≡ rulesSaid x syllabus
   pub fresh : freshIn s ≡ freshSaid x
   pub read : isSetup s ≡ true → readSetup s ≡ record { fresh = freshSaid x; answer = Done }
-  pub loaded : (syllabus : ℕ) (words : List ℕ) → length words ≡ 164 → isSetup s ≡ true
+  pub loaded : (syllabus : ℕ) (words : List ℕ) → length words ≡ wordCount → isSetup s ≡ true
       → rulesOf (wordsAfter words s syllabus) ≡ rulesSaid x syllabus

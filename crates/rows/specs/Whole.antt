@@ -4,6 +4,7 @@ use mathlib.Core.List.{List, _++_}
 use Prim.Native.Nat.{ℕ}
 use lib.ListN.{length}
 use Rattle.rules.specs.Rules.{rulesOf}
+use Rattle.rules.specs.Word.{wordCount}
 use Rattle.setup.specs.declared.SetupAnswer.the-variants.{Done}
 use Rattle.setup.specs.Setup.{readSetup, wordsAfter, setupNumber}
 use Rattle.shape.specs.declared.Shape.{Shape}
@@ -36,5 +37,5 @@ pub record IsTaken (version : ℕ) (s : List ℕ) : Type 0 where
 pub record WholeSays (x : Setup) (tail : Tail) (version : ℕ) (s : List ℕ) : Type 0 where
   pub shape-is : shapeOf version s ≡ Taken (shapeSaid (body x) tail)
   pub answered : readSetup (basePart (shapeSaid (body x) tail) s) ≡ record { fresh = freshSaid x; answer = Done }
-  pub loaded : (words : List ℕ) → length words ≡ 164
+  pub loaded : (words : List ℕ) → length words ≡ wordCount
       → rulesOf (wordsAfter words (basePart (shapeSaid (body x) tail) s) (syllabusOf tail)) ≡ rulesSaid x (syllabusOf tail)

@@ -2,7 +2,7 @@
 use Prim.Native.Nat.{ℕ, _+_, _*_, _/_, _%_}
 use mathlib.Core.Bool.{Bool, false, cond}
 use mathlib.Core.List.{List, [], _∷_}
-use lib.ListN.{getD}
+use lib.ListN.{getD, replicate}
 use lib.Dec.{eqb}
 use Rattle.money.specs.declared.Rate.{Rate}
 use Rattle.money.specs.declared.Rates.{Rates}
@@ -15,6 +15,7 @@ use Rattle.rules.specs.declared.MaximumAmount.{MaximumAmount}
 use Rattle.rules.specs.declared.AccumulatorRule.{AccumulatorRule}
 use Rattle.rules.specs.declared.CounterRule.{CounterRule}
 use Rattle.rules.specs.declared.Sent.{Sent}
+use Rattle.rules.specs.Word as word
 
 pub record Profile : Type 0 where
   pub number : ℕ
@@ -50,16 +51,16 @@ abbrev pub rateAt : List ℕ → ℕ → Rate
 rateAt w at =
     record {
       from = getD w at 0 % 65536;
-      to = getD w (at + 1) 0 % 65536;
-      digits = getD w (at + 2) 0 % 65536;
-      shift = getD w (at + 3) 0 % 256;
+      to = getD w (at + word.to) 0 % 65536;
+      digits = getD w (at + word.digits) 0 % 65536;
+      shift = getD w (at + word.shift) 0 % 256;
     }
 
 abbrev pub accumulatorAt : List ℕ → ℕ → AccumulatorRule
 accumulatorAt w at =
     record {
-      lower = record { 0 = getD w (at + 1) 0 };
-      upper = record { 0 = getD w (at + 2) 0 };
+      lower = record { 0 = getD w (at + word.lower) 0 };
+      upper = record { 0 = getD w (at + word.upper) 0 };
       active = eqb (getD w at 0 % 2) 1;
       allow = eqb (getD w at 0 / 2 % 2) 1;
       include = eqb (getD w at 0 / 4 % 2) 1;
@@ -68,8 +69,8 @@ accumulatorAt w at =
 abbrev pub counterAt : List ℕ → ℕ → CounterRule
 counterAt w at =
     record {
-      lower = getD w (at + 1) 0 % 256;
-      upper = getD w (at + 2) 0 % 256;
+      lower = getD w (at + word.lower) 0 % 256;
+      upper = getD w (at + word.upper) 0 % 256;
       active = eqb (getD w at 0 % 2) 1;
       allow = eqb (getD w at 0 / 2 % 2) 1;
       include = eqb (getD w at 0 / 4 % 2) 1;
@@ -79,41 +80,53 @@ counterAt w at =
 abbrev pub masksAt : List ℕ → ℕ → Masks
 masksAt w at =
     record {
-      online = getD w (at + 1) 0 % 4294967296;
-      decline = getD w (at + 2) 0 % 4294967296;
-      default = getD w (at + 3) 0 % 4294967296;
+      online = getD w (at + word.online) 0 % 4294967296;
+      decline = getD w (at + word.decline) 0 % 4294967296;
+      default = getD w (at + word.default) 0 % 4294967296;
     }
 
 abbrev pub maximumAt : List ℕ → ℕ → MaximumAmount
 maximumAt w at =
-    record { amount = record { 0 = getD w (at + 6) 0 }; currency = getD w (at + 5) 0 % 65536; on = eqb (getD w (at + 4) 0) 1 }
+    record {
+      amount = record { 0 = getD w (at + word.maximum) 0 };
+      currency = getD w (at + word.maximumCurrency) 0 % 65536;
+      on = eqb (getD w (at + word.maximumOn) 0) 1;
+    }
 
 abbrev pub sentAt : List ℕ → ℕ → Sent
 sentAt w at =
-    record { accumulator = getD w (at + 31) 0 % 256; first = getD w (at + 32) 0 % 256; second = getD w (at + 33) 0 % 256 }
+    record {
+      accumulator = getD w (at + word.accumulatorSent) 0 % 256;
+      first = getD w (at + word.firstSent) 0 % 256;
+      second = getD w (at + word.secondSent) 0 % 256;
+    }
 
--- the 34 words of a profile
+-- a profile
 unfoldable pub profileOf : List ℕ → ℕ → Profile
 profileOf w at =
     record {
       number = getD w at 0 % 256;
       masks = masksAt w at;
       maximum = maximumAt w at;
-      accumulators = four (λ i. accumulatorAt w (at + 7 + 3 * i));
-      counters = four (λ i. counterAt w (at + 19 + 3 * i));
+      accumulators = four (λ i. accumulatorAt w (at + word.accumulators + word.ruleLength * i));
+      counters = four (λ i. counterAt w (at + word.counters + word.ruleLength * i));
       sent = sentAt w at;
     }
 
--- the 164 words: 7 of the head, 5 rates of 4 words, 4 profiles of 34, and the syllabus
+-- words to lend, before a set-up is loaded into them
+abbrev pub blankWords : List ℕ
+blankWords = replicate word.wordCount 0
+
+-- all the words
 unfoldable pub rulesOf : List ℕ → Rules
 rulesOf w =
     record {
-      key = getD w 0 0 % 256;
-      pin = getD w 1 0 % 16;
-      required = eqb (getD w 2 0) 1;
-      currencies = four (λ i. getD w (3 + i) 0 % 65536);
-      rates = record { entries = five (λ i. rateAt w (7 + 4 * i)); up = eqb (getD w 163 0) 1 };
-      profiles = four (λ i. profileOf w (27 + 34 * i));
+      key = getD w word.keyIndex 0 % 256;
+      pin = getD w word.pinTries 0 % 16;
+      required = eqb (getD w word.required 0) 1;
+      currencies = four (λ i. getD w (word.currencies + i) 0 % 65536);
+      rates = record { entries = five (λ i. rateAt w (word.rateFrom i)); up = eqb (getD w word.syllabus 0) 1 };
+      profiles = four (λ i. profileOf w (word.profileFrom i));
     }
 
 abbrev pub blankProfile : Profile
@@ -134,7 +147,7 @@ indexOf Three = 2
 indexOf Four = 3
 
 abbrev pub profileBase : Place → ℕ
-profileBase place = 27 + 34 * indexOf place
+profileBase place = word.profileFrom (indexOf place)
 
 abbrev pub profileAt : Rules → Place → Profile
 profileAt rules place = getD (rules .profiles) (indexOf place) blankProfile

@@ -1,13 +1,17 @@
-// What a set-up says, in lent words: one word to a field. Only this crate knows the words; the
+// What a set-up says, in lent words: one word to a field. Where they stand is said here alone; the
 // crates above ask by name. Whatever the words hold, each question has an answer.
+pub mod word;
+
 ghost use mathlib.Core.Path.{_≡_};
 ghost use Prim.Native.Nat.{_+_, _≤_, _<_};
-ghost use Rattle.rules.specs.Rules.{rulesOf, profileBase, placeOr, findProfile, profileAt, currencyAt, rateAt, accumulatorAt, counterAt, accumulatorRule, counterRule};
+ghost use Rattle.rules.specs.Word.{wordCount, syllabus, profileLength, ruleLength, rateFrom};
+ghost use Rattle.rules.specs.Rules.{blankWords, rulesOf, profileBase, placeOr, findProfile, profileAt, currencyAt};
+ghost use Rattle.rules.specs.Rules.{rateAt, accumulatorAt, counterAt, accumulatorRule, counterRule};
 use money::AccumulatorAmount;
 use money::Rate;
 use money::Rates;
 
-pub type Words = [u64; 164];
+pub type Words = [u64; word::COUNT];
 
 // One of the four places of a profile.
 pub enum Place {
@@ -65,23 +69,30 @@ pub struct Sent {
     pub second: u8,
 }
 
+// Words to lend, before a set-up is loaded into them.
+pub fn blank() -> Words
+    ensures { λ r. ⌜ r ≡ blankWords ⌝ }
+{
+    [0; word::COUNT]
+}
+
 pub fn key_index(words: &Words) -> u8
     ensures { λ r. ⌜ r ≡ rulesOf (now (words .entry)) .key ⌝ }
 {
-    (words[0] % 256) as u8
+    (words[word::KEY_INDEX] % 256) as u8
 }
 
 pub fn pin_tries(words: &Words) -> u8
     ensures { λ r. ⌜ r ≡ rulesOf (now (words .entry)) .pin ⌝ }
 {
-    (words[1] % 16) as u8
+    (words[word::PIN_TRIES] % 16) as u8
 }
 
 // Whether issuer authentication is required.
 pub fn is_required(words: &Words) -> bool
     ensures { λ r. ⌜ r ≡ rulesOf (now (words .entry)) .required ⌝ }
 {
-    words[2] == 1
+    words[word::REQUIRED] == 1
 }
 
 // The currency of accumulator i + 1.
@@ -89,21 +100,23 @@ pub fn currency(words: &Words, i: usize) -> u16
     ensures { λ r. ⌜ r ≡ currencyAt (rulesOf (now (words .entry))) i ⌝ }
 {
     if i < 4 {
-        (words[3 + i] % 65_536) as u16
+        (words[word::CURRENCIES + i] % 65_536) as u16
     } else {
         0
     }
 }
 
-fn rate(words: &Words, at: usize) -> Rate
-    requires { ⌜ at + 4 ≤ 164 ⌝ }
-    ensures { λ r. ⌜ r ≡ rateAt (now (words .entry)) at ⌝ }
+// Rate i + 1.
+fn rate(words: &Words, i: usize) -> Rate
+    requires { ⌜ i < 5 ⌝ }
+    ensures { λ r. ⌜ r ≡ rateAt (now (words .entry)) (rateFrom i) ⌝ }
 {
+    let at = word::RATES + word::RATE_LENGTH * i;
     Rate {
         from: (words[at] % 65_536) as u16,
-        to: (words[at + 1] % 65_536) as u16,
-        digits: (words[at + 2] % 65_536) as u16,
-        shift: (words[at + 3] % 256) as u8,
+        to: (words[at + word::TO] % 65_536) as u16,
+        digits: (words[at + word::DIGITS] % 65_536) as u16,
+        shift: (words[at + word::SHIFT] % 256) as u8,
     }
 }
 
@@ -113,25 +126,25 @@ pub fn rates(words: &Words) -> Rates
 {
     Rates {
         entries: [
-            rate(words, 7),
-            rate(words, 11),
-            rate(words, 15),
-            rate(words, 19),
-            rate(words, 23),
+            rate(words, 0),
+            rate(words, 1),
+            rate(words, 2),
+            rate(words, 3),
+            rate(words, 4),
         ],
-        up: words[163] == 1,
+        up: words[word::SYLLABUS] == 1,
     }
 }
 
 // Where the words of a profile begin.
 fn base(place: Place) -> usize
-    ensures { λ r. ⌜ (r ≡ profileBase place) × (r ≤ 129) ⌝ }
+    ensures { λ r. ⌜ (r ≡ profileBase place) × (r + profileLength ≤ syllabus) ⌝ }
 {
     match place {
-        Place::One => 27,
-        Place::Two => 61,
-        Place::Three => 95,
-        Place::Four => 129,
+        Place::One => word::PROFILES,
+        Place::Two => word::PROFILES + word::PROFILE_LENGTH,
+        Place::Three => word::PROFILES + 2 * word::PROFILE_LENGTH,
+        Place::Four => word::PROFILES + 3 * word::PROFILE_LENGTH,
     }
 }
 
@@ -171,9 +184,9 @@ pub fn profile_masks(words: &Words, place: Place) -> Masks
 {
     let at = base(place);
     Masks {
-        online: (words[at + 1] % 4_294_967_296) as u32,
-        decline: (words[at + 2] % 4_294_967_296) as u32,
-        default: (words[at + 3] % 4_294_967_296) as u32,
+        online: (words[at + word::ONLINE] % 4_294_967_296) as u32,
+        decline: (words[at + word::DECLINE] % 4_294_967_296) as u32,
+        default: (words[at + word::DEFAULT] % 4_294_967_296) as u32,
     }
 }
 
@@ -182,20 +195,20 @@ pub fn maximum_amount(words: &Words, place: Place) -> MaximumAmount
 {
     let at = base(place);
     MaximumAmount {
-        amount: AccumulatorAmount(words[at + 6]),
-        currency: (words[at + 5] % 65_536) as u16,
-        on: words[at + 4] == 1,
+        amount: AccumulatorAmount(words[at + word::MAXIMUM]),
+        currency: (words[at + word::MAXIMUM_CURRENCY] % 65_536) as u16,
+        on: words[at + word::MAXIMUM_ON] == 1,
     }
 }
 
 fn accumulator(words: &Words, at: usize) -> AccumulatorRule
-    requires { ⌜ at + 3 ≤ 164 ⌝ }
+    requires { ⌜ at + ruleLength ≤ wordCount ⌝ }
     ensures { λ r. ⌜ r ≡ accumulatorAt (now (words .entry)) at ⌝ }
 {
     let switches = words[at];
     AccumulatorRule {
-        lower: AccumulatorAmount(words[at + 1]),
-        upper: AccumulatorAmount(words[at + 2]),
+        lower: AccumulatorAmount(words[at + word::LOWER]),
+        upper: AccumulatorAmount(words[at + word::UPPER]),
         active: switches % 2 == 1,
         allow: switches / 2 % 2 == 1,
         include: switches / 4 % 2 == 1,
@@ -207,7 +220,10 @@ pub fn accumulator_rule(words: &Words, place: Place, i: usize) -> AccumulatorRul
     ensures { λ r. ⌜ r ≡ accumulatorRule (rulesOf (now (words .entry))) place i ⌝ }
 {
     if i < 4 {
-        return accumulator(words, base(place) + 7 + 3 * i);
+        return accumulator(
+            words,
+            base(place) + word::ACCUMULATORS + word::RULE_LENGTH * i,
+        );
     }
     AccumulatorRule {
         lower: AccumulatorAmount(0),
@@ -219,13 +235,13 @@ pub fn accumulator_rule(words: &Words, place: Place, i: usize) -> AccumulatorRul
 }
 
 fn counter(words: &Words, at: usize) -> CounterRule
-    requires { ⌜ at + 3 ≤ 164 ⌝ }
+    requires { ⌜ at + ruleLength ≤ wordCount ⌝ }
     ensures { λ r. ⌜ r ≡ counterAt (now (words .entry)) at ⌝ }
 {
     let switches = words[at];
     CounterRule {
-        lower: (words[at + 1] % 256) as u8,
-        upper: (words[at + 2] % 256) as u8,
+        lower: (words[at + word::LOWER] % 256) as u8,
+        upper: (words[at + word::UPPER] % 256) as u8,
         active: switches % 2 == 1,
         allow: switches / 2 % 2 == 1,
         include: switches / 4 % 2 == 1,
@@ -238,7 +254,7 @@ pub fn counter_rule(words: &Words, place: Place, i: usize) -> CounterRule
     ensures { λ r. ⌜ r ≡ counterRule (rulesOf (now (words .entry))) place i ⌝ }
 {
     if i < 4 {
-        return counter(words, base(place) + 19 + 3 * i);
+        return counter(words, base(place) + word::COUNTERS + word::RULE_LENGTH * i);
     }
     CounterRule {
         lower: 0,
@@ -255,8 +271,8 @@ pub fn profile_sent(words: &Words, place: Place) -> Sent
 {
     let at = base(place);
     Sent {
-        accumulator: (words[at + 31] % 256) as u8,
-        first: (words[at + 32] % 256) as u8,
-        second: (words[at + 33] % 256) as u8,
+        accumulator: (words[at + word::ACCUMULATOR_SENT] % 256) as u8,
+        first: (words[at + word::FIRST_SENT] % 256) as u8,
+        second: (words[at + word::SECOND_SENT] % 256) as u8,
     }
 }

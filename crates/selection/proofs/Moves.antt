@@ -49,32 +49,39 @@ from-skipped (suc k) (suc n) s d =
     let z : suc n - suc k ≡ n - k = omega arith in
     from-skipped k n (below s) d ∙ ap (λ (m : ℕ). selectionOf (skipped (below s) k) m d) (sym z)
 
--- what the first entry, as it was cut out, was found to do
-pub taken-is : (s d f : List ℕ) (r a : Action) → f ≡ firstEntry s → r ≡ actionTaken f d → r ≡ a → actionTaken (firstEntry s) d ≡ a
-taken-is s d f r a p q e = ap (λ (x : List ℕ). actionTaken x d) (sym p) ∙ sym q ∙ e
-
 pub none : (s d : List ℕ) (n : ℕ) → n ≡ 0 → selectionOf s n d ≡ NotSelected
 unfolding selectionOf selectFrom entriesOf
 none s d n h = rw h
 
-module _ (s d : List ℕ) (n : ℕ) (some : n ≡ 0 → ⊥) where
-  pub step : (a : Action) → actionTaken (firstEntry s) d ≡ a → selectionOf s n d ≡ follow a (λ m. selectFrom (m - 1) (entriesOf (below s) (n - 1)) d)
+-- a visit to the first of some entries, which does r
+pub record Visit (s d : List ℕ) (n : ℕ) (r : Action) : Type 0 where
+  pub some : n ≡ 0 → ⊥
+  pub does : r ≡ actionTaken (firstEntry s) d
+
+-- the entry cut out as f
+pub visit : (s d f : List ℕ) (n : ℕ) (r : Action) → (n ≡ 0 → ⊥) → f ≡ firstEntry s → r ≡ actionTaken f d → Visit s d n r
+visit s d f n r some cut took = record { some = some; does = took ∙ ap (λ (x : List ℕ). actionTaken x d) cut }
+
+module _ {s d : List ℕ} {n : ℕ} {r : Action} (v : Visit s d n r) where
+  pub step : (a : Action) → r ≡ a → selectionOf s n d ≡ follow a (λ m. selectFrom (m - 1) (entriesOf (below s) (n - 1)) d)
   unfolding selectionOf selectFrom entriesOf
   step a e =
-      let l : n ≡ suc (n - 1) = omega arith in
-      ap (λ (m : ℕ). selectFrom 0 (entriesOf s m) d) l ∙ ap (λ (x : Action). follow x (λ m. selectFrom (m - 1) (entriesOf (below s) (n - 1)) d)) e
+      let l : n ≡ suc (n - 1) = omega (arith, v .some) in
+      ap (λ (m : ℕ). selectFrom 0 (entriesOf s m) d) l
+      ∙ ap (λ (x : Action). follow x (λ m. selectFrom (m - 1) (entriesOf (below s) (n - 1)) d)) (sym (v .does) ∙ e)
 
   -- a move of m, or past the last entry
-  module _ (m : ℕ) (v : actionTaken (firstEntry s) d ≡ Move m) where
+  module _ {m : ℕ} (e : r ≡ Move m) where
     moved : selectionOf s n d ≡ oneMore (selectionOf (skipped s m) (n - m) d)
     unfolding follow
     moved =
-        let h : m ≡ 0 → ⊥ = (λ z. omega (arith, moves-down (firstEntry s) d m v)) in
-        let l : n - 1 - (m - 1) ≡ n - m = omega (arith, moves-down (firstEntry s) d m v) in
-        step (Move m) v ∙ ap oneMore (from-skipped (m - 1) (n - 1) (below s) d ∙ ap₂ (λ (t : List ℕ) (k : ℕ). selectionOf t k d) (sym (skip-more s m h)) l)
+        let h = moves-down (firstEntry s) d m (sym (v .does) ∙ e) in
+        let l : n - 1 - (m - 1) ≡ n - m = omega arith in
+        let below-is = skip-more s m (λ z. omega arith) in
+        step (Move m) e ∙ ap oneMore (from-skipped (m - 1) (n - 1) (below s) d ∙ ap₂ (λ (t : List ℕ) (k : ℕ). selectionOf t k d) (sym below-is) l)
 
-    pub moves-on : (t : List ℕ) → t ≡ skipped s m → (r : Selection) → r ≡ selectionOf t (n - m) d → oneMore r ≡ selectionOf s n d
-    moves-on t e r f = ap oneMore (f ∙ ap (λ (x : List ℕ). selectionOf x (n - m) d) e) ∙ sym moved
+    pub moves-on : {t : List ℕ} {q p : Selection} → t ≡ skipped s m → q ≡ selectionOf t (n - m) d → q ≡ p → oneMore p ≡ selectionOf s n d
+    moves-on g f a = ap oneMore (sym a ∙ f ∙ ap (λ (x : List ℕ). selectionOf x (n - m) d) g) ∙ sym moved
 
     pub moves-past : n ≤ m → selectionOf s n d ≡ NotSelected
     moves-past h = moved ∙ ap oneMore (none (skipped s m) d (n - m) (omega arith))

@@ -63,7 +63,8 @@ follow-counts Refused f v h p n e = let z : _≡_ {A = ℕ} 0 1 = cc in absurd (
 counts-from : (k : ℕ) (es : List (List ℕ)) (d : List ℕ) (p n : ℕ) → selectFrom k es d ≡ Selected p n → length (visitedFrom k es d) ≡ n
 unfolding selectFrom visitedFrom
 counts-from k [] d p n e = let z : _≡_ {A = ℕ} 0 1 = cc in absurd (omega arith)
-counts-from zero (e ∷ es) d p n h = follow-counts (actionTaken e d) (λ m. selectFrom (m - 1) es d) (λ m. visitedFrom (m - 1) es d) (λ m. counts-from (m - 1) es d) p n h
+counts-from zero (e ∷ es) d p n h =
+    follow-counts (actionTaken e d) (λ m. selectFrom (m - 1) es d) (λ m. visitedFrom (m - 1) es d) (λ m. counts-from (m - 1) es d) p n h
 counts-from (suc k) (e ∷ es) d p n h = length-map (visitedFrom k es d) suc ∙ counts-from k es d p n h
 
 pub counts-visited : (file : List ℕ) (n : ℕ) (d : List ℕ) (p v : ℕ) → selectionOf file n d ≡ Selected p v → length (visited file n d) ≡ v
@@ -97,7 +98,8 @@ module _ (e d d′ : List ℕ) (same : stretch e d ≡ stretch e d′) where
   same-masked =
       let l = blockLength e in
       let p = position e - 1 in
-      ap (λ (x : ℕ). bitAnd x (bitMask e)) (sym (stretch-number d p l l (le-refl l)) ∙ ap (λ (s : List ℕ). number s 0 l) same ∙ stretch-number d′ p l l (le-refl l))
+      ap (λ (x : ℕ). bitAnd x (bitMask e))
+      (sym (stretch-number d p l l (le-refl l)) ∙ ap (λ (s : List ℕ). number s 0 l) same ∙ stretch-number d′ p l l (le-refl l))
 
   same-passes : passes e d ≡ passes e d′
   unfolding passes
@@ -108,7 +110,7 @@ module _ (e d d′ : List ℕ) (same : stretch e d ≡ stretch e d′) where
   by-form true h =
       let p = has-position e h in
       let l = has-length e h in
-      let r : reachesPast e d ≡ reachesPast e d′ = past-is e d p l ∙ ap (λ (s : List ℕ). ltb (length s) (blockLength e)) same ∙ sym (past-is e d′ p l) in
+      let r = past-is e d p l ∙ ap (λ (s : List ℕ). ltb (length s) (blockLength e)) same ∙ sym (past-is e d′ p l) in
       simp (r, same-passes)
   by-form false h = simp h
 

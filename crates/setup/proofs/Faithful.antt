@@ -2,7 +2,7 @@
 use mathlib.Core.Path.{_≡_, refl, sym, ap, _∙_}
 use mathlib.Core.Bool.{Bool, true, false, cond}
 use mathlib.Core.List.{List}
-use Prim.Native.Nat.{ℕ, zero, suc, _+_, _*_, _%_, _^_, _≤_, _<_}
+use Prim.Native.Nat.{ℕ, zero, suc, _+_, _%_, _^_, _≤_, _<_}
 use native.Mathlib.Nat.{add-assoc, mod-eq-of-lt, pow-suc}
 use native.Mathlib.Omega.{arith}
 use lib.Dec.{ltb, eqb}
@@ -10,9 +10,12 @@ use lib.ListN.{length, List·getD-eq-default}
 use Rattle.wire.specs.Wire.{byte, number}
 use Rattle.wire.proofs.Numbers.{past}
 use Rattle.money.specs.Money.{blank}
-use Rattle.body.specs.Body.{profilePlace, conversionPlace}
+use Rattle.layout.specs.Layout.{profileFrom, conversionFrom, profilePlace, conversionPlace}
+use Rattle.layout.specs.Layout as layout
+use Rattle.rules.specs.Word.{wordCount}
 use Rattle.rules.specs.Rules.{Rules, four, five, profileOf, rulesOf, rateAt, blankProfile, blankAccumulator, blankCounter}
-use Rattle.load.specs.Load.{rateWords, amountWords, threeBytes, profileHeadWords, accumulatorsWords, countersWords, profileWords, headWords, ratesWords, profilesWords, loaded}
+use Rattle.load.specs.Load.{headWords, rateWords, ratesWords, profilesWords, loaded}
+use Rattle.load.specs.Load.{limitIn, ruleWords, rulesWords, profileHeadWords, sentWords, profileWords}
 use Rattle.load.proofs.Sizes.{loaded-size}
 use Rattle.load.proofs.Stores.{all}
 use Rattle.ranges.specs.Ranges.{isSetup}
@@ -48,7 +51,7 @@ module _ (s : List ℕ) (bytes : Bytes s) where
   rate-there at = simp (keep1, keep2)
 
   profile-there : (at : ℕ) → profileOf (profileWords s at) 0 ≡ profileIn s at
-  unfolding profileOf profileWords profileHeadWords accumulatorsWords amountWords countersWords threeBytes profileIn accumulatorIn counterIn
+  unfolding profileOf profileWords profileHeadWords rulesWords ruleWords limitIn sentWords profileIn accumulatorIn counterIn
   profile-there at = simp (add-assoc, keep1, keep2, keep4)
 
   -- past the end all is blank
@@ -81,16 +84,15 @@ module _ (s : List ℕ) (bytes : Bytes s) where
       let counter : (k : ℕ) → counterIn s (at + k) ≡ blankCounter = λ k. no-counter (at + k) (omega arith) in
       simp (first-byte at h, no-byte at h, no-number at h, accumulator, counter)
 
-  profile-or-blank : (i : ℕ) → profileIn s (profilePlace s i) ≡ cond (ltb i (byte s 3)) (profileIn s (52 + 107 * i)) blankProfile
-  profile-or-blank i = by (ltb i (byte s 3)) where
-    by : (there : Bool) → profileIn s (cond there (52 + 107 * i) (length s)) ≡ cond there (profileIn s (52 + 107 * i)) blankProfile
+  profile-or-blank : (i : ℕ) → profileIn s (profilePlace s i) ≡ cond (ltb i (byte s layout.profiles)) (profileIn s (profileFrom i)) blankProfile
+  profile-or-blank i = by (ltb i (byte s layout.profiles)) where
+    by : (there : Bool) → profileIn s (cond there (profileFrom i) (length s)) ≡ cond there (profileIn s (profileFrom i)) blankProfile
     by true = refl
     by false = no-profile (length s) (omega arith)
 
-  rate-or-blank : (i : ℕ) → rateIn s (conversionPlace s i) ≡ cond (ltb i (byte s 4)) (rateIn s (52 + 107 * byte s 3 + 7 * i)) blank
-  rate-or-blank i = by (ltb i (byte s 4)) where
-    by : (there : Bool)
-        → rateIn s (cond there (52 + 107 * byte s 3 + 7 * i) (length s)) ≡ cond there (rateIn s (52 + 107 * byte s 3 + 7 * i)) blank
+  rate-or-blank : (i : ℕ) → rateIn s (conversionPlace s i) ≡ cond (ltb i (byte s layout.conversions)) (rateIn s (conversionFrom s i)) blank
+  rate-or-blank i = by (ltb i (byte s layout.conversions)) where
+    by : (there : Bool) → rateIn s (cond there (conversionFrom s i) (length s)) ≡ cond there (rateIn s (conversionFrom s i)) blank
     by true = refl
     by false = no-rate (length s) (omega arith)
 
@@ -98,22 +100,22 @@ module _ (s : List ℕ) (bytes : Bytes s) where
   parts : ℕ → Rules
   parts syllabus =
       record {
-        key = byte s 0 % 256;
-        pin = byte s 1 % 16;
-        required = eqb (byte s 2) 1;
-        currencies = four (λ i. number s (8 + 10 * i) 2 % 65536);
+        key = byte s layout.keyIndex % 256;
+        pin = byte s layout.pinTries % 16;
+        required = eqb (byte s layout.required) 1;
+        currencies = four (λ i. number s (layout.accumulatorFrom i) 2 % 65536);
         rates = record { entries = five (λ i. rateAt (rateWords s (conversionPlace s i)) 0); up = eqb syllabus 1 };
         profiles = four (λ i. profileOf (profileWords s (profilePlace s i)) 0);
       }
 
   apart : (syllabus : ℕ) → rulesOf (loaded s syllabus) ≡ parts syllabus
-  unfolding parts rulesOf loaded headWords ratesWords rateWords profilesWords profileOf profileWords profileHeadWords accumulatorsWords amountWords countersWords threeBytes
+  unfolding parts rulesOf loaded headWords ratesWords rateWords profilesWords profileOf profileWords profileHeadWords rulesWords ruleWords sentWords
   apart syllabus = refl
 
-  rules-there : (syllabus : ℕ) → byte s 1 ≤ 15 → parts syllabus ≡ rulesIn s syllabus
+  rules-there : (syllabus : ℕ) → byte s layout.pinTries ≤ 15 → parts syllabus ≡ rulesIn s syllabus
   unfolding parts rulesIn
   rules-there syllabus pin =
-      let keep : byte s 1 % 16 ≡ byte s 1 = mod-eq-of-lt (omega arith) in
+      let keep : byte s layout.pinTries % 16 ≡ byte s layout.pinTries = mod-eq-of-lt (omega arith) in
       simp (
         keep1,
         keep2,
@@ -131,8 +133,9 @@ module _ (s : List ℕ) (bytes : Bytes s) where
         rate-or-blank 4,
       )
 
-  -- the words of an accepted set-up, whatever the 164 words held before
-  pub faithful : (syllabus : ℕ) (words : List ℕ) → length words ≡ 164 → isSetup s ≡ true → rulesOf (wordsAfter words s syllabus) ≡ rulesIn s syllabus
+  -- the words of an accepted set-up, whatever they held before
+  pub faithful : (syllabus : ℕ) (words : List ℕ) → length words ≡ wordCount → isSetup s ≡ true
+      → rulesOf (wordsAfter words s syllabus) ≡ rulesIn s syllabus
   unfolding wordsAfter
   faithful syllabus words size good =
       rw good (ap rulesOf (all words (loaded s syllabus) (loaded-size s syllabus ∙ sym size)) ∙ apart syllabus ∙ rules-there syllabus (accepted s good .pin))

@@ -1,9 +1,10 @@
 -- What a set-up's body says, byte by byte at document 01's offsets, and what reading it answers.
-use Prim.Native.Nat.{ℕ, _+_, _*_, _/_, _%_}
+use Prim.Native.Nat.{ℕ, _+_, _/_, _%_}
 use mathlib.Core.Bool.{false, cond}
 use mathlib.Core.List.{List}
 use lib.Dec.{ltb, eqb}
 use Rattle.wire.specs.Wire.{byte, number}
+use Rattle.money.specs.declared.AccumulatorAmount.{AccumulatorAmount}
 use Rattle.money.specs.declared.Rate.{Rate}
 use Rattle.money.specs.Money.{blank}
 use Rattle.refusal.specs.declared.Refusal.the-variants.{BadSetup}
@@ -11,6 +12,8 @@ use Rattle.refusal.specs.Refusal.{refusalNumber}
 use Rattle.rules.specs.declared.AccumulatorRule.{AccumulatorRule}
 use Rattle.rules.specs.declared.CounterRule.{CounterRule}
 use Rattle.rules.specs.Rules.{Rules, Profile, four, five, blankProfile}
+use Rattle.layout.specs.Layout.{profileFrom, conversionFrom}
+use Rattle.layout.specs.Layout as layout
 use Rattle.load.specs.Load.{stored}
 use Rattle.ranges.specs.Ranges.{isSetup}
 use Rattle.setup.specs.declared.Fresh.{Fresh}
@@ -20,14 +23,20 @@ use Rattle.setup.specs.declared.ReadSetup.{ReadSetup}
 
 -- conversion: from, to (2 each), d (2), s + 9 (1)
 unfoldable pub rateIn : List ℕ → ℕ → Rate
-rateIn s at = record { from = number s at 2; to = number s (at + 2) 2; digits = number s (at + 4) 2; shift = byte s (at + 6) }
+rateIn s at =
+    record {
+      from = number s at 2;
+      to = number s (at + layout.to) 2;
+      digits = number s (at + layout.digits) 2;
+      shift = byte s (at + layout.shift);
+    }
 
 -- an accumulator's switches (1: active, 2: allow accumulation, 4: include this transaction), lower (8), upper (8)
 unfoldable pub accumulatorIn : List ℕ → ℕ → AccumulatorRule
 accumulatorIn s at =
     record {
-      lower = record { 0 = number s (at + 1) 8 };
-      upper = record { 0 = number s (at + 9) 8 };
+      lower = record { 0 = number s (at + layout.lower) 8 };
+      upper = record { 0 = number s (at + layout.upper layout.accumulatorLimit) 8 };
       active = eqb (byte s at % 2) 1;
       allow = eqb (byte s at / 2 % 2) 1;
       include = eqb (byte s at / 4 % 2) 1;
@@ -37,8 +46,8 @@ accumulatorIn s at =
 unfoldable pub counterIn : List ℕ → ℕ → CounterRule
 counterIn s at =
     record {
-      lower = byte s (at + 1);
-      upper = byte s (at + 2);
+      lower = byte s (at + layout.lower);
+      upper = byte s (at + layout.upper layout.counterLimit);
       active = eqb (byte s at % 2) 1;
       allow = eqb (byte s at / 2 % 2) 1;
       include = eqb (byte s at / 4 % 2) 1;
@@ -51,11 +60,26 @@ unfoldable pub profileIn : List ℕ → ℕ → Profile
 profileIn s at =
     record {
       number = byte s at;
-      masks = record { online = number s (at + 1) 4; decline = number s (at + 5) 4; default = number s (at + 9) 4 };
-      maximum = record { on = eqb (byte s (at + 13)) 1; currency = number s (at + 14) 2; amount = record { 0 = number s (at + 16) 8 } };
-      accumulators = four (λ j. accumulatorIn s (at + (24 + 17 * j)));
-      counters = four (λ j. counterIn s (at + (92 + 3 * j)));
-      sent = record { accumulator = byte s (at + 104); first = byte s (at + 105); second = byte s (at + 106) };
+      masks =
+          record {
+            online = number s (at + layout.online) 4;
+            decline = number s (at + layout.decline) 4;
+            default = number s (at + layout.default) 4;
+          };
+      maximum =
+          record {
+            on = eqb (byte s (at + layout.maximumOn)) 1;
+            currency = number s (at + layout.maximumCurrency) 2;
+            amount = record { 0 = number s (at + layout.maximum) 8 };
+          };
+      accumulators = four (λ j. accumulatorIn s (at + layout.accumulatorRuleFrom j));
+      counters = four (λ j. counterIn s (at + layout.counterRuleFrom j));
+      sent =
+          record {
+            accumulator = byte s (at + layout.accumulatorSent);
+            first = byte s (at + layout.firstSent);
+            second = byte s (at + layout.secondSent);
+          };
     }
 
 -- key index; PIN tries; issuer authentication required; p; c; (the fresh card's ATC and go online next;) four accumulators of currency
@@ -63,22 +87,29 @@ profileIn s at =
 unfoldable pub rulesIn : List ℕ → ℕ → Rules
 rulesIn s syllabus =
     record {
-      key = byte s 0;
-      pin = byte s 1;
-      required = eqb (byte s 2) 1;
-      currencies = four (λ i. number s (8 + 10 * i) 2);
+      key = byte s layout.keyIndex;
+      pin = byte s layout.pinTries;
+      required = eqb (byte s layout.required) 1;
+      currencies = four (λ i. number s (layout.accumulatorFrom i) 2);
       rates =
-          record { entries = five (λ i. cond (ltb i (byte s 4)) (rateIn s (52 + 107 * byte s 3 + 7 * i)) blank); up = eqb syllabus 1 };
-      profiles = four (λ i. cond (ltb i (byte s 3)) (profileIn s (52 + 107 * i)) blankProfile);
+          record {
+            entries = five (λ i. cond (ltb i (byte s layout.conversions)) (rateIn s (conversionFrom s i)) blank);
+            up = eqb syllabus 1;
+          };
+      profiles = four (λ i. cond (ltb i (byte s layout.profiles)) (profileIn s (profileFrom i)) blankProfile);
     }
+
+-- what accumulator i + 1 of a fresh card holds
+abbrev pub valueIn : List ℕ → ℕ → AccumulatorAmount
+valueIn s i = record { 0 = number s (layout.accumulatorFrom i + layout.value) 8 }
 
 -- what a fresh card starts from
 unfoldable pub freshIn : List ℕ → Fresh
 freshIn s =
     record {
-      values = record { accumulators = four (λ i. record { 0 = number s (10 + 10 * i) 8 }); counters = four (λ i. byte s (48 + i)) };
-      atc = number s 5 2;
-      online = eqb (byte s 7) 1;
+      values = record { accumulators = four (valueIn s); counters = four (λ i. byte s (layout.counters + i)) };
+      atc = number s layout.atc 2;
+      online = eqb (byte s layout.onlineNext) 1;
     }
 
 abbrev pub noCard : Fresh

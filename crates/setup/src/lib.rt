@@ -1,6 +1,7 @@
 // A set-up's body, read into lent rules and what a fresh card starts from, or refused.
 ghost use mathlib.Core.Path.{_≡_};
-ghost use Rattle.setup.specs.Setup.{freshIn, noCard, readSetup, wordsAfter};
+ghost use Prim.Native.Nat.{_<_};
+ghost use Rattle.setup.specs.Setup.{valueIn, freshIn, noCard, readSetup, wordsAfter};
 use money::AccumulatorAmount;
 use refusal::Refusal;
 use rules::Values;
@@ -23,26 +24,35 @@ pub struct ReadSetup {
     pub answer: SetupAnswer,
 }
 
+// The value of accumulator i + 1.
+fn read_value(s: &[u8], i: usize) -> AccumulatorAmount
+    requires { ⌜ i < 4 ⌝ }
+    ensures { λ r. ⌜ r ≡ valueIn (now (s .entry)) i ⌝ }
+{
+    let at = layout::ACCUMULATORS + layout::ACCUMULATOR_LENGTH * i;
+    AccumulatorAmount(wire::u64_at(s, at + layout::VALUE))
+}
+
 fn read_fresh(s: &[u8]) -> Fresh
     ensures { λ r. ⌜ r ≡ freshIn (now (s .entry)) ⌝ }
 {
     Fresh {
         values: Values {
             accumulators: [
-                AccumulatorAmount(wire::u64_at(s, 10)),
-                AccumulatorAmount(wire::u64_at(s, 20)),
-                AccumulatorAmount(wire::u64_at(s, 30)),
-                AccumulatorAmount(wire::u64_at(s, 40)),
+                read_value(s, 0),
+                read_value(s, 1),
+                read_value(s, 2),
+                read_value(s, 3),
             ],
             counters: [
-                wire::byte_at(s, 48),
-                wire::byte_at(s, 49),
-                wire::byte_at(s, 50),
-                wire::byte_at(s, 51),
+                wire::byte_at(s, layout::COUNTERS),
+                wire::byte_at(s, layout::COUNTERS + 1),
+                wire::byte_at(s, layout::COUNTERS + 2),
+                wire::byte_at(s, layout::COUNTERS + 3),
             ],
         },
-        atc: wire::u16_at(s, 5),
-        online: wire::byte_at(s, 7) == 1,
+        atc: wire::u16_at(s, layout::ATC),
+        online: wire::byte_at(s, layout::ONLINE_NEXT) == 1,
     }
 }
 

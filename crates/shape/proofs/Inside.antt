@@ -16,7 +16,8 @@ use Rattle.shape.specs.declared.Tails.{Tails}
 use Rattle.shape.specs.declared.Tails.the-variants.{Ended, Wrong}
 use Rattle.shape.specs.declared.ReadShape.{ReadShape}
 use Rattle.shape.specs.declared.ReadShape.the-variants.{Taken, Refused}
-use Rattle.shape.specs.Shape.{Lies, baseLength, based, baseTail, entriesEnd, fileEnd, selects, selectionTail, follows, syllabusTail, behind, since, tailsOf, whole, shapeOf}
+use Rattle.shape.specs.Shape.{Lies, baseLength, based, baseTail, entriesEnd, fileEnd, selects, selectionTail, follows, syllabusTail}
+use Rattle.shape.specs.Shape.{behind, since, tailsOf, whole, shapeOf}
 use Rattle.shape.proofs.Either.{choose}
 
 -- entries end where they begin, or behind
@@ -49,16 +50,19 @@ module _ (body : List ℕ) where
       choose In (leb (length body) at) Wrong _ (λ _. tt)
       (λ _. choose In (eqb (byte body at) 0) (Ended shape (at + 1)) _ (λ _. i)
       (λ _. choose In (ltb 1 (byte body at)) Wrong _ (λ _. tt)
-      (λ _. choose In (ltb (length body) (fileEnd body at)) Wrong (Ended (selects shape (at + 2) (fileEnd body at) (byte body (at + 1))) (fileEnd body at)) (λ _. tt)
+      (λ _. choose In (ltb (length body) (fileEnd body at)) Wrong
+      (Ended (selects shape (at + 2) (fileEnd body at) (byte body (at + 1))) (fileEnd body at)) (λ _. tt)
       (λ e. record { base = i .base; file = (not-before body (at + 2) (byte body (at + 1)), ltb-false _ _ e) }))))
 
   syllabus-in : (shape : Shape) (at : ℕ) → Inside shape (length body) → In (syllabusTail body shape at)
   unfolding syllabusTail
   syllabus-in shape at i =
       choose In (leb (length body) at) Wrong _ (λ _. tt)
-      (λ _. choose In (ltb 1 (byte body at)) Wrong (Ended (follows shape (byte body at)) (at + 1)) (λ _. tt) (λ _. record { base = i .base; file = i .file }))
+      (λ _. choose In (ltb 1 (byte body at)) Wrong (Ended (follows shape (byte body at)) (at + 1)) (λ _. tt)
+      (λ _. record { base = i .base; file = i .file }))
 
-  since-in : (first version : ℕ) (before : Tails) (tail : Shape → ℕ → Tails) → In before → ((shape : Shape) (at : ℕ) → Inside shape (length body) → In (tail shape at))
+  since-in : (first version : ℕ) (before : Tails) (tail : Shape → ℕ → Tails) → In before
+      → ((shape : Shape) (at : ℕ) → Inside shape (length body) → In (tail shape at))
       → In (since first version before tail)
   since-in first version Wrong tail i then = choose In (ltb version first) Wrong Wrong (λ _. tt) (λ _. tt)
   since-in first version (Ended shape at) tail i then = choose In (ltb version first) (Ended shape at) (tail shape at) (λ _. i) (λ _. then shape at i)

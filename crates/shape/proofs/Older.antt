@@ -14,7 +14,8 @@ use Rattle.shape.specs.declared.Shape.{Shape}
 use Rattle.shape.specs.declared.Tails.{Tails}
 use Rattle.shape.specs.declared.Tails.the-variants.{Ended, Wrong}
 use Rattle.shape.specs.declared.ReadShape.the-variants.{Taken, Refused}
-use Rattle.shape.specs.Shape.{baseLength, based, baseTail, entriesEnd, fileEnd, selects, selectionTail, follows, syllabusTail, behind, tailsOf, whole, shapeOf}
+use Rattle.shape.specs.Shape.{baseLength, based, baseTail, entriesEnd, fileEnd, selects, selectionTail, follows, syllabusTail}
+use Rattle.shape.specs.Shape.{behind, tailsOf, whole, shapeOf}
 use Rattle.shape.proofs.Either.{choose}
 
 -- a byte past the end reads as 0
@@ -57,7 +58,8 @@ module _ (body : List ℕ) where
     -- SELECTION OFF
     pub selection-off : shapeOf 2 newer ≡ shapeOf 1 body
     unfolding shapeOf tailsOf
-    selection-off = rw (base-older, base-newer, switched-off, longer, eq-eqb (length body) (length body) refl, eq-eqb (length body + 1) (length body + 1) refl)
+    selection-off =
+        rw (base-older, base-newer, switched-off, longer, eq-eqb (length body) (length body) refl, eq-eqb (length body + 1) (length body + 1) refl)
 
   -- ---- the syllabus: the tails up to it are the same, or they end past the older body
 
@@ -65,50 +67,44 @@ module _ (body : List ℕ) where
     same : {t : Tails} → Near t t
     past : (shape : Shape) → Near (Ended shape (length body + 1)) Wrong
 
-  near-base : Near (baseTail newer) (baseTail body)
-  unfolding baseTail
-  near-base = rw (same-byte body 3, same-byte body 4, longer) (by (ltb (length body) (baseLength body)) (ltb (length body + 1) (baseLength body)) refl refl) where
-    by : (older later : Bool) → ltb (length body) (baseLength body) ≡ older → ltb (length body + 1) (baseLength body) ≡ later
-        → Near (cond later Wrong (Ended (based (baseLength body)) (baseLength body))) (cond older Wrong (Ended (based (baseLength body)) (baseLength body)))
+  -- tails that end in a body, or past it
+  near-end : (shape : Shape) (end : ℕ)
+      → Near (cond (ltb (length body + 1) end) Wrong (Ended shape end)) (cond (ltb (length body) end) Wrong (Ended shape end))
+  near-end shape end = by (ltb (length body) end) (ltb (length body + 1) end) refl refl where
+    by : (older later : Bool) → ltb (length body) end ≡ older → ltb (length body + 1) end ≡ later
+        → Near (cond later Wrong (Ended shape end)) (cond older Wrong (Ended shape end))
     by true true h k = same
     by true false h k =
-        let one : length body + 1 ≡ baseLength body = omega (arith, ltb-true (length body) (baseLength body) h, ltb-false (length body + 1) (baseLength body) k) in
-        subst (λ (at : ℕ). Near (Ended (based (baseLength body)) at) Wrong) one (past (based (baseLength body)))
-    by false true h k = absurd (omega (arith, ltb-false (length body) (baseLength body) h, ltb-true (length body + 1) (baseLength body) k))
+        let one : length body + 1 ≡ end = omega (arith, ltb-true (length body) end h, ltb-false (length body + 1) end k) in
+        subst (λ (at : ℕ). Near (Ended shape at) Wrong) one (past shape)
+    by false true h k = absurd (omega (arith, ltb-false (length body) end h, ltb-true (length body + 1) end k))
     by false false h k = same
+
+  near-base : Near (baseTail newer) (baseTail body)
+  unfolding baseTail
+  near-base = rw (same-byte body 3, same-byte body 4, longer) (near-end (based (baseLength body)) (baseLength body))
 
   near-selection : (shape : Shape) (at : ℕ) → Near (selectionTail newer shape at) (selectionTail body shape at)
   unfolding selectionTail
   near-selection shape at =
       rw (same-byte body at, same-byte body (at + 1), same-entries (at + 2) (byte body (at + 1)), longer)
-      (by (leb (length body) at) (leb (length body + 1) at) refl refl (eqb (byte body at) 0) refl (ltb 1 (byte body at)))
+      (by (near-end (selects shape (at + 2) (fileEnd body at) (byte body (at + 1))) (fileEnd body at))
+      (leb (length body) at) (leb (length body + 1) at) refl refl (eqb (byte body at) 0) refl (ltb 1 (byte body at)))
     where
-      ends : (older later : Bool) → ltb (length body) (fileEnd body at) ≡ older → ltb (length body + 1) (fileEnd body at) ≡ later
-          → Near (cond later Wrong (Ended (selects shape (at + 2) (fileEnd body at) (byte body (at + 1))) (fileEnd body at)))
-          (cond older Wrong (Ended (selects shape (at + 2) (fileEnd body at) (byte body (at + 1))) (fileEnd body at)))
-      ends true true h k = same
-      ends true false h k =
-          let one : length body + 1 ≡ fileEnd body at = omega (arith, ltb-true (length body) (fileEnd body at) h, ltb-false (length body + 1) (fileEnd body at) k) in
-          let with-file = selects shape (at + 2) (fileEnd body at) (byte body (at + 1)) in
-          subst (λ (end : ℕ). Near (Ended with-file end) Wrong) one (past with-file)
-      ends false true h k = absurd (omega (arith, ltb-false (length body) (fileEnd body at) h, ltb-true (length body + 1) (fileEnd body at) k))
-      ends false false h k = same
-
-      by : (older later : Bool) → leb (length body) at ≡ older → leb (length body + 1) at ≡ later → (off : Bool) → eqb (byte body at) 0 ≡ off → (above : Bool)
-          → Near (cond later Wrong (cond off (Ended shape (at + 1)) (cond above Wrong (cond (ltb (length body + 1) (fileEnd body at)) Wrong
-          (Ended (selects shape (at + 2) (fileEnd body at) (byte body (at + 1))) (fileEnd body at))))))
-          (cond older Wrong (cond off (Ended shape (at + 1)) (cond above Wrong (cond (ltb (length body) (fileEnd body at)) Wrong
-          (Ended (selects shape (at + 2) (fileEnd body at) (byte body (at + 1))) (fileEnd body at))))))
-      by true true h k off z above = same
-      by true false h k true z above =
+      by : {x y : Tails} → Near x y → (older later : Bool) → leb (length body) at ≡ older → leb (length body + 1) at ≡ later
+          → (off : Bool) → eqb (byte body at) 0 ≡ off → (above : Bool)
+          → Near (cond later Wrong (cond off (Ended shape (at + 1)) (cond above Wrong x)))
+          (cond older Wrong (cond off (Ended shape (at + 1)) (cond above Wrong y)))
+      by e true true h k off z above = same
+      by e true false h k true z above =
           let here : at ≡ length body = omega (arith, leb-true (length body) at h, leb-false (length body + 1) at k) in
           rw here (past shape)
-      by true false h k false z above =
+      by e true false h k false z above =
           absurd (eqb-false (byte body at) 0 z (List·getD-eq-default body 0 (leb-true (length body) at h)))
-      by false true h k off z above = absurd (omega (arith, leb-false (length body) at h, leb-true (length body + 1) at k))
-      by false false h k true z above = same
-      by false false h k false z true = same
-      by false false h k false z false = ends (ltb (length body) (fileEnd body at)) (ltb (length body + 1) (fileEnd body at)) refl refl
+      by e false true h k off z above = absurd (omega (arith, leb-false (length body) at h, leb-true (length body + 1) at k))
+      by e false false h k true z above = same
+      by e false false h k false z true = same
+      by e false false h k false z false = e
 
   missing-selection : (shape : Shape) → selectionTail newer shape (length body + 1) ≡ Wrong
   unfolding selectionTail
@@ -134,7 +130,8 @@ module _ (body : List ℕ) where
       choose Zero (leb (length body) at) Wrong _ (λ _. tt)
       (λ _. choose Zero (eqb (byte body at) 0) (Ended shape (at + 1)) _ (λ _. z)
       (λ _. choose Zero (ltb 1 (byte body at)) Wrong _ (λ _. tt)
-      (λ _. choose Zero (ltb (length body) (fileEnd body at)) Wrong (Ended (selects shape (at + 2) (fileEnd body at) (byte body (at + 1))) (fileEnd body at)) (λ _. tt) (λ _. z))))
+      (λ _. choose Zero (ltb (length body) (fileEnd body at)) Wrong
+      (Ended (selects shape (at + 2) (fileEnd body at) (byte body (at + 1))) (fileEnd body at)) (λ _. tt) (λ _. z))))
 
   zero-behind : (tails : Tails) → Zero tails → Zero (behind tails (selectionTail body))
   zero-behind Wrong z = tt
@@ -150,8 +147,10 @@ module _ (body : List ℕ) where
   syllabus-last shape at z =
       rw (same-byte body at, longer) (by (eqb at (length body)) refl (leb (length body + 1) at) refl (ltb 1 (byte body at)) refl)
     where
-      by : (ended : Bool) → eqb at (length body) ≡ ended → (missing : Bool) → leb (length body + 1) at ≡ missing → (above : Bool) → ltb 1 (byte body at) ≡ above
-          → whole newer (cond missing Wrong (cond above Wrong (Ended (follows shape (byte body at)) (at + 1)))) ≡ cond ended (Taken shape) (Refused BadSetup)
+      by : (ended : Bool) → eqb at (length body) ≡ ended → (missing : Bool) → leb (length body + 1) at ≡ missing
+          → (above : Bool) → ltb 1 (byte body at) ≡ above
+          → whole newer (cond missing Wrong (cond above Wrong (Ended (follows shape (byte body at)) (at + 1))))
+          ≡ cond ended (Taken shape) (Refused BadSetup)
       by true h true k above l = absurd (omega (arith, eqb-true at (length body) h, leb-true (length body + 1) at k))
       by true h false k above l =
           let here = eqb-true at (length body) h in

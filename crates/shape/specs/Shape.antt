@@ -1,11 +1,12 @@
 -- The shape of a paper: what its version adds to a set-up's body, read front to back (docs/PAPERS.md, "How a version adds"; document 02, Three and
 -- Nine). The base of document 01, 52 + 107p + 7c bytes, then a tail for each addition, in the order of the versions, to the body's end.
-use Prim.Native.Nat.{ℕ, zero, suc, _+_, _*_, _≤_}
+use Prim.Native.Nat.{ℕ, zero, suc, _+_, _≤_}
 use mathlib.Core.Bool.{cond}
 use mathlib.Core.List.{List}
 use lib.Dec.{eqb, ltb, leb}
 use lib.ListN.{length, take}
 use Rattle.wire.specs.Wire.{byte}
+pub use Rattle.layout.specs.Layout.{baseLength}
 use Rattle.refusal.specs.declared.Refusal.the-variants.{BadSetup}
 use Rattle.refusal.specs.Refusal.{refusalNumber}
 use Rattle.shape.specs.declared.Selecting.{Selecting}
@@ -17,9 +18,6 @@ use Rattle.shape.specs.declared.ReadShape.{ReadShape}
 use Rattle.shape.specs.declared.ReadShape.the-variants.{Taken, Refused}
 
 -- THE BASE, which is whole; with no tail nothing is selected, and the syllabus is 0
-abbrev pub baseLength : List ℕ → ℕ
-baseLength body = 52 + 107 * byte body 3 + 7 * byte body 4
-
 abbrev pub based : (base : ℕ) → Shape
 based base = record { base = base; selecting = Off; syllabus = 0 }
 

@@ -44,7 +44,7 @@ pub enum ReadShape {
 fn read_base(body: &[u8]) -> Tails
     ensures { λ r. ⌜ r ≡ baseTail (now (body .entry)) ⌝ }
 {
-    let base = 52 + 107 * wire::byte_at(body, 3) as usize + 7 * wire::byte_at(body, 4) as usize;
+    let base = layout::base_length(body);
     if body.len() < base {
         return Tails::Wrong;
     }

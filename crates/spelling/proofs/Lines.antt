@@ -61,7 +61,8 @@ module _ (rules : Rules) (form : Shape) (s : List ℕ) (lies : Lies (form .selec
   at-last (suc n) state at rest (faulty f) e h = rw (taken-faulty state at (R.faulty form s lies at (rw e f)))
 
   -- one record that goes on
-  one-on : (x : Sent) (n : ℕ) (state : State) (at : ℕ) → Fits choice x → (rest : List ℕ) → drop at s ≡ spell x ++ rest → length (drop at s) ≤ n
+  one-on : (x : Sent) (n : ℕ) (state : State) (at : ℕ) → Fits choice x
+      → (rest : List ℕ) → drop at s ≡ spell x ++ rest → length (drop at s) ≤ n
       → (more : List Event) → ((m : ℕ) → length rest ≤ m → eventsFrom m rules form (on state x) s (at + length (spell x)) ≡ more)
       → eventsFrom n rules form state s at ≡ told state x ∷ more
   unfolding eventsFrom

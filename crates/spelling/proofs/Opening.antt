@@ -111,7 +111,8 @@ opens-or-faults [] h = inl (empty refl)
 opens-or-faults (version ∷ rest) h =
     by (ltb 65536 (length (version ∷ rest))) (eqb version 0) (ltb 3 version) refl refl refl (shape rest (h .1))
   where
-    by-kind : (kind : ℕ) (body : List ℕ) (b : Bool) → eqb kind 1 ≡ b → Whole rest kind body → 1 ≤ version → version ≤ 3 → length (version ∷ rest) ≤ 65536
+    by-kind : (kind : ℕ) (body : List ℕ) (b : Bool) → eqb kind 1 ≡ b → Whole rest kind body → 1 ≤ version → version ≤ 3
+        → length (version ∷ rest) ≤ 65536
         → OpenFault (version ∷ rest) ⊎ Opening (version ∷ rest)
     by-kind kind body true e w l m short =
         let one = eqb-true kind 1 e in

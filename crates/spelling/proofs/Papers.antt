@@ -11,6 +11,7 @@ use lib.Seq.{drop-append-le, take-append-le}
 use Rattle.wire.specs.Wire.{byte}
 use Rattle.refusal.specs.declared.Refusal.the-variants.{BadSetup, Unreadable}
 use Rattle.rules.specs.Rules.{Rules, rulesOf}
+use Rattle.rules.specs.Word.{wordCount}
 use Rattle.ranges.specs.Ranges.{isSetup}
 use Rattle.setup.specs.declared.SetupAnswer.{SetupAnswer}
 use Rattle.setup.specs.declared.SetupAnswer.the-variants.{Done, Refused as SetupRefused}
@@ -41,7 +42,8 @@ use Rattle.conversation.specs.Events.{eventsFrom, eventsOf}
 use Rattle.lines.specs.Sitting.{linesOf, sittingLines}
 use Rattle.spelling.specs.Spelling.{Bytes, recordOf, paperOf, Sent, spellAll, Choice, choiceIn, AllFit, allStandFor}
 use Rattle.spelling.specs.Faults.{OpenFault, Opens}
-use Rattle.spelling.specs.Sitting.{Lies, SetUp, NotSetUp, no-shape, no-base, answers, Ends, lastLines, rulesFrom, cardFrom, sittingOf, Sat, unread, not-set-up, sat}
+use Rattle.spelling.specs.Sitting.{Lies, SetUp, NotSetUp, no-shape, no-base, answers, Ends, lastLines, rulesFrom, cardFrom, sittingOf}
+use Rattle.spelling.specs.Sitting.{Sat, unread, not-set-up, sat}
 use Rattle.spelling.proofs.Numbers.{byte-small, bytes-take, bytes-drop, bytes-front}
 use Rattle.spelling.proofs.Shapes.{record-is, here-length, part-drop}
 use Rattle.spelling.proofs.Opening.{opens, faults, Opening, opens-or-faults}
@@ -100,13 +102,13 @@ module _ (words s : List ℕ) (version : ℕ) (body rest : List ℕ) (o : Opens 
     abbrev base : List ℕ
     base = basePart shape body
 
-    lies-there : Lies (shapeAt 4 shape .selecting) s
+    pub lies-there : Lies (shapeAt 4 shape .selecting) s
     lies-there = by (shape .selecting) (inside body version shape (t .shape-is) .file) where
       by : (x : Selecting) → Sh.Lies x (length body) → Lies (selectingAt 4 x) s
       by Off i = tt
       by (On start end entries) i = (omega (arith, i .0), omega (arith, size, i .1))
 
-    chooses : choiceIn (shapeAt 4 shape .selecting) s ≡ choiceIn (shape .selecting) body
+    pub chooses : choiceIn (shapeAt 4 shape .selecting) s ≡ choiceIn (shape .selecting) body
     chooses = by (shape .selecting) (inside body version shape (t .shape-is) .file) where
       by : (x : Selecting) → Sh.Lies x (length body) → choiceIn (selectingAt 4 x) s ≡ choiceIn x body
       by Off i = refl
@@ -117,8 +119,8 @@ module _ (words s : List ℕ) (version : ℕ) (body rest : List ℕ) (o : Opens 
           ∙ rw (behind-head, drop-append-le start body rest (omega (arith, i .0, i .1))) (take-append-le (end - start) (drop start body) rest left) in
           rw file
 
-    module _ (bytes : Bytes s) (lent : length words ≡ 164) where
-      rules-are : rulesOf (wordsAfter words base (shape .syllabus)) ≡ rulesFrom shape body
+    module _ (bytes : Bytes s) (lent : length words ≡ wordCount) where
+      pub rules-are : rulesOf (wordsAfter words base (shape .syllabus)) ≡ rulesFrom shape body
       rules-are =
           let body-bytes : Bytes body = bytes-front body rest (subst Bytes behind-head (bytes-drop 4 s bytes)) in
           let base-bytes : Bytes base = bytes-take (shape .base) body body-bytes in
@@ -141,7 +143,8 @@ module _ (words s : List ℕ) (version : ℕ) (body rest : List ℕ) (o : Opens 
 
 -- ---- every other paper
 
-ended-at-once : (words s : List ℕ) (refusal : Refusal) → begunOf s .event ≡ Refused refusal → sittingLines words s ≡ refusalLine 0 (refusalNumber refusal) ∷ []
+ended-at-once : (words s : List ℕ) (refusal : Refusal) → begunOf s .event ≡ Refused refusal
+    → sittingLines words s ≡ refusalLine 0 (refusalNumber refusal) ∷ []
 unfolding sittingLines eventsOf linesOf
 ended-at-once words s refusal e = rw e
 
@@ -156,11 +159,11 @@ pub record One (event : Event) : Type 0 where
   pub is : event ≡ Refused refusal
   pub one : refusalNumber refusal ≡ 1
 
-refused-shape : (body : List ℕ) (place end : ℕ) (t : ReadShape) → shapeNumber t ≡ 1 → One (shapedBegun body place end t .event)
+pub refused-shape : (body : List ℕ) (place end : ℕ) (t : ReadShape) → shapeNumber t ≡ 1 → One (shapedBegun body place end t .event)
 refused-shape body place end (ShapeRefused refusal) e = record { refusal = refusal; is = refl; one = e }
 refused-shape body place end (Taken shape) e = absurd (omega arith)
 
-refused-base : (shape : Shape) (base : List ℕ) (end : ℕ) → setupNumber (readSetup base .answer) ≡ 1 → One (baseBegun shape base end .event)
+pub refused-base : (shape : Shape) (base : List ℕ) (end : ℕ) → setupNumber (readSetup base .answer) ≡ 1 → One (baseBegun shape base end .event)
 unfolding baseBegun
 refused-base shape base end e = by (readSetup base .answer) e where
   by : (a : SetupAnswer) → setupNumber a ≡ 1 → One (setUpEvent a)
@@ -183,7 +186,7 @@ one-line words s version body rest o n =
     by (no-base shape t e) = rw t (refused-base (shapeAt 4 shape) (basePart shape body) (4 + length body) e)
 
 -- EVERY BYTE STRING IS ONE OF THE THREE, WITH ITS LINES
-pub every-paper : (words s : List ℕ) → length words ≡ 164 → Bytes s → Sat words s
+pub every-paper : (words s : List ℕ) → length words ≡ wordCount → Bytes s → Sat words s
 every-paper words s lent bytes = by (opens-or-faults s bytes) where
   by-set-up : (o : Opening s) → ((shape : Shape) × SetUp (o .version) (o .body) shape) ⊎ NotSetUp (o .version) (o .body) → Sat words s
   by-set-up o (inl t) =
@@ -210,7 +213,9 @@ one-paper s v w b c rest more o p =
     (cc, sym (x .1) ∙ ap (part s 4) end ∙ y .1, sym (x .2) ∙ ap (λ (n : ℕ). drop n s) end ∙ y .2)
 
 pub one-sitting : (s : List ℕ) (v w : ℕ) (b c : List ℕ) (x y : Shape) → SetUp v b x → SetUp w c y
-    → (xs ys : List Sent) (r q : List ℕ) → AllFit (choiceIn (x .selecting) b) xs → AllFit (choiceIn (y .selecting) c) ys → Ends (choiceIn (x .selecting) b) r → Ends (choiceIn (y .selecting) c) q
+    → (xs ys : List Sent) (r q : List ℕ)
+    → AllFit (choiceIn (x .selecting) b) xs → AllFit (choiceIn (y .selecting) c) ys
+    → Ends (choiceIn (x .selecting) b) r → Ends (choiceIn (y .selecting) c) q
     → Opens s v b (spellAll xs ++ r) → Opens s w c (spellAll ys ++ q) → (v ≡ w) × (b ≡ c) × (xs ≡ ys) × (r ≡ q)
 one-sitting s v w b c x y t u xs ys r q h k d e o p =
     let one = one-paper s v w b c (spellAll xs ++ r) (spellAll ys ++ q) o p in

@@ -11,11 +11,13 @@ use Rattle.shape.specs.Shape.{based}
 use Rattle.paper.specs.Paper.{nextAt, openPaper, openedNumber}
 use Rattle.command.specs.declared.Command.the-variants.{Start as StartCommand, First as FirstCommand, Second as SecondCommand}
 use Rattle.command.specs.Command.{firstOf, secondOf, commandOf, commandIn}
+use Rattle.state.specs.declared.Answer.the-variants.{Started}
 use Rattle.card.specs.Card.{freshState}
-use Rattle.lines.specs.Lines.{digit, decimal, refusalLine}
+use Rattle.lines.specs.Lines.{digit, decimal, refusalLine, startLine, selectedLine}
 use Rattle.conversation.specs.Conversation.{answeredBy, takenOf}
 use Rattle.conversation.specs.Events.{eventsFrom}
-use Rattle.lines.specs.Sitting.{linesOf}
+use Rattle.lines.specs.Sitting.{answerLine, linesOf}
+use Rattle.readback.specs.Fields.{wordsIn, areDigits, valueIn, isHex, bytesIn, Fields, Two, Three, Four, Five, Other, fieldsIn}
 use Rattle.spelling.specs.Spelling.{big, recordOf, names, first, second, kindOf, bodyOf, spell}
 use Rattle.spelling.specs.Sitting.{Reading, over, refused, command, reading}
 
@@ -53,6 +55,14 @@ isSecond (command (SecondCommand s) at) type code issuer csu end =
 abbrev lineCount : List ℕ → ℕ
 lineCount s = length (linesOf 1 (eventsFrom 9 (rulesIn [] 0) (based 0) (freshState (freshIn [])) s 0))
 
+-- `answer-shown`: the fields of a Start's line that shows the visits
+abbrev isFour : Fields → (number refusal atc visits : ℕ) → Bool
+isFour (Two n r) number refusal atc visits = false
+isFour (Three n r a) number refusal atc visits = false
+isFour (Four n r a v) number refusal atc visits = eqb n number && eqb r refusal && eqb a atc && eqb v visits
+isFour (Five n r c a i) number refusal atc visits = false
+isFour Other number refusal atc visits = false
+
 pub record Samples : Type 0 where
   -- 4 bytes and any 65,533 more
   pub over-long : (more : List ℕ) → length more ≡ 65533 → T (isUnread (1 ∷ 0 ∷ 1 ∷ 1 ∷ more))
@@ -67,9 +77,13 @@ pub record Samples : Type 0 where
   pub start-too-long : T (faults (recordOf 2 (1 ∷ 1 ∷ [])))
   -- what stands behind a fault is no longer a command
   pub ends-at-nine : T (eqb (lineCount (recordOf 1 (1 ∷ []) ++ spell (names 1))) 1)
+  -- one visit shows
+  pub visit-shown : T (isFour (fieldsIn (answerLine 3 (Started 2 1))) 3 0 2 1)
 
 pub samples : Samples
-unfolding openPaper nextAt number reading commandIn commandOf firstOf secondOf kindOf bodyOf recordOf big eventsFrom takenOf answeredBy linesOf refusalLine decimal digit
+unfolding openPaper nextAt number reading commandIn commandOf firstOf secondOf kindOf bodyOf recordOf big
+    eventsFrom takenOf answeredBy linesOf refusalLine decimal digit answerLine startLine selectedLine
+    fieldsIn wordsIn areDigits valueIn isHex bytesIn
 samples =
     record {
       over-long = λ more e. rw e tt;
@@ -82,4 +96,5 @@ samples =
       no-kind = tt;
       start-too-long = tt;
       ends-at-nine = tt;
+      visit-shown = tt;
     }

@@ -6,7 +6,8 @@ use native.Mathlib.Omega.{arith}
 use borrow.Author.Tests.{ne-eqb}
 use lib.ListN.{replicate}
 use Rattle.refusal.specs.declared.Refusal.{Refusal}
-use Rattle.refusal.specs.declared.Refusal.the-variants.{BadSetup, OutOfTurn, UnknownProfile, AtcUsedUp, BadType, OutOfRange, RoomTooSmall, NotAnIad, Unreadable, BadRate, BadMta, NotSelected}
+use Rattle.refusal.specs.declared.Refusal.the-variants.{BadSetup, OutOfTurn, UnknownProfile, AtcUsedUp, BadType, OutOfRange}
+use Rattle.refusal.specs.declared.Refusal.the-variants.{RoomTooSmall, NotAnIad, Unreadable, BadRate, BadMta, NotSelected}
 use Rattle.refusal.specs.Refusal.{refusalNumber}
 use Rattle.iad.specs.declared.Iad.{Iad}
 use Rattle.iad.specs.Iad.{written}

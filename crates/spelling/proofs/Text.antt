@@ -5,6 +5,7 @@ use Prim.Native.Nat.{ℕ}
 use lib.ListN.{length}
 use Rattle.wire.specs.Wire.{number}
 use Rattle.rules.specs.Rules.{findProfile}
+use Rattle.rules.specs.Word.{wordCount}
 use Rattle.setup.specs.Setup.{rateIn, accumulatorIn, counterIn, profileIn, rulesIn, freshIn}
 use Rattle.shape.specs.Shape.{based}
 use Rattle.money.specs.Money.{rateFor, scaled, convertOf}
@@ -24,9 +25,13 @@ use Rattle.spelling.specs.Printed.{printed, body, sent, printedLines}
 use Rattle.spelling.proofs.Witness.{printed-lines}
 
 worked : sittingOf (based 159) body {choice = byName} sent {rest = []} (ended refl) ≡ printedLines
-unfolding printed sent printedLines standsFor allStandFor answers answerLine digit decimal hex refusalLine startLine cryptogramLine freshState freshIn number rulesIn rateIn profileIn accumulatorIn counterIn stepOf startStep firstStep secondStep findProfile firstPerformed decision limitsByte settled asked concluded decisionBits accumulatorsLower accumulatorsUpper countersLower countersUpper maximumExceeded worth convertOf rateFor scaled applied verification sentIad pairsOf iadBytes isCvr isWritable writeIad written secondPerformed unablePerformed closed
+unfolding printed sent printedLines standsFor allStandFor answers answerLine digit decimal hex refusalLine startLine cryptogramLine
+    freshState freshIn number rulesIn rateIn profileIn accumulatorIn counterIn stepOf startStep firstStep secondStep findProfile
+    firstPerformed decision limitsByte settled asked concluded decisionBits accumulatorsLower accumulatorsUpper countersLower countersUpper
+    maximumExceeded worth convertOf rateFor scaled applied verification sentIad pairsOf iadBytes isCvr isWritable writeIad written
+    secondPerformed unablePerformed closed
 worked = refl
 
 -- DOCUMENT 01'S SITTING, FROM THE BYTES OF ITS PAPER TO THE BYTES OF ITS LINES
-pub printed-text : (words : List ℕ) → length words ≡ 164 → sittingLines words printed ≡ printedLines
+pub printed-text : (words : List ℕ) → length words ≡ wordCount → sittingLines words printed ≡ printedLines
 printed-text words lent = printed-lines words lent ∙ worked

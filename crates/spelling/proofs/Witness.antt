@@ -8,7 +8,11 @@ use lib.Dec.{T, ltb, lit<, lit≤}
 use lib.ListN.{length}
 use Rattle.wire.specs.Wire.{number}
 use Rattle.wire.proofs.Pairs.{both}
-use Rattle.ranges.specs.Ranges.{isSetup, hasLength, isHead, areAccumulators, isAccumulator, areProfiles, isProfileOrAbsent, isProfile, areMasks, isMaximumAmount, areAccumulatorRules, isAccumulatorRule, areCounterRules, areSent, areNumbersApart, profileNumber, areConversions, isConversionOrAbsent, isConversion, conversionPair, arePairsApart}
+use Rattle.rules.specs.Word.{wordCount}
+use Rattle.ranges.specs.Ranges.{isSetup, hasLength, isHead, areAccumulators, isAccumulator}
+use Rattle.ranges.specs.Ranges.{areProfiles, isProfileOrAbsent, isProfile, areMasks, isMaximumAmount, areAccumulatorRules, isAccumulatorRule}
+use Rattle.ranges.specs.Ranges.{areCounterRules, areSent, areNumbersApart, profileNumber}
+use Rattle.ranges.specs.Ranges.{areConversions, isConversionOrAbsent, isConversion, conversionPair, arePairsApart}
 use Rattle.setup.specs.Setup.{readSetup}
 use Rattle.shape.specs.declared.Selecting.the-variants.{On}
 use Rattle.shape.specs.declared.Shape.{Shape}
@@ -48,7 +52,9 @@ unfolding printed sent spellAll kindOf bodyOf recordOf big
 opens = record { is = refl; least = lit≤ tt; most = lit≤ tt; short = lit≤ tt }
 
 pub set-up : SetUp 1 body (based 159)
-unfolding printed shapeOf tailsOf baseTail readSetup isSetup hasLength isHead areAccumulators isAccumulator number areProfiles isProfileOrAbsent isProfile areMasks isMaximumAmount areAccumulatorRules isAccumulatorRule areCounterRules areSent areNumbersApart profileNumber areConversions isConversionOrAbsent isConversion conversionPair arePairsApart
+unfolding printed shapeOf tailsOf baseTail readSetup isSetup hasLength isHead areAccumulators isAccumulator number
+    areProfiles isProfileOrAbsent isProfile areMasks isMaximumAmount areAccumulatorRules isAccumulatorRule areCounterRules areSent
+    areNumbersApart profileNumber areConversions isConversionOrAbsent isConversion conversionPair arePairsApart
 set-up = record { shape-is = refl; base = refl }
 
 pub fit : AllFit byName sent
@@ -64,7 +70,8 @@ fit = (one, (buys 5000 (lit< tt), (one, (buys 1 (lit< tt), (cannot, (one, (buys 
   cannot = (one, lit< tt, lit< tt, lit< tt)
 
 -- THE PRINTED SITTING: THE LINES OF THE 242 BYTES ARE THOSE OF THE EIGHT THAT WERE SENT, AND NO MORE
-pub printed-lines : (words : List ℕ) → length words ≡ 164 → sittingLines words printed ≡ sittingOf (based 159) body {choice = byName} sent {rest = []} (ended refl)
+pub printed-lines : (words : List ℕ) → length words ≡ wordCount
+    → sittingLines words printed ≡ sittingOf (based 159) body {choice = byName} sent {rest = []} (ended refl)
 printed-lines words lent =
     lines-of words printed 1 body (spellAll sent) opens (based 159) set-up bytes lent sent [] fit (ended refl) (sym (append-nil (spellAll sent)))
 
@@ -93,7 +100,9 @@ unfolding selection brought spellAll kindOf bodyOf recordOf big
 brought-opens = record { is = refl; least = lit≤ tt; most = lit≤ tt; short = lit≤ tt }
 
 pub brought-set-up : SetUp 2 selectionBody selective
-unfolding selection shapeOf tailsOf baseTail selectionTail entriesEnd readSetup isSetup hasLength isHead areAccumulators isAccumulator number areProfiles isProfileOrAbsent isProfile areMasks isMaximumAmount areAccumulatorRules isAccumulatorRule areCounterRules areSent areNumbersApart profileNumber areConversions isConversionOrAbsent isConversion conversionPair arePairsApart
+unfolding selection shapeOf tailsOf baseTail selectionTail entriesEnd readSetup isSetup hasLength isHead areAccumulators isAccumulator number
+    areProfiles isProfileOrAbsent isProfile areMasks isMaximumAmount areAccumulatorRules isAccumulatorRule areCounterRules areSent
+    areNumbersApart profileNumber areConversions isConversionOrAbsent isConversion conversionPair arePairsApart
 brought-set-up = record { shape-is = refl; base = refl }
 
 pub brought-chosen : choiceIn (On 268 279 1) selectionBody ≡ chosen
@@ -109,7 +118,7 @@ brought-fit = (three 1 0 0x56 tt tt tt, (buys 5000 (lit< tt), (three 1 8 0x40 tt
   buys : (amount : ℕ) → amount < 256 ^ 8 → Fits chosen (first 1 amount 0x0978 0x22)
   buys amount h = (lit< tt, h, lit< tt, lit< tt)
 
-pub brought-lines : (words : List ℕ) → length words ≡ 164
+pub brought-lines : (words : List ℕ) → length words ≡ wordCount
     → sittingLines words selection ≡ sittingOf selective selectionBody {choice = chosen} brought {rest = []} (ended refl)
 unfolding selection
 brought-lines words lent =

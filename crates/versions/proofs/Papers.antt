@@ -196,7 +196,8 @@ module _ (version : ℕ) (known : Known version) (body rest : List ℕ) (short :
   part-of-body start end l h =
       let size : 4 + end - (4 + start) ≡ end - start = omega arith in
       let left : end - start ≤ length (drop start body) = omega (arith, length-drop start body) in
-      rw (size, drop-append-add (version ∷ (length body + 1) / 256 ∷ (length body + 1) % 256 ∷ 1 ∷ []) (body ++ rest) start, drop-append-le start body rest (omega arith))
+      let head : List ℕ = version ∷ (length body + 1) / 256 ∷ (length body + 1) % 256 ∷ 1 ∷ [] in
+      rw (size, drop-append-add head (body ++ rest) start, drop-append-le start body rest (omega arith))
       (take-append-le (end - start) (drop start body) rest left)
 
   -- its records are read by the file in its body
@@ -205,7 +206,8 @@ module _ (version : ℕ) (known : Known version) (body rest : List ℕ) (short :
   unfolding commandIn
   by-body shape lies kind b = by (shape .selecting) lies where
     by : (selecting : Selecting) → Lies selecting (length body)
-        → readBy (shapeAt 4 (record { base = 0; selecting = selecting; syllabus = 0 }) .selecting) (paperOf version body rest) kind b ≡ readBy selecting body kind b
+        → readBy (shapeAt 4 (record { base = 0; selecting = selecting; syllabus = 0 }) .selecting) (paperOf version body rest) kind b
+        ≡ readBy selecting body kind b
     by Off l = refl
     by (On start end entries) l =
         rw (
@@ -217,8 +219,8 @@ module _ (version : ℕ) (known : Known version) (body rest : List ℕ) (short :
         )
 
   -- ITS EVENTS, BY ITS BODY'S SHAPE
-  pub events-are : (words base : List ℕ) (reads : ℕ → List ℕ → ReadCommand) (read : ReadShape) → shapeOf version body ≡ read → Agrees body base reads read
-      → eventsOf words (paperOf version body rest) ≡ eventsShaped words base rest reads read
+  pub events-are : (words base : List ℕ) (reads : ℕ → List ℕ → ReadCommand) (read : ReadShape) → shapeOf version body ≡ read
+      → Agrees body base reads read → eventsOf words (paperOf version body rest) ≡ eventsShaped words base rest reads read
   unfolding eventsOf begunOf setupBegun baseBegun wordsBegun setupWords
   events-are words base reads (ShapeRefused refusal) e agrees = rw (opened, its-body, e)
   events-are words base reads (ShapeTaken shape) e agrees =

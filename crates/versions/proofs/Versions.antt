@@ -37,7 +37,8 @@ module _ (body : List ℕ) where
   newer = body ++ 0 ∷ []
 
   -- what lies in the body lies at the same places of both
-  same-reads : (shape : Shape) → Lies (shape .selecting) (length body) → (kind : ℕ) (b : List ℕ) → commandIn shape newer kind b ≡ commandIn shape body kind b
+  same-reads : (shape : Shape) → Lies (shape .selecting) (length body) → (kind : ℕ) (b : List ℕ)
+      → commandIn shape newer kind b ≡ commandIn shape body kind b
   unfolding commandIn
   same-reads shape lies kind b = by (shape .selecting) lies where
     by : (selecting : Selecting) → Lies selecting (length body) → readBy selecting newer kind b ≡ readBy selecting body kind b
@@ -52,9 +53,11 @@ module _ (body : List ℕ) where
           take-append-le (end - start) (drop start body) (0 ∷ []) left,
         )
 
-  module _ (older later : ℕ) (known : Known older) (known-later : Known later) (same : shapeOf later newer ≡ shapeOf older body) (words rest : List ℕ) where
+  module _ (older later : ℕ) (known : Known older) (known-later : Known later) (same : shapeOf later newer ≡ shapeOf older body)
+      (words rest : List ℕ) where
     -- THE LINES ARE THE SAME WHERE THE SHAPE IS
-    lines-as-older : length (paperOf later newer rest) ≤ 65536 → sittingLines words (paperOf later newer rest) ≡ sittingLines words (paperOf older body rest)
+    lines-as-older : length (paperOf later newer rest) ≤ 65536
+        → sittingLines words (paperOf later newer rest) ≡ sittingLines words (paperOf older body rest)
     unfolding sittingLines
     lines-as-older short = ap (linesOf 0) (by (shapeOf older body) refl) where
       before : length (paperOf older body rest) ≤ 65536
@@ -83,11 +86,13 @@ module _ (s : List ℕ) (sized : length s ≡ 52 + 107 * byte s 3 + 7 * byte s 4
 
   module _ (words rest : List ℕ) where
     -- A VERSION 01 PAPER'S LINES ARE THOSE OF THE VERSION 02 PAPER WITH SELECTION OFF
-    pub off-reads-as-older : length (paperOf 2 (newer s) rest) ≤ 65536 → sittingLines words (paperOf 2 (newer s) rest) ≡ sittingLines words (paperOf 1 s rest)
+    pub off-reads-as-older : length (paperOf 2 (newer s) rest) ≤ 65536
+        → sittingLines words (paperOf 2 (newer s) rest) ≡ sittingLines words (paperOf 1 s rest)
     off-reads-as-older = lines-as-older s 1 2 (lit≤ tt, lit≤ tt) (lit≤ tt, lit≤ tt) (selection-off s sized) words rest
 
     -- AND OF THE VERSION 03 PAPER WITH SELECTION OFF AND SYLLABUS 0
-    pub both-off-read-as-older : length (paperOf 3 newest rest) ≤ 65536 → sittingLines words (paperOf 3 newest rest) ≡ sittingLines words (paperOf 1 s rest)
+    pub both-off-read-as-older : length (paperOf 3 newest rest) ≤ 65536
+        → sittingLines words (paperOf 3 newest rest) ≡ sittingLines words (paperOf 1 s rest)
     both-off-read-as-older short =
         let twice : newer s ++ 0 ∷ [] ≡ newest = append-assoc s (0 ∷ []) (0 ∷ []) in
         let size : length (newer s) ≡ length s + 1 = length-append s (0 ∷ []) in
@@ -103,15 +108,18 @@ module _ (s : List ℕ) (sized : length s ≡ 52 + 107 * byte s 3 + 7 * byte s 4
     abbrev selecting-tail : List ℕ
     selecting-tail = 1 ∷ entries ∷ file
 
+    abbrev start : ℕ
+    start = length s + 2
+
+    abbrev end : ℕ
+    end = length s + 2 + length file
+
+    abbrev with-file : Shape
+    with-file = selects (based (length s)) start end entries
+
     module _ (behind : List ℕ) where
       abbrev body : List ℕ
       body = s ++ (selecting-tail ++ behind)
-
-      abbrev start : ℕ
-      start = length s + 2
-
-      abbrev end : ℕ
-      end = length s + 2 + length file
 
       long : length body ≡ end + length behind
       long = omega (arith, length-append s (selecting-tail ++ behind), length-append file behind)
@@ -136,7 +144,7 @@ module _ (s : List ℕ) (sized : length s ≡ 52 + 107 * byte s 3 + 7 * byte s 4
           eqb-true (entriesEnd body start entries) end
           (sym (file-ends body end (omega (arith, long)) entries start (omega arith)) ∙ ap (λ (f : List ℕ). isFile f entries) file-is ∙ good)
 
-      selection-ends : selectionTail body (based (length s)) (length s) ≡ Ended (selects (based (length s)) start end entries) end
+      selection-ends : selectionTail body (based (length s)) (length s) ≡ Ended with-file end
       unfolding selectionTail
       selection-ends =
           let switch : byte body (length s) ≡ 1 = getD-append-seam s 1 (entries ∷ file ++ behind) 0 in
@@ -144,17 +152,17 @@ module _ (s : List ℕ) (sized : length s ≡ 52 + 107 * byte s 3 + 7 * byte s 4
           rw (switch, count, entries-end, lt-leb (length body) (length s) (omega (arith, long)), le-ltb (length body) end (omega (arith, long)))
 
       -- a Start is read by the file in the body
-      by-file : (syllabus : ℕ) (terminal : List ℕ) → commandIn (follows (selects (based (length s)) start end entries) syllabus) body 2 terminal
+      by-file : (syllabus : ℕ) (terminal : List ℕ) → commandIn (follows with-file syllabus) body 2 terminal
           ≡ CommandTaken (StartCommand (record { chosen = selectionOf file entries terminal }))
       unfolding commandIn selectingOf
       by-file syllabus terminal = rw (le-leb start end (omega arith), le-leb end (length body) (omega (arith, long)), file-is)
 
-    shape-2 : shapeOf 2 (s ++ selecting-tail) ≡ Taken (selects (based (length s)) (length s + 2) (length s + 2 + length file) entries)
+    shape-2 : shapeOf 2 (s ++ selecting-tail) ≡ Taken with-file
     unfolding shapeOf tailsOf
     shape-2 =
         let nothing : s ++ (selecting-tail ++ []) ≡ s ++ selecting-tail = ap (λ (t : List ℕ). s ++ t) (append-nil selecting-tail) in
-        let ends : length s + 2 + length file ≡ length (s ++ selecting-tail) = omega (arith, length-append s selecting-tail) in
-        rw (rw nothing at (base-ends []), rw nothing at (selection-ends []), eq-eqb (length s + 2 + length file) (length (s ++ selecting-tail)) ends)
+        let ends : end ≡ length (s ++ selecting-tail) = omega (arith, length-append s selecting-tail) in
+        rw (rw nothing at (base-ends []), rw nothing at (selection-ends []), eq-eqb end (length (s ++ selecting-tail)) ends)
 
     -- A VERSION 02 PAPER'S STARTS ARE READ BY THE FILE BEHIND ITS SWITCH
     pub file-selects : (rest : List ℕ) → length (paperOf 2 (s ++ selecting-tail) rest) ≤ 65536 → (terminal : List ℕ)
@@ -162,39 +170,38 @@ module _ (s : List ℕ) (sized : length s ≡ 52 + 107 * byte s 3 + 7 * byte s 4
         ≡ CommandTaken (StartCommand (record { chosen = selectionOf file entries terminal }))
     file-selects rest short terminal =
         let nothing : s ++ (selecting-tail ++ []) ≡ s ++ selecting-tail = ap (λ (t : List ℕ). s ++ t) (append-nil selecting-tail) in
-        let shape = selects (based (length s)) (length s + 2) (length s + 2 + length file) entries in
-        rw (shaped 2 (lit≤ tt, lit≤ tt) (s ++ selecting-tail) rest short shape shape-2)
-        (by-body 2 (lit≤ tt, lit≤ tt) (s ++ selecting-tail) rest short shape (inside (s ++ selecting-tail) 2 shape shape-2 .file) 2 terminal
+        rw (shaped 2 (lit≤ tt, lit≤ tt) (s ++ selecting-tail) rest short with-file shape-2)
+        (by-body 2 (lit≤ tt, lit≤ tt) (s ++ selecting-tail) rest short with-file (inside (s ++ selecting-tail) 2 with-file shape-2 .file) 2 terminal
         ∙ rw nothing at (by-file [] 0 terminal))
 
     module _ (syllabus : ℕ) (h : syllabus ≤ 1) where
       abbrev with-syllabus : List ℕ
       with-syllabus = s ++ (selecting-tail ++ syllabus ∷ [])
 
-      syllabus-ends : (shape : Shape) → syllabusTail with-syllabus shape (length s + 2 + length file) ≡ Ended (follows shape syllabus) (length s + 2 + length file + 1)
+      syllabus-ends : (shape : Shape) → syllabusTail with-syllabus shape end ≡ Ended (follows shape syllabus) (end + 1)
       unfolding syllabusTail
       syllabus-ends shape =
-          let place : length s + length selecting-tail ≡ length s + 2 + length file = omega arith in
-          let last : byte with-syllabus (length s + 2 + length file) ≡ syllabus =
+          let place : length s + length selecting-tail ≡ end = omega arith in
+          let last : byte with-syllabus end ≡ syllabus =
           ap (byte with-syllabus) (sym place) ∙ getD-append-add s (selecting-tail ++ syllabus ∷ []) (length selecting-tail) 0
           ∙ getD-append-seam selecting-tail syllabus [] 0 in
-          rw (last, lt-leb (length with-syllabus) (length s + 2 + length file) (omega (arith, long (syllabus ∷ []))), le-ltb 1 syllabus h)
+          rw (last, lt-leb (length with-syllabus) end (omega (arith, long (syllabus ∷ []))), le-ltb 1 syllabus h)
 
-      shape-3 : shapeOf 3 with-syllabus ≡ Taken (follows (selects (based (length s)) (length s + 2) (length s + 2 + length file) entries) syllabus)
+      shape-3 : shapeOf 3 with-syllabus ≡ Taken (follows with-file syllabus)
       unfolding shapeOf tailsOf
       shape-3 =
-          let shape = selects (based (length s)) (length s + 2) (length s + 2 + length file) entries in
-          let ends : length s + 2 + length file + 1 ≡ length with-syllabus = omega (arith, long (syllabus ∷ [])) in
-          rw (base-ends (syllabus ∷ []), selection-ends (syllabus ∷ []), syllabus-ends shape, eq-eqb (length s + 2 + length file + 1) (length with-syllabus) ends)
+          let ends : end + 1 ≡ length with-syllabus = omega (arith, long (syllabus ∷ [])) in
+          rw (base-ends (syllabus ∷ []), selection-ends (syllabus ∷ []), syllabus-ends with-file, eq-eqb (end + 1) (length with-syllabus) ends)
 
     -- AND SO ARE A VERSION 03 PAPER'S, WHATEVER ITS SYLLABUS
     pub file-selects-3 : (syllabus : ℕ) → syllabus ≤ 1 → (rest : List ℕ)
         → length (paperOf 3 (s ++ (selecting-tail ++ syllabus ∷ [])) rest) ≤ 65536 → (terminal : List ℕ)
-        → commandIn (begunOf (paperOf 3 (s ++ (selecting-tail ++ syllabus ∷ [])) rest) .shape) (paperOf 3 (s ++ (selecting-tail ++ syllabus ∷ [])) rest) 2 terminal
+        → commandIn (begunOf (paperOf 3 (s ++ (selecting-tail ++ syllabus ∷ [])) rest) .shape)
+        (paperOf 3 (s ++ (selecting-tail ++ syllabus ∷ [])) rest) 2 terminal
         ≡ CommandTaken (StartCommand (record { chosen = selectionOf file entries terminal }))
     file-selects-3 syllabus h rest short terminal =
         let there = s ++ (selecting-tail ++ syllabus ∷ []) in
-        let shape = follows (selects (based (length s)) (length s + 2) (length s + 2 + length file) entries) syllabus in
+        let shape = follows with-file syllabus in
         rw (shaped 3 (lit≤ tt, lit≤ tt) there rest short shape (shape-3 syllabus h))
         (by-body 3 (lit≤ tt, lit≤ tt) there rest short shape (inside there 3 shape (shape-3 syllabus h) .file) 2 terminal
         ∙ by-file (syllabus ∷ []) syllabus terminal)

@@ -11,11 +11,19 @@ returns c = simp (sym (c .before .before .before .find-profile .ensures) ∙ c .
 
 returns-2 : tie.Need-returns-2
 unfolding openingStep
-returns-2 c = simp (sym (c .before .before .before .before .before .before .find-profile .ensures) ∙ c .before .before .before .before .place .given .1, eq-eqb _ _ (c .before .if1 .taken), c .refuse2 .ensures)
+returns-2 c =
+    let tested = c .before in
+    let found = tested .before .before .before in
+    let is = sym (found .before .before .find-profile .ensures) ∙ found .place .given .1 in
+    simp (is, eq-eqb _ _ (tested .if1 .taken), c .refuse2 .ensures)
 
 returns-3 : tie.Need-returns-3
 unfolding openingStep
-returns-3 c = simp (sym (c .before .before .before .before .before .before .before .before .find-profile .ensures) ∙ c .before .before .before .before .before .before .place .given .1, ne-eqb _ _ (c .before .before .before .if1 .left))
+returns-3 c =
+    let tested = c .before .before .before in
+    let found = tested .before .before .before in
+    let is = sym (found .before .before .find-profile .ensures) ∙ found .place .given .1 in
+    simp (is, ne-eqb _ _ (tested .if1 .left))
 
 pub open-profile-spec : {M : Type 1} → statement M
 open-profile-spec = tie.close (tie.spec (search needs) (search needs) (search needs) (search needs) returns (search needs) returns-2 (search needs) returns-3)

@@ -10,11 +10,15 @@ returns c = simp (lt-ltb _ _ (c .before .if1 .taken), c .refuse .ensures)
 
 returns-2 : tie.Need-returns-2
 unfolding firstTaken
-returns-2 c = simp (le-ltb _ _ (c .before .before .before .before .if1 .left), simp (c .before .before .is-currency .ensures) at (c .before .if2 .taken), c .perform .ensures)
+returns-2 c =
+    let tested = c .before .before in
+    simp (le-ltb _ _ (tested .before .before .if1 .left), simp (tested .is-currency .ensures) at (c .before .if2 .taken), c .perform .ensures)
 
 returns-3 : tie.Need-returns-3
 unfolding firstTaken
-returns-3 c = simp (le-ltb _ _ (c .before .before .before .before .if1 .left), simp (c .before .before .is-currency .ensures) at (c .before .if2 .left), c .refuse2 .ensures)
+returns-3 c =
+    let tested = c .before .before in
+    simp (le-ltb _ _ (tested .before .before .if1 .left), simp (tested .is-currency .ensures) at (c .before .if2 .left), c .refuse2 .ensures)
 
 pub take-first-spec : {M : Type 1} → statement M
 take-first-spec = tie.close (tie.spec (search needs) returns (search needs) (search needs) returns-2 (search needs) returns-3)

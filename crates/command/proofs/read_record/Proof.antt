@@ -9,15 +9,17 @@ use Rattle.command.proofs.read_record.Tie as tie
 returns : tie.Need-returns
 unfolding commandIn
 returns c =
-    let a = c .before .before .before .before .before .args in
-    let told = sym (c .before .before .selects .ensures) ∙ c .before .if1 .taken in
+    let tested = c .before .before in
+    let a = tested .before .before .before .args in
+    let told = sym (tested .selects .ensures) ∙ c .before .if1 .taken in
     simp (selected (a .shape .selecting) (now (a .paper)) (a .kind) (now (a .body)) told, c .select-profile .ensures)
 
 returns-2 : tie.Need-returns-2
 unfolding commandIn
 returns-2 c =
-    let a = c .before .before .before .before .before .args in
-    let told = sym (c .before .before .selects .ensures) ∙ c .before .if1 .left in
+    let tested = c .before .before in
+    let a = tested .before .before .before .args in
+    let told = sym (tested .selects .ensures) ∙ c .before .if1 .left in
     simp (unselected (a .shape .selecting) (now (a .paper)) (a .kind) (now (a .body)) told, c .read-command .ensures)
 
 pub read-record-spec : {M : Type 1} → statement M

@@ -12,11 +12,6 @@ sub-take-setup c =
     let read = c .before .before .before in
     setup-inside (now (read .before .before .args .paper)) _ _ _ (sym (read .open-paper .ensures) ∙ c .before .version .given .1) .0
 
-part-take-setup-start : tie.Need-part-take-setup-start
-part-take-setup-start c =
-    let read = c .before .before .before in
-    setup-inside (now (read .before .before .args .paper)) _ _ _ (sym (read .open-paper .ensures) ∙ c .before .version .given .1) .0
-
 part-take-setup-end : tie.Need-part-take-setup-end
 part-take-setup-end c =
     let read = c .before .before .before in
@@ -41,7 +36,8 @@ returns c =
 returns-2 : tie.Need-returns-2
 unfolding begunOf wordsBegun
 returns-2 c =
-    let version = c .before .before .before .before in
+    let part = c .before .before in
+    let version = part .before .before in
     let opened = sym (version .before .before .open-paper .ensures) ∙ version .version .given .1 in
     let taken = c .take-setup .ensures in
     (simp (opened, taken .0), simp (opened, taken .1))
@@ -49,4 +45,5 @@ returns-2 c =
 pub begin-spec : {M : Type 1} → statement M
 begin-spec =
     tie.close
-    (tie.spec (search needs) (search needs) (search needs) (search needs) sub-take-setup part-take-setup-start part-take-setup-end take-setup-requires returns returns-2)
+    (tie.spec (search needs) (search needs) (search needs) (search needs) sub-take-setup
+    sub-take-setup part-take-setup-end take-setup-requires returns returns-2)

@@ -12,12 +12,6 @@ sub-read-record c =
     let a = read .before .before .args in
     record-inside (now (a .paper)) (a .at) _ _ _ (sym (read .record-at .ensures) ∙ c .before .kind .given .1) .0
 
-part-read-record-start : tie.Need-part-read-record-start
-part-read-record-start c =
-    let read = c .before .before .before in
-    let a = read .before .before .args in
-    record-inside (now (a .paper)) (a .at) _ _ _ (sym (read .record-at .ensures) ∙ c .before .kind .given .1) .0
-
 part-read-record-end : tie.Need-part-read-record-end
 part-read-record-end c =
     let read = c .before .before .before in
@@ -35,11 +29,13 @@ returns-2 c = simp (sym (c .before .before .record-at .ensures) ∙ c .enum-told
 returns-3 : tie.Need-returns-3
 unfolding takenOf
 returns-3 c =
-    let record-met = c .before .before .before .before in
+    let part = c .before .before in
+    let record-met = part .before .before in
     let next = sym (record-met .before .before .record-at .ensures) ∙ record-met .kind .given .1 in
     simp (next, c .answer .ensures, c .before .read-record .ensures)
 
 pub take-spec : {M : Type 1} → statement M
 take-spec =
     tie.close
-    (tie.spec (search needs) (search needs) (search needs) (search needs) sub-read-record part-read-record-start part-read-record-end (search needs) (search needs) returns returns-2 returns-3)
+    (tie.spec (search needs) (search needs) (search needs) (search needs) sub-read-record
+    sub-read-record part-read-record-end (search needs) (search needs) returns returns-2 returns-3)

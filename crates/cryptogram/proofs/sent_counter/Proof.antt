@@ -1,23 +1,20 @@
 use borrow.Author.Needs.{needs}
-use mathlib.Core.Path.{sym}
-use Rattle.cryptogram.proofs.Sent.{none-sent}
+use native.Mathlib.Omega.{arith}
+use Rattle.cryptogram.proofs.Sent.{one-of-four}
 use Rattle.cryptogram.proofs.sent_counter.Statement.{statement}
 use Rattle.cryptogram.proofs.sent_counter.Tie as tie
 
 returns : tie.Need-returns
-returns c = rw (c .if1 .taken)
+returns c = simp (c .if1 .taken)
+
+sub-result : tie.Need-sub-result
+sub-result c = omega (arith, one-of-four (c .before .args .number) (c .if1 .left) .0)
+
+array-read-result : tie.Need-array-read-result
+array-read-result c = let named = one-of-four (c .before .args .number) (c .if1 .left) in omega (arith, named .0, named .1)
 
 returns-2 : tie.Need-returns-2
-returns-2 c = rw (c .if2 .taken)
-
-returns-3 : tie.Need-returns-3
-returns-3 c = rw (c .if3 .taken)
-
-returns-4 : tie.Need-returns-4
-returns-4 c = rw (c .if4 .taken)
-
-returns-5 : tie.Need-returns-5
-returns-5 c = sym (none-sent _ _ _ (c .before .before .before .if1 .left) (c .before .before .if2 .left) (c .before .if3 .left) (c .if4 .left))
+returns-2 c = simp (c .if1 .left)
 
 pub sent-counter-spec : {M : Type 1} → statement M
-sent-counter-spec = tie.close (tie.spec (search needs) returns (search needs) returns-2 (search needs) returns-3 (search needs) returns-4 returns-5)
+sent-counter-spec = tie.close (tie.spec returns sub-result array-read-result returns-2)

@@ -36,4 +36,8 @@ returns c =
     )
 
 pub verify-spec : {M : Type 1} → statement M
-verify-spec = tie.close (tie.spec (search needs) (search needs) (search needs) (search needs) (search needs) (search needs) (search needs) (search needs) (search needs) (search needs) (search needs) mul-t18 (search needs) (search needs) add-t22 (search needs) add-t24 (search needs) (search needs) (search needs) (search needs) returns)
+verify-spec =
+    tie.close
+    (tie.spec (search needs) (search needs) (search needs) (search needs) (search needs) (search needs) (search needs)
+    (search needs) (search needs) (search needs) (search needs) mul-t18 (search needs) (search needs) add-t22
+    (search needs) add-t24 (search needs) (search needs) (search needs) (search needs) returns)

@@ -1,49 +1,38 @@
 -- The loop's invariant: no comparison value before value i is equal.
 use borrow.Author.Needs.{needs}
-use denote.Ref.{now}
-use mathlib.Core.Path.{_≡_, refl, sym, ap, _∙_}
-use Prim.Native.Nat.{ℕ, _-_}
-use lib.Dec.{eqb}
-use Rattle.entry.specs.Entry.{masked, block, isAnyOf, isEqual}
-use Rattle.entry.proofs.Compared.{equal-is, none-left, found, passed}
+use mathlib.Core.Path.{_≡_, sym, _∙_}
+use Prim.Native.Nat.{_-_}
+use Rattle.entry.specs.Entry.{blocks, masked, isAnyOf}
+use Rattle.entry.proofs.Compared.{is-told, none-left, found, passed}
 use Rattle.entry.proofs.matches_any.Statement.{statement}
 use Rattle.entry.proofs.matches_any.Tie as tie
 
 abbrev Inv-loop : tie.InvT-loop
-Inv-loop entry «data» blocks i₀ i =
-    isAnyOf (masked entry «data») entry i (blocks - i) ≡ isAnyOf (masked entry «data») entry 1 (blocks - 1)
+Inv-loop entry «data» n i₀ i =
+    isAnyOf (masked entry «data») entry i (n - i) ≡ isAnyOf (masked entry «data») entry 1 (blocks entry - 1)
 
 abbrev μ-loop : tie.MeasureT-loop
-μ-loop entry «data» blocks i₀ i = blocks - i
+μ-loop entry «data» n i₀ i = n - i
 
--- what a turn's comparison shows
-turned : (c : tie.After-is-equal Inv-loop μ-loop) →
-    (let a = c .before .before .before .before .before .before .before .args in
-    eqb (masked (now (a .entry)) (now (a .«data»))) (block (now (a .entry)) (c .before .before .before .loop .i)) ≡ c .is-equal .result)
-turned c = sym (equal-is _ _) ∙ ap isEqual (sym (c .before .compare .ensures)) ∙ sym (c .is-equal .ensures)
+loop-holds : tie.Need-loop-holds Inv-loop μ-loop
+loop-holds c = rw (c .byte-at .ensures)
 
 returns : tie.Need-returns Inv-loop μ-loop
 returns c =
-    let l = c .before .before .before .before in
-    let a = l .before .before .before .before .args in
-    let x = masked (now (a .entry)) (now (a .«data»)) in
-    sym (found x (now (a .entry)) _ _ (c .before .before .before .loop-test .taken) (turned (c .before) ∙ c .if1 .taken)) ∙ l .loop .inv
-    ∙ ap (λ (n : ℕ). isAnyOf x (now (a .entry)) 1 (n - 1)) (l .before .byte-at .ensures)
+    let turn = c .before .before .before in
+    let same = is-told _ _ _ _ (c .before .before .compare .ensures) (c .before .is-equal .ensures) in
+    sym (found _ _ _ _ (turn .loop-test .taken) (same ∙ c .if1 .taken)) ∙ turn .before .loop .inv
 
 loop-again : tie.Need-loop-again Inv-loop μ-loop
 loop-again c =
-    let l = c .before .before .before .before in
-    sym (passed _ _ _ _ (c .before .before .before .loop-test .taken) (turned (c .before) ∙ c .if1 .left)) ∙ l .loop .inv
+    let turn = c .before .before .before in
+    let same = is-told _ _ _ _ (c .before .before .compare .ensures) (c .before .is-equal .ensures) in
+    sym (passed _ _ _ _ (turn .loop-test .taken) (same ∙ c .if1 .left)) ∙ turn .before .loop .inv
 
 returns-2 : tie.Need-returns-2 Inv-loop μ-loop
-returns-2 c =
-    let l = c .before in
-    let a = l .before .before .before .before .args in
-    let x = masked (now (a .entry)) (now (a .«data»)) in
-    sym (none-left x (now (a .entry)) _ _ (c .loop-test .left)) ∙ l .loop .inv
-    ∙ ap (λ (n : ℕ). isAnyOf x (now (a .entry)) 1 (n - 1)) (l .before .byte-at .ensures)
+returns-2 c = sym (none-left _ _ _ _ (c .loop-test .left)) ∙ c .before .loop .inv
 
 pub matches-any-spec : {M : Type 1} → statement M
 matches-any-spec =
     tie.close
-    (tie.spec Inv-loop μ-loop (search needs) (λ c. refl) (search needs) (search needs) returns (search needs) (search needs) loop-again returns-2)
+    (tie.spec Inv-loop μ-loop (search needs) loop-holds (search needs) (search needs) returns (search needs) (search needs) loop-again returns-2)

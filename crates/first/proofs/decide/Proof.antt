@@ -76,4 +76,6 @@ returns-7 c =
     )
 
 pub decide-spec : {M : Type 1} → statement M
-decide-spec = tie.close (tie.spec returns (search needs) returns-2 returns-3 (search needs) (search needs) returns-4 returns-5 (search needs) returns-6 returns-7)
+decide-spec =
+    tie.close
+    (tie.spec returns (search needs) returns-2 returns-3 (search needs) (search needs) returns-4 returns-5 (search needs) returns-6 returns-7)

@@ -8,10 +8,20 @@ use Rattle.iad.proofs.encode.Tie as tie
 returns : tie.Need-returns
 unfolding iadBytes
 returns c =
-    let d = c .before .before .before in
-    simp (six-pairs, c .pair-of6 .ensures, c .before .pair-of5 .ensures, c .before .before .pair-of4 .ensures, d .pair-of3 .ensures, d .before .pair-of2 .ensures, d .before .before .pair-of .ensures)
+    let third = c .before .before .before in
+    simp (
+      six-pairs,
+      c .pair-of6 .ensures,
+      c .before .pair-of5 .ensures,
+      c .before .before .pair-of4 .ensures,
+      third .pair-of3 .ensures,
+      third .before .pair-of2 .ensures,
+      third .before .before .pair-of .ensures,
+    )
 
 pub encode-spec : {M : Type 1} → statement M
 encode-spec =
     tie.close
-    (tie.spec (search needs) (search needs) (search needs) (search needs) (search needs) (search needs) (search needs) (search needs) (search needs) (search needs) (search needs) (search needs) (search needs) (search needs) (search needs) (search needs) (search needs) (search needs) (search needs) (search needs) (search needs) (search needs) (search needs) (search needs) returns)
+    (tie.spec (search needs) (search needs) (search needs) (search needs) (search needs) (search needs) (search needs) (search needs)
+    (search needs) (search needs) (search needs) (search needs) (search needs) (search needs) (search needs) (search needs)
+    (search needs) (search needs) (search needs) (search needs) (search needs) (search needs) (search needs) (search needs) returns)

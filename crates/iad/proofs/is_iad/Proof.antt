@@ -12,8 +12,16 @@ returns c = simp (ne-eqb _ _ (c .if1 .taken))
 returns-2 : tie.Need-returns-2
 unfolding isIad
 returns-2 c =
-    let d = c .before .before .before in
-    simp (eq-eqb _ _ (d .before .before .before .if1 .left), c .is-profile .ensures, c .before .byte-at .ensures, c .before .before .are-pairs .ensures, d .is-cvr .ensures, d .before .cvr-of .ensures, d .before .before .has-fixed-bytes .ensures)
+    let cvr = c .before .before .before in
+    simp (
+      eq-eqb _ _ (cvr .before .before .before .if1 .left),
+      c .is-profile .ensures,
+      c .before .byte-at .ensures,
+      c .before .before .are-pairs .ensures,
+      cvr .is-cvr .ensures,
+      cvr .before .cvr-of .ensures,
+      cvr .before .before .has-fixed-bytes .ensures,
+    )
 
 pub is-iad-spec : {M : Type 1} → statement M
 is-iad-spec =

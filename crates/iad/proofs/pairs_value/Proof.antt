@@ -41,4 +41,5 @@ returns c = let six : c .before .loop .i ≡ 6 = omega arith in rw six at (c .be
 pub pairs-value-spec : {M : Type 1} → statement M
 pairs-value-spec =
     tie.close
-    (tie.spec Inv-loop μ-loop loop-holds mul-amount (search needs) (search needs) (search needs) (search needs) add-amount (search needs) (search needs) loop-again returns)
+    (tie.spec Inv-loop μ-loop loop-holds mul-amount (search needs) (search needs) (search needs) (search needs) add-amount
+    (search needs) (search needs) loop-again returns)

@@ -8,7 +8,10 @@ use Rattle.import.proofs.encode.Tie as tie
 
 returns : tie.Need-returns
 unfolding newBytes
-returns c = rw (eight (c .before .before .before .before .before .before .before .args .new .mta .0)) (unfold bytesOf in refl)
+returns c = rw eight (unfold bytesOf in refl)
 
 pub encode-spec : {M : Type 1} → statement M
-encode-spec = tie.close (tie.spec (search needs) (search needs) (search needs) (search needs) (search needs) (search needs) (search needs) (search needs) (search needs) (search needs) (search needs) (search needs) (search needs) (search needs) returns)
+encode-spec =
+    tie.close
+    (tie.spec (search needs) (search needs) (search needs) (search needs) (search needs) (search needs) (search needs)
+    (search needs) (search needs) (search needs) (search needs) (search needs) (search needs) (search needs) returns)

@@ -13,14 +13,17 @@ returns c = simp (sym (c .before .are-currencies .ensures) ∙ not-true _ (c .if
 returns-2 : tie.Need-returns-2
 unfolding takeOver
 returns-2 c =
-    let d = c .before .before .before .before in
-    simp (sym (d .before .before .are-currencies .ensures) ∙ not-false _ (d .before .if1 .left), sym (d .rate-of .ensures) ∙ c .before .before .found .given .1, c .with-mta .ensures)
+    let found = c .before .before in
+    let rate = found .before .before in
+    let codes = sym (rate .before .before .are-currencies .ensures) ∙ not-false _ (rate .before .if1 .left) in
+    simp (codes, sym (rate .rate-of .ensures) ∙ found .found .given .1, c .with-mta .ensures)
 
 returns-3 : tie.Need-returns-3
 unfolding takeOver
 returns-3 c =
-    let d = c .before .before in
-    simp (sym (d .before .before .are-currencies .ensures) ∙ not-false _ (d .before .if1 .left), sym (d .rate-of .ensures) ∙ c .enum-told .given .1)
+    let rate = c .before .before in
+    let codes = sym (rate .before .before .are-currencies .ensures) ∙ not-false _ (rate .before .if1 .left) in
+    simp (codes, sym (rate .rate-of .ensures) ∙ c .enum-told .given .1)
 
 pub take-over-spec : {M : Type 1} → statement M
 take-over-spec = tie.close (tie.spec (search needs) returns (search needs) (search needs) (search needs) (search needs) returns-2 returns-3)

@@ -24,21 +24,18 @@ loop-holds : tie.Need-loop-holds Inv-loop μ-loop
 unfolding hex
 loop-holds c = search needs
 
--- a byte is below 256
-hex-digit-requires : tie.Need-hex-digit-requires Inv-loop μ-loop
-hex-digit-requires c κs = omega (arith, c .shared-slice-known2 .given (c .before .before .loop .i))
-
 stored : (text : List ℕ) (at byte high low : ℕ) → high ≡ hexDigit (byte / 16) → low ≡ hexDigit (byte % 16)
     → Stored text at (hexByte byte) 2 (at + 2) (set (set text at high) (at + 1) low)
 stored text at byte high low p q = record { is = rw (p, q, add-one at) refl; behind = refl; short = omega arith }
 
 loop-again : tie.Need-loop-again Inv-loop μ-loop
 loop-again c =
-    let at-loop = c .before .before .before .before .before in
+    let upper = c .before .before in
+    let at-loop = upper .before .before .before in
     let bytes = at-loop .before .before .args .bytes .now in
     let i = at-loop .loop .i in
     let two : 2 * (i + 1) ≡ 2 * i + 2 = omega arith in
-    let more = stored (at-loop .loop .text) (2 * i) (getD bytes i 0) _ _ (c .before .before .hex-digit .ensures) (c .hex-digit2 .ensures) in
+    let more = stored (at-loop .loop .text) (2 * i) (getD bytes i 0) _ _ (upper .upper-digit .ensures) (c .lower-digit .ensures) in
     (rw (two, hex-more bytes i (omega arith)) (next (at-loop .loop .inv .0) more), omega arith, simp length-set (at-loop .loop .inv .2))
 
 returns : tie.Need-returns Inv-loop μ-loop
@@ -54,4 +51,5 @@ returns c =
 pub hex-of-spec : {M : Type 1} → statement M
 hex-of-spec =
     tie.close
-    (tie.spec Inv-loop μ-loop loop-holds (search needs) hex-digit-requires (search needs) (search needs) (search needs) (search needs) (search needs) (search needs) (search needs) (search needs) (search needs) loop-again returns)
+    (tie.spec Inv-loop μ-loop loop-holds (search needs) (search needs) (search needs) (search needs) (search needs)
+    (search needs) (search needs) (search needs) (search needs) (search needs) (search needs) loop-again returns)

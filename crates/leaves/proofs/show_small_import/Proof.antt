@@ -11,4 +11,6 @@ slice-aggregate-import-record c =
     sym (length-take-le 14 (now (tested .before .before .before .args .room)) (tested .if1 .taken))
 
 pub show-small-import-spec : {M : Type 1} → statement M
-show-small-import-spec = tie.close (tie.spec (search needs) (search needs) slice-aggregate-import-record (search needs) (search needs) (search needs) (search needs) (search needs))
+show-small-import-spec =
+    tie.close
+    (tie.spec (search needs) (search needs) slice-aggregate-import-record (search needs) (search needs) (search needs) (search needs) (search needs))

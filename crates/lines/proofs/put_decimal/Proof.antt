@@ -8,14 +8,23 @@ use Rattle.lines.proofs.put_decimal.Tie as tie
 returns : tie.Need-returns
 unfolding decimal
 returns c =
-    let last = c .before .before .before .before .before .before in
-    let d4 = last .before .before .before .before in
-    let d3 = d4 .before .before .before .before in
-    let d2 = d3 .before .before .before .before in
-    let d1 = d2 .before .before .before .before in
-    next
-    (next (next (next (next (d1 .put-digit .ensures) (d2 .put-digit2 .ensures)) (d3 .put-digit3 .ensures)) (d4 .put-digit4 .ensures)) (last .put-byte .ensures))
-    (c .before .before .put-byte2 .ensures)
+    let mark = c .before .before in
+    let to-last = mark .before .before in
+    let last = to-last .before .before in
+    let to-tens = last .before .before in
+    let tens = to-tens .before .before in
+    let to-hundreds = tens .before .before in
+    let hundreds = to-hundreds .before .before in
+    let to-thousands = hundreds .before .before in
+    let thousands = to-thousands .before .before in
+    let to-first = thousands .before .before in
+    let first = to-first .before .before in
+    let two = next (first .put-digit .ensures) (thousands .put-digit2 .ensures) in
+    let four = next (next two (hundreds .put-digit3 .ensures)) (tens .put-digit4 .ensures) in
+    next (next four (last .put-byte .ensures)) (mark .put-byte2 .ensures)
 
 pub put-decimal-spec : {M : Type 1} → statement M
-put-decimal-spec = tie.close (tie.spec (search needs) (search needs) (search needs) (search needs) (search needs) (search needs) (search needs) (search needs) (search needs) returns)
+put-decimal-spec =
+    tie.close
+    (tie.spec (search needs) (search needs) (search needs) (search needs) (search needs) (search needs) (search needs) (search needs)
+    (search needs) returns)

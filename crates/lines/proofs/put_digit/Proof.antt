@@ -11,7 +11,9 @@ returns c = simp (lt-ltb _ _ (c .if1 .taken)) (search needs)
 
 returns-2 : tie.Need-returns-2
 unfolding digit
-returns-2 c = simp (le-ltb _ _ (c .before .before .before .before .if1 .left)) (c .before .before .put-byte .ensures)
+returns-2 c =
+    let put = c .before .before in
+    simp (le-ltb _ _ (put .before .before .if1 .left)) (put .put-byte .ensures)
 
 pub put-digit-spec : {M : Type 1} → statement M
 put-digit-spec = tie.close (tie.spec returns (search needs) (search needs) (search needs) (search needs) (search needs) returns-2)

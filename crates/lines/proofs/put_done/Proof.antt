@@ -7,7 +7,11 @@ use Rattle.lines.proofs.put_done.Tie as tie
 
 returns : tie.Need-returns
 unfolding decimal digit
-returns c = next (c .before .before .before .before .before .before .put-byte .ensures) (c .before .before .put-byte2 .ensures)
+returns c =
+    let space = c .before .before in
+    let to-zero = space .before .before in
+    let zero = to-zero .before .before in
+    next (zero .put-byte .ensures) (space .put-byte2 .ensures)
 
 pub put-done-spec : {M : Type 1} → statement M
 put-done-spec = tie.close (tie.spec (search needs) (search needs) (search needs) returns)

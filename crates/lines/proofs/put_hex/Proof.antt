@@ -25,18 +25,22 @@ loop-holds c = search needs
 
 loop-again : tie.Need-loop-again Inv-loop μ-loop
 loop-again c =
-    let at-loop = c .before .before .before .before .before .before in
+    let put = c .before .before in
+    let read = put .before .before in
+    let at-loop = read .before .before in
     let bytes = at-loop .before .before .before .args .bytes .now in
     let i = at-loop .loop .i in
     let two : 2 * (i + 1) ≡ 2 * i + 2 = omega arith in
-    (rw (two, hex-more bytes i (omega arith)) (next (at-loop .loop .inv .0) (c .before .before .put-hex-byte .ensures)), search needs, search needs, search needs)
+    let more = next (at-loop .loop .inv .0) (put .put-hex-byte .ensures) in
+    (rw (two, hex-more bytes i (omega arith)) more, search needs, search needs, search needs)
 
 returns : tie.Need-returns Inv-loop μ-loop
 returns c =
-    let at-loop = c .before .before .before .before .before in
+    let mark = c .before .before in
+    let at-loop = mark .before .before .before in
     let bytes = at-loop .before .before .before .args .bytes .now in
     let all : at-loop .loop .i ≡ length bytes = omega arith in
-    next (rw (all, take-length bytes) at (at-loop .loop .inv .0)) (c .before .before .put-byte .ensures)
+    next (rw (all, take-length bytes) at (at-loop .loop .inv .0)) (mark .put-byte .ensures)
 
 pub put-hex-spec : {M : Type 1} → statement M
 put-hex-spec =

@@ -11,10 +11,12 @@ use Rattle.load.proofs.load.Tie as tie
 returns : tie.Need-returns
 unfolding loaded
 returns c =
-    let a = c .before .before .before .before .before .before .before .args in
+    let rates = c .before .before in
+    let head = rates .before .before in
+    let a = head .before .before .before .args in
     let s = now (a .s) in
-    let run1 : Run (now (a .words)) 0 (headWords s) 7 _ = record { is = c .before .before .before .before .load-head .ensures; size = head-size s } in
-    let run2 = behind _ _ _ 0 7 7 20 run1 (c .before .before .load-rates .ensures) (rates-size s) refl in
+    let run1 : Run (now (a .words)) 0 (headWords s) 7 _ = record { is = head .load-head .ensures; size = head-size s } in
+    let run2 = behind _ _ _ 0 7 7 20 run1 (rates .load-rates .ensures) (rates-size s) refl in
     let run3 = behind _ _ _ 0 27 27 136 run2 (c .load-profiles .ensures) (profiles-size s) refl in
     let run4 = behind _ _ (a .syllabus ∷ []) 0 163 163 1 run3 refl refl refl in
     run4 .is

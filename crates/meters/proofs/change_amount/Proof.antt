@@ -61,4 +61,7 @@ returns-6 c =
     simp (← rule .ensures, not-false (rule .result .active) (active .if1 .left), c .enum-told3 .given .1)
 
 pub change-amount-spec : {M : Type 1} → statement M
-change-amount-spec = tie.close (tie.spec (search needs) returns (search needs) (search needs) returns-2 (search needs) (search needs) (search needs) returns-3 returns-4 returns-5 returns-6)
+change-amount-spec =
+    tie.close
+    (tie.spec (search needs) returns (search needs) (search needs) returns-2
+    (search needs) (search needs) (search needs) returns-3 returns-4 returns-5 returns-6)

@@ -74,4 +74,7 @@ returns-7 c =
     simp (← rule .ensures, not-false (rule .result .active) (active .if1 .left), c .enum-told4 .given .1)
 
 pub change-count-spec : {M : Type 1} → statement M
-change-count-spec = tie.close (tie.spec (search needs) returns (search needs) (search needs) returns-2 (search needs) (search needs) returns-3 (search needs) (search needs) returns-4 returns-5 returns-6 returns-7)
+change-count-spec =
+    tie.close
+    (tie.spec (search needs) returns (search needs) (search needs) returns-2
+    (search needs) (search needs) returns-3 (search needs) (search needs) returns-4 returns-5 returns-6 returns-7)

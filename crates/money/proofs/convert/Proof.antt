@@ -13,24 +13,25 @@ returns c = simp (eq-eqb _ _ (c .if1 .taken), c .before .stop .ensures)
 
 scale-requires : tie.Need-scale-requires
 scale-requires c κs =
-    let spent = c .before .before .before .before .stop in
-    let bounds = rate-bounds (c .before .before .rate-for .result) (sym (c .before .is-rate .ensures) ∙ c .if2 .taken) in
-    (rw (spent .ensures) (stopped-most (c .before .before .before .before .before .args .amount .0)), bounds .0, bounds .1)
+    let rate = c .before .before in
+    let bounds = rate-bounds (rate .rate-for .result) (sym (c .before .is-rate .ensures) ∙ c .if2 .taken) in
+    (rw (rate .before .before .stop .ensures) (stopped-most (rate .before .before .before .args .amount .0)), bounds .0, bounds .1)
 
 returns-2 : tie.Need-returns-2
 unfolding convertOf
 returns-2 c =
-    let rate = c .before .before .before .before .rate-for in
-    let good : isRate (rate .result) ≡ true = sym (c .before .before .before .is-rate .ensures) ∙ c .before .before .if2 .taken in
-    rw (← rate .ensures)
-    (simp (ne-eqb _ _ (c .before .before .before .before .before .if1 .left), good, c .amount-or-over .ensures, c .before .scale .ensures, c .before .before .before .before .before .before .stop .ensures))
+    let test = c .before .before in
+    let rate = test .before .before in
+    let good : isRate (rate .rate-for .result) ≡ true = sym (test .before .is-rate .ensures) ∙ test .if2 .taken in
+    rw (← rate .rate-for .ensures)
+    (simp (ne-eqb _ _ (rate .before .if1 .left), good, c .amount-or-over .ensures, c .before .scale .ensures, rate .before .before .stop .ensures))
 
 returns-3 : tie.Need-returns-3
 unfolding convertOf
 returns-3 c =
-    let rate = c .before .before .rate-for in
-    let bad : isRate (rate .result) ≡ false = sym (c .before .is-rate .ensures) ∙ c .if2 .left in
-    rw (← rate .ensures) (simp (ne-eqb _ _ (c .before .before .before .if1 .left), bad))
+    let rate = c .before .before in
+    let bad : isRate (rate .rate-for .result) ≡ false = sym (c .before .is-rate .ensures) ∙ c .if2 .left in
+    rw (← rate .rate-for .ensures) (simp (ne-eqb _ _ (rate .before .if1 .left), bad))
 
 pub convert-spec : {M : Type 1} → statement M
 convert-spec =

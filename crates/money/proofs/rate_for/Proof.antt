@@ -16,13 +16,15 @@ abbrev μ-loop : tie.MeasureT-loop
 
 returns : tie.Need-returns Inv-loop μ-loop
 returns c =
-    let l = c .before .before .before .before in
-    sym (found _ _ _ (l .loop .i) (omega arith) (sym (c .before .is-for .ensures) ∙ c .if1 .taken)) ∙ l .loop .inv .1
+    let turn = c .before in
+    let l = turn .before .before .before .loop in
+    sym (found _ _ _ (l .i) (omega arith) (sym (turn .is-for .ensures) ∙ c .if1 .taken)) ∙ l .inv .1
 
 loop-again : tie.Need-loop-again Inv-loop μ-loop
 loop-again c =
-    let l = c .before .before .before .before in
-    (omega arith, sym (passed _ _ _ (l .loop .i) (omega arith) (sym (c .before .is-for .ensures) ∙ c .if1 .left)) ∙ l .loop .inv .1)
+    let turn = c .before in
+    let l = turn .before .before .before .loop in
+    (omega arith, sym (passed _ _ _ (l .i) (omega arith) (sym (turn .is-for .ensures) ∙ c .if1 .left)) ∙ l .inv .1)
 
 returns-2 : tie.Need-returns-2 Inv-loop μ-loop
 returns-2 c = sym (ended _ _ _ (c .before .loop .i) (omega arith)) ∙ c .before .loop .inv .1
@@ -30,15 +32,4 @@ returns-2 c = sym (ended _ _ _ (c .before .loop .i) (omega arith)) ∙ c .before
 pub rate-for-spec : {M : Type 1} → statement M
 rate-for-spec =
     tie.close
-    (tie.spec
-    Inv-loop
-    μ-loop
-    (search needs)
-    (search needs)
-    (search needs)
-    (search needs)
-    returns
-    (search needs)
-    (search needs)
-    loop-again
-    returns-2)
+    (tie.spec Inv-loop μ-loop (search needs) (search needs) (search needs) (search needs) returns (search needs) (search needs) loop-again returns-2)

@@ -13,7 +13,7 @@ use Rattle.money.proofs.scale.Tie as tie
 
 abbrev Inv-loop : tie.InvT-loop
 Inv-loop amount rate up product exponent power₀ i₀ power i =
-    (i ≤ exponent) × (exponent ≡ (9 - rate .shift) + (rate .shift - 9)) × (power ≡ 10 ^ i)
+    (i ≤ exponent) × (exponent ≡ (9 - rate .shift) + (rate .shift - 9)) × (power ≡ 10 ^ i) × (product ≤ 9998999999990001)
 
 abbrev μ-loop : tie.MeasureT-loop
 μ-loop amount rate up product exponent power₀ i₀ power i = exponent - i
@@ -22,7 +22,9 @@ mul-product : tie.Need-mul-product Inv-loop μ-loop
 mul-product c = let product = product-most (c .before .pre .0) (c .before .pre .1) in record { fits = omega arith }
 
 loop-holds : tie.Need-loop-holds Inv-loop μ-loop
-loop-holds c = (omega arith, ⊎-elim (λ w. omega arith) (λ w. omega arith) (c .if1 .came), refl)
+loop-holds c =
+    let pre = c .before .before .before .pre in
+    (omega arith, ⊎-elim (λ w. omega arith) (λ w. omega arith) (c .if1 .came), refl, product-most (pre .0) (pre .1))
 
 mul-power : tie.Need-mul-power Inv-loop μ-loop
 mul-power c =
@@ -33,53 +35,31 @@ mul-power c =
 loop-again : tie.Need-loop-again Inv-loop μ-loop
 loop-again c =
     let l = c .before .loop in
-    (omega arith, l .inv .1, ap (λ (power : ℕ). power * 10) (l .inv .2) ∙ sym (pow-add 10 (l .counter) 1))
+    (omega arith, l .inv .1, ap (λ (power : ℕ). power * 10) (l .inv .2) ∙ sym (pow-add 10 (l .counter) 1), l .inv .3)
 
 divide-requires : tie.Need-divide-requires Inv-loop μ-loop
 divide-requires c κs =
     let l = c .before .before .before .loop in
-    let pre = c .before .before .before .before .before .before .before .pre in
-    let product = product-most (pre .0) (pre .1) in
     let power = power-most {k = l .counter} (omega arith) in
     (rw (l .inv .2) (ten-pos _), omega (arith, l .inv .2))
 
 mul-result : tie.Need-mul-result Inv-loop μ-loop
 mul-result c =
     let l = c .before .before .before .loop in
-    let pre = c .before .before .before .before .before .before .before .pre in
-    rw (l .inv .2) (record { fits = shift-fits {k = l .counter} (pre .0) (pre .1) (omega arith) })
+    rw (l .inv .2) (record { fits = shift-fits {k = l .counter} (l .inv .3) (omega arith) })
 
 returns : tie.Need-returns Inv-loop μ-loop
 unfolding scaled
 returns c =
-    let l = c .before .before .before .before .loop in
-    let a = c .before .before .before .before .before .before .before .before .args in
-    let turns : l .counter ≡ 9 - a .rate .shift = omega arith in
-    simp (c .divide .ensures, l .inv .2, turns, divides (a .up) (a .amount * a .rate .digits) (a .rate .shift) (omega arith))
+    let test = c .before in
+    simp (c .divide .ensures, test .before .before .before .loop .inv .2) (divides _ _ _ _ (omega arith))
 
 returns-2 : tie.Need-returns-2 Inv-loop μ-loop
 unfolding scaled
-returns-2 c =
-    let l = c .before .before .before .loop in
-    let a = c .before .before .before .before .before .before .before .args in
-    let turns : l .counter ≡ a .rate .shift - 9 = omega arith in
-    simp (l .inv .2, turns, multiplies (a .up) (a .amount * a .rate .digits) (a .rate .shift) (omega arith))
+returns-2 c = simp (c .before .before .before .loop .inv .2) (multiplies _ _ _ _ (omega arith))
 
 pub scale-spec : {M : Type 1} → statement M
 scale-spec =
     tie.close
-    (tie.spec
-    Inv-loop
-    μ-loop
-    (search needs)
-    mul-product
-    (search needs)
-    loop-holds
-    mul-power
-    (search needs)
-    (search needs)
-    loop-again
-    divide-requires
-    mul-result
-    returns
-    returns-2)
+    (tie.spec Inv-loop μ-loop (search needs) mul-product (search needs) loop-holds mul-power (search needs) (search needs) loop-again
+    divide-requires mul-result returns returns-2)

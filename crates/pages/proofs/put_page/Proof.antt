@@ -2,7 +2,7 @@ use borrow.Author.Needs.{needs}
 use denote.Ref.{now}
 use mathlib.Core.Path.{_≡_, sym, _∙_}
 use native.Mathlib.Omega.{arith}
-use Rattle.pages.proofs.Told.{no-page, page}
+use Rattle.pages.proofs.Told.{no-page, page, after-length}
 use Rattle.pages.proofs.put_page.Statement.{statement}
 use Rattle.pages.proofs.put_page.Tie as tie
 
@@ -33,6 +33,13 @@ add-t11 c =
     let p = page (now (a .words)) (now (a .paper)) (now (a .room)) (a .at) _ (sym (e .0) ∙ c .before .end .given .1) in
     omega (arith, p .3, start .before .before .good)
 
+same-length-2 : tie.Need-same-length-2
+same-length-2 c =
+    let put = c .before .before .before .before .before in
+    let start = put .before .before .before in
+    let a = start .before .before .args in
+    rw (put .transcribe .ensures .1) (after-length (now (a .words)) (now (a .paper)) (now (a .room)) (a .at) _ 10)
+
 returns-2 : tie.Need-returns-2
 returns-2 c =
     let put = c .before .before .before .before .before in
@@ -43,4 +50,4 @@ returns-2 c =
     (p .1, rw (e .1) (p .2), e .2)
 
 pub put-page-spec : {M : Type 1} → statement M
-put-page-spec = tie.close (tie.spec (search needs) (search needs) (search needs) (search needs) returns slice-write-room add-t11 (search needs) returns-2)
+put-page-spec = tie.close (tie.spec (search needs) (search needs) (search needs) (search needs) returns slice-write-room add-t11 same-length-2 returns-2)

@@ -9,4 +9,6 @@ unfolding areMasks
 returns c = simp (c .u32-at3 .ensures, c .before .u32-at2 .ensures, c .before .before .u32-at .ensures)
 
 pub are-masks-spec : {M : Type 1} → statement M
-are-masks-spec = tie.close (tie.spec (λ c. omega arith) (search needs) (λ c. omega arith) (search needs) (λ c. omega arith) (search needs) returns)
+are-masks-spec =
+    tie.close
+    (tie.spec (λ c. omega arith) (search needs) (λ c. omega arith) (search needs) (λ c. omega arith) (search needs) returns)

@@ -5,7 +5,15 @@ use Rattle.ranges.proofs.are_numbers_apart.Tie as tie
 
 returns : tie.Need-returns
 unfolding areNumbersApart
-returns c = simp (c .are-apart .ensures, c .before .profile-number4 .ensures, c .before .before .profile-number3 .ensures, c .before .before .before .profile-number2 .ensures, c .before .before .before .before .profile-number .ensures)
+returns c =
+    let second = c .before .before .before in
+    simp (
+      c .are-apart .ensures,
+      c .before .profile-number4 .ensures,
+      c .before .before .profile-number3 .ensures,
+      second .profile-number2 .ensures,
+      second .before .profile-number .ensures,
+    )
 
 pub are-numbers-apart-spec : {M : Type 1} → statement M
 are-numbers-apart-spec = tie.close (tie.spec (search needs) (search needs) (search needs) (search needs) (search needs) returns)

@@ -9,4 +9,6 @@ unfolding areSent
 returns c = simp (c .byte-at3 .ensures, c .before .byte-at2 .ensures, c .before .before .byte-at .ensures)
 
 pub are-sent-spec : {M : Type 1} → statement M
-are-sent-spec = tie.close (tie.spec (λ c. omega arith) (search needs) (λ c. omega arith) (search needs) (λ c. omega arith) (search needs) returns)
+are-sent-spec =
+    tie.close
+    (tie.spec (λ c. omega arith) (search needs) (λ c. omega arith) (search needs) (λ c. omega arith) (search needs) returns)

@@ -5,7 +5,7 @@ use Rattle.ranges.proofs.has_length.Tie as tie
 
 returns : tie.Need-returns
 unfolding hasLength
-returns c = simp (c .byte-at2 .ensures, c .before .byte-at .ensures)
+returns c = simp (c .base-length .ensures .0)
 
 pub has-length-spec : {M : Type 1} → statement M
-has-length-spec = tie.close (tie.spec (search needs) (search needs) (search needs) (search needs) (search needs) (search needs) (search needs) (search needs) returns)
+has-length-spec = tie.close (tie.spec (search needs) returns)

@@ -1,5 +1,4 @@
 use borrow.Author.Needs.{needs}
-use native.Mathlib.Omega.{arith}
 use Rattle.ranges.specs.Ranges.{isAccumulatorRule}
 use Rattle.ranges.proofs.is_accumulator_rule.Statement.{statement}
 use Rattle.ranges.proofs.is_accumulator_rule.Tie as tie
@@ -9,4 +8,7 @@ unfolding isAccumulatorRule
 returns c = simp (c .u64-at2 .ensures, c .before .u64-at .ensures, c .before .before .byte-at .ensures)
 
 pub is-accumulator-rule-spec : {M : Type 1} → statement M
-is-accumulator-rule-spec = tie.close (tie.spec (search needs) (λ c. omega arith) (search needs) (λ c. omega arith) (search needs) returns)
+is-accumulator-rule-spec =
+    tie.close
+    (tie.spec (search needs) (search needs) (search needs) (search needs) (search needs) (search needs) (search needs) (search needs)
+    returns)

@@ -5,7 +5,20 @@ use Rattle.ranges.proofs.is_setup.Tie as tie
 
 returns : tie.Need-returns
 unfolding isSetup
-returns c = simp (c .are-pairs-apart .ensures, c .before .are-conversions .ensures, c .before .before .are-numbers-apart .ensures, c .before .before .before .are-profiles .ensures, c .before .before .before .before .are-accumulators .ensures, c .before .before .before .before .before .is-head .ensures, c .before .before .before .before .before .before .has-length .ensures)
+returns c =
+    let profiles = c .before .before .before in
+    let length = profiles .before .before .before in
+    simp (
+      c .are-pairs-apart .ensures,
+      c .before .are-conversions .ensures,
+      c .before .before .are-numbers-apart .ensures,
+      profiles .are-profiles .ensures,
+      profiles .before .are-accumulators .ensures,
+      profiles .before .before .is-head .ensures,
+      length .has-length .ensures,
+    )
 
 pub is-setup-spec : {M : Type 1} → statement M
-is-setup-spec = tie.close (tie.spec (search needs) (search needs) (search needs) (search needs) (search needs) (search needs) (search needs) returns)
+is-setup-spec =
+    tie.close
+    (tie.spec (search needs) (search needs) (search needs) (search needs) (search needs) (search needs) (search needs) returns)

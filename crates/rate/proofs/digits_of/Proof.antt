@@ -11,7 +11,8 @@ use Rattle.rate.proofs.digits_of.Statement.{statement}
 use Rattle.rate.proofs.digits_of.Tie as tie
 
 abbrev Inv-loop : tie.InvT-loop
-Inv-loop rate times over power digits₀ digits = (1 ≤ digits) × (digits ≤ 10000) × (digitsOf rate times over ≡ first (roundsTo rate times over) (10000 - digits) digits)
+Inv-loop rate times over power digits₀ digits =
+    (1 ≤ digits) × (digits ≤ 10000) × (digitsOf rate times over ≡ first (roundsTo rate times over) (10000 - digits) digits)
 
 abbrev μ-loop : tie.MeasureT-loop
 μ-loop rate times over power digits₀ digits = 10000 - digits
@@ -39,4 +40,6 @@ returns-2 c =
     sym (l .inv .2 ∙ ended _ 10000 (l .digits) (search needs))
 
 pub digits-of-spec : {M : Type 1} → statement M
-digits-of-spec = tie.close (tie.spec Inv-loop μ-loop (search needs) loop-holds (search needs) mul-if1 (search needs) returns (search needs) (search needs) loop-again returns-2)
+digits-of-spec =
+    tie.close
+    (tie.spec Inv-loop μ-loop (search needs) loop-holds (search needs) mul-if1 (search needs) returns (search needs) (search needs) loop-again returns-2)

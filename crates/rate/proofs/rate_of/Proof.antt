@@ -1,7 +1,6 @@
 -- The invariant: the place that is looked for is the first from here on.
 use borrow.Author.Needs.{needs}
 use borrow.Author.Tests.{le-leb, lt-leb, lt-ltb, le-ltb}
-use mathlib.Core.Bool.{true, false}
 use mathlib.Core.Path.{_≡_, refl, _∙_}
 use Prim.Native.Nat.{ℕ, _-_, _≤_}
 use native.Mathlib.Omega.{arith}
@@ -32,31 +31,24 @@ digits-at-requires c κs = rw (c .shift-at .ensures) (placed (c .before .before 
 returns : tie.Need-returns Inv-loop μ-loop
 unfolding rateOf
 returns c =
-    let at-loop = c .before .before .before .before in
-    let at = at-loop .loop .place in
-    let rate = at-loop .before .args .rate in
-    let shift = c .before .before .shift-at in
-    let digits = c .before .digits-at in
-    let some : hasDigits rate at ≡ true = has rate at (shift .result) (digits .result) (shift .ensures) (digits .ensures) ∙ le-leb _ _ (c .if1 .taken) in
-    let here : place rate ≡ at = at-loop .loop .inv .1 ∙ found _ 13 at (omega arith) some in
-    rw here (simp (lt-ltb at 13 (omega arith), digits .ensures, shift .ensures))
+    let shift = c .before .before in
+    let digits = c .before .digits-at .ensures in
+    let l = shift .before .before .loop in
+    let some = has _ (l .place) _ _ (shift .shift-at .ensures) digits ∙ le-leb _ _ (c .if1 .taken) in
+    rw (l .inv .1 ∙ found _ 13 (l .place) (omega arith) some) (simp (lt-ltb (l .place) 13 (omega arith), digits, shift .shift-at .ensures))
 
 loop-again : tie.Need-loop-again Inv-loop μ-loop
 loop-again c =
-    let at-loop = c .before .before .before .before in
-    let at = at-loop .loop .place in
-    let rate = at-loop .before .args .rate in
-    let shift = c .before .before .shift-at in
-    let digits = c .before .digits-at in
-    let none : hasDigits rate at ≡ false = has rate at (shift .result) (digits .result) (shift .ensures) (digits .ensures) ∙ lt-leb _ _ (c .if1 .left) in
-    (omega arith, at-loop .loop .inv .1 ∙ passed _ 13 at (omega arith) none)
+    let shift = c .before .before in
+    let l = shift .before .before .loop in
+    let none = has _ (l .place) _ _ (shift .shift-at .ensures) (c .before .digits-at .ensures) ∙ lt-leb _ _ (c .if1 .left) in
+    (omega arith, l .inv .1 ∙ passed _ 13 (l .place) (omega arith) none)
 
 returns-2 : tie.Need-returns-2 Inv-loop μ-loop
 unfolding rateOf
 returns-2 c =
     let l = c .before .loop in
-    let at : place (c .before .before .args .rate) ≡ l .place = l .inv .1 ∙ ended _ 13 (l .place) (omega arith) in
-    rw at (simp (le-ltb (l .place) 13 (omega arith)))
+    rw (l .inv .1 ∙ ended _ 13 (l .place) (omega arith)) (simp (le-ltb (l .place) 13 (omega arith)))
 
 pub rate-of-spec : {M : Type 1} → statement M
 rate-of-spec = tie.close (tie.spec Inv-loop μ-loop loop-holds (search needs) digits-at-requires returns (search needs) (search needs) loop-again returns-2)

@@ -15,4 +15,7 @@ returns-4 : tie.Need-returns-4
 returns-4 c = (simp (c .enum-told4 .given .1), search needs)
 
 pub base-spec : {M : Type 1} → statement M
-base-spec = tie.close (tie.spec (search needs) (search needs) (search needs) (search needs) returns returns-2 returns-3 returns-4)
+base-spec =
+    tie.close
+    (tie.spec (search needs) (search needs) (search needs) (search needs) (search needs) (search needs) (search needs) (search needs)
+    (search needs) returns returns-2 returns-3 returns-4)

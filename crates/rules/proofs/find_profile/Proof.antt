@@ -11,12 +11,13 @@ returns c = simp (eq-eqb _ _ (c .if1 .taken))
 returns-2 : tie.Need-returns-2
 unfolding findProfile
 returns-2 c =
+    let fourth = c .before .before .before in
     simp (
       c .place-or4 .ensures,
       c .before .place-or3 .ensures,
       c .before .before .place-or2 .ensures,
-      c .before .before .before .place-or .ensures,
-      ne-eqb _ _ (c .before .before .before .before .if1 .left),
+      fourth .place-or .ensures,
+      ne-eqb _ _ (fourth .before .if1 .left),
     )
 
 pub find-profile-spec : {M : Type 1} → statement M

@@ -7,7 +7,13 @@ use Rattle.rules.proofs.profile_masks.Tie as tie
 
 returns : tie.Need-returns
 unfolding profileOf
-returns c = let a = c .before .before .before .before .args in part-at (λ p. p .masks) (now (a .words)) (a .place) _ (c .before .before .before .base .ensures .0)
+returns c =
+    let based = c .before .before .before in
+    let a = based .before .args in
+    part-at (λ p. p .masks) (now (a .words)) (a .place) _ (based .base .ensures .0)
 
 pub profile-masks-spec : {M : Type 1} → statement M
-profile-masks-spec = tie.close (tie.spec (search needs) (search needs) (search needs) (search needs) (search needs) (search needs) (search needs) (search needs) (search needs) (search needs) (search needs) (search needs) (search needs) returns)
+profile-masks-spec =
+    tie.close
+    (tie.spec (search needs) (search needs) (search needs) (search needs) (search needs) (search needs) (search needs) (search needs)
+    (search needs) (search needs) (search needs) (search needs) (search needs) returns)

@@ -21,4 +21,6 @@ returns c =
     )
 
 pub unable-spec : {M : Type 1} → statement M
-unable-spec = tie.close (tie.spec (search needs) (search needs) (search needs) (search needs) (search needs) (search needs) (search needs) (search needs) returns)
+unable-spec =
+    tie.close
+    (tie.spec (search needs) (search needs) (search needs) (search needs) (search needs) (search needs) (search needs) (search needs) returns)

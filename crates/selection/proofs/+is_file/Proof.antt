@@ -1,13 +1,10 @@
 -- The number of entries left falls with each call.
 use borrow.Author.Needs.{needs}
 use native.Mathlib.Omega.{arith}
-use denote.Ref.{now}
-use mathlib.Core.Path.{sym, ap, _∙_}
-use mathlib.Core.List.{List}
-use Prim.Native.Nat.{ℕ, _-_, _<_}
+use mathlib.Core.Path.{sym, _∙_}
+use Prim.Native.Nat.{ℕ, _<_}
 use borrow.Fn.Kinds.{In}
 use borrow.Fn.PlainCycle.{Measures, is, falls, and}
-use Rattle.selection.specs.Selection.{isFile}
 use Rattle.selection.proofs.Moves.{file-none, file-cut, file-more}
 use Rattle.selection.proofs.is_file.Reads as is-file
 use Rattle.selection.proofs.is_file.Kinds as is-file-kinds
@@ -27,15 +24,15 @@ abbrev is-file-below : ℕ → In 1 is-file-kinds.ps
 is-file-below t = and 1 is-file-kinds.ps (falls 1 is-file-kinds.ps _<_ μ-is-file t) is-file.Pre
 
 pub +is-file-spec : {M : Type 1} → statement M
-+is-file-spec = close μ-is-file λ t. is-file-lts.spec (byte-at-reads.Asked, byte-at-reads.Learnt, entries-below-reads.Asked, entries-below-reads.Learnt, is-file-below t, is-file.Post)
++is-file-spec = close μ-is-file λ t. is-file-lts.spec
+    (byte-at-reads.Asked, byte-at-reads.Learnt, entries-below-reads.Asked, entries-below-reads.Learnt, is-file-below t, is-file.Post)
     (is-file-at t)
     is-file.Post
     (λ c. sym (file-none _ _ (c .if1 .taken)))
     (search needs) (search needs)
-    (λ c. let a = c .before .before .before .before .args in sym (file-cut (now (a .file)) (a .entries) (c .before .before .if1 .left) (omega arith)))
+    (λ c. sym (file-cut _ _ (c .before .before .if1 .left) (omega arith)))
     (search needs) (search needs)
     (λ c κs. (omega arith, tt))
     (λ c.
-    let a = c .before .before .before .before .before .before .args in
-    c .is-file .ensures ∙ ap (λ (s : List ℕ). isFile s (a .entries - 1)) (c .before .entries-below .ensures)
-    ∙ sym (file-more (now (a .file)) (a .entries) (c .before .before .before .before .if1 .left) (omega arith)))
+    let cut = c .before .before in
+    c .is-file .ensures ∙ rw (c .before .entries-below .ensures) (sym (file-more _ _ (cut .before .before .if1 .left) (omega arith))))

@@ -1,13 +1,10 @@
 -- The number of entries to pass falls with each call.
 use borrow.Author.Needs.{needs}
 use native.Mathlib.Omega.{arith}
-use denote.Ref.{now}
-use mathlib.Core.Path.{sym, ap, _∙_}
-use mathlib.Core.List.{List}
-use Prim.Native.Nat.{ℕ, _-_, _<_}
+use mathlib.Core.Path.{sym, _∙_}
+use Prim.Native.Nat.{ℕ, _<_}
 use borrow.Fn.Kinds.{In}
 use borrow.Fn.PlainCycle.{Measures, is, falls, and}
-use Rattle.selection.specs.Selection.{skipped}
 use Rattle.selection.proofs.Moves.{skip-none, skip-more}
 use Rattle.selection.proofs.move_down.Reads as move-down
 use Rattle.selection.proofs.move_down.Kinds as move-down-kinds
@@ -32,7 +29,4 @@ pub +move-down-spec : {M : Type 1} → statement M
     (λ c. skip-none _ _ (c .if1 .taken))
     (search needs) (search needs)
     (λ c κs. (omega arith, tt))
-    (λ c.
-    let a = c .before .before .before .before .args in
-    c .move-down .ensures ∙ ap (λ (s : List ℕ). skipped s (a .entries - 1)) (c .before .entries-below .ensures)
-    ∙ sym (skip-more (now (a .file)) (a .entries) (c .before .before .if1 .left)))
+    (λ c. c .move-down .ensures ∙ rw (c .before .entries-below .ensures) (sym (skip-more _ _ (c .before .before .if1 .left))))

@@ -6,7 +6,24 @@ use Rattle.setup.proofs.read_fresh.Tie as tie
 returns : tie.Need-returns
 unfolding freshIn
 returns c =
-    simp (c .byte-at5 .ensures, c .before .u16-at .ensures, c .before .before .byte-at4 .ensures, c .before .before .before .byte-at3 .ensures, c .before .before .before .before .byte-at2 .ensures, c .before .before .before .before .before .byte-at .ensures, c .before .before .before .before .before .before .u64-at4 .ensures, c .before .before .before .before .before .before .before .u64-at3 .ensures, c .before .before .before .before .before .before .before .before .u64-at2 .ensures, c .before .before .before .before .before .before .before .before .before .u64-at .ensures)
+    let counters = c .before .before in
+    let first = counters .before .before .before in
+    let values = first .before in
+    simp (
+      c .byte-at5 .ensures,
+      c .before .u16-at .ensures,
+      counters .byte-at4 .ensures,
+      counters .before .byte-at3 .ensures,
+      counters .before .before .byte-at2 .ensures,
+      first .byte-at .ensures,
+      values .read-value4 .ensures,
+      values .before .read-value3 .ensures,
+      values .before .before .read-value2 .ensures,
+      values .before .before .before .read-value .ensures,
+    )
 
 pub read-fresh-spec : {M : Type 1} → statement M
-read-fresh-spec = tie.close (tie.spec (search needs) (search needs) (search needs) (search needs) (search needs) (search needs) (search needs) (search needs) (search needs) (search needs) returns)
+read-fresh-spec =
+    tie.close
+    (tie.spec (search needs) (search needs) (search needs) (search needs) (search needs) (search needs) (search needs) (search needs)
+    (search needs) (search needs) (search needs) (search needs) (search needs) returns)

@@ -10,13 +10,16 @@ use Rattle.setup.proofs.read_setup.Tie as tie
 returns : tie.Need-returns
 unfolding readSetup wordsAfter
 returns c =
-    let good : isSetup (now (c .before .before .before .before .before .before .args .s)) ≡ true = sym (c .before .before .before .before .is-setup .ensures) ∙ c .before .before .before .if1 .taken in
+    let taken = c .before .before .before in
+    let asked = taken .before in
+    let good : isSetup (now (asked .before .before .args .s)) ≡ true = sym (asked .is-setup .ensures) ∙ taken .if1 .taken in
     (simp (good, c .read-fresh .ensures), simp good (c .before .load .ensures))
 
 returns-2 : tie.Need-returns-2
 unfolding readSetup wordsAfter
 returns-2 c =
-    let bad : isSetup (now (c .before .before .before .before .args .s)) ≡ false = sym (c .before .before .is-setup .ensures) ∙ c .before .if1 .left in
+    let asked = c .before .before in
+    let bad : isSetup (now (asked .before .before .args .s)) ≡ false = sym (asked .is-setup .ensures) ∙ c .before .if1 .left in
     (simp (bad, c .no-card .ensures), simp bad)
 
 pub read-setup-spec : {M : Type 1} → statement M

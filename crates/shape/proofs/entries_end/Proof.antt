@@ -10,7 +10,8 @@ use Rattle.shape.proofs.entries_end.Statement.{statement}
 use Rattle.shape.proofs.entries_end.Tie as tie
 
 abbrev Inv-loop : tie.InvT-loop
-Inv-loop body at entries end₀ counter₀ end counter = (end ≡ entriesEnd body at counter) × (end ≤ at + 256 * counter) × (counter ≤ entries)
+Inv-loop body at entries end₀ counter₀ end counter =
+    (end ≡ entriesEnd body at counter) × (end ≤ at + 256 * counter) × (counter ≤ entries)
 
 abbrev μ-loop : tie.MeasureT-loop
 μ-loop body at entries end₀ counter₀ end counter = entries - counter
@@ -32,4 +33,6 @@ returns c =
     c .before .loop .inv .0 ∙ ap (entriesEnd (now (a .body)) (a .at)) all
 
 pub entries-end-spec : {M : Type 1} → statement M
-entries-end-spec = tie.close (tie.spec Inv-loop μ-loop loop-holds (search needs) (search needs) (search needs) (search needs) (search needs) (search needs) loop-again returns)
+entries-end-spec =
+    tie.close
+    (tie.spec Inv-loop μ-loop loop-holds (search needs) (search needs) (search needs) (search needs) (search needs) (search needs) loop-again returns)

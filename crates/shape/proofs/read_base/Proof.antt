@@ -6,11 +6,11 @@ use Rattle.shape.proofs.read_base.Tie as tie
 
 returns : tie.Need-returns
 unfolding baseTail
-returns c = simp (← c .before .byte-at2 .ensures, ← c .before .before .byte-at .ensures, lt-ltb _ _ (c .if1 .taken))
+returns c = simp (← c .before .base-length .ensures .0, lt-ltb _ _ (c .if1 .taken))
 
 returns-2 : tie.Need-returns-2
 unfolding baseTail
-returns-2 c = simp (← c .before .byte-at2 .ensures, ← c .before .before .byte-at .ensures, le-ltb _ _ (c .if1 .left))
+returns-2 c = simp (← c .before .base-length .ensures .0, le-ltb _ _ (c .if1 .left))
 
 pub read-base-spec : {M : Type 1} → statement M
-read-base-spec = tie.close (tie.spec (search needs) (search needs) (search needs) (search needs) (search needs) (search needs) (search needs) (search needs) returns returns-2)
+read-base-spec = tie.close (tie.spec (search needs) returns returns-2)

@@ -2,25 +2,21 @@ use borrow.Author.Needs.{needs}
 use borrow.Author.Tests.{lt-ltb, le-ltb}
 use mathlib.Core.Path.{sym, _∙_}
 use native.Mathlib.Omega.{arith}
-use lib.Dec.{ltb}
 use Rattle.shape.specs.Shape.{tailsOf}
-use Rattle.shape.specs.declared.Tails.the-variants.{Wrong}
 use Rattle.shape.proofs.Either.{either}
 use Rattle.shape.proofs.read_tails.Statement.{statement}
 use Rattle.shape.proofs.read_tails.Tie as tie
 
 returns : tie.Need-returns
 unfolding tailsOf
-returns c =
-    let version = c .before .before .before .before .args .version in
-    rw (sym (c .before .before .read-base .ensures) ∙ c .enum-told .given .1, either (ltb version 2) Wrong, either (ltb version 3) Wrong)
+returns c = rw (sym (c .before .before .read-base .ensures) ∙ c .enum-told .given .1) (simp either)
 
 returns-2 : tie.Need-returns-2
 unfolding tailsOf
 returns-2 c =
     let shape = c .before .before in
-    let version = shape .before .before .before .before .args .version in
-    rw (sym (shape .before .before .read-base .ensures) ∙ shape .shape .given .1, lt-ltb version 2 (c .if1 .taken), lt-ltb version 3 (omega arith))
+    let base = shape .before .before in
+    rw (sym (base .read-base .ensures) ∙ shape .shape .given .1, lt-ltb _ 2 (c .if1 .taken), lt-ltb (base .before .before .args .version) 3 (omega arith))
 
 returns-3 : tie.Need-returns-3
 unfolding tailsOf
@@ -29,7 +25,7 @@ returns-3 c =
     let shape = later .before .before in
     let read = sym (shape .before .before .read-base .ensures) ∙ shape .shape .given .1 in
     let chosen = sym (c .before .before .read-selection .ensures) ∙ c .enum-told2 .given .1 in
-    rw (read, le-ltb _ 2 (later .if1 .left), chosen, either (ltb (shape .before .before .before .before .args .version) 3) Wrong)
+    rw (read, le-ltb _ 2 (later .if1 .left), chosen) (simp either)
 
 returns-4 : tie.Need-returns-4
 unfolding tailsOf
@@ -54,4 +50,5 @@ returns-5 c =
 pub read-tails-spec : {M : Type 1} → statement M
 read-tails-spec =
     tie.close
-    (tie.spec (search needs) (search needs) (search needs) returns returns-2 (search needs) (search needs) (search needs) returns-3 returns-4 (search needs) returns-5)
+    (tie.spec (search needs) (search needs) (search needs) returns returns-2 (search needs) (search needs) (search needs) returns-3 returns-4
+    (search needs) returns-5)

@@ -1,0 +1,141 @@
+-- Where the fields of a set-up's body stand (document 01, "The paper"): each from the beginning of its part. What stands first in its part
+-- has no name here: an accumulator's currency, a profile's number, a rule's switches, from of a conversion.
+use Prim.Native.Nat.{ℕ, _+_, _*_}
+use mathlib.Core.Bool.{cond}
+use mathlib.Core.List.{List}
+use lib.ListN.{length}
+use lib.Dec.{ltb}
+use Rattle.wire.specs.Wire.{byte}
+
+-- the head: key index; PIN tries; issuer authentication required; p; c; ATC (2); go online next; accumulators; counters
+abbrev pub keyIndex : ℕ
+keyIndex = 0
+
+abbrev pub pinTries : ℕ
+pinTries = 1
+
+abbrev pub required : ℕ
+required = 2
+
+abbrev pub profiles : ℕ
+profiles = 3
+
+abbrev pub conversions : ℕ
+conversions = 4
+
+abbrev pub atc : ℕ
+atc = 5
+
+abbrev pub onlineNext : ℕ
+onlineNext = 7
+
+abbrev pub accumulators : ℕ
+accumulators = 8
+
+abbrev pub counters : ℕ
+counters = 48
+
+abbrev pub headLength : ℕ
+headLength = 52
+
+-- an accumulator: currency (2), value (8)
+abbrev pub value : ℕ
+value = 2
+
+abbrev pub accumulatorLength : ℕ
+accumulatorLength = 10
+
+-- a profile: number; masks Online, Decline, Default (4 each); MTA on, its currency (2), MTA (8); the rules of four accumulators and of four
+-- counters; the accumulator sent; the two counters sent
+abbrev pub online : ℕ
+online = 1
+
+abbrev pub decline : ℕ
+decline = 5
+
+abbrev pub default : ℕ
+default = 9
+
+abbrev pub maximumOn : ℕ
+maximumOn = 13
+
+abbrev pub maximumCurrency : ℕ
+maximumCurrency = 14
+
+abbrev pub maximum : ℕ
+maximum = 16
+
+abbrev pub accumulatorRules : ℕ
+accumulatorRules = 24
+
+abbrev pub counterRules : ℕ
+counterRules = 92
+
+abbrev pub accumulatorSent : ℕ
+accumulatorSent = 104
+
+abbrev pub firstSent : ℕ
+firstSent = 105
+
+abbrev pub secondSent : ℕ
+secondSent = 106
+
+abbrev pub profileLength : ℕ
+profileLength = 107
+
+-- a rule: switches, lower, upper; a limit has 8 bytes for an accumulator, 1 for a counter
+abbrev pub accumulatorLimit : ℕ
+accumulatorLimit = 8
+
+abbrev pub counterLimit : ℕ
+counterLimit = 1
+
+abbrev pub lower : ℕ
+lower = 1
+
+abbrev pub upper : ℕ → ℕ
+upper limit = lower + limit
+
+abbrev pub ruleLength : ℕ → ℕ
+ruleLength limit = lower + 2 * limit
+
+-- a conversion: from, to (2 each), d (2), s + 9
+abbrev pub to : ℕ
+to = 2
+
+abbrev pub digits : ℕ
+digits = 4
+
+abbrev pub shift : ℕ
+shift = 6
+
+abbrev pub conversionLength : ℕ
+conversionLength = 7
+
+-- accumulator i + 1 of the head
+abbrev pub accumulatorFrom : ℕ → ℕ
+accumulatorFrom i = accumulators + accumulatorLength * i
+
+-- the rules of accumulator and of counter j + 1, in a profile
+abbrev pub accumulatorRuleFrom : ℕ → ℕ
+accumulatorRuleFrom j = accumulatorRules + ruleLength accumulatorLimit * j
+
+abbrev pub counterRuleFrom : ℕ → ℕ
+counterRuleFrom j = counterRules + ruleLength counterLimit * j
+
+-- p profiles stand behind the head, and c conversions behind them: 52 + 107p + 7c bytes
+abbrev pub profileFrom : ℕ → ℕ
+profileFrom i = headLength + profileLength * i
+
+abbrev pub conversionFrom : List ℕ → ℕ → ℕ
+conversionFrom s i = profileFrom (byte s profiles) + conversionLength * i
+
+abbrev pub baseLength : List ℕ → ℕ
+baseLength s = conversionFrom s (byte s conversions)
+
+-- one that is not there stands at the end, where every byte reads as 0
+abbrev pub profilePlace : List ℕ → ℕ → ℕ
+profilePlace s i = cond (ltb i (byte s profiles)) (profileFrom i) (length s)
+
+abbrev pub conversionPlace : List ℕ → ℕ → ℕ
+conversionPlace s i = cond (ltb i (byte s conversions)) (conversionFrom s i) (length s)

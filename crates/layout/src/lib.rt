@@ -1,0 +1,123 @@
+// Where the fields of a set-up's body stand (document 01, "The paper"): each from the beginning of
+// its part. What stands first in its part has no name here.
+ghost use mathlib.Core.Path.{_≡_};
+ghost use Prim.Native.Nat.{_<_, _^_};
+ghost use Rattle.layout.specs.Layout.{profileFrom, conversionFrom, baseLength, profilePlace, conversionPlace};
+
+// The head.
+pub const KEY_INDEX: usize = 0;
+
+pub const PIN_TRIES: usize = 1;
+// Issuer authentication required.
+pub const REQUIRED: usize = 2;
+// p, the number of profiles.
+pub const PROFILES: usize = 3;
+// c, the number of conversions.
+pub const CONVERSIONS: usize = 4;
+
+pub const ATC: usize = 5;
+
+pub const ONLINE_NEXT: usize = 7;
+
+pub const ACCUMULATORS: usize = 8;
+
+pub const COUNTERS: usize = 48;
+
+pub const HEAD_LENGTH: usize = 52;
+
+// An accumulator of the head: currency, value.
+pub const VALUE: usize = 2;
+
+pub const ACCUMULATOR_LENGTH: usize = 10;
+
+// A profile: number, masks, maximum transaction amount, rules, what is sent.
+pub const ONLINE: usize = 1;
+
+pub const DECLINE: usize = 5;
+
+pub const DEFAULT: usize = 9;
+
+pub const MAXIMUM_ON: usize = 13;
+
+pub const MAXIMUM_CURRENCY: usize = 14;
+
+pub const MAXIMUM: usize = 16;
+
+pub const ACCUMULATOR_RULES: usize = 24;
+
+pub const COUNTER_RULES: usize = 92;
+
+pub const ACCUMULATOR_SENT: usize = 104;
+
+pub const FIRST_SENT: usize = 105;
+
+pub const SECOND_SENT: usize = 106;
+
+pub const PROFILE_LENGTH: usize = 107;
+
+// A rule of an accumulator or a counter: switches, lower, upper. Its limits have so many bytes.
+pub const ACCUMULATOR_LIMIT: usize = 8;
+
+pub const COUNTER_LIMIT: usize = 1;
+
+pub const LOWER: usize = 1;
+
+pub const ACCUMULATOR_UPPER: usize = LOWER + ACCUMULATOR_LIMIT;
+
+pub const ACCUMULATOR_RULE_LENGTH: usize = LOWER + 2 * ACCUMULATOR_LIMIT;
+
+pub const COUNTER_RULE_LENGTH: usize = LOWER + 2 * COUNTER_LIMIT;
+
+// A conversion: from, to, digits, s + 9.
+pub const TO: usize = 2;
+
+pub const DIGITS: usize = 4;
+
+pub const SHIFT: usize = 6;
+
+pub const CONVERSION_LENGTH: usize = 7;
+
+// Where profile i + 1 begins, and where i profiles end.
+fn profile_from(i: usize) -> usize
+    requires { ⌜ i < 256 ⌝ }
+    ensures { λ r. ⌜ r ≡ profileFrom i ⌝ }
+{
+    HEAD_LENGTH + PROFILE_LENGTH * i
+}
+
+// Where conversion i + 1 begins, and where i conversions end.
+fn conversion_from(s: &[u8], i: usize) -> usize
+    requires { ⌜ i < 256 ⌝ }
+    ensures { λ r. ⌜ (r ≡ conversionFrom (now (s .entry)) i) × (r < 2 ^ 63) ⌝ }
+{
+    profile_from(wire::byte_at(s, PROFILES) as usize) + CONVERSION_LENGTH * i
+}
+
+// How many bytes the base of document 01 has.
+pub fn base_length(s: &[u8]) -> usize
+    ensures { λ r. ⌜ (r ≡ baseLength (now (s .entry))) × (r < 2 ^ 63) ⌝ }
+{
+    conversion_from(s, wire::byte_at(s, CONVERSIONS) as usize)
+}
+
+// The place of profile i + 1: one that is not there stands at the end, where every byte reads as 0.
+pub fn profile_place(s: &[u8], i: usize) -> usize
+    ensures { λ r. ⌜ (r ≡ profilePlace (now (s .entry)) i) × (r < 2 ^ 63) ⌝ }
+{
+    if i < wire::byte_at(s, PROFILES) as usize {
+        profile_from(i)
+    } else {
+        s.len()
+    }
+}
+
+// The place of conversion i + 1.
+pub fn conversion_place(s: &[u8], i: usize) -> usize
+    ensures { λ r. ⌜ (r ≡ conversionPlace (now (s .entry)) i) × (r < 2 ^ 63) ⌝ }
+{
+    if i < wire::byte_at(s, CONVERSIONS) as usize {
+        conversion_from(s, i)
+    } else {
+        s.len()
+    }
+}

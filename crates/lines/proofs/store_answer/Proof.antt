@@ -1,0 +1,35 @@
+use borrow.Author.Needs.{needs}
+use lib.Dec.{lit≤}
+use Rattle.lines.proofs.Stores.{within}
+use Rattle.lines.specs.Sitting.{answerLine}
+use Rattle.lines.proofs.store_answer.Statement.{statement}
+use Rattle.lines.proofs.store_answer.Tie as tie
+
+returns : tie.Need-returns
+unfolding answerLine
+returns c =
+    let put = c .before .before in
+    let number = put .before in
+    let told = number .before .before .before in
+    simp (told .answer .given .1) (within (simp (number .number-of .ensures) at (put .store-refusal .ensures)) (lit≤ tt))
+
+returns-2 : tie.Need-returns-2
+unfolding answerLine
+returns-2 c =
+    let put = c .before .before in
+    let told = put .before .before .before in
+    simp (told .answer2 .given .1) (within (put .put-started .ensures) (lit≤ tt))
+
+returns-3 : tie.Need-returns-3
+unfolding answerLine
+returns-3 c =
+    let put = c .before .before in
+    let cid = put .before in
+    let told = cid .before .before .before in
+    simp (told .answer3 .given .1, ← cid .cid-of .ensures) (put .put-cryptogram .ensures)
+
+pub store-answer-spec : {M : Type 1} → statement M
+store-answer-spec =
+    tie.close
+    (tie.spec (search needs) (search needs) (search needs) (search needs) (search needs) (search needs) (search needs) (search needs)
+    (search needs) returns (search needs) returns-2 (search needs) returns-3)

@@ -1,0 +1,131 @@
+-- Every byte string's events and lines: those of its commands, over its set-up. Assumes nothing.
+use mathlib.Core.Path.{_≡_, refl, sym, ap, _∙_}
+use mathlib.Core.Bool.{Bool, true, false}
+use mathlib.Core.Logic.{_⊎_, inl, inr, _↔_}
+use mathlib.Core.List.{List, [], _∷_, _++_}
+use Prim.Native.Nat.{ℕ, suc, _+_}
+use native.Mathlib.Omega.{arith}
+use lib.ListN.{length, replicate}
+use Rattle.refusal.specs.declared.Refusal.{Refusal}
+use Rattle.refusal.specs.declared.Refusal.the-variants.{Unreadable}
+use Rattle.setup.specs.Setup.{setupNumber}
+use Rattle.shape.specs.declared.Shape.{Shape}
+use Rattle.shape.specs.Shape.{basePart, shapeOf, shapeAt}
+use Rattle.conversation.specs.declared.Begun.{Begun}
+use Rattle.conversation.specs.declared.Event.{Event}
+use Rattle.conversation.specs.declared.Event.the-variants.{SetUp, Refused}
+use Rattle.conversation.specs.Conversation.{begunOf, setupBegun, shapedBegun}
+use Rattle.conversation.specs.Events.{eventsOf}
+use Rattle.lines.specs.Lines.{refusalLine}
+use Rattle.lines.specs.Sitting.{answerLine, linesOf, sittingLines}
+use Rattle.demands.specs.Conversation.{Exchange, rulesBy}
+use Rattle.rows.specs.Whole.{IsTaken}
+use Rattle.rows.proofs.Whole.{taken-if-spelled}
+use Rattle.spelling.specs.Spelling.{Bytes}
+use Rattle.spelling.specs.Faults.{OpenFault, Opens}
+use Rattle.spelling.specs.Sitting.{NotSetUp, no-shape, no-base, happened}
+use Rattle.spelling.specs.Sitting as Sp
+use Rattle.spelling.proofs.Numbers.{byte-small}
+use Rattle.spelling.proofs.Opening.{opens, faults, Opening, opens-or-faults}
+use Rattle.spelling.proofs.Papers.{set-up-or-not, One, refused-shape, refused-base, taken-or-not}
+use Rattle.papers.specs.Papers.{setupOf, Accepted, walked, commandsOf, faulty}
+use Rattle.papers.specs.Talk.{allAnswered, talk, ending, eventsBy, Heard, unread, not-set-up, heard}
+use Rattle.papers.specs.Lines.{answerLines, endingLines, linesBy}
+use Rattle.papers.proofs.Setups.{opened-bytes, shape, set-up, begins}
+use Rattle.papers.proofs.Walk.{walk-events}
+use Rattle.papers.proofs.Talk.{fresh, talk-is, talk-length}
+
+module _ (words paper : List ℕ) (lent : length words ≡ 164) (bytes : Bytes paper) (a : Accepted paper) where
+  -- THE EVENTS OF AN ACCEPTED PAPER ARE THOSE OF ITS COMMANDS OVER ITS SET-UP
+  pub happened-there : eventsOf words paper
+      ≡ SetUp ∷ (happened (rulesBy (setupOf paper)) (fresh (setupOf paper) .state) (commandsOf paper) ++ ending (faulty paper))
+  unfolding eventsOf walked
+  happened-there =
+      let b = begins words paper lent bytes a in
+      let walks = walk-events (rulesBy (setupOf paper)) (b .shape) paper (b .lies) (length paper) (fresh (setupOf paper) .state) (b .at) in
+      rw (b .begun-is, b .rules) (ap (λ (l : List Event). SetUp ∷ l) (walks ∙ rw (b .chosen, b .rest)))
+
+  pub events-are : eventsOf words paper ≡ eventsBy paper
+  events-are = happened-there ∙ ap (λ (l : List Event). SetUp ∷ (l ++ ending (faulty paper))) (sym (talk-is (setupOf paper) (commandsOf paper)))
+
+  lines-from : (fault : Bool) (said : List Exchange) (number : ℕ)
+      → linesOf number (allAnswered said ++ ending fault) ≡ answerLines number said ++ endingLines (number + length said) fault
+  unfolding linesOf
+  lines-from true [] number = ap (λ (n : ℕ). refusalLine n 9 ∷ []) (omega arith)
+  lines-from false [] number = refl
+  lines-from fault (x ∷ said) number =
+      let sum : number + 1 + length said ≡ number + suc (length said) = omega arith in
+      ap (λ (l : List (List ℕ)). answerLine number (x .answer) ∷ l)
+      (lines-from fault said (number + 1) ∙ ap (λ (n : ℕ). answerLines (number + 1) said ++ endingLines n fault) sum)
+
+  -- AND ITS LINES THEIR LINES, NUMBERED FROM 0
+  pub lines-are : sittingLines words paper ≡ linesBy paper
+  unfolding sittingLines linesOf
+  lines-are =
+      let said = talk (setupOf paper) (commandsOf paper) in
+      ap (linesOf 0) events-are
+      ∙ ap (λ (l : List (List ℕ)). refusalLine 0 0 ∷ l)
+      (lines-from (faulty paper) said 1
+      ∙ ap (λ (n : ℕ). answerLines 1 said ++ endingLines (1 + n) (faulty paper)) (talk-length (setupOf paper) (commandsOf paper)))
+
+-- ---- every other paper
+
+-- what the readers take is an accepted paper
+pub accepted-if-taken : (paper : List ℕ) → Bytes paper → (version : ℕ) (body rest : List ℕ) → Opens paper version body rest
+    → (shape : Shape) → Sp.SetUp version body shape → Accepted paper
+accepted-if-taken paper bytes version body rest o shape t =
+    let small : Bytes body = opened-bytes paper version body rest o bytes in
+    let taken : IsTaken version body = record { shape = shape; shape-is = t .shape-is; base = ap setupNumber (t .base) } in
+    let spelled = taken-if-spelled version body (record { below = byte-small body small }) (o .least) (o .most) .0 taken in
+    record { version = version; body = body; rest = rest; opens = o; set-up = spelled }
+
+ended-at-once : (words paper : List ℕ) (refusal : Refusal) → begunOf paper .event ≡ Refused refusal → eventsOf words paper ≡ Refused refusal ∷ []
+unfolding eventsOf
+ended-at-once words paper refusal e = rw e
+
+one-event : (paper : List ℕ) (version : ℕ) (body rest : List ℕ) → Opens paper version body rest → NotSetUp version body → One (begunOf paper .event)
+unfolding begunOf setupBegun
+one-event paper version body rest o n = let r = opens paper version body rest o in rw (r .0, r .1) (by n) where
+  by : NotSetUp version body → One (shapedBegun body 4 (4 + length body) (shapeOf version body) .event)
+  by (no-shape e) = refused-shape body 4 (4 + length body) (shapeOf version body) e
+  by (no-base shape t e) = rw t (refused-base (shapeAt 4 shape) (basePart shape body) (4 + length body) e)
+
+-- EVERY BYTE STRING: it does not open, its set-up is not one, or it is heard
+pub every-paper : (words paper : List ℕ) → length words ≡ 164 → Bytes paper → Heard words paper
+unfolding begunOf
+every-paper words paper lent bytes = by (opens-or-faults paper bytes) where
+  by-set-up : (o : Opening paper) → ((shape : Shape) × Sp.SetUp (o .version) (o .body) shape) ⊎ NotSetUp (o .version) (o .body) → Heard words paper
+  by-set-up o (inl t) =
+      let a = accepted-if-taken paper bytes (o .version) (o .body) (o .rest) (o .opens) (t .0) (t .1) in
+      heard a (events-are words paper lent bytes a)
+  by-set-up o (inr n) =
+      let i = one-event paper (o .version) (o .body) (o .rest) (o .opens) n in
+      not-set-up (o .version) (o .body) (o .rest) (o .opens)
+      (λ s. taken-or-not (o .version) (o .body) (shape (o .version) (o .body) s) (set-up (o .version) (o .body) s) n)
+      (i .refusal) (i .one) (ended-at-once words paper (i .refusal) (i .is))
+
+  by : OpenFault paper ⊎ Opening paper → Heard words paper
+  by (inl f) = unread f (ended-at-once words paper Unreadable (rw (faults paper f)))
+  by (inr o) = by-set-up o (set-up-or-not (o .version) (o .body))
+
+-- THE FIRST EVENT IS THE SET-UP'S EXACTLY WHERE IT IS ACCEPTED
+pub accepted-exactly : (paper : List ℕ) → Bytes paper → (begunOf paper .event ≡ SetUp) ↔ Accepted paper
+unfolding begunOf
+accepted-exactly paper bytes = (λ e. by e (opens-or-faults paper bytes), begun) where
+  begun : Accepted paper → begunOf paper .event ≡ SetUp
+  begun a = ap (λ (b : Begun). b .event) (begins (replicate 164 0) paper refl bytes a .begun-is)
+
+  by-set-up : begunOf paper .event ≡ SetUp → (o : Opening paper)
+      → ((shape : Shape) × Sp.SetUp (o .version) (o .body) shape) ⊎ NotSetUp (o .version) (o .body) → Accepted paper
+  by-set-up e o (inl t) = accepted-if-taken paper bytes (o .version) (o .body) (o .rest) (o .opens) (t .0) (t .1)
+  by-set-up e o (inr n) =
+      let i = one-event paper (o .version) (o .body) (o .rest) (o .opens) n in
+      let z : _≡_ {A = ℕ} 0 1 = cc (i .is) in
+      absurd (omega arith)
+
+  by : begunOf paper .event ≡ SetUp → OpenFault paper ⊎ Opening paper → Accepted paper
+  by e (inl f) =
+      let none : begunOf paper .event ≡ Refused Unreadable = rw (faults paper f) in
+      let z : _≡_ {A = ℕ} 0 1 = cc in
+      absurd (omega arith)
+  by e (inr o) = by-set-up e o (set-up-or-not (o .version) (o .body))

@@ -1,0 +1,70 @@
+-- What the statements say at chosen inputs, worked out. Assumes nothing.
+use mathlib.Core.Bool.{not}
+use mathlib.Core.List.{List, [], _∷_, _++_}
+use Prim.Native.Nat.{ℕ}
+use lib.Dec.{T, eqb}
+use lib.ListN.{length, replicate, getD}
+use Rattle.wire.specs.Wire.{byte}
+use Rattle.setup.specs.Setup.{rulesIn, freshIn}
+use Rattle.shape.specs.declared.ReadShape.{ReadShape}
+use Rattle.shape.specs.declared.ReadShape.the-variants.{Taken, Refused as ShapeRefused}
+use Rattle.shape.specs.Shape.{based, baseTail, selectionTail, syllabusTail, tailsOf, shapeOf}
+use Rattle.paper.specs.Paper.{nextAt, openPaper}
+use Rattle.command.specs.Command.{startOf, commandOf, commandIn}
+use Rattle.state.specs.declared.Answer.the-variants.{Refused as AnswerRefused, Started, Given}
+use Rattle.card.specs.Card.{freshState}
+use Rattle.conversation.specs.declared.Event.{Event}
+use Rattle.conversation.specs.declared.Event.the-variants.{SetUp, End, Refused, Answered}
+use Rattle.conversation.specs.Conversation.{answeredBy, takenOf, begunOf}
+use Rattle.conversation.specs.Events.{eventsFrom, eventsOf}
+use Rattle.lines.specs.Lines.{digit, decimal, refusalLine}
+use Rattle.lines.specs.Sitting.{linesOf, sittingLines}
+use Rattle.demands.proofs.Computed.{computed}
+use Rattle.spelling.specs.Spelling.{big, recordOf, byName, names, kindOf, bodyOf, spell}
+use Rattle.spelling.specs.Printed.{printed, body}
+use Rattle.papers.specs.Papers.{syllabusIn, frontOf, meant, walk}
+
+-- `events-are`: the events of two Starts, over the printed set-up, and the ATC that the last of them says
+abbrev twoStarts : List ℕ
+twoStarts = spell (names 1) ++ spell (names 1)
+
+abbrev events : List Event
+events = eventsFrom 9 (rulesIn body 0) (based 159) (freshState (freshIn body)) twoStarts 0
+
+abbrev atcIn : Event → ℕ
+atcIn SetUp = 0
+atcIn End = 0
+atcIn (Refused refusal) = 0
+atcIn (Answered command (AnswerRefused refusal)) = 0
+atcIn (Answered command (Started atc visits)) = atc
+atcIn (Answered command (Given kind atc iad)) = atc
+
+-- `setup-is`: the syllabus that is read of a version 03 set-up without a profile, selection off
+abbrev latest : List ℕ
+latest = replicate 52 0 ++ 0 ∷ 1 ∷ []
+
+abbrev syllabusRead : ReadShape → ℕ
+syllabusRead (Taken shape) = shape .syllabus
+syllabusRead (ShapeRefused refusal) = 9
+
+-- `lines-are`: the number that a line begins with, where it has one digit
+abbrev numberOf : List (List ℕ) → (place : ℕ) → ℕ
+numberOf lines place = byte (getD lines place []) 0
+
+pub record Samples : Type 0 where
+  pub each-record : T (eqb (length events) (length (walk 9 byName twoStarts .commands)))
+  pub latest-card : T (eqb (atcIn (getD events 1 End)) 2)
+  pub numbered-from-0 : T (eqb (numberOf (sittingLines [] []) 0) 0x30)
+  pub rising-by-1 : T (eqb (numberOf (linesOf 0 (SetUp ∷ SetUp ∷ [])) 1) 0x31)
+  pub syllabus-1 : T (eqb (syllabusRead (shapeOf 3 latest)) (syllabusIn 3 latest))
+
+pub samples : Samples
+unfolding computed printed openPaper nextAt commandIn commandOf startOf kindOf bodyOf recordOf big eventsFrom eventsOf takenOf answeredBy begunOf sittingLines linesOf refusalLine decimal digit shapeOf tailsOf baseTail selectionTail syllabusTail walk frontOf meant
+samples =
+    record {
+      each-record = tt;
+      latest-card = tt;
+      numbered-from-0 = tt;
+      rising-by-1 = tt;
+      syllabus-1 = tt;
+    }

@@ -1,0 +1,255 @@
+-- The conversation takes each record of a paper once, in order: what the walk over its bytes meets. Assumes nothing.
+use mathlib.Core.Path.{_≡_, refl, sym, ap, _∙_}
+use mathlib.Core.Bool.{Bool, true, false, cond}
+use mathlib.Core.List.{List, [], _∷_, _++_}
+use Prim.Native.Nat.{ℕ, zero, suc, _+_, _-_, _*_, _≤_, _<_}
+use native.Mathlib.Omega.{arith}
+use borrow.Author.Tests.{lt-leb, le-ltb, ltb-true, ltb-false, ne-eqb, eqb-true}
+use lib.Dec.{eqb, ltb}
+use lib.ListN.{length, take, drop, length-drop}
+use lib.Seq.{drop-drop}
+use Rattle.wire.specs.Wire.{number}
+use Rattle.refusal.specs.declared.Refusal.the-variants.{Unreadable}
+use Rattle.rules.specs.Rules.{Rules}
+use Rattle.shape.specs.declared.Shape.{Shape}
+use Rattle.paper.specs.declared.Next.{Next}
+use Rattle.paper.specs.declared.Next.the-variants.{Record, Fault, End as PaperEnd}
+use Rattle.paper.specs.Paper.{nextAt}
+use Rattle.paper.specs.Walk.{part}
+use Rattle.command.specs.declared.Command.{Command}
+use Rattle.command.specs.declared.ReadCommand.{ReadCommand}
+use Rattle.command.specs.declared.ReadCommand.the-variants.{Taken as CommandTaken, Refused as CommandRefused}
+use Rattle.command.specs.Command.{commandOf, selectingOf, startOf, firstOf, secondOf, commandIn}
+use Rattle.state.specs.declared.State.{State}
+use Rattle.card.specs.Card.{stepOf}
+use Rattle.conversation.specs.declared.Event.{Event}
+use Rattle.conversation.specs.declared.Taken.{Taken}
+use Rattle.conversation.specs.declared.Event.the-variants.{End, Refused, Answered}
+use Rattle.conversation.specs.Conversation.{answeredBy, takenOf}
+use Rattle.conversation.specs.Events.{eventsFrom}
+use Rattle.demands.specs.Conversation.{Exchange, Sitting, told as heard, run}
+use Rattle.spelling.specs.Spelling.{Choice, byName, byFile, choiceIn}
+use Rattle.spelling.specs.Faults.{cut-in-length, cut-short, no-kind}
+use Rattle.spelling.specs.Sitting.{Lies, happened}
+use Rattle.spelling.proofs.Shapes.{shift, next-drop, part-drop, next-broken}
+use Rattle.spelling.proofs.Commands.{readBy}
+use Rattle.spelling.proofs.Records.{commands-same}
+use Rattle.papers.specs.Papers.{Front, nothing, broken, one, frontBy, frontOf, Meaning, none, means, meant}
+use Rattle.papers.specs.Papers.{Walked, stopped, goingOn, walkBy, walk}
+use Rattle.papers.specs.Talk.{ending, turns}
+
+-- ---- the record at the front
+
+abbrev frontIn : List ℕ → Next → Front
+frontIn s PaperEnd = nothing
+frontIn s Fault = broken
+frontIn s (Record kind start end) = one kind (part s start end) (drop end s)
+
+said : (high low kind : ℕ) (more : List ℕ) → number (high ∷ low ∷ kind ∷ more) 0 2 ≡ high * 256 + low
+unfolding number
+said high low kind more = omega arith
+
+both-zero : (high low : ℕ) (more : List ℕ) → high * 256 + low ≡ 0 → high ∷ low ∷ more ≡ 0 ∷ 0 ∷ more
+both-zero high low more e =
+    let zero-high : high ≡ 0 = omega arith in
+    let zero-low : low ≡ 0 = omega arith in
+    cc
+
+module _ (high low kind : ℕ) (more : List ℕ) where
+  abbrev here : List ℕ
+  here = high ∷ low ∷ kind ∷ more
+
+  whole : (n : ℕ) → high * 256 + low ≡ suc n → ltb (length more) n ≡ false → nextAt here 0 ≡ Record kind 3 (suc (suc (suc n)))
+  unfolding nextAt
+  whole n e fits =
+      let end : 2 + suc n ≡ suc (suc (suc n)) = omega arith in
+      let room = ltb-false (length more) n fits in
+      rw (said high low kind more, e, end)
+      (simp (
+        lt-leb (suc (suc (suc (length more)))) 0 (omega arith),
+        ne-eqb (suc n) 0 (omega arith),
+        le-ltb (suc (suc (suc (length more)))) (suc (suc (suc n))) (omega arith),
+      ))
+
+  by-room : (n : ℕ) → high * 256 + low ≡ suc n → (short : Bool) → ltb (length more) n ≡ short → frontBy (suc n) kind more ≡ frontIn here (nextAt here 0)
+  by-room n e true cut =
+      let l = ltb-true (length more) n cut in
+      rw (cut, next-broken here (cut-short high low (kind ∷ more) refl (omega arith)))
+  by-room n e false fits =
+      let size : suc (suc (suc n)) - 3 ≡ n = omega arith in
+      rw (whole n e fits, fits, size)
+
+  by-size : (size : ℕ) → high * 256 + low ≡ size → frontBy (high * 256 + low) kind more ≡ frontIn here (nextAt here 0)
+  by-size zero e = rw (e, next-broken here (no-kind (kind ∷ more) (both-zero high low (kind ∷ more) e)))
+  by-size (suc n) e = rw e (by-room n e (ltb (length more) n) refl)
+
+front-is : (s : List ℕ) → frontOf s ≡ frontIn s (nextAt s 0)
+unfolding frontOf nextAt
+front-is [] = refl
+front-is (high ∷ []) = rw (next-broken (high ∷ []) (cut-in-length high refl))
+front-is (high ∷ low ∷ []) = by (high * 256 + low) refl where
+  by : (size : ℕ) → high * 256 + low ≡ size → broken ≡ frontIn (high ∷ low ∷ []) (nextAt (high ∷ low ∷ []) 0)
+  by zero e = rw (next-broken (high ∷ low ∷ []) (no-kind [] (both-zero high low [] e)))
+  by (suc n) e = rw (next-broken (high ∷ low ∷ []) (cut-short high low [] refl (omega arith)))
+front-is (high ∷ low ∷ kind ∷ more) = by-size high low kind more (high * 256 + low) refl
+
+-- ---- the command in a record
+
+abbrev asRead : Meaning → ReadCommand
+asRead none = CommandRefused Unreadable
+asRead (means command) = CommandTaken command
+
+meant-read : (choice : Choice) (kind : ℕ) (body : List ℕ) → readBy choice kind body ≡ asRead (meant choice kind body)
+unfolding meant commandOf selectingOf startOf firstOf secondOf
+meant-read choice kind body = by choice (eqb kind 2) (eqb kind 3) (eqb kind 4) refl refl refl where
+  if-so : (b : Bool) (m : Meaning) → cond b (asRead m) (CommandRefused Unreadable) ≡ asRead (cond b m none)
+  if-so true m = refl
+  if-so false m = refl
+
+  by : (choice : Choice) (two three four : Bool) → eqb kind 2 ≡ two → eqb kind 3 ≡ three → eqb kind 4 ≡ four
+      → readBy choice kind body ≡ asRead (meant choice kind body)
+  by byName true three four e f g = rw (eqb-true kind 2 e) (if-so (eqb (length body) 1) _)
+  by (byFile file entries) true three four e f g = rw (eqb-true kind 2 e)
+  by byName false true four e f g = rw (eqb-true kind 3 f) (if-so (eqb (length body) 12) _)
+  by (byFile file entries) false true four e f g = rw (eqb-true kind 3 f) (if-so (eqb (length body) 12) _)
+  by byName false false true e f g = rw (eqb-true kind 4 g) (if-so (eqb (length body) 8) _)
+  by (byFile file entries) false false true e f g = rw (eqb-true kind 4 g) (if-so (eqb (length body) 8) _)
+  by byName false false false e f g = rw (e, f, g)
+  by (byFile file entries) false false false e f g = rw (e, f, g)
+
+-- ---- one turn, and all of them
+
+module _ (rules : Rules) (form : Shape) (s : List ℕ) (lies : Lies (form .selecting) s) where
+  abbrev choice : Choice
+  choice = choiceIn (form .selecting) s
+
+  -- what the walk meets at a place, and what the conversation takes there
+  data Turn (state : State) (at : ℕ) : Type 0 where
+    over : ((more : List ℕ → Walked) → walkBy choice (frontOf (drop at s)) more ≡ stopped false)
+        → takenOf rules form state s at .event ≡ End → Turn state at
+    fault : ((more : List ℕ → Walked) → walkBy choice (frontOf (drop at s)) more ≡ stopped true)
+        → takenOf rules form state s at .event ≡ Refused Unreadable → Turn state at
+    command : (c : Command) (end : ℕ) → ((more : List ℕ → Walked) → walkBy choice (frontOf (drop at s)) more ≡ goingOn (means c) (more (drop end s)))
+        → takenOf rules form state s at ≡ record { state = stepOf rules state c .state; at = end; event = Answered c (stepOf rules state c .answer) }
+        → Turn state at
+
+  module _ (state : State) (at : ℕ) where
+    abbrev rest : List ℕ
+    rest = drop at s
+
+    front : (next : Next) → nextAt rest 0 ≡ next → frontOf rest ≡ frontIn rest next
+    front next e = front-is rest ∙ ap (frontIn rest) e
+
+    place : (next : Next) → nextAt rest 0 ≡ next → nextAt s at ≡ shift at next
+    place next e = next-drop s at ∙ ap (shift at) e
+
+    -- what the reader makes of a record
+    read : (kind start end : ℕ) (m : Meaning) → meant choice kind (part rest start end) ≡ m → commandIn form s kind (part s (at + start) (at + end)) ≡ asRead m
+    read kind start end m f =
+        commands-same form s lies kind (part s (at + start) (at + end))
+        ∙ ap (readBy choice kind) (part-drop s at start end) ∙ meant-read choice kind (part rest start end) ∙ ap asRead f
+
+    by-meaning : (kind start end : ℕ) → nextAt rest 0 ≡ Record kind start end → (m : Meaning) → meant choice kind (part rest start end) ≡ m → Turn state at
+    unfolding takenOf answeredBy
+    by-meaning kind start end e none f =
+        fault (λ more. rw (front (Record kind start end) e, f)) (rw (place (Record kind start end) e, read kind start end none f))
+    by-meaning kind start end e (means c) f =
+        command c (at + end) (λ more. rw (front (Record kind start end) e, f, drop-drop end at s))
+        (rw (place (Record kind start end) e, read kind start end (means c) f))
+
+    by-next : (next : Next) → nextAt rest 0 ≡ next → Turn state at
+    unfolding takenOf
+    by-next PaperEnd e = over (λ more. rw (front PaperEnd e)) (rw (place PaperEnd e))
+    by-next Fault e = fault (λ more. rw (front Fault e)) (rw (place Fault e))
+    by-next (Record kind start end) e = by-meaning kind start end e (meant choice kind (part rest start end)) refl
+
+    turn : Turn state at
+    turn = by-next (nextAt rest 0) refl
+
+  -- THE EVENTS OF n TURNS ARE THOSE OF THE COMMANDS MET
+  abbrev told : Walked → State → List Event
+  told walked state = happened rules state (walked .commands) ++ ending (walked .fault)
+
+  one-more : (n : ℕ) (state : State) (at : ℕ) → Turn state at
+      → ((state : State) (at : ℕ) → eventsFrom n rules form state s at ≡ told (walk n choice (drop at s)) state)
+      → eventsFrom (suc n) rules form state s at ≡ told (walk (suc n) choice (drop at s)) state
+  unfolding eventsFrom walk happened
+  one-more n state at (over w t) then = rw (w (walk n choice), t)
+  one-more n state at (fault w t) then = rw (w (walk n choice), t)
+  one-more n state at (command c end w t) then =
+      rw (w (walk n choice), t) (ap (λ (more : List Event). Answered c (stepOf rules state c .answer) ∷ more) (then (stepOf rules state c .state) end))
+
+  pub walk-events : (n : ℕ) (state : State) (at : ℕ) → eventsFrom n rules form state s at ≡ told (walk n choice (drop at s)) state
+  unfolding eventsFrom walk happened
+  walk-events zero state at = refl
+  walk-events (suc n) state at = one-more n state at (turn state at) (walk-events n)
+
+  -- AND THE CARD AFTER ANY OF THEM IS THE ONE THAT HEARD THOSE BEFORE
+  abbrev sitting : State → List Exchange → Sitting
+  sitting state log = record { rules = rules; state = state; log = log }
+
+  abbrev Card : ℕ → List Command → Type 0
+  Card n before =
+      (state : State) (log : List Exchange) (at : ℕ) (after : List Command) → walk n choice (drop at s) .commands ≡ before ++ after
+      → turns (length before) rules form state s at ≡ run (sitting state log) before .state
+
+  not-met : {A : Type 0} (c : Command) (cs : List Command) → [] ≡ c ∷ cs → A
+  not-met c cs e = let z : _≡_ {A = ℕ} 0 1 = cc in absurd (omega arith)
+
+  card-on : (n : ℕ) (c : Command) (before : List Command) → Card n before
+      → (state : State) (log : List Exchange) (at : ℕ) (after : List Command) → walk (suc n) choice (drop at s) .commands ≡ c ∷ (before ++ after)
+      → Turn state at → turns (suc (length before)) rules form state s at ≡ run (sitting state log) (c ∷ before) .state
+  unfolding turns run walk
+  card-on n c before then state log at after e (over w t) = not-met c (before ++ after) (ap (λ (x : Walked). x .commands) (sym (w (walk n choice))) ∙ e)
+  card-on n c before then state log at after e (fault w t) = not-met c (before ++ after) (ap (λ (x : Walked). x .commands) (sym (w (walk n choice))) ∙ e)
+  card-on n c before then state log at after e (command d end w t) =
+      let met : d ∷ walk n choice (drop end s) .commands ≡ c ∷ (before ++ after) = ap (λ (x : Walked). x .commands) (sym (w (walk n choice))) ∙ e in
+      let same : d ≡ c = cc in
+      let behind : walk n choice (drop end s) .commands ≡ before ++ after = cc in
+      let said : Exchange = record { command = d; answer = stepOf rules state d .answer } in
+      ap (λ (taken : Taken). turns (length before) rules form (taken .state) s (taken .at)) t
+      ∙ then (stepOf rules state d .state) (said ∷ log) end after behind
+      ∙ ap (λ (x : Command). run (heard (sitting state log) x) before .state) same
+
+  pub walk-cards : (n : ℕ) (before : List Command) → Card n before
+  unfolding turns run walk
+  walk-cards n [] state log at after e = refl
+  walk-cards zero (c ∷ before) state log at after e = not-met c (before ++ after) e
+  walk-cards (suc n) (c ∷ before) state log at after e = card-on n c before (walk-cards n before) state log at after e (turn state at)
+
+-- ---- the walk ends: each record goes further, and as many steps as there are bytes say all there is to say
+
+no-front : {A : Type 0} (kind : ℕ) (body behind : List ℕ) → broken ≡ one kind body behind → A
+no-front kind body behind e = let z : _≡_ {A = ℕ} 0 1 = cc in absurd (omega arith)
+
+shorter : (s : List ℕ) (kind : ℕ) (body behind : List ℕ) → frontOf s ≡ one kind body behind → length behind < length s
+unfolding frontOf
+shorter [] kind body behind e = let z : _≡_ {A = ℕ} 0 1 = cc in absurd (omega arith)
+shorter (high ∷ []) kind body behind e = no-front kind body behind e
+shorter (high ∷ low ∷ []) kind body behind e = no-front kind body behind e
+shorter (high ∷ low ∷ k ∷ more) kind body behind e = by (high * 256 + low) e where
+  by-room : (n : ℕ) (short : Bool) → cond short broken (one k (take n more) (drop n more)) ≡ one kind body behind → length behind < 3 + length more
+  by-room n true e = no-front kind body behind e
+  by-room n false e = let same : drop n more ≡ behind = cc in omega (arith, length-drop n more, ap length same)
+
+  by : (size : ℕ) → frontBy size k more ≡ one kind body behind → length behind < suc (suc (suc (length more)))
+  by zero e = no-front kind body behind e
+  by (suc n) e = let l = by-room n (ltb (length more) n) e in omega arith
+
+module _ (choice : Choice) where
+  settled-by : (n m : ℕ) (s : List ℕ) → length s ≤ suc n → (front : Front) → frontOf s ≡ front
+      → ((behind : List ℕ) → length behind ≤ n → walk m choice behind ≡ walk n choice behind)
+      → walkBy choice front (walk m choice) ≡ walkBy choice front (walk n choice)
+  settled-by n m s l nothing e then = refl
+  settled-by n m s l broken e then = refl
+  settled-by n m s l (one kind body behind) e then =
+      let less = shorter s kind body behind e in
+      ap (goingOn (meant choice kind body)) (then behind (omega arith))
+
+  pub walk-settled : (n m : ℕ) (s : List ℕ) → length s ≤ n → n ≤ m → walk m choice s ≡ walk n choice s
+  unfolding walk frontOf
+  walk-settled zero zero s l k = refl
+  walk-settled zero (suc m) [] l k = refl
+  walk-settled zero (suc m) (b ∷ s) l k = absurd (omega arith)
+  walk-settled (suc n) zero s l k = absurd (omega arith)
+  walk-settled (suc n) (suc m) s l k = settled-by n m s l (frontOf s) refl (λ behind h. walk-settled n m behind h (omega arith))

@@ -1,0 +1,73 @@
+-- What is said in a paper's sitting: its events as exchanges, and the card between them.
+use mathlib.Core.Bool.{Bool, cond}
+use mathlib.Core.Path.{_≡_}
+use mathlib.Core.List.{List, [], _∷_, _++_}
+use Prim.Native.Nat.{ℕ, zero, suc}
+use Rattle.refusal.specs.declared.Refusal.{Refusal}
+use Rattle.refusal.specs.declared.Refusal.the-variants.{Unreadable}
+use Rattle.refusal.specs.Refusal.{refusalNumber}
+use Rattle.rules.specs.Rules.{Rules, rulesOf}
+use Rattle.shape.specs.declared.Shape.{Shape}
+use Rattle.command.specs.declared.Command.{Command}
+use Rattle.state.specs.declared.State.{State}
+use Rattle.conversation.specs.declared.Event.{Event}
+use Rattle.conversation.specs.declared.Event.the-variants.{SetUp, Refused, Answered}
+use Rattle.conversation.specs.Conversation.{takenOf, begunOf, wordsBegun}
+use Rattle.conversation.specs.Events.{eventsOf}
+use Rattle.demands.specs.Setup.{Setup}
+use Rattle.demands.specs.Conversation.{Exchange, sat}
+use Rattle.spelling.specs.Faults.{OpenFault, Opens}
+use Rattle.rows.specs.Whole.{IsSetup}
+use Rattle.papers.specs.Papers.{setupOf, Accepted, commandsOf, faulty}
+
+-- a command and its answer as an event
+abbrev pub answered : Exchange → Event
+answered exchange = Answered (exchange .command) (exchange .answer)
+
+abbrev pub allAnswered : List Exchange → List Event
+allAnswered [] = []
+allAnswered (exchange ∷ more) = answered exchange ∷ allAnswered more
+
+-- turned round, the newest first or the oldest, in front of others
+abbrev pub turned : List Exchange → List Exchange → List Exchange
+turned [] others = others
+turned (exchange ∷ more) others = turned more (exchange ∷ others)
+
+-- all that is said in a sitting over these commands, the oldest first
+unfoldable pub talk : Setup → List Command → List Exchange
+talk setup commands = turned (sat setup commands .log) []
+
+-- behind them nothing, or refusal 9
+abbrev pub ending : (fault : Bool) → List Event
+ending fault = cond fault (Refused Unreadable ∷ []) []
+
+-- THE EVENTS OF AN ACCEPTED PAPER: the set-up's, one for each command with the answer that it gets, and the ending
+abbrev pub eventsBy : (paper : List ℕ) → List Event
+eventsBy paper = SetUp ∷ (allAnswered (talk (setupOf paper) (commandsOf paper)) ++ ending (faulty paper))
+
+-- a paper's events, cut behind some answers, the oldest first
+abbrev pub CutBehind : (words paper : List ℕ) (before : List Exchange) (more : List Event) → Type 0
+CutBehind words paper before more = eventsOf words paper ≡ SetUp ∷ (allAnswered before ++ more)
+
+-- the conversation so far, the newest first, as the demands read it
+abbrev pub newest : List Exchange → List Exchange
+newest before = turned before []
+
+-- THE CARD AFTER n COMMANDS: the conversation's own, n turns from the set-up on
+unfoldable pub turns : ℕ → Rules → Shape → State → (paper : List ℕ) (at : ℕ) → State
+turns zero rules shape state paper at = state
+turns (suc n) rules shape state paper at =
+    let taken = takenOf rules shape state paper at in
+    turns n rules shape (taken .state) paper (taken .at)
+
+unfoldable pub cardAfter : (words paper : List ℕ) (n : ℕ) → State
+cardAfter words paper n =
+    let begun = begunOf paper in
+    turns n (rulesOf (wordsBegun words paper)) (begun .shape) (begun .state) paper (begun .at)
+
+-- a paper and its events: it does not open, 9; its set-up is not one, 1; or it is accepted
+pub data Heard (words paper : List ℕ) : Type 0 where
+  unread : OpenFault paper → eventsOf words paper ≡ Refused Unreadable ∷ [] → Heard words paper
+  not-set-up : (version : ℕ) (body rest : List ℕ) → Opens paper version body rest → (IsSetup version body → ⊥)
+      → (refusal : Refusal) → refusalNumber refusal ≡ 1 → eventsOf words paper ≡ Refused refusal ∷ [] → Heard words paper
+  heard : Accepted paper → eventsOf words paper ≡ eventsBy paper → Heard words paper

@@ -1,0 +1,95 @@
+#include "script.h"
+
+#include <string.h>
+
+static struct draft paper;
+struct draft *const draft = &paper;
+struct draft_setup setup;
+
+static void (*emit_paper)(struct draft *draft);
+
+void emit_to(void (*then)(struct draft *draft))
+{
+    emit_paper = then;
+}
+
+void emit(void)
+{
+    emit_paper(draft);
+}
+
+void begin(void)
+{
+    draft_begin(draft);
+    draft_setup(draft, &setup);
+}
+
+void start(uint8_t byte)
+{
+    draft_start(draft, byte);
+}
+
+void first(uint8_t type, uint64_t amount)
+{
+    first_in(type, amount, EUR);
+}
+
+void first_offline(uint8_t type, uint64_t amount)
+{
+    draft_first(draft, type, amount, EUR, OFFLINE_TERMINAL);
+}
+
+void first_in(uint8_t type, uint64_t amount, uint16_t currency)
+{
+    draft_first(draft, type, amount, currency, ONLINE_TERMINAL);
+}
+
+void second(uint8_t type, uint16_t code, uint8_t data, unsigned status)
+{
+    draft_second(draft, type, code, data, (uint32_t)status << 16);
+}
+
+void printed_sitting(void)
+{
+    draft_printed_setup(&setup);
+    begin();
+    start(1);
+    first(TC, 5000);
+    start(1);
+    first(TC, 1);
+    second(TC, Y3, ABSENT, 0);
+    start(1);
+    first(TC, 5000);
+    second(TC, Y3, ABSENT, 0);
+}
+
+void profiles_alike(unsigned count)
+{
+    setup.profiles = (uint8_t)count;
+    for (unsigned i = 0; i < count; i++) {
+        setup.profile[i] = setup.profile[0];
+        setup.profile[i].number = (uint8_t)(i + 1);
+    }
+}
+
+void profiles_blank(unsigned count)
+{
+    memset(setup.profile, 0, sizeof setup.profile);
+    profiles_alike(count);
+}
+
+void rate(unsigned place, uint16_t from, uint16_t digits, uint8_t shift)
+{
+    setup.conversion[place].from = from;
+    setup.conversion[place].to = EUR;
+    setup.conversion[place].digits = digits;
+    setup.conversion[place].shift = shift;
+}
+
+void simple_entry(uint8_t mask, uint8_t value, uint8_t check, uint8_t positive,
+                  uint8_t negative)
+{
+    const uint8_t bytes[] = {1, 1, 2, mask, value, check, positive, negative};
+
+    draft_entry(&setup.file, bytes, sizeof bytes);
+}

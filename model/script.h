@@ -1,0 +1,43 @@
+/* Papers written by hand, command by command: the paper at hand and its set-up.
+ * For the listed papers, the ends of a stack and the cases. */
+#ifndef MODEL_SCRIPT_H
+#define MODEL_SCRIPT_H
+
+#include "draft.h"
+
+extern struct draft *const draft;
+extern struct draft_setup setup;
+
+/* Where papers go, and the one at hand, which goes there. */
+void emit_to(void (*then)(struct draft *draft));
+void emit(void);
+
+/* The paper so far has the set-up and no command. */
+void begin(void);
+
+/* Start by one byte: the profile's number, or all of the terminal's data. */
+void start(uint8_t byte);
+
+/* First in EUR where one can go online; elsewhere; in another currency. */
+void first(uint8_t type, uint64_t amount);
+void first_offline(uint8_t type, uint64_t amount);
+void first_in(uint8_t type, uint64_t amount, uint16_t currency);
+
+/* Second; of the CSU its byte 2. */
+void second(uint8_t type, uint16_t code, uint8_t data, unsigned status);
+
+/* Document 01's sitting: its set-up, its commands. */
+void printed_sitting(void);
+
+/* So many profiles, numbered from 1: all like the first, or all of zeros. */
+void profiles_alike(unsigned count);
+void profiles_blank(unsigned count);
+
+/* A conversion to EUR. */
+void rate(unsigned place, uint16_t from, uint16_t digits, uint8_t shift);
+
+/* An entry of the file that looks at byte 1 of the data. */
+void simple_entry(uint8_t mask, uint8_t value, uint8_t check, uint8_t positive,
+                  uint8_t negative);
+
+#endif
