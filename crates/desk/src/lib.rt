@@ -130,13 +130,13 @@ fn turn_pages(buffer: &mut [u8], words: &mut Words, room: &mut [u8]) -> Ending {
 pub fn run_sitting() {
     let mut buffer = [0u8; 65_537];
     let mut room = [0u8; 524_378];
-    let mut words = [0u64; 164];
+    let mut words = rules::blank();
     acknowledge(sit(&mut buffer, &mut words, &mut room));
 }
 
 pub fn run_stack() {
     let mut buffer = [0u8; 262_144];
     let mut room = [0u8; 524_378];
-    let mut words = [0u64; 164];
+    let mut words = rules::blank();
     acknowledge(turn_pages(&mut buffer, &mut words, &mut room));
 }
