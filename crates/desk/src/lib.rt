@@ -1,8 +1,8 @@
 // Papers from standard input, lines to standard output. What is read is answered by `transcript`
 // and `pages`; here it is only read and written.
-ghost use mathlib.Core.Path.{_≡_};
 ghost use Prim.Native.Nat.{_+_, _≤_};
 ghost use lib.ListN.{length};
+use pages::Turned;
 use pages::Wants;
 use rules::Words;
 use transcript::Transcript;
@@ -15,11 +15,23 @@ enum Ending {
     NotWritten,
 }
 
-// Reads once, behind the bytes that are there.
-fn read_on(buffer: &mut [u8], filled: usize) -> isize
+// The bytes that are there after a read, or that it failed.
+struct Read {
+    pub filled: usize,
+    pub failed: bool,
+}
+
+// Reads once, behind the bytes that are there. No more of them is the input's end.
+fn read_on(buffer: &mut [u8], filled: usize) -> Read
     requires { ⌜ filled ≤ length (now buffer) ⌝ }
+    ensures { λ r. ⌜ (filled ≤ r .filled) × (r .filled ≤ length (now (buffer .entry))) ⌝ }
 {
-    libc::read(0, &mut buffer[filled..])
+    let got = libc::read(0, &mut buffer[filled..]);
+    let more = io::count(got, &buffer[filled..]);
+    Read {
+        filled: filled + more,
+        failed: got < 0,
+    }
 }
 
 // Writes what stands before a place of the room.
@@ -41,19 +53,34 @@ fn acknowledge(ending: Ending) {
     ;
 }
 
-// One paper, read into a buffer of a byte more than the longest.
-fn sit(buffer: &mut [u8], words: &mut Words, room: &mut [u8]) -> Ending {
+// Reads until the input ends, the buffer is full or a read fails.
+fn read_all(buffer: &mut [u8]) -> Read
+    ensures { λ r. ⌜ r .filled ≤ length (now (buffer .entry)) ⌝ }
+{
     let mut filled: usize = 0;
     while filled < buffer.len() {
-        let got = read_on(buffer, filled);
-        if got < 0 {
-            return Ending::NotRead;
+        let read = read_on(buffer, filled);
+        if read.failed {
+            return read;
         }
-        if got == 0 {
-            break;
+        if read.filled == filled {
+            return read;
         }
-        filled += got as usize;
+        filled = read.filled;
     }
+    Read {
+        filled,
+        failed: false,
+    }
+}
+
+// One paper, read into a buffer of a byte more than the longest.
+fn sit(buffer: &mut [u8], words: &mut Words, room: &mut [u8]) -> Ending {
+    let read = read_all(buffer);
+    if read.failed {
+        return Ending::NotRead;
+    }
+    let filled = read.filled;
     let Transcript::Whole { end } = transcript::transcribe(&buffer[..filled], words, room, 0) else {
         return Ending::NotWritten;
     };
@@ -70,6 +97,32 @@ fn move_up(buffer: &mut [u8], at: usize, filled: usize)
     for i in 0..filled - at {
         buffer[i] = buffer[at + i];
     }
+}
+
+// The bytes from a place up to another move to the front of the buffer, and more are read behind
+// them. A block that is not at hand whole is shorter than the buffer, so there is room.
+fn read_more(buffer: &mut [u8], at: usize, filled: usize) -> Read
+    requires { ⌜ (at ≤ filled) × (filled ≤ length (now buffer)) ⌝ }
+    ensures { λ r. ⌜ r .filled ≤ length (now (buffer .entry)) ⌝ }
+{
+    move_up(buffer, at, filled);
+    read_on(buffer, filled - at)
+}
+
+// The block at the front of the bytes at hand.
+fn turn(
+    buffer: &[u8],
+    at: usize,
+    filled: usize,
+    skip: usize,
+    words: &mut Words,
+    room: &mut [u8],
+    to: usize,
+) -> Turned
+    requires { ⌜ (at ≤ filled) × (filled ≤ length (now buffer)) ⌝ }
+    ensures { λ r. ⌜ at + r .taken ≤ filled ⌝ }
+{
+    pages::turn(&buffer[at..filled], skip, words, room, to)
 }
 
 // The stack has ended with so many bytes at hand.
@@ -95,7 +148,7 @@ fn turn_pages(buffer: &mut [u8], words: &mut Words, room: &mut [u8]) -> Ending {
     let mut turns: u64 = 0;
     while turns < 18_446_744_073_709_551_615 {
         turns += 1;
-        let turned = pages::turn(&buffer[at..filled], skip, words, room, to);
+        let turned = turn(buffer, at, filled, skip, words, room, to);
         at += turned.taken;
         skip = turned.skip;
         to = turned.end;
@@ -109,18 +162,17 @@ fn turn_pages(buffer: &mut [u8], words: &mut Words, room: &mut [u8]) -> Ending {
                 to = 0;
             }
             Wants::Input => {
-                move_up(buffer, at, filled);
-                filled -= at;
-                at = 0;
-                let got = read_on(buffer, filled);
-                if got < 0 {
+                let left = filled - at;
+                let read = read_more(buffer, at, filled);
+                if read.failed {
                     write_out(room, to);
                     return Ending::NotRead;
                 }
-                if got == 0 {
-                    return close(filled, skip, room, to);
+                if read.filled == left {
+                    return close(left, skip, room, to);
                 }
-                filled += got as usize;
+                at = 0;
+                filled = read.filled;
             }
         }
     }

@@ -1,0 +1,18 @@
+use borrow.Author.Needs.{needs}
+use mathlib.Core.Path.{sym}
+use native.Mathlib.Omega.{arith}
+use lib.Seq.{length-take-le}
+use Rattle.desk.proofs.sit.Statement.{statement}
+use Rattle.desk.proofs.sit.Tie as tie
+
+slice-aggregate-transcribe : tie.Need-slice-aggregate-transcribe
+slice-aggregate-transcribe c =
+    let read = c .before .before .before .before in
+    sym (length-take-le _ (read .read-all .last .0) (search needs))
+
+pub sit-spec : {M : Type 1} → statement M
+sit-spec =
+    tie.close
+    (tie.spec (search needs) (search needs) (search needs) (search needs) slice-aggregate-transcribe (search needs) (search needs) (search needs)
+    (search needs) (search needs) (search needs) (search needs) (search needs) (search needs) (search needs) (search needs) (search needs)
+    (search needs))
