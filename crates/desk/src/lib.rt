@@ -187,7 +187,7 @@ pub fn run_sitting() {
 }
 
 pub fn run_stack() {
-    let mut buffer = [0u8; 262_144];
+    let mut buffer = [0u8; 65_540];
     let mut room = [0u8; 524_378];
     let mut words = rules::blank();
     acknowledge(turn_pages(&mut buffer, &mut words, &mut room));
