@@ -1,94 +1,93 @@
-// Papers from standard input, lines to standard output: what reads, loops and writes. Every byte
-// of a line is decided in `lines`.
-ghost use mathlib.Core.Path.{_≡_};
-ghost use Prim.Native.Nat.{_≤_};
+// Papers from standard input, lines to standard output. What is read is answered by `transcript`
+// and `pages`; here it is only read and written.
+ghost use Prim.Native.Nat.{_+_, _≤_};
 ghost use lib.ListN.{length};
-use conversation::Event;
+use pages::Turned;
+use pages::Wants;
 use rules::Words;
+use transcript::Transcript;
 
-const LONGEST_PAPER: usize = 65_536;
-
-// Writes out what stands before a place.
-fn flush(room: &[u8], to: usize) {
-    if to <= room.len() {
-        io::write_all(1, &room[..to]);
-    }
+enum Ending {
+    // Everything was read, answered and written.
+    Done,
+    CutShort,
+    NotRead,
+    NotWritten,
 }
 
-// The place for a further line: where it might not fit, the lines so far are written out first.
-fn reserve(room: &[u8], to: usize) -> usize {
-    if to <= room.len() {
-        if lines::LONGEST <= room.len() - to {
-            return to;
-        }
-    }
-    flush(room, to);
-    0
-}
-
-fn is_over(event: Event) -> bool {
-    match event {
-        Event::SetUp => false,
-        Event::End => true,
-        Event::Refused(_) => true,
-        Event::Answered { .. } => false,
-    }
-}
-
-// The events of a whole paper, their lines behind those in the room.
-fn sit(paper: &[u8], words: &mut Words, room: &mut [u8], to: usize) -> usize {
-    let begun = conversation::begin(paper, words);
-    let shape = begun.shape;
-    let event = begun.event;
-    let mut state = begun.state;
-    let mut at = begun.at;
-    let to = reserve(room, to);
-    let mut to = lines::put(room, to, 0, event);
-    if is_over(event) {
-        return to;
-    }
-    let mut number: u16 = 1;
-    while number < 65_535 {
-        let taken = conversation::take(words, shape, state, paper, at);
-        let event = taken.event;
-        state = taken.state;
-        at = taken.at;
-        to = reserve(room, to);
-        let Event::Answered { answer, .. } = event else {
-            return lines::put(room, to, number, event);
-        };
-        to = lines::put_answer(room, to, number, answer);
-        number += 1;
-    }
-    to
-}
-
-// One byte behind the lines in the room.
-fn put_byte(room: &mut [u8], to: usize, byte: u8) -> usize {
-    let at = reserve(room, to);
-    if at < room.len() {
-        room[at] = byte;
-        return at + 1;
-    }
-    at
-}
-
-fn put_bytes(room: &mut [u8], to: usize, text: &[u8]) -> usize {
-    let mut to = to;
-    for i in 0..text.len() {
-        to = put_byte(room, to, text[i]);
-    }
-    to
-}
-
-// Where a stack stands: its bytes lie from `at` up to `filled` in the buffer, `skip` bytes of a
-// paper that is too long are still to pass, and the lines so far lie before `to` in the room.
-struct Stack {
-    pub at: usize,
+// The bytes that are there after a read, or that it failed.
+struct Read {
     pub filled: usize,
-    pub skip: usize,
-    pub to: usize,
-    pub over: bool,
+    pub failed: bool,
+}
+
+// Reads once, behind the bytes that are there. No more of them is the input's end.
+fn read_on(buffer: &mut [u8], filled: usize) -> Read
+    requires { ⌜ filled ≤ length (now buffer) ⌝ }
+    ensures { λ r. ⌜ (filled ≤ r .filled) × (r .filled ≤ length (now (buffer .entry))) ⌝ }
+{
+    let got = libc::read(0, &mut buffer[filled..]);
+    let more = io::count(got, &buffer[filled..]);
+    Read {
+        filled: filled + more,
+        failed: got < 0,
+    }
+}
+
+// Writes what stands before a place of the room.
+fn write_out(room: &[u8], to: usize) -> bool {
+    if room.len() < to {
+        return false;
+    }
+    io::write_all(1, &room[..to])
+}
+
+// Says on descriptor 3 how it ended. Whoever started the program believes nothing else.
+fn acknowledge(ending: Ending) {
+    match ending {
+        Ending::Done => io::write_all(3, b"done\n"),
+        Ending::CutShort => io::write_all(3, b"cut short\n"),
+        Ending::NotRead => io::write_all(3, b"not read\n"),
+        Ending::NotWritten => io::write_all(3, b"not written\n"),
+    }
+    ;
+}
+
+// Reads until the input ends, the buffer is full or a read fails.
+fn read_all(buffer: &mut [u8]) -> Read
+    ensures { λ r. ⌜ r .filled ≤ length (now (buffer .entry)) ⌝ }
+{
+    let mut filled: usize = 0;
+    while filled < buffer.len() {
+        let read = read_on(buffer, filled);
+        if read.failed {
+            return read;
+        }
+        if read.filled == filled {
+            return read;
+        }
+        filled = read.filled;
+    }
+    Read {
+        filled,
+        failed: false,
+    }
+}
+
+// One paper, read into a buffer of a byte more than the longest.
+fn sit(buffer: &mut [u8], words: &mut Words, room: &mut [u8]) -> Ending {
+    let read = read_all(buffer);
+    if read.failed {
+        return Ending::NotRead;
+    }
+    let filled = read.filled;
+    let Transcript::Whole { end } = transcript::transcribe(&buffer[..filled], words, room, 0) else {
+        return Ending::NotWritten;
+    };
+    if write_out(room, end) {
+        return Ending::Done;
+    }
+    Ending::NotWritten
 }
 
 // Moves the bytes from a place up to another to the front of the buffer.
@@ -100,137 +99,96 @@ fn move_up(buffer: &mut [u8], at: usize, filled: usize)
     }
 }
 
-// More of standard input behind the bytes that are left, and how many they are then.
-fn read_more(buffer: &mut [u8], at: usize, filled: usize) -> usize
+// The bytes from a place up to another move to the front of the buffer, and more are read behind
+// them. A block that is not at hand whole is shorter than the buffer, so there is room.
+fn read_more(buffer: &mut [u8], at: usize, filled: usize) -> Read
     requires { ⌜ (at ≤ filled) × (filled ≤ length (now buffer)) ⌝ }
-    ensures { λ r. ⌜ r ≤ length (now (buffer .entry)) ⌝ }
+    ensures { λ r. ⌜ r .filled ≤ length (now (buffer .entry)) ⌝ }
 {
-    let left = filled - at;
     move_up(buffer, at, filled);
-    left + io::read_full(0, &mut buffer[left..])
+    read_on(buffer, filled - at)
 }
 
-// Passes bytes of a paper that is too long; its last byte passed, it is answered.
-fn pass(room: &mut [u8], stack: Stack) -> Stack
-    requires { ⌜ stack .at ≤ stack .filled ⌝ }
-    ensures { λ r. ⌜ (r .at ≤ r .filled) × (r .filled ≡ stack .filled) ⌝ }
+// The block at the front of the bytes at hand.
+fn turn(
+    buffer: &[u8],
+    at: usize,
+    filled: usize,
+    skip: usize,
+    words: &mut Words,
+    room: &mut [u8],
+    to: usize,
+) -> Turned
+    requires { ⌜ (at ≤ filled) × (filled ≤ length (now buffer)) ⌝ }
+    ensures { λ r. ⌜ at + r .taken ≤ filled ⌝ }
 {
-    let left = stack.filled - stack.at;
-    if left < stack.skip {
-        return Stack {
-            at: stack.filled,
-            filled: stack.filled,
-            skip: stack.skip - left,
-            to: stack.to,
-            over: false,
-        };
-    }
-    Stack {
-        at: stack.at + stack.skip,
-        filled: stack.filled,
-        skip: 0,
-        to: put_bytes(room, stack.to, b"0 9\n\n"),
-        over: false,
-    }
+    pages::turn(&buffer[at..filled], skip, words, room, to)
 }
 
-// More input; where there is none the stack is over, or was cut short.
-fn take_more(buffer: &mut [u8], room: &mut [u8], stack: Stack) -> Stack
-    requires { ⌜ (stack .at ≤ stack .filled) × (stack .filled ≤ length (now buffer)) ⌝ }
-    ensures { λ r. ⌜ (r .at ≤ r .filled) × (r .filled ≤ length (now (buffer .entry))) ⌝ }
-{
-    let left = stack.filled - stack.at;
-    let filled = read_more(buffer, stack.at, stack.filled);
-    if left < filled {
-        return Stack {
-            at: 0,
-            filled,
-            skip: stack.skip,
-            to: stack.to,
-            over: false,
-        };
-    }
-    if (left == 0) & (stack.skip == 0) {
-        return Stack {
-            at: 0,
-            filled: 0,
-            skip: 0,
-            to: stack.to,
-            over: true,
-        };
-    }
-    Stack {
-        at: 0,
-        filled: 0,
-        skip: 0,
-        to: put_bytes(room, stack.to, b"cut short\n"),
-        over: true,
-    }
-}
-
-// The next paper's lines and an empty one, where the buffer holds it whole.
-fn turn_page(buffer: &mut [u8], words: &mut Words, room: &mut [u8], stack: Stack) -> Stack
-    requires { ⌜ (stack .at ≤ stack .filled) × (stack .filled ≤ length (now buffer)) ⌝ }
-    ensures { λ r. ⌜ (r .at ≤ r .filled) × (r .filled ≤ length (now (buffer .entry))) ⌝ }
-{
-    let left = stack.filled - stack.at;
-    if 0 < stack.skip {
-        if left == 0 {
-            return take_more(buffer, room, stack);
-        }
-        return pass(room, stack);
-    }
-    if left < 4 {
-        return take_more(buffer, room, stack);
-    }
-    let start = stack.at + 4;
-    let size = wire::u32_at(buffer, stack.at) as usize;
-    if LONGEST_PAPER < size {
-        return Stack {
-            at: start,
-            filled: stack.filled,
-            skip: size,
-            to: stack.to,
-            over: false,
-        };
-    }
-    if left - 4 < size {
-        return take_more(buffer, room, stack);
-    }
-    let end = start + size;
-    let to = sit(&buffer[start..end], words, room, stack.to);
-    Stack {
-        at: end,
-        filled: stack.filled,
-        skip: 0,
-        to: put_bytes(room, to, b"\n"),
-        over: false,
-    }
-}
-
-// All papers of a stack on standard input. It ends after more pages than any input has.
-pub fn run_stack(buffer: &mut [u8], words: &mut Words, room: &mut [u8]) {
-    let mut stack = Stack {
-        at: 0,
-        filled: 0,
-        skip: 0,
-        to: 0,
-        over: false,
+// The stack has ended with so many bytes at hand.
+fn close(left: usize, skip: usize, room: &mut [u8], to: usize) -> Ending {
+    let Transcript::Whole { end } = pages::finish(left, skip, room, to) else {
+        return Ending::NotWritten;
     };
-    let mut pages: u64 = 0;
-    while pages < 18_446_744_073_709_551_615 {
-        if stack.over {
-            flush(room, stack.to);
-            return;
-        }
-        stack = turn_page(buffer, words, room, stack);
-        pages += 1;
+    if !write_out(room, end) {
+        return Ending::NotWritten;
     }
+    if (left == 0) & (skip == 0) {
+        return Ending::Done;
+    }
+    Ending::CutShort
 }
 
-// One paper on standard input, read into a buffer of a byte more than the longest.
-pub fn run_sitting(buffer: &mut [u8], words: &mut Words, room: &mut [u8]) {
-    let read = io::read_full(0, buffer);
-    let to = sit(&buffer[..read], words, room, 0);
-    flush(room, to);
+// All papers of a stack. It ends after more turns than any input has.
+fn turn_pages(buffer: &mut [u8], words: &mut Words, room: &mut [u8]) -> Ending {
+    let mut at: usize = 0;
+    let mut filled: usize = 0;
+    let mut skip: usize = 0;
+    let mut to: usize = 0;
+    let mut turns: u64 = 0;
+    while turns < 18_446_744_073_709_551_615 {
+        turns += 1;
+        let turned = turn(buffer, at, filled, skip, words, room, to);
+        at += turned.taken;
+        skip = turned.skip;
+        to = turned.end;
+        let wants = turned.wants;
+        match wants {
+            Wants::Turn => {}
+            Wants::Room => {
+                if !write_out(room, to) {
+                    return Ending::NotWritten;
+                }
+                to = 0;
+            }
+            Wants::Input => {
+                let left = filled - at;
+                let read = read_more(buffer, at, filled);
+                if read.failed {
+                    write_out(room, to);
+                    return Ending::NotRead;
+                }
+                if read.filled == left {
+                    return close(left, skip, room, to);
+                }
+                at = 0;
+                filled = read.filled;
+            }
+        }
+    }
+    Ending::NotRead
+}
+
+pub fn run_sitting() {
+    let mut buffer = [0u8; 65_537];
+    let mut room = [0u8; 524_378];
+    let mut words = rules::blank();
+    acknowledge(sit(&mut buffer, &mut words, &mut room));
+}
+
+pub fn run_stack() {
+    let mut buffer = [0u8; 65_540];
+    let mut room = [0u8; 524_378];
+    let mut words = rules::blank();
+    acknowledge(turn_pages(&mut buffer, &mut words, &mut room));
 }

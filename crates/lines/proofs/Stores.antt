@@ -23,9 +23,6 @@ next {l} {w} {v} {a} {b} {i} {j} {k} {m} {n} p q =
       short = omega arith;
     }
 
-pub nothing : (l : List ℕ) (i : ℕ) → Stored l i [] 0 i l
-nothing l i = record { is = refl; behind = omega arith; short = omega arith }
-
 pub within : {l w a : List ℕ} {i j m o : ℕ} → Stored l i a m j w → m ≤ o → Stored l i a o j w
 within p h = record { is = p .is; behind = p .behind; short = omega arith }
 

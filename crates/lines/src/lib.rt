@@ -7,9 +7,8 @@ ghost use lib.ListN.{length, replicate};
 ghost use Rattle.iad.specs.Iad.{written};
 ghost use Rattle.lines.specs.Lines.{digit, decimal, hexDigit, hexByte, hex};
 ghost use Rattle.lines.specs.Lines.{refusalLine, cryptogramLine, placed, placeBehind};
-ghost use Rattle.lines.specs.Sitting.{startedLine, answerLine, eventLine};
+ghost use Rattle.lines.specs.Sitting.{startedLine, answerLine};
 ghost use Rattle.lines.specs.Stored.{Stored};
-use conversation::Event;
 use iad::Iad;
 use state::Answer;
 
@@ -117,7 +116,7 @@ fn put_done(room: &mut [u8], at: usize) -> usize
 }
 
 // Record number, refusal.
-fn put_refusal(room: &mut [u8], at: usize, number: u16, refusal: u8) -> usize
+fn store_refusal(room: &mut [u8], at: usize, number: u16, refusal: u8) -> usize
     requires { ⌜ at + 12 ≤ length (now room) ⌝ }
     ensures { λ r. ⌜ Stored (now (room .entry)) at (refusalLine number refusal) 12 r (now (room .exit)) ⌝ }
 {
@@ -158,7 +157,7 @@ fn store_answer(room: &mut [u8], at: usize, number: u16, answer: Answer) -> usiz
     ensures { λ r. ⌜ Stored (now (room .entry)) at (answerLine number answer) 82 r (now (room .exit)) ⌝ }
 {
     match answer {
-        Answer::Refused(refusal) => put_refusal(room, at, number, refusal::number_of(refusal)),
+        Answer::Refused(refusal) => store_refusal(room, at, number, refusal::number_of(refusal)),
         Answer::Started { atc, visits } => put_started(room, at, number, atc, visits),
         Answer::Given { kind, atc, iad } => put_cryptogram(
             room,
@@ -182,18 +181,13 @@ pub fn put_answer(room: &mut [u8], at: usize, number: u16, answer: Answer) -> us
     store_answer(room, at, number, answer)
 }
 
-// The line of an event. A paper's end has none.
-pub fn put(room: &mut [u8], at: usize, number: u16, event: Event) -> usize
-    ensures { λ r. ⌜ (r ≡ placeBehind (length (now (room .entry))) at (eventLine number event))
-        × (now (room .exit) ≡ placed (now (room .entry)) at (eventLine number event)) ⌝ }
+// The line of a set-up, or of a refusal that ends the paper.
+pub fn put_refusal(room: &mut [u8], at: usize, number: u16, refusal: u8) -> usize
+    ensures { λ r. ⌜ (r ≡ placeBehind (length (now (room .entry))) at (refusalLine number refusal))
+        × (now (room .exit) ≡ placed (now (room .entry)) at (refusalLine number refusal)) ⌝ }
 {
     if bytes_left(room.len(), at) < LONGEST {
         return at;
     }
-    match event {
-        Event::SetUp => put_refusal(room, at, number, 0),
-        Event::End => at,
-        Event::Refused(refusal) => put_refusal(room, at, number, refusal::number_of(refusal)),
-        Event::Answered { answer, .. } => store_answer(room, at, number, answer),
-    }
+    store_refusal(room, at, number, refusal)
 }

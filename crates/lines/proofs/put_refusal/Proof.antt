@@ -1,17 +1,19 @@
--- Two fields.
+-- Room, or none.
 use borrow.Author.Needs.{needs}
-use Rattle.lines.proofs.Stores.{next}
-use Rattle.lines.specs.Lines.{refusalLine}
+use denote.Ref.{now}
+use lib.Dec.{lit≤}
+use native.Mathlib.Omega.{arith}
+use Rattle.lines.proofs.Stores.{place, stay}
 use Rattle.lines.proofs.put_refusal.Statement.{statement}
 use Rattle.lines.proofs.put_refusal.Tie as tie
 
 returns : tie.Need-returns
-unfolding refusalLine
 returns c =
-    let refusal = c .before .before in
-    let to-number = refusal .before .before in
-    let number = to-number .before .before in
-    next (number .put-decimal .ensures) (refusal .put-decimal2 .ensures)
+    let a = c .before .before .before .args in
+    stay (now (a .room)) _ (a .at) (omega arith)
+
+returns-2 : tie.Need-returns-2
+returns-2 c = place (c .before .before .store-refusal .ensures) (lit≤ tt) (omega arith)
 
 pub put-refusal-spec : {M : Type 1} → statement M
-put-refusal-spec = tie.close (tie.spec (search needs) (search needs) (search needs) returns)
+put-refusal-spec = tie.close (tie.spec (search needs) returns (search needs) (search needs) returns-2)

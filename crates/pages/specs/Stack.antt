@@ -1,0 +1,39 @@
+-- What is printed of a stack of papers, from its bytes: each paper stands behind its length in 4 bytes; its page is its lines and an empty
+-- line; a stack that ends before a paper does is cut short.
+use mathlib.Core.Bool.{cond}
+use mathlib.Core.List.{List, [], _∷_, _++_}
+use Prim.Native.Nat.{ℕ, zero, suc, _+_}
+use lib.Dec.{eqb, ltb}
+use lib.ListN.{length, take, drop}
+use Rattle.wire.specs.Wire.{number}
+use Rattle.conversation.specs.Conversation.{wordsBegun}
+use Rattle.transcript.specs.Transcript.{transcriptOf}
+
+abbrev pub pageOf : (words paper : List ℕ) → List ℕ
+pageOf words paper = transcriptOf words paper ++ 10 ∷ []
+
+-- "cut short" and a line feed
+abbrev pub cutShort : List ℕ
+cutShort = 99 ∷ 117 ∷ 116 ∷ 32 ∷ 115 ∷ 104 ∷ 111 ∷ 114 ∷ 116 ∷ 10 ∷ []
+
+-- the length at the front of a stack, the paper behind it, and what stands behind that
+abbrev pub sizeOf : (stack : List ℕ) → ℕ
+sizeOf stack = number stack 0 4
+
+abbrev pub paperOf : (stack : List ℕ) → List ℕ
+paperOf stack = take (sizeOf stack) (drop 4 stack)
+
+abbrev pub behind : (stack : List ℕ) → List ℕ
+behind stack = drop (4 + sizeOf stack) stack
+
+-- the pages of n papers; a paper's rules are read into the words that the one before it left
+unfoldable pub pagesIn : ℕ → (words stack : List ℕ) → List ℕ
+pagesIn zero words stack = []
+pagesIn (suc n) words stack =
+    cond (eqb (length stack) 0) []
+    (cond (ltb (length stack) (4 + sizeOf stack)) cutShort
+    (pageOf words (paperOf stack) ++ pagesIn n (wordsBegun words (paperOf stack)) (behind stack)))
+
+-- no stack has more papers than bytes
+unfoldable pub stackOf : (words stack : List ℕ) → List ℕ
+stackOf words stack = pagesIn (length stack) words stack

@@ -1,0 +1,123 @@
+-- A loop over the records: what stands in the room and what is still to come is the whole text. Assumes nothing.
+use mathlib.Core.Path.{_≡_, refl, sym, ap, subst, _∙_}
+use mathlib.Core.List.{List, [], _∷_, _++_}
+use mathlib.Core.Logic.{inl, inr}
+use types.Run.{OneOf}
+use denote.Enum.Declared.{tagOf}
+use Prim.Native.Nat.{ℕ, suc, _+_, _*_, _-_, _≤_, _<_}
+use native.Mathlib.Nat.{add-zero, add-suc, suc-add}
+use native.Mathlib.Omega.{arith}
+use borrow.Author.Tests.{le-leb}
+use lib.ListN.{length, set, length-append}
+use lib.Seq.{sets, sets-eq, length-sets}
+use Rattle.refusal.specs.declared.Refusal.{Refusal}
+use Rattle.refusal.specs.Refusal.{refusalNumber}
+use Rattle.rules.specs.Rules.{Rules, rulesOf}
+use Rattle.shape.specs.declared.Shape.{Shape}
+use Rattle.command.specs.declared.Command.{Command}
+use Rattle.state.specs.declared.Answer.{Answer}
+use Rattle.state.specs.declared.State.{State}
+use Rattle.conversation.specs.declared.Begun.{Begun}
+use Rattle.conversation.specs.declared.Taken.{Taken}
+use Rattle.conversation.specs.declared.Event.{Event}
+use Rattle.conversation.specs.declared.Event.the-variants.{SetUp, End, Refused, Answered}
+use Rattle.conversation.specs.Conversation.{takenOf, begunOf, wordsBegun}
+use Rattle.conversation.proofs.Events.{GoesOn, further}
+use Rattle.conversation.proofs.Event as E
+use Rattle.lines.specs.Lines.{longest, refusalLine, placed, placeBehind}
+use Rattle.lines.specs.Sitting.{answerLine}
+use Rattle.transcript.specs.Transcript.{transcriptOf, restOf, lastLine, roomFor}
+use Rattle.transcript.proofs.Short.{answer-short, LineOf, record-short}
+use Rattle.transcript.proofs.Steps as Steps
+
+-- ---- the room
+
+pub behind-is : (room at : ℕ) (text : List ℕ) → at + longest ≤ room → placeBehind room at text ≡ at + length text
+unfolding placeBehind
+behind-is room at text fits = rw (le-leb (at + longest) room fits)
+
+pub placed-is : (room : List ℕ) (at : ℕ) (text : List ℕ) → at + longest ≤ length room → length text ≤ longest → placed room at text ≡ sets room at text
+unfolding placed
+placed-is room at text fits short = rw (le-leb (at + longest) (length room) fits) (sym (sets-eq text room at (omega arith)))
+
+-- two texts, one behind the other, are one
+pub sets-on : (room a b : List ℕ) (at : ℕ) → sets (sets room at a) (at + length a) b ≡ sets room at (a ++ b)
+sets-on room [] b at = ap (λ (k : ℕ). sets room k b) (add-zero at)
+sets-on room (v ∷ a) b at =
+    ap (λ (k : ℕ). sets (sets room at (v ∷ a)) k b) (add-suc at (length a) ∙ sym (suc-add at (length a))) ∙ sets-on (set room at v) a b (suc at)
+
+-- ---- the loop
+
+pub record Going (rules : Rules) (shape : Shape) (paper whole : List ℕ) (before : List ℕ) (to : ℕ) (room : List ℕ) (state : State)
+    (at end number : ℕ) : Type 0 where
+  pub inside : at ≤ length paper
+  pub counted : 3 * number + 1 ≤ at
+  pub fits : end + roomFor (length paper - at) ≤ length room
+  pub text : sets room end (restOf rules shape state paper at number) ≡ sets before to whole
+  pub ends : end + length (restOf rules shape state paper at number) ≡ to + length whole
+  pub sized : length room ≡ length before
+
+module _ {rules : Rules} {shape : Shape} {paper whole before room : List ℕ} {to at end number : ℕ} {state : State}
+    (going : Going rules shape paper whole before to room state at end number) where
+  abbrev taken : Taken
+  taken = takenOf rules shape state paper at
+
+  -- a record's line is written, and the next record is reached
+  pub go-on : (command : Command) (answer : Answer) → at < length paper → taken .event ≡ Answered command answer
+      → Going rules shape paper whole before to (placed room end (answerLine number answer)) (taken .state) (taken .at)
+      (placeBehind (length room) end (answerLine number answer)) (number + 1)
+  go-on command answer h e =
+      let line = answerLine number answer in
+      let f = further rules shape paper state at (subst GoesOn (sym e) tt) in
+      let s = subst (λ v. LineOf number v (taken .at - at)) e (record-short rules shape state paper at number) in
+      let fits : end + longest ≤ length room = omega (arith, going .fits) in
+      let here = placed-is room end line fits (answer-short number answer) in
+      let there = behind-is (length room) end line fits in
+      let next = Steps.answered rules shape state paper at number h command answer e in
+      let rest = restOf rules shape (taken .state) paper (taken .at) (number + 1) in
+      let joined = length-append line rest in
+      let size = length-sets room end line in
+      rw (here, there)
+      (record {
+        inside = f .1;
+        counted = omega (arith, going .counted, s .0, f .0);
+        fits = omega (arith, going .fits, s .1, f .0, f .1);
+        text = sets-on room line rest end ∙ ap (λ t. sets room end t) (sym next) ∙ going .text;
+        ends = omega (arith, going .ends, ap length next);
+        sized = omega (arith, going .sized);
+      })
+
+  pub falls : (command : Command) (answer : Answer) → at < length paper → taken .event ≡ Answered command answer
+      → length paper - taken .at < length paper - at
+  falls command answer h e =
+      let f = further rules shape paper state at (subst GoesOn (sym e) tt) in omega (arith, f .0, f .1)
+
+  -- a record that is not answered has the last line, or none
+  pub last-is : (event : Event) → at < length paper → taken .event ≡ event → OneOf (0 ∷ 1 ∷ 2 ∷ []) (tagOf E.the-type event)
+      → restOf rules shape state paper at number ≡ lastLine number event
+  last-is SetUp h e n = absurd (Steps.never-set-up rules shape state paper at e)
+  last-is End h e n = Steps.none rules shape state paper at number h e
+  last-is (Refused refusal) h e n = Steps.last rules shape state paper at number h refusal e
+  last-is (Answered command answer) h e (inl z) = absurd (omega arith)
+  last-is (Answered command answer) h e (inr (inl z)) = absurd (omega arith)
+  last-is (Answered command answer) h e (inr (inr z)) = absurd (omega arith)
+
+  -- nothing is left
+  pub over : length paper ≤ at → (end ≡ to + length whole) × (room ≡ sets before to whole)
+  over h =
+      let none = Steps.at-end rules shape state paper at number h in
+      (omega (arith, going .ends, ap length none), ap (λ t. sets room end t) (sym none) ∙ going .text)
+
+-- the set-up's line and the records' lines behind it are the paper's text
+pub whole-text : (words paper room : List ℕ) (at : ℕ) {between after words′ : List ℕ} {end r : ℕ} {begun : Begun} → begun ≡ begunOf paper
+    → words′ ≡ wordsBegun words paper → begunOf paper .event ≡ SetUp → between ≡ sets room at (refusalLine 0 0)
+    → end ≡ at + length (refusalLine 0 0)
+    → r ≡ end + length (restOf (rulesOf words′) (begun .shape) (begun .state) paper (begun .at) 1)
+    → after ≡ sets between end (restOf (rulesOf words′) (begun .shape) (begun .state) paper (begun .at) 1)
+    → (r ≡ at + length (transcriptOf words paper)) × (after ≡ sets room at (transcriptOf words paper))
+whole-text words paper room at {between} {after} {words′} {end} {r} {begun} b k e there behind size text =
+    let rest = restOf (rulesOf (wordsBegun words paper)) (begunOf paper .shape) (begunOf paper .state) paper (begunOf paper .at) 1 in
+    let same : restOf (rulesOf words′) (begun .shape) (begun .state) paper (begun .at) 1 ≡ rest = rw (b, k) in
+    let parts = Steps.set-up words paper e in
+    let joined = length-append (refusalLine 0 0) rest in
+    (omega (arith, size, behind, ap length same, ap length parts), rw (text, same, there, behind, parts) (sets-on room (refusalLine 0 0) rest at))

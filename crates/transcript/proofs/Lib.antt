@@ -1,0 +1,4 @@
+pub mod Short
+pub mod Steps
+pub mod Long
+pub mod Going

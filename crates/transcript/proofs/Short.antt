@@ -1,0 +1,154 @@
+-- How long the lines of a paper are: no record of k bytes has a line of more than 8 k. Assumes nothing.
+use mathlib.Core.Path.{_≡_, refl, sym, ap, _∙_}
+use mathlib.Core.Bool.{Bool, true, false, cond, _&&_}
+use mathlib.Core.List.{List, [], _∷_, _++_}
+use Prim.Native.Nat.{ℕ, zero, suc, _+_, _*_, _-_, _≤_, _<_}
+use native.Mathlib.Omega.{arith}
+use borrow.Author.Tests.{eqb-true}
+use lib.Dec.{eqb}
+use lib.ListN.{length, take, drop, length-append}
+use Rattle.refusal.specs.declared.Refusal.the-variants.{Unreadable}
+use Rattle.refusal.specs.Refusal.{refusalNumber}
+use Rattle.rules.specs.declared.Place.{Place}
+use Rattle.rules.specs.Rules.{Rules}
+use Rattle.shape.specs.declared.Selecting.{Selecting}
+use Rattle.shape.specs.declared.Selecting.the-variants.{Off, On}
+use Rattle.shape.specs.declared.Shape.{Shape}
+use Rattle.paper.specs.declared.Next.{Next}
+use Rattle.paper.specs.declared.Next.the-variants.{Record, Fault, End as PaperEnd}
+use Rattle.paper.specs.Paper.{nextAt}
+use Rattle.paper.specs.Walk.{part}
+use Rattle.paper.proofs.Walk.{inside}
+use Rattle.selection.specs.Selection.{visitsOf}
+use Rattle.command.specs.declared.Start.{Start}
+use Rattle.command.specs.declared.Command.{Command}
+use Rattle.command.specs.declared.Command.the-variants.{Start as StartCommand, First as FirstCommand, Second as SecondCommand}
+use Rattle.command.specs.declared.ReadCommand.{ReadCommand}
+use Rattle.command.specs.declared.ReadCommand.the-variants.{Taken, Refused as NotTaken}
+use Rattle.command.specs.Command.{startOf, firstOf, secondOf, commandOf, selectingOf, fileIn, readBy, commandIn}
+use Rattle.state.specs.declared.Answer.{Answer}
+use Rattle.state.specs.declared.Answer.the-variants.{Refused as AnswerRefused, Started, Given}
+use Rattle.state.specs.declared.State.{State}
+use Rattle.state.specs.State.{cidOf}
+use Rattle.card.specs.Card.{Ruling, take as rule, refuse, ruleStart, startPerformed, carried, startStep, stepOf}
+use Rattle.conversation.specs.declared.Event.{Event}
+use Rattle.conversation.specs.declared.Event.the-variants.{SetUp, End, Refused, Answered}
+use Rattle.conversation.specs.Conversation.{answeredBy, nextTaken, takenOf}
+use Rattle.conversation.proofs.Parts.{part-length}
+use Rattle.lines.specs.Lines.{refusalLine, startLine, selectedLine, cryptogramLine, longest}
+use Rattle.lines.specs.Sitting.{answerLine, startedLine}
+use Rattle.lines.proofs.Decimal as Decimal
+use Rattle.lines.proofs.Laws.{refusal-line, start-line, selected-line, cryptogram-line}
+
+-- ---- a line
+
+pub refusal-short : (number refusal : ℕ) → length (refusalLine number refusal) ≤ 12
+unfolding refusalLine
+refusal-short number refusal = simp length-append (omega (arith, Decimal.size number, Decimal.size refusal))
+
+started-short : (number atc visits : ℕ) (b : Bool) → length (cond b (startLine number atc) (selectedLine number atc visits)) ≤ 24
+unfolding startLine selectedLine
+started-short number atc visits true =
+    simp length-append (omega (arith, Decimal.size number, ap length Decimal.zero, Decimal.size atc))
+started-short number atc visits false =
+    simp length-append (omega (arith, Decimal.size number, ap length Decimal.zero, Decimal.size atc, Decimal.size visits))
+
+-- no cryptogram
+abbrev NotGiven : Answer → Type 0
+NotGiven (AnswerRefused refusal) = Unit
+NotGiven (Started atc visits) = Unit
+NotGiven (Given kind atc iad) = ⊥
+
+not-given-short : (number : ℕ) (answer : Answer) → NotGiven answer → length (answerLine number answer) ≤ 24
+unfolding answerLine
+not-given-short number (AnswerRefused refusal) n = omega (arith, refusal-short number (refusalNumber refusal))
+not-given-short number (Started atc visits) n = started-short number atc visits (eqb visits 0)
+not-given-short number (Given kind atc iad) n = absurd n
+
+pub answer-short : (number : ℕ) (answer : Answer) → length (answerLine number answer) ≤ longest
+unfolding answerLine
+answer-short number (AnswerRefused refusal) = omega (arith, refusal-short number (refusalNumber refusal))
+answer-short number (Started atc visits) = omega (arith, started-short number atc visits (eqb visits 0))
+answer-short number (Given kind atc iad) = cryptogram-line number (cidOf kind) atc iad .short
+
+-- ---- a command
+
+-- Start gives no cryptogram; First has a body of 12 bytes and Second one of 8
+abbrev Sized : Command → (bytes : ℕ) → Type 0
+Sized (StartCommand start) bytes = Unit
+Sized (FirstCommand first) bytes = bytes ≡ 12
+Sized (SecondCommand second) bytes = bytes ≡ 8
+
+abbrev SizedIn : ReadCommand → (bytes : ℕ) → Type 0
+SizedIn (NotTaken refusal) bytes = Unit
+SizedIn (Taken command) bytes = Sized command bytes
+
+second-of-both : (a b : Bool) → (a && b) ≡ true → b ≡ true
+second-of-both true b e = e
+second-of-both false b e = absurd (let z : _≡_ {A = ℕ} 0 1 = cc in omega arith)
+
+sized-by-kind : (kind : ℕ) (body : List ℕ) → SizedIn (commandOf kind body) (length body)
+unfolding commandOf
+sized-by-kind kind body =
+    by (eqb kind 2 && eqb (length body) 1) (eqb kind 3 && eqb (length body) 12) (eqb kind 4 && eqb (length body) 8) refl refl where
+      by : (start first second : Bool) → (eqb kind 3 && eqb (length body) 12) ≡ first → (eqb kind 4 && eqb (length body) 8) ≡ second
+          → SizedIn
+          (cond start (Taken (StartCommand (startOf body)))
+          (cond first (Taken (FirstCommand (firstOf body))) (cond second (Taken (SecondCommand (secondOf body))) (NotTaken Unreadable))))
+          (length body)
+      by true first second e f = tt
+      by false true second e f = eqb-true (length body) 12 (second-of-both (eqb kind 3) (eqb (length body) 12) e)
+      by false false true e f = eqb-true (length body) 8 (second-of-both (eqb kind 4) (eqb (length body) 8) f)
+      by false false false e f = tt
+
+sized : (selecting : Selecting) (paper : List ℕ) (kind : ℕ) (body : List ℕ) → SizedIn (readBy selecting paper kind body) (length body)
+unfolding selectingOf
+sized Off paper kind body = sized-by-kind kind body
+sized (On start end entries) paper kind body = by (eqb kind 2) refl where
+  by : (b : Bool) → eqb kind 2 ≡ b → SizedIn (selectingOf (fileIn paper start end) entries kind body) (length body)
+  by true e = rw e tt
+  by false e = rw e (sized-by-kind kind body)
+
+module _ (rules : Rules) (state : State) where
+  start-gives-none : (start : Start) → NotGiven (stepOf rules state (StartCommand start) .answer)
+  unfolding stepOf startStep
+  start-gives-none start = by (ruleStart rules (state .atc) (start .chosen)) where
+    by : (ruling : Ruling Place) → NotGiven (carried state (startPerformed state (visitsOf (start .chosen))) ruling .answer)
+    by (refuse refusal) = tt
+    by (rule place) = tt
+
+  -- a command of a record of some bytes has a line of at most 8 for each
+  command-short : (number bytes : ℕ) (command : Command) → Sized command bytes
+      → length (answerLine number (stepOf rules state command .answer)) ≤ 8 * (3 + bytes)
+  command-short number bytes (StartCommand start) s = omega (arith, not-given-short number (stepOf rules state (StartCommand start) .answer) (start-gives-none start))
+  command-short number bytes (FirstCommand first) s = omega (arith, answer-short number (stepOf rules state (FirstCommand first) .answer))
+  command-short number bytes (SecondCommand second) s = omega (arith, answer-short number (stepOf rules state (SecondCommand second) .answer))
+
+-- ---- a record
+
+abbrev pub LineOf : ℕ → Event → ℕ → Type 0
+LineOf number SetUp bytes = Unit
+LineOf number End bytes = Unit
+LineOf number (Refused refusal) bytes = Unit
+LineOf number (Answered command answer) bytes = (3 ≤ bytes) × (length (answerLine number answer) ≤ 8 * bytes)
+
+pub record-short : (rules : Rules) (shape : Shape) (state : State) (paper : List ℕ) (at number : ℕ)
+    → LineOf number (takenOf rules shape state paper at .event) (takenOf rules shape state paper at .at - at)
+unfolding takenOf answeredBy
+record-short rules shape state paper at number = by (nextAt paper at) refl where
+  by-read : (end bytes : ℕ) (read : ReadCommand) → SizedIn read bytes → end - at ≡ 3 + bytes
+      → LineOf number (answeredBy rules state end read .event) (answeredBy rules state end read .at - at)
+  by-read end bytes (NotTaken refusal) s e = tt
+  by-read end bytes (Taken command) s e = (omega arith, omega (arith, command-short rules state number bytes command s))
+
+  by : (next : Next) → nextAt paper at ≡ next
+      → LineOf number (nextTaken rules shape state paper at next .event) (nextTaken rules shape state paper at next .at - at)
+  by PaperEnd e = tt
+  by Fault e = tt
+  by (Record kind start end) e =
+      let i = inside paper at kind start end e in
+      let size = part-length paper start end (omega (arith, i .holds, i .start-is)) (i .fits) in
+      let holds = i .holds in
+      let begins = i .start-is in
+      by-read end (length (part paper start end)) (commandIn shape paper kind (part paper start end))
+      (unfold commandIn in sized (shape .selecting) paper kind (part paper start end)) (omega arith)

@@ -1,0 +1,197 @@
+-- The text of a paper, line by line: the set-up's line and the rest, a record's line and the rest. Assumes nothing.
+use mathlib.Core.Path.{_≡_, refl, sym, ap, subst, _∙_}
+use mathlib.Core.Bool.{Bool, true, false, cond, _||_}
+use mathlib.Core.List.{List, [], _∷_, _++_, append-nil}
+use mathlib.Core.Logic.{inl, inr}
+use types.Run.{OneOf}
+use denote.Enum.Declared.{tagOf}
+use Prim.Native.Nat.{ℕ, suc, _+_, _-_, _≤_, _<_}
+use native.Mathlib.Omega.{arith}
+use borrow.Author.Tests.{ltb-false, le-leb}
+use lib.Dec.{eqb, ltb}
+use lib.ListN.{length}
+use Rattle.wire.specs.Wire.{byte}
+use Rattle.refusal.specs.declared.Refusal.{Refusal}
+use Rattle.refusal.specs.declared.Refusal.the-variants.{Unreadable}
+use Rattle.refusal.specs.Refusal.{refusalNumber}
+use Rattle.rules.specs.Rules.{Rules, rulesOf}
+use Rattle.setup.specs.declared.SetupAnswer.{SetupAnswer}
+use Rattle.setup.specs.declared.SetupAnswer.the-variants.{Done, Refused as SetupRefused}
+use Rattle.setup.specs.Setup.{readSetup}
+use Rattle.shape.specs.declared.Shape.{Shape}
+use Rattle.shape.specs.declared.ReadShape.{ReadShape}
+use Rattle.shape.specs.declared.ReadShape.the-variants.{Taken as ShapeTaken, Refused as ShapeRefused}
+use Rattle.shape.specs.Shape.{basePart, shapeOf, shapeAt}
+use Rattle.paper.specs.declared.Next.{Next}
+use Rattle.paper.specs.declared.Next.the-variants.{Record, Fault, End as PaperEnd}
+use Rattle.paper.specs.declared.Opened.{Opened}
+use Rattle.paper.specs.declared.Opened.the-variants.{Setup, Refused as OpenRefused}
+use Rattle.paper.specs.Paper.{latest, nextAt, setupIn, isUnreadable, openPaper}
+use Rattle.paper.specs.Walk.{part}
+use Rattle.paper.proofs.Walk.{inside}
+use Rattle.command.specs.declared.Command.{Command}
+use Rattle.command.specs.declared.ReadCommand.{ReadCommand}
+use Rattle.command.specs.declared.ReadCommand.the-variants.{Taken as CommandTaken, Refused as NotTaken}
+use Rattle.command.specs.Command.{commandIn}
+use Rattle.state.specs.declared.Answer.{Answer}
+use Rattle.state.specs.declared.State.{State}
+use Rattle.conversation.specs.declared.Begun.{Begun}
+use Rattle.conversation.specs.declared.Taken.{Taken}
+use Rattle.conversation.specs.declared.Event.{Event}
+use Rattle.conversation.specs.declared.Event.the-variants.{SetUp, End, Refused, Answered}
+use Rattle.conversation.specs.Conversation.{setUpEvent, baseBegun, shapedBegun, setupBegun, openedBegun, begunOf, answeredBy, nextTaken, takenOf, wordsBegun}
+use Rattle.conversation.specs.Events.{following, eventsFrom, eventsOf}
+use Rattle.conversation.proofs.Events.{GoesOn, further, settled}
+use Rattle.conversation.proofs.Event as E
+use Rattle.lines.specs.Lines.{refusalLine}
+use Rattle.lines.specs.Sitting.{answerLine, linesOf, sittingLines}
+use Rattle.transcript.specs.Transcript.{joined, transcriptOf, restOf}
+
+-- ---- a record
+
+-- no record is a set-up
+pub never-set-up : (rules : Rules) (shape : Shape) (state : State) (paper : List ℕ) (at : ℕ) → takenOf rules shape state paper at .event ≡ SetUp → ⊥
+unfolding takenOf answeredBy
+never-set-up rules shape state paper at = by (nextAt paper at) where
+  by-read : (end : ℕ) (read : ReadCommand) → answeredBy rules state end read .event ≡ SetUp → ⊥
+  by-read end (NotTaken refusal) e = let z : _≡_ {A = ℕ} 0 1 = cc in omega arith
+  by-read end (CommandTaken command) e = let z : _≡_ {A = ℕ} 0 1 = cc in omega arith
+
+  by : (next : Next) → nextTaken rules shape state paper at next .event ≡ SetUp → ⊥
+  by PaperEnd e = let z : _≡_ {A = ℕ} 0 1 = cc in omega arith
+  by Fault e = let z : _≡_ {A = ℕ} 0 1 = cc in omega arith
+  by (Record kind start end) e = by-read end (commandIn shape paper kind (part paper start end)) e
+
+module _ (rules : Rules) (shape : Shape) (state : State) (paper : List ℕ) (at number : ℕ) where
+  abbrev taken : Taken
+  taken = takenOf rules shape state paper at
+
+  event-first : (m : ℕ) → length paper ≡ suc m
+      → restOf rules shape state paper at number
+      ≡ joined (linesOf number (following (taken .event) (eventsFrom m rules shape (taken .state) paper (taken .at))))
+  unfolding restOf eventsFrom
+  event-first m e = ap (λ n. joined (linesOf number (eventsFrom n rules shape state paper at))) e
+
+  module _ (h : at < length paper) where
+    pub answered : (command : Command) (answer : Answer) → taken .event ≡ Answered command answer
+        → restOf rules shape state paper at number ≡ answerLine number answer ++ restOf rules shape (taken .state) paper (taken .at) (number + 1)
+    unfolding linesOf joined restOf
+    answered command answer e =
+        let m = length paper - 1 in
+        let goes = further rules shape paper state at (subst GoesOn (sym e) tt) in
+        event-first m (omega arith)
+        ∙ ap (λ v. joined (linesOf number (following v (eventsFrom m rules shape (taken .state) paper (taken .at))))) e
+        ∙ ap (λ more. answerLine number answer ++ joined (linesOf (number + 1) more))
+        (sym (settled rules shape paper m (length paper) (taken .state) (taken .at) (omega arith) (omega arith)))
+
+    pub last : (refusal : Refusal) → taken .event ≡ Refused refusal
+        → restOf rules shape state paper at number ≡ refusalLine number (refusalNumber refusal)
+    unfolding linesOf joined
+    last refusal e =
+        let m = length paper - 1 in
+        event-first m (omega arith)
+        ∙ ap (λ v. joined (linesOf number (following v (eventsFrom m rules shape (taken .state) paper (taken .at))))) e
+        ∙ append-nil (refusalLine number (refusalNumber refusal))
+
+    pub none : taken .event ≡ End → restOf rules shape state paper at number ≡ []
+    unfolding linesOf joined
+    none e =
+        let m = length paper - 1 in
+        event-first m (omega arith)
+        ∙ ap (λ v. joined (linesOf number (following v (eventsFrom m rules shape (taken .state) paper (taken .at))))) e
+
+  pub at-end : length paper ≤ at → restOf rules shape state paper at number ≡ []
+  unfolding restOf joined linesOf eventsFrom
+  at-end h = ap (λ l. joined (linesOf number l)) (settled rules shape paper 0 (length paper) state at (omega arith) (omega arith))
+
+-- ---- the set-up
+
+-- a paper that opens has at most 65,536 bytes, and its first command stands behind the version and a record
+pub record Opening (paper : List ℕ) (at : ℕ) : Type 0 where
+  pub short : length paper ≤ 65536
+  pub begins : 4 ≤ at
+  pub inside : at ≤ length paper
+
+-- the set-up is taken, or its refusal ends the paper
+pub data Beginning (paper : List ℕ) (begun : Begun) : Type 0 where
+  accepted : begun .event ≡ SetUp → Opening paper (begun .at) → Beginning paper begun
+  refused : (refusal : Refusal) → begun .event ≡ Refused refusal → Beginning paper begun
+
+opening : (paper : List ℕ) (version start end : ℕ) → openPaper paper ≡ Setup version start end → Opening paper end
+unfolding openPaper
+opening paper version start end = by (isUnreadable paper) (nextAt paper 1) refl refl where
+  not-long : (a b c d : Bool) → (a || b || c || d) ≡ false → b ≡ false
+  not-long false false c d e = refl
+  not-long false true c d e = e
+  not-long true b c d e = absurd (let z : _≡_ {A = ℕ} 0 1 = cc in omega arith)
+
+  by-kind : (version₀ kind start₀ end₀ : ℕ) (b : Bool) → nextAt paper 1 ≡ Record kind start₀ end₀ → length paper ≤ 65536
+      → cond b (Setup version₀ start₀ end₀) (OpenRefused Unreadable) ≡ Setup version start end → Opening paper end
+  by-kind version₀ kind start₀ end₀ true n short e =
+      let i = inside paper 1 kind start₀ end₀ n in
+      let same : end₀ ≡ end = cc in
+      record { short = short; begins = omega (arith, i .holds); inside = omega (arith, i .fits) }
+  by-kind version₀ kind start₀ end₀ false n short e = absurd (let z : _≡_ {A = ℕ} 0 1 = cc in omega arith)
+
+  by : (b : Bool) (next : Next) → isUnreadable paper ≡ b → nextAt paper 1 ≡ next
+      → cond b (OpenRefused Unreadable) (setupIn (byte paper 0) next) ≡ Setup version start end → Opening paper end
+  by true next u n e = absurd (let z : _≡_ {A = ℕ} 0 1 = cc in omega arith)
+  by false PaperEnd u n e = absurd (let z : _≡_ {A = ℕ} 0 1 = cc in omega arith)
+  by false Fault u n e = absurd (let z : _≡_ {A = ℕ} 0 1 = cc in omega arith)
+  by false (Record kind start₀ end₀) u n e =
+      by-kind (byte paper 0) kind start₀ end₀ (eqb kind 1) n (ltb-false 65536 (length paper) (not-long (eqb (length paper) 0) (ltb 65536 (length paper)) (eqb (byte paper 0) 0) (ltb latest (byte paper 0)) u)) e
+
+pub begins : (paper : List ℕ) → Beginning paper (begunOf paper)
+unfolding begunOf baseBegun
+begins paper = by (openPaper paper) refl where
+  by-answer : (shape : Shape) (base : List ℕ) (end : ℕ) → Opening paper end → (answer : SetupAnswer) → readSetup base .answer ≡ answer
+      → Beginning paper (baseBegun shape base end)
+  by-answer shape base end o Done e = accepted (ap setUpEvent e) o
+  by-answer shape base end o (SetupRefused refusal) e = refused refusal (ap setUpEvent e)
+
+  by-shape : (body : List ℕ) (place end : ℕ) → Opening paper end → (read : ReadShape) → Beginning paper (shapedBegun body place end read)
+  by-shape body place end o (ShapeRefused refusal) = refused refusal refl
+  by-shape body place end o (ShapeTaken shape) =
+      by-answer (shapeAt place shape) (basePart shape body) end o (readSetup (basePart shape body) .answer) refl
+
+  by : (opened : Opened) → openPaper paper ≡ opened → Beginning paper (openedBegun paper opened)
+  by (OpenRefused refusal) e = refused refusal refl
+  by (Setup version start end) e =
+      unfold setupBegun in by-shape (part paper start end) start end (opening paper version start end e) (shapeOf version (part paper start end))
+
+-- a beginning that is not refused
+pub set-up-if : (paper : List ℕ) → OneOf (0 ∷ 1 ∷ 3 ∷ []) (tagOf E.the-type (begunOf paper .event))
+    → (begunOf paper .event ≡ SetUp) × Opening paper (begunOf paper .at)
+set-up-if paper k = by (begins paper) where
+  not-refused : (refusal : Refusal) (event : Event) → event ≡ Refused refusal → OneOf (0 ∷ 1 ∷ 3 ∷ []) (tagOf E.the-type event) → ⊥
+  not-refused refusal event e n = by-tag (subst (λ v. OneOf (0 ∷ 1 ∷ 3 ∷ []) (tagOf E.the-type v)) e n) where
+    by-tag : OneOf (0 ∷ 1 ∷ 3 ∷ []) (tagOf E.the-type (Refused refusal)) → ⊥
+    by-tag (inl z) = omega arith
+    by-tag (inr (inl z)) = omega arith
+    by-tag (inr (inr z)) = omega arith
+
+  by : Beginning paper (begunOf paper) → (begunOf paper .event ≡ SetUp) × Opening paper (begunOf paper .at)
+  by (accepted e o) = (e, o)
+  by (refused refusal e) = absurd (not-refused refusal (begunOf paper .event) e k)
+
+module _ (words paper : List ℕ) where
+  abbrev begun : Begun
+  begun = begunOf paper
+
+  abbrev rest : List ℕ
+  rest = restOf (rulesOf (wordsBegun words paper)) (begun .shape) (begun .state) paper (begun .at) 1
+
+  pub set-up : begun .event ≡ SetUp → transcriptOf words paper ≡ refusalLine 0 0 ++ rest
+  unfolding transcriptOf sittingLines eventsOf linesOf joined restOf
+  set-up e =
+      ap
+      (λ v. joined (linesOf 0 (following v (eventsFrom (length paper) (rulesOf (wordsBegun words paper)) (begun .shape) (begun .state) paper (begun .at)))))
+      e
+
+  pub not-set-up : (refusal : Refusal) → begun .event ≡ Refused refusal → transcriptOf words paper ≡ refusalLine 0 (refusalNumber refusal)
+  unfolding transcriptOf sittingLines eventsOf linesOf joined
+  not-set-up refusal e =
+      ap
+      (λ v. joined (linesOf 0 (following v (eventsFrom (length paper) (rulesOf (wordsBegun words paper)) (begun .shape) (begun .state) paper (begun .at)))))
+      e
+      ∙ append-nil (refusalLine 0 (refusalNumber refusal))

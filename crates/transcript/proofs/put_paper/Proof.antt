@@ -1,0 +1,71 @@
+-- The set-up's line, and where it is taken the records' lines behind it.
+use borrow.Author.Needs.{needs}
+use denote.Ref.{now}
+use mathlib.Core.Path.{_≡_, sym, ap, _∙_}
+use native.Mathlib.Omega.{arith}
+use Prim.Native.Nat.{_+_}
+use lib.ListN.{length}
+use lib.Seq.{length-sets}
+use Rattle.lines.specs.Lines.{refusalLine}
+use Rattle.transcript.proofs.Going.{behind-is, placed-is, whole-text}
+use Rattle.transcript.proofs.Short.{refusal-short}
+use Rattle.transcript.proofs.Steps.{set-up-if, not-set-up}
+use Rattle.transcript.proofs.put_paper.Statement.{statement}
+use Rattle.transcript.proofs.put_paper.Tie as tie
+
+returns : tie.Need-returns
+returns c =
+    let put = c .before .before in
+    let number = put .before in
+    let told = number .before .before .before in
+    let begin = told .before .before in
+    let start = begin .before .before .before in
+    let a = start .before .args in
+    let e = ap (λ b. b .event) (sym (begin .begin .ensures .0)) ∙ told .event .given .1 in
+    let text = not-set-up (now (a .words)) (now (a .paper)) _ e in
+    let pre = start .before .pre in
+    let short = refusal-short 0 (number .number-of .result) in (
+      rw (text, ← number .number-of .ensures) (put .put-refusal .ensures .0 ∙ behind-is _ _ _ (omega (arith, pre))),
+      rw (text, ← number .number-of .ensures) (put .put-refusal .ensures .1 ∙ placed-is _ _ _ (omega (arith, pre)) (omega arith)),
+      begin .begin .ensures .1,
+    )
+
+put-records-requires : tie.Need-put-records-requires
+put-records-requires c κs =
+    let put = c .before .before .before .before .before .before in
+    let other = put .before .before in
+    let begin = other .before in
+    let start = begin .before .before .before in
+    let a = start .before .args in
+    let pre = start .before .pre in
+    let begun = begin .begin .ensures .0 in
+    let opening = set-up-if (now (a .paper)) (rw (← begun) (other .match .keys2)) .1 in
+    let short = refusal-short 0 0 in
+    let behind = put .put-refusal2 .ensures .0 ∙ behind-is _ _ (refusalLine 0 0) (omega (arith, pre)) in
+    let there = put .put-refusal2 .ensures .1 ∙ placed-is _ _ (refusalLine 0 0) (omega (arith, pre)) (omega arith) in
+    let size = ap length there ∙ length-sets (now (a .room)) (a .at) (refusalLine 0 0) in
+    let at = ap (λ b. b .at) begun in
+    (omega (arith, at, opening .begins), omega (arith, at, opening .inside), opening .short, omega (arith, at, pre, opening .begins, opening .inside, size, behind))
+
+returns-2 : tie.Need-returns-2
+returns-2 c =
+    let records = c .before .before in
+    let shape = records .before .before .before .before in
+    let put = shape .before .before .before in
+    let other = put .before .before in
+    let begin = other .before in
+    let start = begin .before .before .before in
+    let a = start .before .args in
+    let pre = start .before .pre in
+    let begun = begin .begin .ensures .0 in
+    let taken = set-up-if (now (a .paper)) (rw (← begun) (other .match .keys2)) .0 in
+    let short = refusal-short 0 0 in
+    let behind = put .put-refusal2 .ensures .0 ∙ behind-is _ _ (refusalLine 0 0) (omega (arith, pre)) in
+    let there = put .put-refusal2 .ensures .1 ∙ placed-is _ _ (refusalLine 0 0) (omega (arith, pre)) (omega arith) in
+    let kept = begin .begin .ensures .1 in
+    let text = whole-text (now (a .words)) (now (a .paper)) (now (a .room)) (a .at) begun kept taken there behind (records .put-records .ensures .0) (records .put-records .ensures .1) in
+    (text .0, text .1, kept)
+
+pub put-paper-spec : {M : Type 1} → statement M
+put-paper-spec =
+    tie.close (tie.spec (search needs) (search needs) (search needs) (search needs) (search needs) returns (search needs) put-records-requires (search needs) returns-2)

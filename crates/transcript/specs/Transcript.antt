@@ -1,0 +1,58 @@
+-- The lines of a whole paper as one text, and the room that it is written into (document 01, "A sitting in full").
+use mathlib.Core.Bool.{Bool, cond}
+use mathlib.Core.List.{List, [], _++_, _∷_}
+use Prim.Native.Nat.{ℕ, _+_, _*_}
+use lib.Dec.{leb}
+use lib.ListN.{length}
+use lib.Seq.{sets}
+use Rattle.refusal.specs.Refusal.{refusalNumber}
+use Rattle.rules.specs.Rules.{Rules}
+use Rattle.shape.specs.declared.Shape.{Shape}
+use Rattle.state.specs.declared.State.{State}
+use Rattle.conversation.specs.declared.Event.{Event}
+use Rattle.conversation.specs.declared.Event.the-variants.{SetUp, End, Refused, Answered}
+use Rattle.conversation.specs.Conversation.{wordsBegun}
+use Rattle.conversation.specs.Events.{eventsFrom}
+use Rattle.lines.specs.Lines.{refusalLine, longest}
+use Rattle.lines.specs.Sitting.{linesOf, sittingLines}
+use Rattle.transcript.specs.declared.Transcript.{Transcript}
+use Rattle.transcript.specs.declared.Transcript.the-variants.{Whole, NoRoom}
+
+-- lines, one behind the other
+unfoldable pub joined : List (List ℕ) → List ℕ
+joined [] = []
+joined (line ∷ more) = line ++ joined more
+
+-- what is printed of a paper, with the words that it was lent
+unfoldable pub transcriptOf : (words paper : List ℕ) → List ℕ
+transcriptOf words paper = joined (sittingLines words paper)
+
+-- and of its records from a place on, the first of which has a number
+unfoldable pub restOf : Rules → Shape → State → (paper : List ℕ) (at record-number : ℕ) → List ℕ
+restOf rules shape state paper at record-number = joined (linesOf record-number (eventsFrom (length paper) rules shape state paper at))
+
+-- the line of a record that ends the paper: refusal 9, or none at its end
+abbrev pub lastLine : (record-number : ℕ) → Event → List ℕ
+lastLine record-number (Refused refusal) = refusalLine record-number (refusalNumber refusal)
+lastLine record-number SetUp = []
+lastLine record-number End = []
+lastLine record-number (Answered command answer) = []
+
+-- the room that a paper of so many bytes is asked: 8 bytes for each of its bytes, and the longest line
+abbrev pub roomFor : (bytes : ℕ) → ℕ
+roomFor bytes = 8 * bytes + longest
+
+abbrev pub hasRoom : (room at bytes : ℕ) → Bool
+hasRoom room at bytes = leb (at + roomFor bytes) room
+
+-- where the text ends, or that there is no room
+unfoldable pub transcribed : (words paper room : List ℕ) (at : ℕ) → Transcript
+transcribed words paper room at =
+    cond (hasRoom (length room) at (length paper)) (Whole (at + length (transcriptOf words paper))) NoRoom
+
+-- the room holds the text from the place on, and all else stays; where there is no room all stays, and so do the words
+unfoldable pub roomAfter : (words paper room : List ℕ) (at : ℕ) → List ℕ
+roomAfter words paper room at = cond (hasRoom (length room) at (length paper)) (sets room at (transcriptOf words paper)) room
+
+unfoldable pub wordsAfter : (words paper room : List ℕ) (at : ℕ) → List ℕ
+wordsAfter words paper room at = cond (hasRoom (length room) at (length paper)) (wordsBegun words paper) words
