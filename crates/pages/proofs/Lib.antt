@@ -1,2 +1,5 @@
 pub mod Told
 pub mod Front
+pub mod Stack
+pub mod Pieces
+pub mod Alone
