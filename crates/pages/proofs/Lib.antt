@@ -1,3 +1,6 @@
 pub mod Told
 pub mod Front
 pub mod Inside
+pub mod Stack
+pub mod Pieces
+pub mod Alone

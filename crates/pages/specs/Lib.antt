@@ -1,2 +1,4 @@
 pub mod Stack
 pub mod Turn
+pub mod Pieces
+pub mod Alone

@@ -1,5 +1,5 @@
 -- A loop over the records: what stands in the room and what is still to come is the whole text. Assumes nothing.
-use mathlib.Core.Path.{_≡_, refl, sym, ap, subst, _∙_}
+use mathlib.Core.Path.{_≡_, sym, ap, subst, _∙_}
 use mathlib.Core.List.{List, [], _∷_, _++_}
 use mathlib.Core.Logic.{inl, inr}
 use types.Run.{OneOf}
@@ -10,8 +10,6 @@ use native.Mathlib.Omega.{arith}
 use borrow.Author.Tests.{le-leb}
 use lib.ListN.{length, set, length-append}
 use lib.Seq.{sets, sets-eq, length-sets}
-use Rattle.refusal.specs.declared.Refusal.{Refusal}
-use Rattle.refusal.specs.Refusal.{refusalNumber}
 use Rattle.rules.specs.Rules.{Rules, rulesOf}
 use Rattle.shape.specs.declared.Shape.{Shape}
 use Rattle.command.specs.declared.Command.{Command}
@@ -36,7 +34,8 @@ pub behind-is : (room at : ℕ) (text : List ℕ) → at + longest ≤ room → 
 unfolding placeBehind
 behind-is room at text fits = rw (le-leb (at + longest) room fits)
 
-pub placed-is : (room : List ℕ) (at : ℕ) (text : List ℕ) → at + longest ≤ length room → length text ≤ longest → placed room at text ≡ sets room at text
+pub placed-is : (room : List ℕ) (at : ℕ) (text : List ℕ) → at + longest ≤ length room → length text ≤ longest
+    → placed room at text ≡ sets room at text
 unfolding placed
 placed-is room at text fits short = rw (le-leb (at + longest) (length room) fits) (sym (sets-eq text room at (omega arith)))
 

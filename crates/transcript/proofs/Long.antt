@@ -1,6 +1,6 @@
 -- How long the text of a paper is: at most 8 bytes for each of its bytes, and 12 more. Assumes nothing.
-use mathlib.Core.Path.{_≡_, refl, sym, ap, subst}
-use mathlib.Core.List.{List, [], _∷_, _++_}
+use mathlib.Core.Path.{_≡_, refl, sym, subst}
+use mathlib.Core.List.{List}
 use Prim.Native.Nat.{ℕ, zero, suc, _+_, _*_, _-_, _≤_}
 use native.Mathlib.Omega.{arith}
 use lib.ListN.{length, length-append}
@@ -14,7 +14,7 @@ use Rattle.conversation.specs.Conversation.{takenOf, begunOf, wordsBegun}
 use Rattle.conversation.specs.Events.{following, eventsFrom}
 use Rattle.conversation.proofs.Events.{GoesOn, further}
 use Rattle.lines.specs.Lines.{refusalLine}
-use Rattle.lines.specs.Sitting.{answerLine, linesOf}
+use Rattle.lines.specs.Sitting.{linesOf}
 use Rattle.transcript.specs.Transcript.{joined, transcriptOf, restOf}
 use Rattle.transcript.proofs.Short.{refusal-short, LineOf, record-short}
 use Rattle.transcript.proofs.Steps.{Beginning, accepted, refused, begins, never-set-up, set-up, not-set-up}

@@ -1,12 +1,12 @@
 -- How long the lines of a paper are: no record of k bytes has a line of more than 8 k. Assumes nothing.
-use mathlib.Core.Path.{_≡_, refl, sym, ap, _∙_}
+use mathlib.Core.Path.{_≡_, refl, ap}
 use mathlib.Core.Bool.{Bool, true, false, cond, _&&_}
-use mathlib.Core.List.{List, [], _∷_, _++_}
-use Prim.Native.Nat.{ℕ, zero, suc, _+_, _*_, _-_, _≤_, _<_}
+use mathlib.Core.List.{List}
+use Prim.Native.Nat.{ℕ, _+_, _*_, _-_, _≤_}
 use native.Mathlib.Omega.{arith}
 use borrow.Author.Tests.{eqb-true}
 use lib.Dec.{eqb}
-use lib.ListN.{length, take, drop, length-append}
+use lib.ListN.{length, length-append}
 use Rattle.refusal.specs.declared.Refusal.the-variants.{Unreadable}
 use Rattle.refusal.specs.Refusal.{refusalNumber}
 use Rattle.rules.specs.declared.Place.{Place}
@@ -35,10 +35,10 @@ use Rattle.conversation.specs.declared.Event.{Event}
 use Rattle.conversation.specs.declared.Event.the-variants.{SetUp, End, Refused, Answered}
 use Rattle.conversation.specs.Conversation.{answeredBy, nextTaken, takenOf}
 use Rattle.conversation.proofs.Parts.{part-length}
-use Rattle.lines.specs.Lines.{refusalLine, startLine, selectedLine, cryptogramLine, longest}
-use Rattle.lines.specs.Sitting.{answerLine, startedLine}
+use Rattle.lines.specs.Lines.{refusalLine, startLine, selectedLine, longest}
+use Rattle.lines.specs.Sitting.{answerLine}
 use Rattle.lines.proofs.Decimal as Decimal
-use Rattle.lines.proofs.Laws.{refusal-line, start-line, selected-line, cryptogram-line}
+use Rattle.lines.proofs.Laws.{cryptogram-line}
 
 -- ---- a line
 
@@ -120,7 +120,8 @@ module _ (rules : Rules) (state : State) where
   -- a command of a record of some bytes has a line of at most 8 for each
   command-short : (number bytes : ℕ) (command : Command) → Sized command bytes
       → length (answerLine number (stepOf rules state command .answer)) ≤ 8 * (3 + bytes)
-  command-short number bytes (StartCommand start) s = omega (arith, not-given-short number (stepOf rules state (StartCommand start) .answer) (start-gives-none start))
+  command-short number bytes (StartCommand start) s =
+      omega (arith, not-given-short number (stepOf rules state (StartCommand start) .answer) (start-gives-none start))
   command-short number bytes (FirstCommand first) s = omega (arith, answer-short number (stepOf rules state (FirstCommand first) .answer))
   command-short number bytes (SecondCommand second) s = omega (arith, answer-short number (stepOf rules state (SecondCommand second) .answer))
 

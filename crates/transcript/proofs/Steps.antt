@@ -7,7 +7,7 @@ use types.Run.{OneOf}
 use denote.Enum.Declared.{tagOf}
 use Prim.Native.Nat.{ℕ, suc, _+_, _-_, _≤_, _<_}
 use native.Mathlib.Omega.{arith}
-use borrow.Author.Tests.{ltb-false, le-leb}
+use borrow.Author.Tests.{ltb-false}
 use lib.Dec.{eqb, ltb}
 use lib.ListN.{length}
 use Rattle.wire.specs.Wire.{byte}
@@ -139,7 +139,8 @@ opening paper version start end = by (isUnreadable paper) (nextAt paper 1) refl 
   by false PaperEnd u n e = absurd (let z : _≡_ {A = ℕ} 0 1 = cc in omega arith)
   by false Fault u n e = absurd (let z : _≡_ {A = ℕ} 0 1 = cc in omega arith)
   by false (Record kind start₀ end₀) u n e =
-      by-kind (byte paper 0) kind start₀ end₀ (eqb kind 1) n (ltb-false 65536 (length paper) (not-long (eqb (length paper) 0) (ltb 65536 (length paper)) (eqb (byte paper 0) 0) (ltb latest (byte paper 0)) u)) e
+      let short = not-long (eqb (length paper) 0) (ltb 65536 (length paper)) (eqb (byte paper 0) 0) (ltb latest (byte paper 0)) u in
+      by-kind (byte paper 0) kind start₀ end₀ (eqb kind 1) n (ltb-false 65536 (length paper) short) e
 
 pub begins : (paper : List ℕ) → Beginning paper (begunOf paper)
 unfolding begunOf baseBegun

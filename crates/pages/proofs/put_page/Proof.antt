@@ -1,6 +1,6 @@
 use borrow.Author.Needs.{needs}
 use denote.Ref.{now}
-use mathlib.Core.Path.{_≡_, sym, _∙_}
+use mathlib.Core.Path.{sym, _∙_}
 use native.Mathlib.Omega.{arith}
 use Rattle.pages.proofs.Told.{no-page, page, after-length}
 use Rattle.pages.proofs.put_page.Statement.{statement}
@@ -18,7 +18,8 @@ returns c =
 
 slice-write-room : tie.Need-slice-write-room
 slice-write-room c =
-    let put = c .before .before .before .before .before in
+    let told = c .before .before in
+    let put = told .before .before .before in
     let start = put .before .before .before in
     let a = start .before .before .args in
     let e = put .transcribe .ensures in
@@ -26,7 +27,8 @@ slice-write-room c =
 
 add-t11 : tie.Need-add-t11
 add-t11 c =
-    let put = c .before .before .before .before .before in
+    let told = c .before .before in
+    let put = told .before .before .before in
     let start = put .before .before .before in
     let a = start .before .before .args in
     let e = put .transcribe .ensures in
@@ -35,14 +37,16 @@ add-t11 c =
 
 same-length-2 : tie.Need-same-length-2
 same-length-2 c =
-    let put = c .before .before .before .before .before in
+    let told = c .before .before in
+    let put = told .before .before .before in
     let start = put .before .before .before in
     let a = start .before .before .args in
     rw (put .transcribe .ensures .1) (after-length (now (a .words)) (now (a .paper)) (now (a .room)) (a .at) _ 10)
 
 returns-2 : tie.Need-returns-2
 returns-2 c =
-    let put = c .before .before .before .before .before in
+    let told = c .before .before in
+    let put = told .before .before .before in
     let start = put .before .before .before in
     let a = start .before .before .args in
     let e = put .transcribe .ensures in

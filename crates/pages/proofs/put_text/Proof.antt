@@ -2,11 +2,11 @@
 use borrow.Author.Needs.{needs}
 use denote.Ref.{now}
 use mathlib.Core.List.{[], _∷_}
-use mathlib.Core.Path.{_≡_, refl, sym, ap, _∙_}
-use Prim.Native.Nat.{_+_, _-_, _≤_}
+use mathlib.Core.Path.{_≡_, refl, ap, _∙_}
+use Prim.Native.Nat.{_-_, _≤_}
 use native.Mathlib.Omega.{arith}
 use native.Mathlib.Numerals.{add-one}
-use lib.ListN.{length, take, set, getD}
+use lib.ListN.{length, take, getD}
 use lib.Seq.{sets, length-sets, length-take-le, take-suc, take-all}
 use Rattle.transcript.proofs.Going.{sets-on}
 use Rattle.pages.proofs.put_text.Statement.{statement}

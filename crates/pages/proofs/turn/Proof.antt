@@ -1,9 +1,8 @@
 use borrow.Author.Needs.{needs}
 use denote.Ref.{now}
-use mathlib.Core.Path.{_≡_, refl, sym, ap, _∙_}
+use mathlib.Core.Path.{_∙_}
 use native.Mathlib.Omega.{arith}
 use lib.ListN.{length}
-use Rattle.pages.specs.Stack.{sizeOf}
 use Rattle.pages.proofs.Front.{passed, no-length, too-long, no-paper, whole, paged}
 use Rattle.pages.proofs.Told.{passing-said, passing-room, passing-words}
 use Rattle.pages.proofs.turn.Statement.{statement}
@@ -25,7 +24,8 @@ returns c =
 returns-2 : tie.Need-returns-2
 returns-2 c =
     let asked = c .before in
-    let a = asked .before .before .before .before .args in
+    let start = asked .before .before .before in
+    let a = start .before .args in
     let deal = no-length (a .skip) (now (a .words)) (now (a .input)) (asked .before .if1 .left) (asked .if2 .taken) in
     (rw deal (c .wait .ensures), rw deal, rw deal)
 
@@ -33,7 +33,8 @@ returns-3 : tie.Need-returns-3
 returns-3 c =
     let size = c .before in
     let asked = size .before in
-    let a = asked .before .before .before .before .args in
+    let start = asked .before .before .before in
+    let a = start .before .args in
     let e = size .u32-at .ensures in
     let deal = too-long (a .skip) (now (a .words)) (now (a .input)) (asked .before .if1 .left) (asked .if2 .left) (omega (arith, e, c .if3 .taken)) in
     (rw (deal, e), rw deal, rw deal)
@@ -42,19 +43,22 @@ returns-4 : tie.Need-returns-4
 returns-4 c =
     let size = c .before .before .before in
     let asked = size .before in
-    let a = asked .before .before .before .before .args in
+    let start = asked .before .before .before in
+    let a = start .before .args in
     let e = size .u32-at .ensures in
-    let deal = no-paper (a .skip) (now (a .words)) (now (a .input)) (asked .before .if1 .left) (asked .if2 .left) (omega (arith, e, c .before .before .if3 .left))
-    (omega (arith, e, c .before .if4 .taken)) in
+    let deal = no-paper (a .skip) (now (a .words)) (now (a .input)) (asked .before .if1 .left) (asked .if2 .left)
+    (omega (arith, e, c .before .before .if3 .left)) (omega (arith, e, c .before .if4 .taken)) in
     (rw deal (c .wait2 .ensures), rw deal, rw deal)
 
 returns-5 : tie.Need-returns-5
 returns-5 c =
     let put = c .before .before .before in
-    let last = put .before .before .before .before in
+    let part = put .before .before in
+    let last = part .before .before in
     let size = last .before .before in
     let asked = size .before in
-    let a = asked .before .before .before .before .args in
+    let start = asked .before .before .before in
+    let a = start .before .args in
     let e = size .u32-at .ensures in
     let deal = whole (a .skip) (now (a .words)) (now (a .input)) (asked .before .if1 .left) (asked .if2 .left) (omega (arith, e, last .before .if3 .left))
     (omega (arith, e, last .if4 .left)) in

@@ -6,8 +6,6 @@ use mathlib.Core.Path.{_≡_, refl, _∙_}
 use native.Mathlib.Omega.{arith}
 use Prim.Native.Nat.{ℕ}
 use types.Run.{OneOf}
-use denote.Ref.{now}
-use lib.ListN.{length}
 use Rattle.conversation.specs.declared.Event.{Event}
 use Rattle.conversation.specs.declared.Event.the-variants.{SetUp, End, Refused, Answered}
 use Rattle.conversation.proofs.Event as E

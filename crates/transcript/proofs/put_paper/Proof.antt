@@ -1,9 +1,8 @@
 -- The set-up's line, and where it is taken the records' lines behind it.
 use borrow.Author.Needs.{needs}
 use denote.Ref.{now}
-use mathlib.Core.Path.{_≡_, sym, ap, _∙_}
+use mathlib.Core.Path.{sym, ap, _∙_}
 use native.Mathlib.Omega.{arith}
-use Prim.Native.Nat.{_+_}
 use lib.ListN.{length}
 use lib.Seq.{length-sets}
 use Rattle.lines.specs.Lines.{refusalLine}
@@ -32,7 +31,8 @@ returns c =
 
 put-records-requires : tie.Need-put-records-requires
 put-records-requires c κs =
-    let put = c .before .before .before .before .before .before in
+    let shape = c .before .before .before in
+    let put = shape .before .before .before in
     let other = put .before .before in
     let begin = other .before in
     let start = begin .before .before .before in
@@ -45,13 +45,16 @@ put-records-requires c κs =
     let there = put .put-refusal2 .ensures .1 ∙ placed-is _ _ (refusalLine 0 0) (omega (arith, pre)) (omega arith) in
     let size = ap length there ∙ length-sets (now (a .room)) (a .at) (refusalLine 0 0) in
     let at = ap (λ b. b .at) begun in
-    (omega (arith, at, opening .begins), omega (arith, at, opening .inside), opening .short, omega (arith, at, pre, opening .begins, opening .inside, size, behind))
+    let begins = opening .begins in
+    let inside = opening .inside in
+    (omega (arith, at, begins), omega (arith, at, inside), opening .short, omega (arith, at, pre, begins, inside, size, behind))
 
 returns-2 : tie.Need-returns-2
 returns-2 c =
     let records = c .before .before in
-    let shape = records .before .before .before .before in
-    let put = shape .before .before .before in
+    let fresh = records .before .before .before in
+    let shape = fresh .before .before in
+    let put = shape .before .before in
     let other = put .before .before in
     let begin = other .before in
     let start = begin .before .before .before in
@@ -63,9 +66,12 @@ returns-2 c =
     let behind = put .put-refusal2 .ensures .0 ∙ behind-is _ _ (refusalLine 0 0) (omega (arith, pre)) in
     let there = put .put-refusal2 .ensures .1 ∙ placed-is _ _ (refusalLine 0 0) (omega (arith, pre)) (omega arith) in
     let kept = begin .begin .ensures .1 in
-    let text = whole-text (now (a .words)) (now (a .paper)) (now (a .room)) (a .at) begun kept taken there behind (records .put-records .ensures .0) (records .put-records .ensures .1) in
+    let p = records .put-records .ensures in
+    let text = whole-text (now (a .words)) (now (a .paper)) (now (a .room)) (a .at) begun kept taken there behind (p .0) (p .1) in
     (text .0, text .1, kept)
 
 pub put-paper-spec : {M : Type 1} → statement M
 put-paper-spec =
-    tie.close (tie.spec (search needs) (search needs) (search needs) (search needs) (search needs) returns (search needs) put-records-requires (search needs) returns-2)
+    tie.close
+    (tie.spec (search needs) (search needs) (search needs) (search needs) (search needs) returns (search needs) put-records-requires
+    (search needs) returns-2)

@@ -1,7 +1,7 @@
 -- Each turn writes a record's line; when nothing is left the text stands.
 use borrow.Author.Needs.{needs}
-use mathlib.Core.Path.{_≡_, refl, sym, ap, _∙_}
-use Prim.Native.Nat.{_+_, _-_, _≤_}
+use mathlib.Core.Path.{refl, sym, ap, _∙_}
+use Prim.Native.Nat.{_+_, _-_}
 use native.Mathlib.Omega.{arith}
 use lib.ListN.{length}
 use lib.Seq.{sets}
@@ -24,7 +24,10 @@ loop-holds c =
     record { inside = pre .1; counted = omega (arith, pre .0); fits = pre .3; text = refl; ends = refl; sized = refl }
 
 put-last-requires : tie.Need-put-last-requires Inv-loop μ-loop
-put-last-requires c κs = let loop = c .before .before .before .before .before .loop in omega (arith, loop .inv .fits)
+put-last-requires c κs =
+    let take = c .before .before .before in
+    let loop = take .before .before .loop in
+    omega (arith, loop .inv .fits)
 
 returns : tie.Need-returns Inv-loop μ-loop
 returns c =
@@ -40,14 +43,17 @@ returns c =
 
 add-number : tie.Need-add-number Inv-loop μ-loop
 add-number c =
-    let told = c .before .before .before .before .before in
-    let loop = told .before .before .before .before .before in
+    let put = c .before .before in
+    let told = put .before .before .before in
+    let take = told .before .before .before in
+    let loop = take .before .before in
     let pre = loop .before .before .before .pre in
     omega (arith, loop .loop .inv .counted, loop .loop .inv .inside, pre .2)
 
 loop-less : tie.Need-loop-less Inv-loop μ-loop
 loop-less c =
-    let told = c .before .before .before .before .before in
+    let put = c .before .before in
+    let told = put .before .before .before in
     let take = told .before .before .before in
     let loop = take .before .before in
     let e = ap (λ t. t .event) (sym (take .take .ensures)) ∙ told .event .given .1 in

@@ -1,0 +1,110 @@
+-- A paper's page is its own: it does not hang on the words that it is lent, and so not on the papers before it. Assumes nothing.
+use mathlib.Core.Path.{_≡_, refl, sym, ap, _∙_}
+use mathlib.Core.Bool.{Bool, true, false, cond}
+use mathlib.Core.List.{List, _++_}
+use Prim.Native.Nat.{ℕ, zero, suc}
+use native.Mathlib.Omega.{arith}
+use lib.ListN.{length}
+use lib.Seq.{length-sets}
+use Rattle.refusal.specs.declared.Refusal.{Refusal}
+use Rattle.rules.specs.Word.{wordCount}
+use Rattle.rules.specs.Rules.{rulesOf}
+use Rattle.load.specs.Load.{stored, loaded}
+use Rattle.load.proofs.Sizes.{loaded-size}
+use Rattle.load.proofs.Stores.{all}
+use Rattle.ranges.specs.Ranges.{isSetup}
+use Rattle.setup.specs.Setup.{wordsAfter}
+use Rattle.setup.proofs.Faithful.{untouched}
+use Rattle.shape.specs.declared.Shape.{Shape}
+use Rattle.shape.specs.declared.ReadShape.{ReadShape}
+use Rattle.shape.specs.declared.ReadShape.the-variants.{Taken as ShapeTaken, Refused as ShapeRefused}
+use Rattle.shape.specs.Shape.{basePart, shapeOf, shapeAt}
+use Rattle.paper.specs.declared.Opened.{Opened}
+use Rattle.paper.specs.declared.Opened.the-variants.{Setup, Refused as OpenRefused}
+use Rattle.paper.specs.Paper.{openPaper}
+use Rattle.paper.specs.Walk.{part}
+use Rattle.conversation.specs.declared.Event.the-variants.{SetUp, Refused}
+use Rattle.conversation.specs.Conversation.{setUpEvent, baseBegun, shapedBegun, setupBegun, openedBegun, begunOf}
+use Rattle.conversation.specs.Conversation.{shapedWords, setupWords, openedWords, wordsBegun}
+use Rattle.lines.specs.Lines.{refusalLine}
+use Rattle.transcript.specs.Transcript.{transcriptOf, restOf}
+use Rattle.transcript.proofs.Steps.{Beginning, accepted, refused, begins, set-up, not-set-up}
+use Rattle.pages.specs.Stack.{paperOf, behind, pagesIn, stackOf}
+use Rattle.pages.specs.Alone.{apartIn, apartOf}
+
+-- ---- as many words as before
+
+stored-length : (words s : List ℕ) (syllabus : ℕ) → length (wordsAfter words s syllabus) ≡ length words
+unfolding wordsAfter
+stored-length words s syllabus = by (isSetup s) where
+  by : (b : Bool) → length (cond b (stored words s syllabus) words) ≡ length words
+  by true = length-sets words 0 (loaded s syllabus)
+  by false = refl
+
+pub words-length : (words paper : List ℕ) → length (wordsBegun words paper) ≡ length words
+unfolding wordsBegun setupWords
+words-length words paper = by (openPaper paper) where
+  by-shape : (body : List ℕ) (read : ReadShape) → length (shapedWords words body read) ≡ length words
+  by-shape body (ShapeRefused refusal) = refl
+  by-shape body (ShapeTaken shape) = stored-length words (basePart shape body) (shape .syllabus)
+
+  by : (opened : Opened) → length (openedWords words paper opened) ≡ length words
+  by (OpenRefused refusal) = refl
+  by (Setup version start end) = by-shape (part paper start end) (shapeOf version (part paper start end))
+
+-- ---- the same words
+
+not-both : (refusal : Refusal) → Refused refusal ≡ SetUp → ⊥
+not-both refusal e = let z : _≡_ {A = ℕ} 0 1 = cc in omega arith
+
+module _ (words words′ paper : List ℕ) (lent : length words ≡ wordCount) (lent′ : length words′ ≡ wordCount) where
+  -- a set-up that is taken fills all of them
+  filled : (s : List ℕ) (syllabus : ℕ) → isSetup s ≡ true → wordsAfter words s syllabus ≡ wordsAfter words′ s syllabus
+  unfolding wordsAfter
+  filled s syllabus good =
+      let size = loaded-size s syllabus in
+      rw good (all words (loaded s syllabus) (size ∙ sym lent) ∙ sym (all words′ (loaded s syllabus) (size ∙ sym lent′)))
+
+  same-words : begunOf paper .event ≡ SetUp → wordsBegun words paper ≡ wordsBegun words′ paper
+  unfolding begunOf setupBegun baseBegun wordsBegun setupWords
+  same-words = by (openPaper paper) where
+    by-base : (shape : Shape) (s : List ℕ) (end syllabus : ℕ) (b : Bool) → isSetup s ≡ b → baseBegun shape s end .event ≡ SetUp
+        → wordsAfter words s syllabus ≡ wordsAfter words′ s syllabus
+    by-base shape s end syllabus true good e = filled s syllabus good
+    by-base shape s end syllabus false bad e =
+        absurd (not-both _ (sym (ap (λ r. setUpEvent (r .answer)) (untouched words s syllabus bad .1)) ∙ e))
+
+    by-shape : (body : List ℕ) (place end : ℕ) (read : ReadShape) → shapedBegun body place end read .event ≡ SetUp
+        → shapedWords words body read ≡ shapedWords words′ body read
+    by-shape body place end (ShapeRefused refusal) e = absurd (not-both refusal e)
+    by-shape body place end (ShapeTaken shape) e =
+        by-base (shapeAt place shape) (basePart shape body) end (shape .syllabus) (isSetup (basePart shape body)) refl e
+
+    by : (opened : Opened) → openedBegun paper opened .event ≡ SetUp → openedWords words paper opened ≡ openedWords words′ paper opened
+    by (OpenRefused refusal) e = absurd (not-both refusal e)
+    by (Setup version start end) e = by-shape (part paper start end) start end (shapeOf version (part paper start end)) e
+
+  pub each-alone : transcriptOf words paper ≡ transcriptOf words′ paper
+  each-alone = by (begins paper) where
+    by : Beginning paper (begunOf paper) → transcriptOf words paper ≡ transcriptOf words′ paper
+    by (accepted e o) =
+        let begun = begunOf paper in
+        let rest = ap (λ w. refusalLine 0 0 ++ restOf (rulesOf w) (begun .shape) (begun .state) paper (begun .at) 1) (same-words e) in
+        set-up words paper e ∙ rest ∙ sym (set-up words′ paper e)
+    by (refused refusal e) = not-set-up words paper refusal e ∙ sym (not-set-up words′ paper refusal e)
+
+-- ---- a stack
+
+apart-in : (n : ℕ) (words words′ stack : List ℕ) → length words ≡ wordCount → length words′ ≡ wordCount
+    → pagesIn n words stack ≡ apartIn n words′ stack
+unfolding pagesIn apartIn
+apart-in zero words words′ stack lent lent′ = refl
+apart-in (suc n) words words′ stack lent lent′ =
+    let paper = paperOf stack in
+    rw (each-alone words words′ paper lent lent′, apart-in n (wordsBegun words paper) words′ (behind stack) (words-length words paper ∙ lent) lent′)
+
+-- the text of a stack is each paper's own page
+pub apart : (words words′ stack : List ℕ) → length words ≡ wordCount → length words′ ≡ wordCount
+    → stackOf words stack ≡ apartOf words′ stack
+unfolding stackOf apartOf
+apart words words′ stack lent lent′ = apart-in (length stack) words words′ stack lent lent′
