@@ -11,8 +11,8 @@ use Rattle.lines.specs.Lines.{hexDigit, hexByte, hex}
 use Rattle.lines.specs.Stored.{Stored}
 use Rattle.lines.proofs.Stores.{next}
 use Rattle.lines.proofs.Hex.{hex-more, size}
-use Rattle.importing.proofs.hex_of.Statement.{statement}
-use Rattle.importing.proofs.hex_of.Tie as tie
+use Rattle.imports.proofs.hex_of.Statement.{statement}
+use Rattle.imports.proofs.hex_of.Tie as tie
 
 abbrev Inv-loop : tie.InvT-loop
 Inv-loop bytes text₀ i₀ text i = Stored (replicate 30 0) 0 (hex (take i bytes)) (2 * i) (2 * i) text × (i ≤ 15) × (length text ≡ 30)
