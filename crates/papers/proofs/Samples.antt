@@ -59,7 +59,8 @@ pub record Samples : Type 0 where
   pub syllabus-1 : T (eqb (syllabusRead (shapeOf 3 latest)) (syllabusIn 3 latest))
 
 pub samples : Samples
-unfolding computed printed openPaper nextAt commandIn commandOf startOf kindOf bodyOf recordOf big eventsFrom eventsOf takenOf answeredBy begunOf sittingLines linesOf refusalLine decimal digit shapeOf tailsOf baseTail selectionTail syllabusTail walk frontOf meant
+unfolding computed printed openPaper nextAt commandIn commandOf startOf kindOf bodyOf recordOf big eventsFrom eventsOf takenOf answeredBy begunOf
+    sittingLines linesOf refusalLine decimal digit shapeOf tailsOf baseTail selectionTail syllabusTail walk frontOf meant
 samples =
     record {
       each-record = tt;

@@ -93,7 +93,8 @@ pub record Samples : Type 0 where
   pub cryptogram-line : T (isFive (fieldsIn (cryptogramLine 2 0x40 1 (fields 0x90))) 2 0 (0x40 ∷ []) 1 bytes)
 
 pub samples : Samples
-unfolding readIad isIad hasFixedBytes number isCvr cvrOf arePairs iadOf pairsValue writeIad isWritable written iadBytes pairsOf startLine cryptogramLine decimal digit hex fieldsIn wordsIn areDigits valueIn isHex bytesIn
+unfolding readIad isIad hasFixedBytes number isCvr cvrOf arePairs iadOf pairsValue writeIad isWritable written iadBytes pairsOf startLine
+    cryptogramLine decimal digit hex fieldsIn wordsIn areDigits valueIn isHex bytesIn
 samples =
     record {
       first-type = tt;

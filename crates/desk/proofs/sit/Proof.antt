@@ -7,7 +7,8 @@ use Rattle.desk.proofs.sit.Tie as tie
 
 slice-aggregate-transcribe : tie.Need-slice-aggregate-transcribe
 slice-aggregate-transcribe c =
-    let read = c .before .before .before .before in
+    let asked = c .before .before in
+    let read = asked .before .before in
     sym (length-take-le _ (read .read-all .last .0) (search needs))
 
 pub sit-spec : {M : Type 1} → statement M
