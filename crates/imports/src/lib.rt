@@ -69,7 +69,7 @@ fn put_line(room: &mut [u8], at: usize, number: u64, old: &[u8]) -> usize
         }
         Imported::Refused(refusal) => {
             let at = put_text(room, at, b" ");
-            let at = put_number(room, at, refusal::number_of(refusal) as u64);
+            let at = put_number(room, at, refusal.number() as u64);
             put_text(room, at, b"\n")
         }
     }

@@ -112,7 +112,7 @@ fn printed(profile: u8) -> Iad {
 fn show_written(name: &[u8], written: Written) {
     match written {
         Written::Done => line(name, 0),
-        Written::Refused(refusal) => line(name, refusal::number_of(refusal) as u64),
+        Written::Refused(refusal) => line(name, refusal.number() as u64),
     }
 }
 
@@ -123,7 +123,7 @@ fn show_read(s: &[u8]) {
             line(b"accumulator: ", iad.accumulator.0);
             line(b"profile: ", iad.profile as u64);
         }
-        ReadIad::Refused(refusal) => line(b"read: ", refusal::number_of(refusal) as u64),
+        ReadIad::Refused(refusal) => line(b"read: ", refusal.number() as u64),
     }
 }
 
@@ -161,7 +161,7 @@ fn show_iad(room: &mut [u8]) {
 fn show_imported(name: &[u8], imported: Imported) {
     match imported {
         Imported::Done => line(name, 0),
-        Imported::Refused(refusal) => line(name, refusal::number_of(refusal) as u64),
+        Imported::Refused(refusal) => line(name, refusal.number() as u64),
     }
 }
 

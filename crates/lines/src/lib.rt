@@ -157,13 +157,13 @@ fn store_answer(room: &mut [u8], at: usize, number: u16, answer: Answer) -> usiz
     ensures { λ r. ⌜ Stored (now (room .entry)) at (answerLine number answer) 82 r (now (room .exit)) ⌝ }
 {
     match answer {
-        Answer::Refused(refusal) => store_refusal(room, at, number, refusal::number_of(refusal)),
+        Answer::Refused(refusal) => store_refusal(room, at, number, refusal.number()),
         Answer::Started { atc, visits } => put_started(room, at, number, atc, visits),
         Answer::Given { kind, atc, iad } => put_cryptogram(
             room,
             at,
             number,
-            state::cid_of(kind),
+            kind.cid(),
             atc,
             iad,
         ),

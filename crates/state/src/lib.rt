@@ -77,6 +77,19 @@ pub enum Kind {
     Arqc,
 }
 
+impl Kind {
+    // The Cryptogram Information Data.
+    pub fn cid(self) -> u8
+        ensures { λ r. ⌜ r ≡ cidOf self ⌝ }
+    {
+        match self {
+            Kind::Aac => 0x00,
+            Kind::Tc => 0x40,
+            Kind::Arqc => 0x80,
+        }
+    }
+}
+
 pub enum Answer {
     Refused(Refusal),
     // The entries visited, none where the profile was named.
@@ -89,12 +102,3 @@ pub struct Outcome {
     pub answer: Answer,
 }
 
-pub fn cid_of(kind: Kind) -> u8
-    ensures { λ r. ⌜ r ≡ cidOf kind ⌝ }
-{
-    match kind {
-        Kind::Aac => 0x00,
-        Kind::Tc => 0x40,
-        Kind::Arqc => 0x80,
-    }
-}

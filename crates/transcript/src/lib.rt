@@ -39,7 +39,7 @@ fn put_last(room: &mut [u8], at: usize, number: u16, event: Event) -> usize
     let Event::Refused(refusal) = event else {
         return at;
     };
-    lines::put_refusal(room, at, number, refusal::number_of(refusal))
+    lines::put_refusal(room, at, number, refusal.number())
 }
 
 // The lines of the records from a place of the paper on, from a place of the room on.
@@ -81,7 +81,7 @@ fn put_paper(paper: &[u8], words: &mut Words, room: &mut [u8], at: usize) -> usi
     let begun = conversation::begin(paper, words);
     let event = begun.event;
     if let Event::Refused(refusal) = event {
-        return lines::put_refusal(room, at, 0, refusal::number_of(refusal));
+        return lines::put_refusal(room, at, 0, refusal.number());
     }
     let end = lines::put_refusal(room, at, 0, 0);
     let shape = begun.shape;

@@ -45,7 +45,7 @@ returns-2 c =
     let a = lent .before .before .before .args in
     let new = taken .import-record .ensures in
     let stored = next (number .put-number .ensures) (next (space .put-text4 .ensures) (next (refusal .put-number2 .ensures) (feed .put-text5 .ensures))) in
-    told stored (refused (a .number) (now (a .old)) _ _ (sym (new .0) ∙ answered .answer .given .1) (numbered .number-of .ensures)) (omega arith)
+    told stored (refused (a .number) (now (a .old)) _ _ (sym (new .0) ∙ answered .answer .given .1) (numbered .number .ensures)) (omega arith)
 
 pub put-line-spec : {M : Type 1} → statement M
 put-line-spec =

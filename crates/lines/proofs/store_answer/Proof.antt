@@ -11,7 +11,7 @@ returns c =
     let put = c .before .before in
     let number = put .before in
     let told = number .before .before .before in
-    simp (told .answer .given .1) (within (simp (number .number-of .ensures) at (put .store-refusal .ensures)) (lit≤ tt))
+    simp (told .answer .given .1) (within (simp (number .number .ensures) at (put .store-refusal .ensures)) (lit≤ tt))
 
 returns-2 : tie.Need-returns-2
 unfolding answerLine

@@ -36,10 +36,10 @@ returns-2 c =
     let told = number .before .before .before in
     let start = told .before .before .before in
     let a = start .args in
-    let short = refusal-short (a .number) (number .number-of .result) in
+    let short = refusal-short (a .number) (number .number .result) in
     let e = told .event .given .1 in (
-      rw (e, ← number .number-of .ensures) (put .put-refusal .ensures .0 ∙ behind-is _ _ _ (start .pre)),
-      rw (e, ← number .number-of .ensures) (put .put-refusal .ensures .1 ∙ placed-is _ _ _ (start .pre) (omega arith)),
+      rw (e, ← number .number .ensures) (put .put-refusal .ensures .0 ∙ behind-is _ _ _ (start .pre)),
+      rw (e, ← number .number .ensures) (put .put-refusal .ensures .1 ∙ placed-is _ _ _ (start .pre) (omega arith)),
     )
 
 pub put-last-spec : {M : Type 1} → statement M
