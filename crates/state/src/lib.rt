@@ -101,4 +101,3 @@ pub struct Outcome {
     pub state: State,
     pub answer: Answer,
 }
-
