@@ -5,23 +5,13 @@ use Prim.Native.Nat.{ℕ}
 use lib.Dec.{T, eqb}
 use lib.ListN.{length, replicate, getD}
 use Rattle.wire.specs.Wire.{byte, number}
-use Rattle.shape.specs.Shape.{shapeOf, tailsOf, baseTail}
-use Rattle.rules.specs.Rules.{rulesOf, profileOf}
-use Rattle.load.specs.Load.{headWords, rateWords, ratesWords, ruleWords, rulesWords, profileHeadWords, sentWords, profileWords, profilesWords, loaded}
-use Rattle.setup.specs.Setup.{wordsAfter}
-use Rattle.command.specs.Command.{commandIn, commandOf, startOf}
-use Rattle.paper.specs.Paper.{nextAt, openPaper}
-use Rattle.conversation.specs.Conversation.{answeredBy, takenOf, baseBegun, setupBegun, begunOf, setupWords, wordsBegun}
-use Rattle.conversation.specs.Events.{eventsFrom, eventsOf}
-use Rattle.lines.specs.Lines.{digit, decimal, refusalLine, startLine}
-use Rattle.lines.specs.Sitting.{answerLine, linesOf, sittingLines}
 use Rattle.transcript.specs.Transcript.{joined, transcriptOf}
 use Rattle.pages.specs.Stack.{pagesIn, stackOf}
 use Rattle.import.specs.Import.{importRecord, oldRecord, takeOver}
 use Rattle.imports.specs.Imports.{digitsOf, recordLine, linesIn, importsFrom, importsOf}
-use Rattle.demands.proofs.Computed.{computed}
 use Rattle.spelling.specs.Spelling.{big, recordOf, names, kindOf, bodyOf, spell, paperOf}
 use Rattle.spelling.specs.Printed.{printed, body}
+use Rattle.spelling.proofs.Computed.{answered}
 use Rattle.printout.specs.Text.{linesRead}
 use Rattle.printout.specs.Stack.{stackWith}
 
@@ -59,10 +49,8 @@ pub record Samples : Type 0 where
   pub rising-by-1 : T (eqb (firstOf records 1) 0x32)
 
 pub samples : Samples
-unfolding printed recordOf kindOf bodyOf openPaper nextAt shapeOf tailsOf baseTail begunOf setupBegun baseBegun wordsBegun setupWords wordsAfter
-    loaded headWords ratesWords rateWords profilesWords profileWords profileHeadWords rulesWords ruleWords sentWords rulesOf profileOf
-    eventsOf eventsFrom takenOf answeredBy commandIn commandOf startOf computed sittingLines linesOf answerLine refusalLine startLine decimal digit
-    transcriptOf joined linesRead stackWith stackOf pagesIn number big importsFrom linesIn recordLine importRecord digitsOf takeOver oldRecord
+unfolding printed recordOf kindOf bodyOf answered transcriptOf joined linesRead stackWith stackOf pagesIn number big importsFrom linesIn recordLine
+    importRecord digitsOf takeOver oldRecord
 samples =
     record {
       one-line = tt;
