@@ -5,7 +5,7 @@ ghost use Prim.Native.Nat.{_+_, _<_, _^_};
 ghost use lib.ListN.{length};
 ghost use Rattle.rules.specs.Rules.{rulesOf};
 ghost use Rattle.setup.specs.Setup.{wordsAfter};
-ghost use Rattle.shape.specs.Shape.{Lies, selectingAt, shapeAt};
+ghost use Rattle.shape.specs.Shape.{Lies, Spans, selectingAt, datingAt, shapeAt};
 ghost use Rattle.conversation.specs.Conversation.{answeredBy, takenOf, setUpEvent, refusedAt, baseBegun, setupBegun, setupWords, begunOf, wordsBegun};
 use command::Command;
 use command::ReadCommand;
@@ -14,6 +14,7 @@ use paper::Opened;
 use refusal::Refusal;
 use rules::Words;
 use setup::SetupAnswer;
+use shape::Dating;
 use shape::ReadShape;
 use shape::Selecting;
 use shape::Shape;
@@ -109,6 +110,8 @@ fn refuse(refusal: Refusal, at: usize) -> Begun
             base: 0,
             selecting: Selecting::Off,
             syllabus: 0,
+            dating: Dating::Off,
+            unnamed: 4_194_304,
         },
         state: card::fresh_card(none),
         at,
@@ -116,12 +119,12 @@ fn refuse(refusal: Refusal, at: usize) -> Begun
     }
 }
 
-// The set-up's base, read into lent words.
-fn take_base(shape: Shape, base: &[u8], end: usize, words: &mut Words) -> Begun
-    ensures { λ r. ⌜ (r ≡ baseBegun shape (now (base .entry)) end)
-        × (now (words .exit) ≡ wordsAfter (now (words .entry)) (now (base .entry)) (shape .syllabus)) ⌝ }
+// The set-up's base and the tail with its cyclic accumulators, read into lent words.
+fn take_base(shape: Shape, base: &[u8], cycles: &[u8], end: usize, words: &mut Words) -> Begun
+    ensures { λ r. ⌜ (r ≡ baseBegun shape (now (base .entry)) (now (cycles .entry)) end)
+        × (now (words .exit) ≡ wordsAfter (now (words .entry)) (now (base .entry)) (now (cycles .entry)) (shape .syllabus) (shape .unnamed)) ⌝ }
 {
-    let read = setup::read_setup(base, shape.syllabus, words);
+    let read = setup::read_setup(base, cycles, shape.syllabus, shape.unnamed, words);
     let fresh = read.fresh;
     let answer = read.answer;
     Begun {
@@ -151,7 +154,21 @@ fn select_in(selecting: Selecting, place: usize, bytes: usize) -> Selecting
     }
 }
 
-// The set-up: its shape is read and then its base, or refused.
+// The tail's places likewise.
+fn date_in(dating: Dating, place: usize, bytes: usize) -> Dating
+    requires { ⌜ Spans dating bytes × (place + bytes < 2 ^ 63) ⌝ }
+    ensures { λ r. ⌜ r ≡ datingAt place dating ⌝ }
+{
+    match dating {
+        Dating::Off => Dating::Off,
+        Dating::On { start, end } => Dating::On {
+            start: place + start,
+            end: place + end,
+        },
+    }
+}
+
+// The set-up: its shape is read, and then its base and its tail with dates, or refused.
 fn take_setup(version: u8, body: &[u8], place: usize, end: usize, words: &mut Words) -> Begun
     requires { ⌜ place + length (now body) < 2 ^ 63 ⌝ }
     ensures { λ r. ⌜ (r ≡ setupBegun version (now (body .entry)) place end)
@@ -163,12 +180,21 @@ fn take_setup(version: u8, body: &[u8], place: usize, end: usize, words: &mut Wo
             let base = shape.base;
             let read = shape.selecting;
             let selecting = select_in(read, place, body.len());
+            let dates = shape.dating;
+            let dating = date_in(dates, place, body.len());
             let placed = Shape {
                 base,
                 selecting,
                 syllabus: shape.syllabus,
+                dating,
+                unnamed: shape.unnamed,
             };
-            take_base(placed, &body[..base], end, words)
+            match dates {
+                Dating::Off => take_base(placed, &body[..base], &body[..0], end, words),
+                Dating::On { start, end: behind } => {
+                    take_base(placed, &body[..base], &body[start..behind], end, words)
+                }
+            }
         }
     }
 }

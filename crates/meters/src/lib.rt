@@ -1,11 +1,12 @@
 // What approvals, declines and the issuer's orders do to the values.
 ghost use mathlib.Core.Path.{_≡_};
 ghost use Rattle.rules.specs.Rules.{rulesOf};
-ghost use Rattle.purchase.specs.Meter.{accumulator, counter, counterCap, worth};
+ghost use Rattle.purchase.specs.Meter.{accumulator, counter, cyclic, counterCap, worth, isInOrder};
 ghost use Rattle.meters.specs.Meters.{add, move, moved, amountMoved, addition, offline, entered, applied};
 use money::AccumulatorAmount;
 use money::Converted;
 use purchase::Purchase;
+use purchase::Timing;
 use rules::Place;
 use rules::Values;
 use rules::Words;
@@ -35,12 +36,12 @@ impl Change {
     }
 }
 
-// Accumulator i + 1 with a purchase that counts. An amount that is over fills it; without a
+// An accumulator with what a purchase is worth to it. An amount that is over fills it; without a
 // conversion the purchase doesn't count there.
-fn grow(words: &Words, i: usize, amount: AccumulatorAmount, purchase: Purchase) -> AccumulatorAmount
-    ensures { λ r. ⌜ r ≡ amountMoved amount (addition (worth (rulesOf (now (words .entry))) purchase i)) ⌝ }
+fn grow(amount: AccumulatorAmount, worth: Converted) -> AccumulatorAmount
+    ensures { λ r. ⌜ r ≡ amountMoved amount (addition worth) ⌝ }
 {
-    match purchase::worth(words, purchase, i) {
+    match worth {
         Converted::Amount(more) => money::plus(amount, more),
         Converted::Over => AccumulatorAmount(money::MAX),
         Converted::NoEntry => amount,
@@ -71,7 +72,7 @@ fn change_amount(
     match change {
         Change::Approve(purchase) => {
             if rule.allow {
-                return grow(words, i, amount, purchase);
+                return grow(amount, purchase::worth(words, purchase, i));
             }
             amount
         }
@@ -107,12 +108,52 @@ fn change_count(words: &Words, place: Place, i: usize, value: u8, change: Change
     }
 }
 
+// Whether a purchase's date is in order, so that cyclic accumulators take part.
+fn is_in_order(timing: Timing) -> bool
+    ensures { λ r. ⌜ r ≡ isInOrder timing ⌝ }
+{
+    match timing {
+        Timing::Undated => false,
+        Timing::InOrder => true,
+        Timing::DateError(_) => false,
+    }
+}
+
+// Cyclic accumulator i + 1 after a change.
+fn change_cyclic(
+    words: &Words,
+    place: Place,
+    i: usize,
+    amount: AccumulatorAmount,
+    change: Change,
+) -> AccumulatorAmount
+    ensures { λ r. ⌜ r ≡ amountMoved amount (entered (rulesOf (now (words .entry))) place change (cyclic i)) ⌝ }
+{
+    let rule = rules::cyclic_rule(words, place, i);
+    if !rule.active {
+        return amount;
+    }
+    match change {
+        Change::Approve(purchase) => {
+            let timing = purchase.timing;
+            if is_in_order(timing) & rule.allow {
+                return grow(amount, purchase::cyclic_worth(words, purchase, i));
+            }
+            amount
+        }
+        Change::Decline => amount,
+        Change::SetToLimits => rule.limit,
+        Change::Clear => AccumulatorAmount(0),
+    }
+}
+
 // The values after a change.
 pub fn apply(words: &Words, place: Place, values: Values, change: Change) -> Values
     ensures { λ r. ⌜ r ≡ applied (rulesOf (now (words .entry))) place values change ⌝ }
 {
     let amounts = values.accumulators;
     let counts = values.counters;
+    let cycles = values.cyclic;
     Values {
         accumulators: [
             change_amount(words, place, 0, amounts[0], change),
@@ -125,6 +166,10 @@ pub fn apply(words: &Words, place: Place, values: Values, change: Change) -> Val
             change_count(words, place, 1, counts[1], change),
             change_count(words, place, 2, counts[2], change),
             change_count(words, place, 3, counts[3], change),
+        ],
+        cyclic: [
+            change_cyclic(words, place, 0, cycles[0], change),
+            change_cyclic(words, place, 1, cycles[1], change),
         ],
     }
 }
