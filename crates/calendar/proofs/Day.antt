@@ -5,7 +5,7 @@ use Prim.Native.Nat.{ℕ, _*_, _+_, _/_, _%_, _≤_, _<_}
 use native.Mathlib.Omega.{arith}
 use borrow.Author.Tests.{leb-true, le-leb}
 use lib.Dec.{leb}
-use Rattle.wire.specs.Wire.{isPair, pairValue}
+use Rattle.wire.specs.Wire.{isPair}
 use Rattle.wire.proofs.Pairs.{both}
 use Rattle.calendar.specs.declared.Date.{Date}
 use Rattle.calendar.specs.Calendar.{yearOf, monthOf, dayOf, isLeap, monthLength, hasDay, hasDigits, isDay, dayNumber}

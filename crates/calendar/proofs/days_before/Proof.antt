@@ -1,7 +1,7 @@
+use borrow.Author.Needs.{needs}
 use mathlib.Core.Path.{sym}
 use lib.ListN.{List·getD-eq-default}
 use Rattle.calendar.specs.Calendar.{beforeMonths}
-use borrow.Author.Needs.{needs}
 use Rattle.calendar.proofs.days_before.Statement.{statement}
 use Rattle.calendar.proofs.days_before.Tie as tie
 

@@ -1,5 +1,5 @@
-use Rattle.calendar.specs.Calendar.{hasDay}
 use borrow.Author.Needs.{needs}
+use Rattle.calendar.specs.Calendar.{hasDay}
 use Rattle.calendar.proofs.has_day.Statement.{statement}
 use Rattle.calendar.proofs.has_day.Tie as tie
 
