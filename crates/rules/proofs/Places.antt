@@ -38,6 +38,12 @@ each P a b c d (suc (suc zero)) h = c
 each P a b c d (suc (suc (suc zero))) h = d
 each P a b c d (suc (suc (suc (suc i)))) h = let z : ⊥ = omega arith in absurd z
 
+-- what holds at 0 and 1 holds below 2
+pub both : (P : ℕ → Type 0) → P 0 → P 1 → (i : ℕ) → i < 2 → P i
+both P a b zero h = a
+both P a b (suc zero) h = b
+both P a b (suc (suc i)) h = let z : ⊥ = omega arith in absurd z
+
 module _ {A : Type 0} (f : ℕ → A) (d : A) where
   pub four-at : (i : ℕ) → i < 4 → getD (four f) i d ≡ f i
   four-at = each _ refl refl refl refl
@@ -46,9 +52,7 @@ module _ {A : Type 0} (f : ℕ → A) (d : A) where
   four-past i h = List·getD-eq-default (four f) d h
 
   pub two-at : (i : ℕ) → i < 2 → getD (two f) i d ≡ f i
-  two-at zero h = refl
-  two-at (suc zero) h = refl
-  two-at (suc (suc i)) h = let z : ⊥ = omega arith in absurd z
+  two-at = both _ refl refl
 
   pub two-past : (i : ℕ) → 2 ≤ i → getD (two f) i d ≡ d
   two-past i h = List·getD-eq-default (two f) d h
