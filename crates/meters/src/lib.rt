@@ -155,7 +155,11 @@ fn put_cyclic(
     if !rule.active {
         return amount;
     }
-    if limit { rule.limit } else { AccumulatorAmount(0) }
+    if limit {
+        rule.limit
+    } else {
+        AccumulatorAmount(0)
+    }
 }
 
 // Cyclic accumulator i + 1 after a change.

@@ -165,7 +165,16 @@ fn verified(words: &Words, state: State, pending: Pending, second: Second) -> Ou
     };
     let approved = (second.requested == 1) & (128 <= update);
     let last = recover(purchase.timing, approved, state.last);
-    close(words, state.atc, pending, approved, values, last, history, issuer)
+    close(
+        words,
+        state.atc,
+        pending,
+        approved,
+        values,
+        last,
+        history,
+        issuer,
+    )
 }
 
 // The issuer's data failed.
@@ -210,7 +219,16 @@ fn absent(words: &Words, state: State, pending: Pending, requested: u8) -> Outco
     let approved = (requested == 1) & !required;
     let purchase = pending.purchase;
     let last = recover(purchase.timing, approved, state.last);
-    close(words, state.atc, pending, approved, values, last, history, issuer)
+    close(
+        words,
+        state.atc,
+        pending,
+        approved,
+        values,
+        last,
+        history,
+        issuer,
+    )
 }
 
 pub fn perform(words: &Words, state: State, pending: Pending, second: Second) -> Outcome
