@@ -164,7 +164,8 @@ fn verified(words: &Words, state: State, pending: Pending, second: Second) -> Ou
         unable: false,
     };
     let approved = (second.requested == 1) & (128 <= update);
-    let last = recover(purchase.timing, approved, state.last);
+    let timing = purchase.timing;
+    let last = recover(timing, approved, state.last);
     close(
         words,
         state.atc,
@@ -218,7 +219,8 @@ fn absent(words: &Words, state: State, pending: Pending, requested: u8) -> Outco
     };
     let approved = (requested == 1) & !required;
     let purchase = pending.purchase;
-    let last = recover(purchase.timing, approved, state.last);
+    let timing = purchase.timing;
+    let last = recover(timing, approved, state.last);
     close(
         words,
         state.atc,
