@@ -1,5 +1,12 @@
 #include "dates.h"
 
+const uint32_t not_day[NOT_DAYS] = {
+    0xA00715, 0x0A0715, 0x05A115, 0x050A15, 0x0507A1, 0x05070A, /* digits */
+    0x001F01, 0x1A0A1A, 0xFFFFFF, 0x050001, 0x000000,           /* months */
+    0x051301, 0x052001, 0x050100, 0x050732, 0x050740,           /* days */
+    0x050431, 0x051131, 0x990631, 0x000230, 0x040231,
+    0x010229, 0x100229, 0x990229};
+
 /* Two decimal digits as they are coded, one more and one less. */
 static uint32_t more(uint32_t coded)
 {

@@ -8,6 +8,10 @@
 
 enum { FIRST_DATE = 0x000101, LAST_DATE = 0x991231 };
 
+/* Three bytes that are no day, each for its own reason or nearly so. */
+enum { NOT_DAYS = 24 };
+extern const uint32_t not_day[NOT_DAYS];
+
 /* The next day, the day before, the first day of the next month; the last and
  * the first date stay what they are. */
 uint32_t next_day(uint32_t date);
