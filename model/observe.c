@@ -892,6 +892,8 @@ static void observe_first(const struct card *before, const struct card *after,
     memcpy(cyclic, before->cyclic, sizeof cyclic);
     if (before->setup.cyclics > 0)
         observe_date(before, after, first, given, cyclic);
+    for (unsigned i = 0; i < CYCLICS && given != TC; i++)
+        assert(after->cyclic[i] == cyclic[i]);
     observe_amount(&before->setup, open->profile, first);
     observe_checks(before, open, cyclic);
     observe_decision(open, first, given);
