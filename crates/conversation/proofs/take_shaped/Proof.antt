@@ -25,13 +25,13 @@ sub-take-base : tie.Need-sub-take-base
 sub-take-base c =
     let entry = c .before .before .before in
     let start = entry .before .before .before in
-    rw (c .before .before .dating .given .1) at (start .pre .0 .dates) .0
+    rw (c .before .before .dating .given .1) at (start .pre .0 .tail) .0
 
 part-take-base-end : tie.Need-part-take-base-end
 part-take-base-end c =
     let entry = c .before .before .before in
     let start = entry .before .before .before in
-    rw (c .before .before .dating .given .1) at (start .pre .0 .dates) .1
+    rw (c .before .before .dating .given .1) at (start .pre .0 .tail) .1
 
 returns : tie.Need-returns
 returns c =
