@@ -98,10 +98,11 @@ fn order(words: &Words, place: Place, values: Values, purchase: Purchase, update
 fn recover(timing: Timing, approves: bool, last: Date) -> Date
     ensures { λ r. ⌜ r ≡ recovered timing approves last ⌝ }
 {
-    let Timing::DateError(date) = timing else {
-        return last;
-    };
-    if approves { date } else { last }
+    match timing {
+        Timing::Undated => last,
+        Timing::InOrder => last,
+        Timing::DateError(date) => { if approves { date } else { last } }
+    }
 }
 
 // Response code Y3 or Z3.
