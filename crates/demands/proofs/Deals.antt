@@ -28,6 +28,8 @@ use Rattle.command.specs.declared.Command.the-variants.{Start as StartCommand, 
 use Rattle.purchase.specs.declared.Timing.{Timing}
 use Rattle.purchase.specs.declared.Timing.the-variants.{Undated, InOrder, DateError}
 use Rattle.purchase.specs.declared.Purchase.{Purchase}
+use Rattle.purchase.specs.Meter.{Meter, IsMeter, valueOf}
+use Rattle.meters.specs.Meters.{moved}
 use Rattle.state.specs.declared.History.{History}
 use Rattle.cryptogram.specs.declared.Issuer.{Issuer}
 use Rattle.state.specs.declared.Kind.{Kind}
@@ -44,11 +46,11 @@ use Rattle.second.specs.Second.{recovered as cardRecovered}
 use Rattle.card.specs.Card.{refused, isDated, freshState}
 use Rattle.demands.specs.Setup.{Setup, AcceptedSetup}
 use Rattle.demands.specs.Conversation.{Exchange, Sitting, after, run, rulesBy, sat}
-use Rattle.demands.specs.Audit.{timed, latest, recovered, bought, lastDate, Dealing, dealing, inForce}
+use Rattle.demands.specs.Audit.{capOf, timed, latest, recovered, brought, bought, lastDate, Dealing, dealing, inForce, begun as entersBegun}
 use Rattle.demands.proofs.Step.{Did, refused-it, started-it, took-first, took-second}
 use Rattle.demands.proofs.Run.{Ruled, ruled-keeps, did-by, tail-stays}
 use Rattle.demands.proofs.Bytes.{fits-tail, both-fit}
-use Rattle.demands.proofs.Dated.{Lasting, a-day, none-yet, OnDay, timing-is, on-day, still-lasting, last-is}
+use Rattle.demands.proofs.Dated.{Lasting, a-day, none-yet, OnDay, timing-is, on-day, still-lasting, last-is, begun-moves}
 
 -- what an open ARQC remembers of its purchase
 abbrev pub Remembers : Purchase → Phase → Type 0
@@ -96,12 +98,25 @@ module _ (setup : Setup) (sitting : Sitting) (ruled : Ruled setup sitting) (deal
     abbrev timing : Timing
     timing = timingOf (state .last) (first .when)
 
-    pub timed-as : timing ≡ timed last (first .when)
+    timed-as : timing ≡ timed last (first .when)
     timed-as = ap (λ l. timingOf l (first .when)) (deals .last-date-is) ∙ timing-is now (ruled .good) last (deals .lasting) (first .when) day
+
+    pub brought-as : purchaseOf first timing ≡ brought last first
+    brought-as = ap (purchaseOf first) timed-as
+
+    -- what the date moves
+    state-lasts : Lasting now (state .last)
+    state-lasts = subst (Lasting now) (sym (deals .last-date-is)) (deals .lasting)
+
+    pub begun-then : (meter : Meter) → IsMeter meter
+        → valueOf (begun .values) meter ≡ moved (capOf meter) (valueOf (state .values) meter) (entersBegun now last (first .when) meter)
+    begun-then meter l =
+        begun-moves now (ruled .good) state state-lasts (first .when) day meter l
+        ∙ ap (λ before. moved (capOf meter) (valueOf (state .values) meter) (entersBegun now before (first .when) meter)) (deals .last-date-is)
 
     last-then : begun .last ≡ latest last (first .when)
     last-then =
-        last-is now (ruled .good) state (subst (Lasting now) (sym (deals .last-date-is)) (deals .lasting)) (first .when) day
+        last-is now (ruled .good) state state-lasts (first .when) day
         ∙ ap (λ l. latest l (first .when)) (deals .last-date-is)
 
     concluded-deals : (place : Place) (limits : ℕ) (cvr : Cvr) (kind : Kind)
@@ -118,7 +133,7 @@ module _ (setup : Setup) (sitting : Sitting) (ruled : Ruled setup sitting) (deal
           → Deals setup (after sitting (FirstCommand first) (concluded rules begun place (purchaseOf first timing) limits cvr kind))
       by Tc = record { last-date-is = last-then; lasting = lasts; error-day = errs; remembers = tt }
       by Aac = record { last-date-is = last-then; lasting = lasts; error-day = errs; remembers = tt }
-      by Arqc = record { last-date-is = last-then; lasting = lasts; error-day = errs; remembers = (ap (purchaseOf first) timed-as, small) }
+      by Arqc = record { last-date-is = last-then; lasting = lasts; error-day = errs; remembers = (brought-as, small) }
 
   -- ---- Second
 
@@ -183,7 +198,7 @@ module _ (setup : Setup) (sitting : Sitting) (ruled : Ruled setup sitting) (deal
       by false u false true = closed-deals _ _ _ _ _ (rw u (deals .last-date-is))
       by false u false false = closed-deals _ _ _ _ _ (rw u (recovering _))
 
-  did-deals : {command : Command} {outcome : Outcome} → Did rules state command outcome → Deals setup (after sitting command outcome)
+  pub did-deals : {command : Command} {outcome : Outcome} → Did rules state command outcome → Deals setup (after sitting command outcome)
   unfolding dealing inForce firstPerformed firstAnswered
   did-deals {command} (refused-it r) = refused-deals command r
   did-deals (started-it start place holds) =
@@ -207,7 +222,7 @@ module _ (setup : Setup) (good : AcceptedSetup setup) where
         subst (λ t. Lasting setup (record { year = byte t 1; month = byte t 2; day = byte t 3 })) (sym off) (none-yet off)
     by (inr ranges) = a-day (ranges .last)
 
-  begin-deals : Deals setup (sat setup [])
+  pub begin-deals : Deals setup (sat setup [])
   unfolding run freshState readSetup freshIn dealing inForce dateAt
   begin-deals = rw (both-fit good) (record { last-date-is = refl; lasting = begin-lasting; error-day = tt; remembers = tt })
 
