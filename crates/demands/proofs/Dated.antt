@@ -38,7 +38,7 @@ use Rattle.demands.proofs.Owed.{Fair, nothing, putting, fair-or}
 use Rattle.demands.proofs.Bytes.{fits-tail, cycle-is}
 
 -- what a date does not move it leaves
-pub dated-keeps : (rules : Rules) (state : State) {A : Type 0} (part : State → A) → ((date : Date) → part (advanced rules state date) ≡ part state)
+dated-keeps : (rules : Rules) (state : State) {A : Type 0} (part : State → A) → ((date : Date) → part (advanced rules state date) ≡ part state)
     → (when : When) → part (dated rules state when) ≡ part state
 unfolding dated
 dated-keeps rules state part same NoDate = refl
@@ -46,6 +46,14 @@ dated-keeps rules state part same (On date) = by (isBefore date (state .last)) w
   by : (b : Bool) → part (cond b state (advanced rules state date)) ≡ part state
   by true = refl
   by false = same date
+
+pub same-history : (rules : Rules) (state : State) (when : When) → dated rules state when .history ≡ state .history
+unfolding advanced
+same-history rules state = dated-keeps rules state (λ s. s .history) (λ date. refl)
+
+pub same-atc : (rules : Rules) (state : State) (when : When) → dated rules state when .atc ≡ state .atc
+unfolding advanced
+same-atc rules state = dated-keeps rules state (λ s. s .atc) (λ date. refl)
 
 -- a last date is a calendar day; where dates are off, 000000 until a First brings one
 abbrev pub noDate : Date

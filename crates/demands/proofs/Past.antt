@@ -24,7 +24,7 @@ use Rattle.state.specs.declared.Kind.the-variants.{Aac, Tc, Arqc}
 use Rattle.state.specs.declared.Pending.{Pending}
 use Rattle.state.specs.declared.State.{State}
 use Rattle.state.specs.declared.Outcome.{Outcome}
-use Rattle.cycles.specs.Cycles.{timingOf, advanced, dated}
+use Rattle.cycles.specs.Cycles.{timingOf, dated}
 use Rattle.first.specs.First.{firstKind, firstPerformed, firstAnswered, settled, asked, concluded}
 use Rattle.state.specs.State.{uncompletedIn, unableIn}
 use Rattle.second.specs.Second.{isUnable, unablePerformed, verifiedPerformed, failedPerformed, absentPerformed, secondPerformed}
@@ -37,7 +37,7 @@ use Rattle.demands.specs.Past.{past, atcBy, Says}
 use Rattle.demands.proofs.Step.{Did, refused-it, started-it, took-first, took-second}
 use Rattle.demands.proofs.Run.{ruled-keeps, always-ruled, did-by}
 use Rattle.demands.proofs.Bytes.{both-fit}
-use Rattle.demands.proofs.Dated.{dated-keeps}
+use Rattle.demands.proofs.Dated.{same-history, same-atc}
 
 pub record Recalls (setup : Setup) (sitting : Sitting) : Type 0 where
   pub history-is : sitting .state .history ≡ past setup (sitting .log)
@@ -64,13 +64,13 @@ module _ (setup : Setup) (sitting : Sitting) (recalls : Recalls setup sitting) w
   -- a First's date leaves both
   concluded-keeps : (first : First) (place : Place) (purchase : Purchase) (limits : ℕ) (cvr : Cvr) (kind : Kind)
       → Keeps setup sitting (FirstCommand first) (concluded rules (dated rules state (first .when)) place purchase limits cvr kind)
-  unfolding settled asked concluded past atcBy advanced
+  unfolding settled asked concluded past atcBy
   concluded-keeps first place purchase limits cvr kind = by kind where
     past-is : dated rules state (first .when) .history ≡ past setup (sitting .log)
-    past-is = dated-keeps rules state (λ s. s .history) (λ date. refl) (first .when) ∙ recalls .history-is
+    past-is = same-history rules state (first .when) ∙ recalls .history-is
 
     atc-then : dated rules state (first .when) .atc ≡ atcBy setup (sitting .log)
-    atc-then = dated-keeps rules state (λ s. s .atc) (λ date. refl) (first .when) ∙ recalls .atc-is
+    atc-then = same-atc rules state (first .when) ∙ recalls .atc-is
 
     by : (kind : Kind) → Keeps setup sitting (FirstCommand first) (concluded rules (dated rules state (first .when)) place purchase limits cvr kind)
     by Tc = record { recalls = record { history-is = past-is; atc-is = atc-then }; says = atc-then }
