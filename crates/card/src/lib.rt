@@ -107,7 +107,8 @@ fn take_first(words: &Words, state: State, place: Place, first: First) -> Outcom
     if !in_range {
         return refuse(state, Refusal::OutOfRange);
     }
-    if !is_dated(first.when) {
+    let when = first.when;
+    if !is_dated(when) {
         return refuse(state, Refusal::NotADay);
     }
     first::perform(words, state, place, first)

@@ -8,10 +8,11 @@ use Rattle.money.specs.declared.Converted.{Converted}
 use Rattle.money.specs.declared.Converted.the-variants.{Amount, Over, NoEntry}
 use Rattle.money.specs.Money.{convertOf}
 use Rattle.rules.specs.declared.Place.{Place}
+use Rattle.rules.specs.declared.CyclicRule.{CyclicRule}
 use Rattle.rules.specs.declared.Values.{Values}
 use Rattle.rules.specs.Rules.{Rules, four, profileAt}
 use Rattle.purchase.specs.declared.Purchase.{Purchase}
-use Rattle.purchase.specs.Meter.{Meter, accumulator, counter, cyclic, MeterRule, ruleOf, valueOf, worthTo, cyclicWorth, takesPart, isDateError}
+use Rattle.purchase.specs.Meter.{Meter, accumulator, counter, cyclic, MeterRule, ruleOf, valueOf, worthTo, takesPart, isDateError}
 use Rattle.state.specs.declared.History.{History}
 
 -- a value and what a purchase is worth exceed a limit; the sum isn't stopped, and over exceeds every limit (request Four)
@@ -72,12 +73,6 @@ datingFlags rules place values purchase =
     ∷ isDateError (purchase .timing)
     ∷ []
 
--- cyclic accumulator i + 1 exceeds its limit, in such a transaction
-abbrev pub cyclicExceeds : Rules → Place → Purchase → (i value : ℕ) → Bool
-cyclicExceeds rules place purchase i value =
-    let rule = ruleOf rules place (cyclic i) in
-    exceeds rule (cyclicWorth rules purchase i) (rule .upper) value
-
 -- bit 5: MTA is on and the amount, converted to its currency, exceeds it, as over does; without a conversion it isn't set
 abbrev pub spentExceeds : (limit : ℕ) → Converted → Bool
 spentExceeds limit (Amount spent) = ltb limit (spent .0)
@@ -116,6 +111,10 @@ decisionBits rules place values purchase history = packed (decisionFlags rules p
 -- the limits that a meter exceeds: bit 0 the lower, bit 4 the upper
 abbrev pub limitBits : MeterRule → Converted → ℕ → ℕ
 limitBits rule worth value = bit (exceeds rule worth (rule .lower) value) + bit (exceeds rule worth (rule .upper) value) * 16
+
+-- that a cyclic accumulator exceeds its limit, where it takes part
+abbrev pub cyclicExceeds : CyclicRule → Converted → ℕ → Bool
+cyclicExceeds rule worth value = rule .active && valueExceeds (rule .limit .0) value (rule .include) worth
 
 -- those of all four: bits 0 to 3 the lower, bits 4 to 7 the upper
 abbrev pub accumulatorBits : Rules → Place → Values → Purchase → ℕ

@@ -4,8 +4,8 @@ ghost use mathlib.Core.Bool.{cond};
 ghost use Prim.Native.Nat.{_+_, _*_, _≤_};
 ghost use lib.Dec.{ltb};
 ghost use Rattle.money.specs.declared.Converted.the-variants.{NoEntry};
-ghost use Rattle.rules.specs.Rules.{rulesOf};
-ghost use Rattle.purchase.specs.Meter.{accumulator, counter, cyclic, ruleOf, worth, cyclicWorth, once};
+ghost use Rattle.rules.specs.Rules.{rulesOf, cyclicRule};
+ghost use Rattle.purchase.specs.Meter.{accumulator, counter, ruleOf, worth, cyclicWorth, once};
 ghost use Rattle.checks.specs.Checks.{bit, packed, limitBits, accumulatorBits, counterBits, cyclicExceeds, datingBits, maximumExceeded, historyFlags, decisionBits, meetsMask};
 use money::AccumulatorAmount;
 use money::Converted;
@@ -137,7 +137,8 @@ fn test_cyclic(
     value: AccumulatorAmount,
     purchase: Purchase,
 ) -> bool
-    ensures { λ r. ⌜ r ≡ cyclicExceeds (rulesOf (now (words .entry))) place purchase i (value .0) ⌝ }
+    ensures { λ r. ⌜ r ≡ cyclicExceeds (cyclicRule (rulesOf (now (words .entry))) place i)
+        (cyclicWorth (rulesOf (now (words .entry))) purchase i) (value .0) ⌝ }
 {
     let rule = rules::cyclic_rule(words, place, i);
     if !rule.active {

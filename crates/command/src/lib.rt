@@ -162,9 +162,10 @@ pub fn read_record(shape: Shape, paper: &[u8], kind: u8, body: &[u8]) -> ReadCom
     ensures { λ r. ⌜ r ≡ commandIn shape (now (paper .entry)) kind (now (body .entry)) ⌝ }
 {
     let selecting = shape.selecting;
+    let dating = shape.dating;
     if selects(selecting, kind) {
         let chosen = select_profile(selecting, paper, body);
         return ReadCommand::Taken(Command::Start(Start { chosen }));
     }
-    read_command(shape.dating, kind, body)
+    read_command(dating, kind, body)
 }

@@ -33,7 +33,7 @@ fn begin_amount(
 ) -> AccumulatorAmount
     ensures { λ r. ⌜ r ≡ amountBegun (rulesOf (now (words .entry))) i amount last date ⌝ }
 {
-    let cycle = rules::cycle(words, i);
+    let cycle = rules::cycle_of(words, i);
     let period = cycle.period;
     if calendar::begins(period, cycle.first, last, date) {
         return AccumulatorAmount(0);

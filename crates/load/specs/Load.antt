@@ -71,9 +71,11 @@ cycleWords t at = number t at 2 ∷ byte t (at + layout.cycleKind) ∷ byte t (a
 unfoldable pub cyclicRuleWords : List ℕ → ℕ → List ℕ
 cyclicRuleWords t at = byte t at ∷ number t (at + layout.cyclicLimit) 8 ∷ []
 
+unfoldable pub cyclicRulesWords : List ℕ → (j : ℕ) → List ℕ
+cyclicRulesWords t j = rows 2 (λ i. cyclicRuleWords t (layout.cyclicRuleFrom j i))
+
 unfoldable pub cyclesWords : List ℕ → List ℕ
-cyclesWords t =
-    rows 2 (λ i. cycleWords t (layout.cycleFrom i)) ++ rows 4 (λ j. rows 2 (λ i. cyclicRuleWords t (layout.cyclicRuleFrom j i)))
+cyclesWords t = rows 2 (λ i. cycleWords t (layout.cycleFrom i)) ++ rows 4 (cyclicRulesWords t)
 
 -- the base's, then the syllabus, and last those of the tail of version 04
 unfoldable pub loaded : List ℕ → List ℕ → ℕ → List ℕ

@@ -7,7 +7,7 @@ ghost use Rattle.rules.specs.Word.{wordCount, rates, profiles, rateFrom, profil
 ghost use Rattle.load.specs.Load.{headWords, rateWords, ratesWords, stored};
 ghost use Rattle.layout.specs.Layout.{cycleFrom as cycleBytes, cyclicRuleFrom as cyclicRuleBytes};
 ghost use Rattle.rules.specs.Word.{cycles, cycleFrom, cyclicRuleFrom};
-ghost use Rattle.load.specs.Load.{cycleWords, cyclicRuleWords, cyclesWords};
+ghost use Rattle.load.specs.Load.{cycleWords, cyclicRuleWords, cyclicRulesWords, cyclesWords};
 ghost use Rattle.load.specs.Load.{limitIn, ruleWords, rulesWords, profileHeadWords, sentWords, profileWords, profilesWords};
 use rules::Words;
 use rules::word;
@@ -172,20 +172,25 @@ fn load_cyclic_rule(words: &mut Words, j: usize, i: usize, t: &[u8])
     words[to + word::CYCLIC_LIMIT] = wire::u64_at(t, at + layout::CYCLIC_LIMIT);
 }
 
+// The rules of both in profile j + 1.
+fn load_cyclic_rules(words: &mut Words, j: usize, t: &[u8])
+    requires { ⌜ j < 4 ⌝ }
+    ensures { λ _. ⌜ now (words .exit) ≡ sets (now (words .entry)) (cyclicRuleFrom j 0) (cyclicRulesWords (now (t .entry)) j) ⌝ }
+{
+    load_cyclic_rule(words, j, 0, t);
+    load_cyclic_rule(words, j, 1, t);
+}
+
 // The cyclic accumulators and their rules; where dates are off there are no bytes, and all is 0.
 fn load_cycles(words: &mut Words, t: &[u8])
     ensures { λ _. ⌜ now (words .exit) ≡ sets (now (words .entry)) cycles (cyclesWords (now (t .entry))) ⌝ }
 {
     load_cycle(words, 0, t);
     load_cycle(words, 1, t);
-    load_cyclic_rule(words, 0, 0, t);
-    load_cyclic_rule(words, 0, 1, t);
-    load_cyclic_rule(words, 1, 0, t);
-    load_cyclic_rule(words, 1, 1, t);
-    load_cyclic_rule(words, 2, 0, t);
-    load_cyclic_rule(words, 2, 1, t);
-    load_cyclic_rule(words, 3, 0, t);
-    load_cyclic_rule(words, 3, 1, t);
+    load_cyclic_rules(words, 0, t);
+    load_cyclic_rules(words, 1, t);
+    load_cyclic_rules(words, 2, t);
+    load_cyclic_rules(words, 3, t);
 }
 
 // Every word, whatever stood there: the base's, the syllabus, and those of the cyclic accumulators.

@@ -40,6 +40,11 @@ abbrev pub offline : Bool → Purchase → Change
 offline true purchase = Approve purchase
 offline false purchase = Decline
 
+-- the issuer's order 01 or 10
+abbrev pub order : (toLimits : Bool) → Change
+order true = SetToLimits
+order false = Clear
+
 -- a purchase counts; an offline decline counts
 abbrev pub counts : MeterRule → Bool
 counts rule = rule .active && rule .allow

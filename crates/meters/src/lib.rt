@@ -2,7 +2,8 @@
 ghost use mathlib.Core.Path.{_≡_};
 ghost use Rattle.rules.specs.Rules.{rulesOf};
 ghost use Rattle.purchase.specs.Meter.{accumulator, counter, cyclic, counterCap, worth, isInOrder};
-ghost use Rattle.meters.specs.Meters.{add, move, moved, amountMoved, addition, offline, entered, applied};
+ghost use Rattle.meters.specs.declared.Change.the-variants.{Approve};
+ghost use Rattle.meters.specs.Meters.{add, move, moved, amountMoved, addition, offline, order, entered, applied};
 use money::AccumulatorAmount;
 use money::Converted;
 use purchase::Purchase;
@@ -119,6 +120,48 @@ fn is_in_order(timing: Timing) -> bool
     }
 }
 
+// Cyclic accumulator i + 1 after an approval, which it counts if its date is in order.
+fn grow_cyclic(
+    words: &Words,
+    place: Place,
+    i: usize,
+    amount: AccumulatorAmount,
+    purchase: Purchase,
+) -> AccumulatorAmount
+    ensures { λ r. ⌜ r ≡ amountMoved amount (entered (rulesOf (now (words .entry))) place (Approve purchase) (cyclic i)) ⌝ }
+{
+    let timing = purchase.timing;
+    if !is_in_order(timing) {
+        return amount;
+    }
+    let rule = rules::cyclic_rule(words, place, i);
+    if rule.active & rule.allow {
+        return grow(amount, purchase::cyclic_worth(words, purchase, i));
+    }
+    amount
+}
+
+// Cyclic accumulator i + 1 after an order: if it is active, its limit or zero.
+fn put_cyclic(
+    words: &Words,
+    place: Place,
+    i: usize,
+    amount: AccumulatorAmount,
+    limit: bool,
+) -> AccumulatorAmount
+    ensures { λ r. ⌜ r ≡ amountMoved amount (entered (rulesOf (now (words .entry))) place (order limit) (cyclic i)) ⌝ }
+{
+    let rule = rules::cyclic_rule(words, place, i);
+    if !rule.active {
+        return amount;
+    }
+    if limit {
+        rule.limit
+    } else {
+        AccumulatorAmount(0)
+    }
+}
+
 // Cyclic accumulator i + 1 after a change.
 fn change_cyclic(
     words: &Words,
@@ -129,21 +172,11 @@ fn change_cyclic(
 ) -> AccumulatorAmount
     ensures { λ r. ⌜ r ≡ amountMoved amount (entered (rulesOf (now (words .entry))) place change (cyclic i)) ⌝ }
 {
-    let rule = rules::cyclic_rule(words, place, i);
-    if !rule.active {
-        return amount;
-    }
     match change {
-        Change::Approve(purchase) => {
-            let timing = purchase.timing;
-            if is_in_order(timing) & rule.allow {
-                return grow(amount, purchase::cyclic_worth(words, purchase, i));
-            }
-            amount
-        }
+        Change::Approve(purchase) => grow_cyclic(words, place, i, amount, purchase),
         Change::Decline => amount,
-        Change::SetToLimits => rule.limit,
-        Change::Clear => AccumulatorAmount(0),
+        Change::SetToLimits => put_cyclic(words, place, i, amount, true),
+        Change::Clear => put_cyclic(words, place, i, amount, false),
     }
 }
 

@@ -44,6 +44,6 @@ pub fn worth(words: &Words, purchase: Purchase, i: usize) -> Converted
 pub fn cyclic_worth(words: &Words, purchase: Purchase, i: usize) -> Converted
     ensures { λ r. ⌜ r ≡ cyclicWorth (rulesOf (now (words .entry))) purchase i ⌝ }
 {
-    let cycle = rules::cycle(words, i);
+    let cycle = rules::cycle_of(words, i);
     worth_in(words, purchase, cycle.currency)
 }

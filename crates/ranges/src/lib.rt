@@ -289,10 +289,9 @@ pub fn are_cycles(t: &[u8]) -> bool
         return true;
     }
     calendar::is_day(calendar::date_at(t, layout::LAST_DATE))
-        & is_cycle(t, 0)
-        & is_cycle(t, 1)
-        & are_cyclic_rules(t, 0)
-        & are_cyclic_rules(t, 1)
-        & are_cyclic_rules(t, 2)
-        & are_cyclic_rules(t, 3)
+        & (is_cycle(t, 0) & is_cycle(t, 1))
+        & (are_cyclic_rules(t, 0)
+            & are_cyclic_rules(t, 1)
+            & are_cyclic_rules(t, 2)
+            & are_cyclic_rules(t, 3))
 }

@@ -295,7 +295,7 @@ fn period(kind: u64) -> Period
 }
 
 // Cyclic accumulator i + 1.
-pub fn cycle(words: &Words, i: usize) -> Cycle
+pub fn cycle_of(words: &Words, i: usize) -> Cycle
     ensures { λ r. ⌜ r ≡ cycleOf (rulesOf (now (words .entry))) i ⌝ }
 {
     if i < 2 {

@@ -98,10 +98,11 @@ fn order(words: &Words, place: Place, values: Values, purchase: Purchase, update
 fn recover(timing: Timing, approves: bool, last: Date) -> Date
     ensures { λ r. ⌜ r ≡ recovered timing approves last ⌝ }
 {
-    let Timing::DateError(date) = timing else {
-        return last;
-    };
-    if approves { date } else { last }
+    match timing {
+        Timing::Undated => last,
+        Timing::InOrder => last,
+        Timing::DateError(date) => { if approves { date } else { last } }
+    }
 }
 
 // Response code Y3 or Z3.
@@ -164,8 +165,18 @@ fn verified(words: &Words, state: State, pending: Pending, second: Second) -> Ou
         unable: false,
     };
     let approved = (second.requested == 1) & (128 <= update);
-    let last = recover(purchase.timing, approved, state.last);
-    close(words, state.atc, pending, approved, values, last, history, issuer)
+    let timing = purchase.timing;
+    let last = recover(timing, approved, state.last);
+    close(
+        words,
+        state.atc,
+        pending,
+        approved,
+        values,
+        last,
+        history,
+        issuer,
+    )
 }
 
 // The issuer's data failed.
@@ -209,8 +220,18 @@ fn absent(words: &Words, state: State, pending: Pending, requested: u8) -> Outco
     };
     let approved = (requested == 1) & !required;
     let purchase = pending.purchase;
-    let last = recover(purchase.timing, approved, state.last);
-    close(words, state.atc, pending, approved, values, last, history, issuer)
+    let timing = purchase.timing;
+    let last = recover(timing, approved, state.last);
+    close(
+        words,
+        state.atc,
+        pending,
+        approved,
+        values,
+        last,
+        history,
+        issuer,
+    )
 }
 
 pub fn perform(words: &Words, state: State, pending: Pending, second: Second) -> Outcome

@@ -4,7 +4,7 @@
 ghost use mathlib.Core.Path.{_≡_};
 ghost use Prim.Native.Nat.{_+_, _≤_};
 ghost use lib.ListN.{length};
-ghost use Rattle.shape.specs.Shape.{baseTail, entriesEnd, selectionTail, syllabusTail, dates, datingTail, tailsOf, shapeOf};
+ghost use Rattle.shape.specs.Shape.{baseTail, entriesEnd, selectionTail, syllabusTail, dates, datingTail, since, tailsOf, shapeOf};
 use refusal::Refusal;
 
 // The first version with a tail that selects profiles, with a syllabus, and with dates.
@@ -191,29 +191,53 @@ fn read_dating(body: &[u8], shape: Shape, at: usize) -> Tails
     }
 }
 
+// Version 02's tail behind the base; above the paper's version it is off and has no bytes.
+fn add_selection(version: u8, body: &[u8], tails: Tails) -> Tails
+    ensures { λ r. ⌜ r ≡ since 2 version tails (selectionTail (now (body .entry))) ⌝ }
+{
+    let Tails::Ended { shape, at } = tails else {
+        return Tails::Wrong;
+    };
+    if version < SELECTION {
+        return tails;
+    }
+    read_selection(body, shape, at)
+}
+
+// Version 03's tail behind that.
+fn add_syllabus(version: u8, body: &[u8], tails: Tails) -> Tails
+    ensures { λ r. ⌜ r ≡ since 3 version tails (syllabusTail (now (body .entry))) ⌝ }
+{
+    let Tails::Ended { shape, at } = tails else {
+        return Tails::Wrong;
+    };
+    if version < SYLLABUS {
+        return tails;
+    }
+    read_syllabus(body, shape, at)
+}
+
+// Version 04's tail behind that.
+fn add_dating(version: u8, body: &[u8], tails: Tails) -> Tails
+    ensures { λ r. ⌜ r ≡ since 4 version tails (datingTail (now (body .entry))) ⌝ }
+{
+    let Tails::Ended { shape, at } = tails else {
+        return Tails::Wrong;
+    };
+    if version < DATES {
+        return tails;
+    }
+    read_dating(body, shape, at)
+}
+
 // The base and the tails of a version, one behind the other.
 fn read_tails(version: u8, body: &[u8]) -> Tails
     ensures { λ r. ⌜ r ≡ tailsOf version (now (body .entry)) ⌝ }
 {
-    let Tails::Ended { shape, at } = read_base(body) else {
-        return Tails::Wrong;
-    };
-    if version < SELECTION {
-        return Tails::Ended { shape, at };
-    }
-    let Tails::Ended { shape, at } = read_selection(body, shape, at) else {
-        return Tails::Wrong;
-    };
-    if version < SYLLABUS {
-        return Tails::Ended { shape, at };
-    }
-    let Tails::Ended { shape, at } = read_syllabus(body, shape, at) else {
-        return Tails::Wrong;
-    };
-    if version < DATES {
-        return Tails::Ended { shape, at };
-    }
-    read_dating(body, shape, at)
+    let base = read_base(body);
+    let selecting = add_selection(version, body, base);
+    let rounding = add_syllabus(version, body, selecting);
+    add_dating(version, body, rounding)
 }
 
 // The shape of a body, or refusal 1 where bytes are missing or left over, or a tail is out of range.

@@ -104,4 +104,3 @@ pub struct Outcome {
     pub state: State,
     pub answer: Answer,
 }
-

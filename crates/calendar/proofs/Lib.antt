@@ -1,0 +1,9 @@
+pub mod Every
+pub mod Months
+pub mod Day
+pub mod Order
+pub mod Walk
+pub mod Dates
+pub mod Cycles
+pub mod Agree
+pub mod Vectors
