@@ -100,19 +100,19 @@ module _ (s : List ℕ) (one other : ℕ) where
   -- all else that is asked of a base is the same, whichever bits are named
   named-too : MasksBelow s other → isSetup s one ≡ true → isSetup s other ≡ true
   named-too masks e = complete s other (record {
-        size = all .size;
-        pin = all .pin;
-        required = all .required;
-        profiles-least = all .profiles-least;
-        profiles-most = all .profiles-most;
-        conversions-most = all .conversions-most;
-        online = all .online;
-        accumulators = all .accumulators;
-        profiles = λ i h. profile i h (all .profiles i h);
-        numbers = all .numbers;
-        conversions = all .conversions;
-        pairs = all .pairs;
-      })
+    size = all .size;
+    pin = all .pin;
+    required = all .required;
+    profiles-least = all .profiles-least;
+    profiles-most = all .profiles-most;
+    conversions-most = all .conversions-most;
+    online = all .online;
+    accumulators = all .accumulators;
+    profiles = λ i h. profile i h (all .profiles i h);
+    numbers = all .numbers;
+    conversions = all .conversions;
+    pairs = all .pairs;
+  })
     where
       all : Accepted s one
       all = accepted s one e
