@@ -231,7 +231,7 @@ module _ (setup : Setup) (good : AcceptedSetup setup) where
         ruled-keeps setup good (Deals setup) (λ sitting ruled h command. did-deals setup sitting ruled h (did-by setup sitting ruled command))
         begin-deals commands
 
-    -- THE LAST DATE
+    -- THE LAST DATE, whichever commands carry one: before the first, on a card without dates, both calendars put 000000 before every day
     pub last-date : sat setup commands .state .last ≡ lastDate setup (sat setup commands .log)
     last-date = always-deals .last-date-is
 
