@@ -4,8 +4,8 @@ use mathlib.Core.Bool.{Bool, true, false, not, _&&_}
 use mathlib.Core.List.{List, [], _∷_, _++_}
 use Prim.Native.Nat.{ℕ}
 use lib.Dec.{T, eqb}
-use lib.ListN.{length, replicate}
-use Rattle.wire.specs.Wire.{number}
+use lib.ListN.{length, take, drop, replicate, getD}
+use Rattle.wire.specs.Wire.{byte, number}
 use Rattle.setup.specs.Setup.{rulesIn, freshIn}
 use Rattle.shape.specs.Shape.{based}
 use Rattle.paper.specs.Paper.{nextAt, openPaper, openedNumber}
@@ -16,10 +16,12 @@ use Rattle.card.specs.Card.{freshState}
 use Rattle.lines.specs.Lines.{digit, decimal, refusalLine, startLine, selectedLine}
 use Rattle.conversation.specs.Conversation.{answeredBy, takenOf}
 use Rattle.conversation.specs.Events.{eventsFrom}
-use Rattle.lines.specs.Sitting.{answerLine, linesOf}
+use Rattle.lines.specs.Sitting.{answerLine, linesOf, sittingLines}
 use Rattle.readback.specs.Fields.{wordsIn, areDigits, valueIn, isHex, bytesIn, Fields, Two, Three, Four, Five, Other, fieldsIn}
-use Rattle.spelling.specs.Spelling.{big, recordOf, names, first, second, kindOf, bodyOf, spell}
+use Rattle.spelling.specs.Spelling.{big, recordOf, names, first, second, kindOf, bodyOf, spell, paperOf}
+use Rattle.spelling.specs.Printed.{printed, body}
 use Rattle.spelling.specs.Sitting.{Reading, over, refused, command, reading}
+use Rattle.spelling.proofs.Computed.{answered}
 
 -- `nine-exactly`: a paper ends with 9 before its first command
 abbrev isUnread : List ℕ → Bool
@@ -63,6 +65,20 @@ isFour (Four n r a v) number refusal atc visits = eqb n number && eqb r refusal 
 isFour (Five n r c a i) number refusal atc visits = false
 isFour Other number refusal atc visits = false
 
+-- `every-paper`: the lines of papers with blank words. The printed set-up and a Start
+abbrev blank : List ℕ
+blank = replicate 164 0
+
+abbrev started : List (List ℕ)
+started = sittingLines blank (paperOf 1 body (spell (names 1)))
+
+-- version 03, the same set-up with 0840 at 0.4 of 0978, syllabus 1; a Start and a First of 1 in 0840: the last digit of the accumulator sent
+abbrev converting : List ℕ
+converting = take 4 body ++ 1 ∷ drop 5 body ++ 0x08 ∷ 0x40 ∷ 0x09 ∷ 0x78 ∷ 0 ∷ 4 ∷ 8 ∷ []
+
+abbrev roundedUp : List (List ℕ)
+roundedUp = sittingLines blank (paperOf 3 (converting ++ 0 ∷ 1 ∷ []) (spell (names 1) ++ spell (first 1 1 0x0840 0x22)))
+
 pub record Samples : Type 0 where
   -- 4 bytes and any 65,533 more
   pub over-long : (more : List ℕ) → length more ≡ 65533 → T (isUnread (1 ∷ 0 ∷ 1 ∷ 1 ∷ more))
@@ -77,13 +93,18 @@ pub record Samples : Type 0 where
   pub start-too-long : T (faults (recordOf 2 (1 ∷ 1 ∷ [])))
   -- what stands behind a fault is no longer a command
   pub ends-at-nine : T (eqb (lineCount (recordOf 1 (1 ∷ []) ++ spell (names 1))) 1)
+  -- the set-up's line has number 0, the first command's is the next, by the paper's own rules and its syllabus
+  pub numbered-from-0 : T (eqb (byte (getD (sittingLines [] []) 0 []) 0) 0x30)
+  pub first-command : T (eqb (length started) 2)
+  pub own-rules : T (eqb (length (getD started 1 [])) 6)
+  pub rounded-up : T (eqb (byte (getD roundedUp 2 []) 36) 0x31)
   -- one visit shows
   pub visit-shown : T (isFour (fieldsIn (answerLine 3 (Started 2 1))) 3 0 2 1)
 
 pub samples : Samples
 unfolding openPaper nextAt number reading commandIn commandOf firstOf secondOf kindOf bodyOf recordOf big
     eventsFrom takenOf answeredBy linesOf refusalLine decimal digit answerLine startLine selectedLine
-    fieldsIn wordsIn areDigits valueIn isHex bytesIn
+    fieldsIn wordsIn areDigits valueIn isHex bytesIn printed answered
 samples =
     record {
       over-long = λ more e. rw e tt;
@@ -96,5 +117,9 @@ samples =
       no-kind = tt;
       start-too-long = tt;
       ends-at-nine = tt;
+      numbered-from-0 = tt;
+      first-command = tt;
+      own-rules = tt;
+      rounded-up = tt;
       visit-shown = tt;
     }

@@ -21,7 +21,7 @@ use Rattle.readback.proofs.Told.{refusal-told, start-told, selected-told, crypt
 use Rattle.lines.specs.Sitting.{answerLine}
 use Rattle.spelling.specs.Shown.{shown, Sized}
 
-small : (refusal : Refusal) → refusalNumber refusal < 100_000
+pub small : (refusal : Refusal) → refusalNumber refusal < 100_000
 small BadSetup = omega arith
 small OutOfTurn = omega arith
 small UnknownProfile = omega arith
