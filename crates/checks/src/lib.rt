@@ -104,8 +104,8 @@ fn test_counter(words: &Words, place: Place, i: usize, value: u8) -> u8
     if !rule.active {
         return 0;
     }
-    let more = bit(rule.include) as u64;
-    limits_exceeded(rule.lower as u64, rule.upper as u64, value as u64, more)
+    let sum = value as u16 + bit(rule.include) as u16;
+    bit((rule.lower as u16) < sum) + bit((rule.upper as u16) < sum) * 16
 }
 
 // Bits 0 to 3 the lower limits, 4 to 7 the upper.

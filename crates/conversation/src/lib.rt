@@ -5,8 +5,11 @@ ghost use Prim.Native.Nat.{_+_, _<_, _^_};
 ghost use lib.ListN.{length};
 ghost use Rattle.rules.specs.Rules.{rulesOf};
 ghost use Rattle.setup.specs.Setup.{wordsAfter};
-ghost use Rattle.shape.specs.Shape.{Lies, Spans, selectingAt, datingAt, shapeAt};
-ghost use Rattle.conversation.specs.Conversation.{answeredBy, takenOf, setUpEvent, refusedAt, baseBegun, setupBegun, setupWords, begunOf, wordsBegun};
+ghost use Rattle.shape.specs.Shape.{cyclesPart, Lies, Spans, selectingAt, datingAt, shapeAt};
+ghost use Rattle.shape.specs.declared.ReadShape.the-variants.{Taken as ShapeTaken};
+ghost use Rattle.shape.proofs.Inside.{Inside};
+ghost use Rattle.conversation.specs.Conversation.{answeredBy, takenOf, setUpEvent, refusedAt, baseBegun, shapedBegun, shapedWords};
+ghost use Rattle.conversation.specs.Conversation.{setupBegun, setupWords, begunOf, wordsBegun};
 use command::Command;
 use command::ReadCommand;
 use paper::Next;
@@ -168,7 +171,49 @@ fn date_in(dating: Dating, place: usize, bytes: usize) -> Dating
     }
 }
 
-// The set-up: its shape is read, and then its base and its tail with dates, or refused.
+// A shape with its places in the paper.
+fn place_in(shape: Shape, place: usize, bytes: usize) -> Shape
+    requires { ⌜ Inside shape bytes × (place + bytes < 2 ^ 63) ⌝ }
+    ensures { λ r. ⌜ r ≡ shapeAt place shape ⌝ }
+{
+    let read = shape.selecting;
+    let selecting = select_in(read, place, bytes);
+    let dates = shape.dating;
+    let dating = date_in(dates, place, bytes);
+    Shape {
+        base: shape.base,
+        selecting,
+        syllabus: shape.syllabus,
+        dating,
+        unnamed: shape.unnamed,
+    }
+}
+
+// The tail with dates, no byte where they are off.
+fn cycles_in(dating: Dating, body: &[u8]) -> &[u8]
+    requires { ⌜ Spans dating (length (now body)) ⌝ }
+    ensures { λ r. ⌜ now r ≡ cyclesPart dating (now (body .entry)) ⌝ }
+{
+    match dating {
+        Dating::Off => &body[..0],
+        Dating::On { start, end } => &body[start..end],
+    }
+}
+
+// A set-up of this shape: its base, and its tail with dates where there is one.
+fn take_shaped(shape: Shape, body: &[u8], place: usize, end: usize, words: &mut Words) -> Begun
+    requires { ⌜ Inside shape (length (now body)) × (place + length (now body) < 2 ^ 63) ⌝ }
+    ensures { λ r. ⌜ (r ≡ shapedBegun (now (body .entry)) place end (ShapeTaken shape))
+        × (now (words .exit) ≡ shapedWords (now (words .entry)) (now (body .entry)) (ShapeTaken shape)) ⌝ }
+{
+    let placed = place_in(shape, place, body.len());
+    let base = shape.base;
+    let dating = shape.dating;
+    let cycles = cycles_in(dating, body);
+    take_base(placed, &body[..base], cycles, end, words)
+}
+
+// The set-up: its shape is read, and then what it says, or refused.
 fn take_setup(version: u8, body: &[u8], place: usize, end: usize, words: &mut Words) -> Begun
     requires { ⌜ place + length (now body) < 2 ^ 63 ⌝ }
     ensures { λ r. ⌜ (r ≡ setupBegun version (now (body .entry)) place end)
@@ -176,26 +221,7 @@ fn take_setup(version: u8, body: &[u8], place: usize, end: usize, words: &mut Wo
 {
     match shape::read_shape(version, body) {
         ReadShape::Refused(refusal) => refuse(refusal, end),
-        ReadShape::Taken(shape) => {
-            let base = shape.base;
-            let read = shape.selecting;
-            let selecting = select_in(read, place, body.len());
-            let dates = shape.dating;
-            let dating = date_in(dates, place, body.len());
-            let placed = Shape {
-                base,
-                selecting,
-                syllabus: shape.syllabus,
-                dating,
-                unnamed: shape.unnamed,
-            };
-            match dates {
-                Dating::Off => take_base(placed, &body[..base], &body[..0], end, words),
-                Dating::On { start, end: behind } => {
-                    take_base(placed, &body[..base], &body[start..behind], end, words)
-                }
-            }
-        }
+        ReadShape::Taken(shape) => take_shaped(shape, body, place, end, words),
     }
 }
 

@@ -5,11 +5,14 @@ use Prim.Native.Nat.{ℕ}
 use lib.Dec.{T, eqb}
 use lib.ListN.{length, replicate, getD}
 use Rattle.wire.specs.Wire.{byte}
+use Rattle.selection.specs.declared.Selection.{Selection}
+use Rattle.selection.specs.declared.Selection.the-variants.{Selected, NotSelected}
 use Rattle.setup.specs.Setup.{rulesIn, freshIn}
 use Rattle.shape.specs.declared.ReadShape.{ReadShape}
 use Rattle.shape.specs.declared.ReadShape.the-variants.{Taken, Refused as ShapeRefused}
 use Rattle.shape.specs.Shape.{based, baseTail, selectionTail, syllabusTail, tailsOf, shapeOf}
 use Rattle.paper.specs.Paper.{nextAt, openPaper}
+use Rattle.command.specs.declared.Command.the-variants.{Start as StartCommand, First as FirstCommand, Second as SecondCommand}
 use Rattle.command.specs.Command.{startOf, commandOf, commandIn}
 use Rattle.state.specs.declared.Answer.the-variants.{Refused as AnswerRefused, Started, Given}
 use Rattle.card.specs.Card.{freshState}
@@ -31,6 +34,10 @@ twoStarts = spell (names 1) ++ spell (names 1)
 abbrev events : List Event
 events = eventsFrom 9 (rulesIn body 0) (based 159) (freshState (freshIn body)) twoStarts 0
 
+abbrev chosenIn : Selection → ℕ
+chosenIn (Selected profile visits) = profile
+chosenIn NotSelected = 0
+
 abbrev atcIn : Event → ℕ
 atcIn SetUp = 0
 atcIn End = 0
@@ -38,6 +45,15 @@ atcIn (Refused refusal) = 0
 atcIn (Answered command (AnswerRefused refusal)) = 0
 atcIn (Answered command (Started atc visits)) = atc
 atcIn (Answered command (Given kind atc iad)) = atc
+
+-- and the profile that the command of an event names
+abbrev profileIn : Event → ℕ
+profileIn SetUp = 0
+profileIn End = 0
+profileIn (Refused refusal) = 0
+profileIn (Answered (StartCommand start) answer) = chosenIn (start .chosen)
+profileIn (Answered (FirstCommand first) answer) = 0
+profileIn (Answered (SecondCommand second) answer) = 0
 
 -- `setup-is`: the syllabus that is read of a version 03 set-up without a profile, selection off
 abbrev latest : List ℕ
@@ -54,6 +70,7 @@ numberOf lines place = byte (getD lines place []) 0
 pub record Samples : Type 0 where
   pub each-record : T (eqb (length events) (length (walk 9 byName twoStarts .commands)))
   pub latest-card : T (eqb (atcIn (getD events 1 End)) 2)
+  pub its-command : T (eqb (profileIn (getD events 1 End)) 1)
   pub numbered-from-0 : T (eqb (numberOf (sittingLines [] []) 0) 0x30)
   pub rising-by-1 : T (eqb (numberOf (linesOf 0 (SetUp ∷ SetUp ∷ [])) 1) 0x31)
   pub syllabus-1 : T (eqb (syllabusRead (shapeOf 3 latest)) (syllabusIn 3 latest))
@@ -65,6 +82,7 @@ samples =
     record {
       each-record = tt;
       latest-card = tt;
+      its-command = tt;
       numbered-from-0 = tt;
       rising-by-1 = tt;
       syllabus-1 = tt;

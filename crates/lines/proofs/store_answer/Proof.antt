@@ -26,7 +26,7 @@ returns-3 c =
     let put = c .before .before in
     let cid = put .before in
     let told = cid .before .before .before in
-    simp (told .answer3 .given .1, ← cid .cid-of .ensures) (put .put-cryptogram .ensures)
+    simp (told .answer3 .given .1, ← cid .cid .ensures) (put .put-cryptogram .ensures)
 
 pub store-answer-spec : {M : Type 1} → statement M
 store-answer-spec =

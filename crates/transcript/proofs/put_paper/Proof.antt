@@ -23,9 +23,9 @@ returns c =
     let e = ap (λ b. b .event) (sym (begin .begin .ensures .0)) ∙ told .event .given .1 in
     let text = not-set-up (now (a .words)) (now (a .paper)) _ e in
     let pre = start .before .pre in
-    let short = refusal-short 0 (number .number-of .result) in (
-      rw (text, ← number .number-of .ensures) (put .put-refusal .ensures .0 ∙ behind-is _ _ _ (omega (arith, pre))),
-      rw (text, ← number .number-of .ensures) (put .put-refusal .ensures .1 ∙ placed-is _ _ _ (omega (arith, pre)) (omega arith)),
+    let short = refusal-short 0 (number .number .result) in (
+      rw (text, ← number .number .ensures) (put .put-refusal .ensures .0 ∙ behind-is _ _ _ (omega (arith, pre))),
+      rw (text, ← number .number .ensures) (put .put-refusal .ensures .1 ∙ placed-is _ _ _ (omega (arith, pre)) (omega arith)),
       begin .begin .ensures .1,
     )
 
