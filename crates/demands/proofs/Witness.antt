@@ -3,7 +3,7 @@
 use mathlib.Core.Path.{_≡_, refl}
 use mathlib.Core.Bool.{Bool, true, false, _&&_}
 use mathlib.Core.List.{List, [], _∷_}
-use Prim.Native.Nat.{ℕ, zero, suc, _<_}
+use Prim.Native.Nat.{ℕ, zero, suc, _^_, _<_}
 use native.Mathlib.Omega.{arith}
 use borrow.Author.Tests.{ltb-true}
 use lib.Dec.{ltb}
@@ -32,13 +32,13 @@ bytes-of (b ∷ s) e (suc i) = bytes-of s (right (ltb b 256) (areBytes s) e) i w
   right true y e = e
   right false y e = cc
 
--- of syllabus 0
+-- of version 01
 abbrev pub setup : Setup
-setup = record { bytes = body; syllabus = 0 }
+setup = record { bytes = body; tail = []; syllabus = 0; unnamed = 2 ^ 22 }
 
 pub good : AcceptedSetup setup
 unfolding body computed
-good = record { bytes = record { below = bytes-of body refl }; taken = refl }
+good = record { bytes = record { below = bytes-of body refl }; tail-bytes = record { below = bytes-of [] refl }; taken = refl; tail-taken = refl }
 
 -- THE PRINTED SITTING
 pub printed : linesOf (sat setup commands .log) ≡ lines

@@ -31,8 +31,9 @@ exceedsWith limit value none = false
 -- converted amount does. A counter likewise, with 1 added. A cyclic accumulator likewise, but not in a date error.
 abbrev pub exceeds : Setup → (profile : ℕ) → Purchase → (value limit : ℕ) → Meter → Bool
 exceeds setup profile purchase value limit meter =
-    takesUp purchase meter && isActive setup profile meter
-    && (ltb limit value || (isIncluded setup profile meter && exceedsWith limit value (worthTo setup purchase meter)))
+    takesUp purchase meter
+    && (isActive setup profile meter
+    && (ltb limit value || (isIncluded setup profile meter && exceedsWith limit value (worthTo setup purchase meter))))
 
 -- MTA is on (13) and the amount, converted to its currency (14), exceeds it (16); without a conversion it doesn't
 abbrev pub exceedsMta : Setup → (profile : ℕ) → Purchase → Bool
