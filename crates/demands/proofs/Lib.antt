@@ -4,6 +4,8 @@ pub mod Run
 pub mod Ends
 pub mod Owed
 pub mod Bytes
+pub mod Dated
+pub mod Deals
 pub mod Moves
 pub mod Total
 pub mod Past
@@ -19,5 +21,6 @@ pub mod Answers
 pub mod Sendable
 pub mod Edges
 pub mod Selected
+pub mod Sittings
 pub mod Samples
 pub mod Declines
