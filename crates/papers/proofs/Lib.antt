@@ -1,3 +1,4 @@
+pub mod Tails
 pub mod Setups
 pub mod Walk
 pub mod Talk
