@@ -6,4 +6,5 @@ pub mod Starts
 pub mod Events
 pub mod Demands
 pub mod Witness
+pub mod Late
 pub mod Samples

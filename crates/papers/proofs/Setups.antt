@@ -13,7 +13,6 @@ use Rattle.ranges.specs.Ranges.{isSetup, areCycles}
 use Rattle.setup.specs.Setup.{isAccepted, readSetup, rulesIn}
 use Rattle.setup.proofs.Faithful.{started}
 use Rattle.wire.proofs.Pairs.{both}
-use Rattle.shape.specs.declared.Dating.{Dating}
 use Rattle.shape.specs.declared.Shape.{Shape}
 use Rattle.shape.specs.Shape.{basePart, cyclesPart, shapeAt}
 use Rattle.card.specs.Card.{freshState}
@@ -24,12 +23,12 @@ use Rattle.demands.specs.Conversation.{rulesBy}
 use Rattle.rows.specs.Rows.{body as spelledBase, cyclesBytes}
 use Rattle.rows.specs.Rows as R
 use Rattle.rows.specs.Tails as T
-use Rattle.rows.specs.Tails.{Choosing, off, on, Tail, versionOf, tailBytes, choosingOf, syllabusOf, unnamedOf, Base}
+use Rattle.rows.specs.Tails.{Choosing, off, on, Tail, tailBytes, choosingOf, syllabusOf, unnamedOf, Base}
 use Rattle.rows.specs.Tails.{selecting, fileOf, dating, shapeSaid, TailSays}
 use Rattle.rows.specs.Whole.{IsSetup}
 use Rattle.rows.proofs.Behind.{length-kept}
 use Rattle.rows.proofs.Whole.{is-base, reads-whole, both-in-range}
-use Rattle.spelling.specs.Spelling.{Bytes, Choice, byFile, choiceIn, Dates, datesIn, Manner, mannerIn}
+use Rattle.spelling.specs.Spelling.{Bytes, byFile, choiceIn, Dates, datesIn, mannerIn}
 use Rattle.spelling.specs.Faults.{Opens}
 use Rattle.spelling.specs.Sitting.{Lies}
 use Rattle.spelling.specs.Sitting as Sp
@@ -40,7 +39,7 @@ use Rattle.spelling.proofs.Opening as O
 use Rattle.spelling.proofs.Papers.{bytes-cycles, lies-there, chooses, rules-are}
 use Rattle.papers.specs.Papers.{versionIn, bodyIn, restIn, baseIn, tailsIn, setupIn, setupOf, mannerOf, Accepted}
 use Rattle.papers.specs.Papers as P
-use Rattle.papers.proofs.Tails.{choiceSaid, datesSaid, mannerSaid, ReadsAs, reads-as}
+use Rattle.papers.proofs.Tails.{choiceSaid, datesSaid, mannerSaid, reads-as}
 
 -- ---- a paper that opens
 
@@ -171,13 +170,15 @@ module _ (paper : List ℕ) (a : Accepted paper) where
       let b = a .body in
       let body-bytes = opened-bytes paper v b (a .rest) (a .opens) bytes in
       let form = shape v b (a .set-up) in
-      let base-bytes : Bytes (base v b (a .set-up)) = subst Bytes (base-is v b (a .set-up)) (bytes-take (form .base) b body-bytes) in
-      let tail-bytes : Bytes (cycles v b (a .set-up)) = subst Bytes (cycles-are v b (a .set-up)) (bytes-cycles (form .dating) b body-bytes) in
-      let (base-taken, tail-taken) = both _ _ (good v b (a .set-up)) in
+      let s = base v b (a .set-up) in
+      let t = cycles v b (a .set-up) in
+      let base-bytes : Bytes s = subst Bytes (base-is v b (a .set-up)) (bytes-take (form .base) b body-bytes) in
+      let tail-bytes : Bytes t = subst Bytes (cycles-are v b (a .set-up)) (bytes-cycles (form .dating) b body-bytes) in
+      let (base-taken, tail-taken) = both (isSetup s (form .unnamed)) (areCycles t) (good v b (a .set-up)) in
       rw setup-is
       (record {
-        bytes = record { below = byte-small _ base-bytes };
-        tail-bytes = record { below = byte-small _ tail-bytes };
+        bytes = record { below = byte-small s base-bytes };
+        tail-bytes = record { below = byte-small t tail-bytes };
         taken = base-taken;
         tail-taken = tail-taken;
       })
