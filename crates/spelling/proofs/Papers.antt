@@ -94,7 +94,7 @@ set-up-or-not version body = by (shape-ways version body) where
   by (shape-taken shape e) = by-base shape e (isAccepted (basePart shape body) (cyclesPart (shape .dating) body) (shape .unnamed)) refl
   by (shape-one e) = inr (no-shape e)
 
-bytes-cycles : (dating : Dating) (body : List ℕ) → Bytes body → Bytes (cyclesPart dating body)
+pub bytes-cycles : (dating : Dating) (body : List ℕ) → Bytes body → Bytes (cyclesPart dating body)
 bytes-cycles DatesOff body h = tt
 bytes-cycles (DatesOn start end) body h = bytes-take (end - start) (drop start body) (bytes-drop start body h)
 

@@ -1,6 +1,6 @@
 -- A paper of a version: what stands in front of a record does not matter to its events, but for the file that selects. Assumes nothing.
 use mathlib.Core.Path.{_≡_, refl, sym, ap, _∙_}
-use mathlib.Core.Bool.{Bool, true, false, cond, not, _&&_, _||_}
+use mathlib.Core.Bool.{Bool, true, false, cond, not, _||_}
 use mathlib.Core.List.{List, [], _∷_, _++_}
 use Prim.Native.Nat.{ℕ, zero, suc, _+_, _-_, _/_, _%_, _≤_}
 use native.Mathlib.Nat.{add-zero, add-assoc}
@@ -27,7 +27,7 @@ use Rattle.paper.specs.declared.Next.the-variants.{Record, Fault, End}
 use Rattle.paper.specs.declared.Opened.the-variants.{Setup}
 use Rattle.paper.specs.Paper.{endAt, nextAt, openPaper}
 use Rattle.paper.specs.Walk.{part, written}
-use Rattle.command.specs.Command.{firstOf, commandOf, selectingOf, fileIn, readBy, commandIn}
+use Rattle.command.specs.Command.{firstOf, commandOf, selectingOf, readBy, commandIn}
 use Rattle.command.specs.declared.ReadCommand.{ReadCommand}
 use Rattle.command.specs.declared.ReadCommand.the-variants.{Taken as CommandTaken, Refused as CommandRefused}
 use Rattle.state.specs.declared.State.{State}

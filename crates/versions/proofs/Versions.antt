@@ -1,8 +1,8 @@
 -- An older paper reads as the newer one with the addition off: the lines of a version 01 paper are those of the version 02 paper with
 -- selection off; those of a version 02 paper, whether or not it selects, those of the version 03 paper with syllabus 0; and those of a version
 -- 03 paper whose masks have no bit from 22 on, as one that is accepted, those of the version 04 paper with dates off. Assumes nothing.
-use mathlib.Core.Path.{_≡_, refl, sym, ap, subst, _∙_}
-use mathlib.Core.Bool.{Bool, true, false, cond, _&&_}
+use mathlib.Core.Path.{_≡_, refl, sym, ap, _∙_}
+use mathlib.Core.Bool.{Bool, true, false}
 use mathlib.Core.List.{List, [], _∷_, _++_, append-assoc}
 use Prim.Native.Nat.{ℕ, _+_, _-_, _*_, _^_, _≤_}
 use native.Mathlib.Omega.{arith}
@@ -34,7 +34,7 @@ use Rattle.conversation.specs.Conversation.{setUpEvent, baseBegun, shapedBegun,
 use Rattle.conversation.specs.Events.{eventsOf}
 use Rattle.lines.specs.Sitting.{linesOf, sittingLines}
 use Rattle.versions.proofs.Papers.{Known, paperOf, eventsShaped, whole-length, events-are, begun-is}
-use Rattle.versions.proofs.Undated.{Undated, undated, MasksBelow, accepted-below, same-judged}
+use Rattle.versions.proofs.Undated.{undated, MasksBelow, accepted-below, same-judged}
 
 -- ---- the byte 00 behind a body, in the next version
 
