@@ -49,11 +49,33 @@ static void convert_amount(struct card *card, uint64_t amount,
         if (profile->accumulator[i].switches & ACTIVE)
             open->for_accumulator[i] = convert(&card->setup, amount, currency,
                                                card->setup.currency[i]);
+    for (unsigned i = 0; i < card->setup.cyclics; i++)
+        if (profile->cyclic[i].switches & ACTIVE)
+            open->for_cyclic[i] = convert(&card->setup, amount, currency,
+                                          card->setup.cyclic[i].currency);
 }
 
-/* "Start and the checks": bits 5 to 21. The sums are not stopped, so that a
+/* Request Five: the date of an accepted First. An earlier one than the last
+ * changes nothing. */
+static void take_date(struct card *card, const struct date *date)
+{
+    struct transaction *open = &card->open;
+
+    open->date = *date;
+    open->date_error = date->number < card->last.number;
+    if (open->date_error)
+        return;
+    for (unsigned i = 0; i < CYCLICS; i++)
+        if (cycle_began(card->setup.cyclic[i].kind,
+                        card->setup.cyclic[i].first_day, &card->last, date))
+            card->cyclic[i] = 0;
+    card->last = *date;
+}
+
+/* "Start and the checks": bits 5 to 24. The sums are not stopped, so that a
  * full accumulator or counter still exceeds a limit at its maximum. Over
- * exceeds every limit, MAX too. */
+ * exceeds every limit, MAX too. With a date error no cyclic accumulator is
+ * tested. */
 static uint32_t check_limits(const struct card *card)
 {
     const struct transaction *open = &card->open;
@@ -95,6 +117,21 @@ static uint32_t check_limits(const struct card *card)
             adr |= (uint32_t)COUNTER_UPPER << i;
     }
 
+    if (open->date_error)
+        return adr | DATE_ERROR;
+    for (unsigned i = 0; i < card->setup.cyclics; i++) {
+        const struct cyclic_rule *rule = &profile->cyclic[i];
+        if (!(rule->switches & ACTIVE))
+            continue;
+        const struct converted added = open->for_cyclic[i];
+        const bool included = rule->switches & INCLUDE;
+        uint64_t value = card->cyclic[i];
+        if (included && added.how == CONVERTED)
+            value += added.amount;
+        if ((included && added.how == OVER) || value > rule->limit)
+            adr |= (uint32_t)CYCLIC_LIMIT << i;
+    }
+
     return adr;
 }
 
@@ -104,23 +141,30 @@ static void count_one(uint8_t *counter)
         ++*counter;
 }
 
-/* "First: the answer", an offline approval. An over amount stores MAX. */
+/* What an accumulator becomes that counts an amount; over stores MAX. */
+static void accumulate(uint64_t *value, const struct converted *added)
+{
+    if (added->how == NO_ENTRY)
+        return;
+    if (added->how == OVER || *value + added->amount > AMOUNT_MAX)
+        *value = AMOUNT_MAX;
+    else
+        *value += added->amount;
+}
+
+/* "First: the answer", an offline approval. With a date error no cyclic
+ * accumulator counts it. */
 static void approve_offline(struct card *card)
 {
     const struct transaction *open = &card->open;
     const struct profile *profile = open->profile;
 
-    for (unsigned i = 0; i < ACCUMULATORS; i++) {
-        const struct converted added = open->for_accumulator[i];
-        if (!counts_approvals(profile->accumulator[i].switches)
-            || added.how == NO_ENTRY)
-            continue;
-        if (added.how == OVER
-            || card->accumulator[i] + added.amount > AMOUNT_MAX)
-            card->accumulator[i] = AMOUNT_MAX;
-        else
-            card->accumulator[i] += added.amount;
-    }
+    for (unsigned i = 0; i < ACCUMULATORS; i++)
+        if (counts_approvals(profile->accumulator[i].switches))
+            accumulate(&card->accumulator[i], &open->for_accumulator[i]);
+    for (unsigned i = 0; i < card->setup.cyclics; i++)
+        if (counts_approvals(profile->cyclic[i].switches) && !open->date_error)
+            accumulate(&card->cyclic[i], &open->for_cyclic[i]);
     for (unsigned i = 0; i < COUNTERS; i++)
         if (counts_approvals(profile->counter[i].switches))
             count_one(&card->counter[i]);
@@ -149,6 +193,9 @@ static void update_as_ordered(struct card *card, unsigned order)
         for (unsigned i = 0; i < ACCUMULATORS; i++)
             if (profile->accumulator[i].switches & ACTIVE)
                 card->accumulator[i] = profile->accumulator[i].upper;
+        for (unsigned i = 0; i < card->setup.cyclics; i++)
+            if (profile->cyclic[i].switches & ACTIVE)
+                card->cyclic[i] = profile->cyclic[i].limit;
         for (unsigned i = 0; i < COUNTERS; i++)
             if (profile->counter[i].switches & ACTIVE)
                 card->counter[i] = profile->counter[i].upper;
@@ -157,6 +204,9 @@ static void update_as_ordered(struct card *card, unsigned order)
         for (unsigned i = 0; i < ACCUMULATORS; i++)
             if (profile->accumulator[i].switches & ACTIVE)
                 card->accumulator[i] = 0;
+        for (unsigned i = 0; i < card->setup.cyclics; i++)
+            if (profile->cyclic[i].switches & ACTIVE)
+                card->cyclic[i] = 0;
         for (unsigned i = 0; i < COUNTERS; i++)
             if (profile->counter[i].switches & ACTIVE)
                 card->counter[i] = 0;
@@ -231,6 +281,8 @@ static void set_cvr(struct card *card, unsigned type)
         cvr[2] |= 0x20;
     if (adr & ACCUMULATORS_UPPER)
         cvr[2] |= 0x10;
+    if (adr & DATE_ERROR)
+        cvr[2] |= 0x02;
 
     cvr[3] = adr & GO_ONLINE_NEXT ? 0x02 : 0;
     cvr[4] = 0;
@@ -295,6 +347,8 @@ unsigned card_first(struct card *card, const struct first *first,
                     struct answer *answer)
 {
     struct transaction *open = &card->open;
+    const bool dated = card->setup.cyclics > 0;
+    struct date date;
 
     if (card->due != FIRST_DUE)
         return 2;
@@ -302,7 +356,12 @@ unsigned card_first(struct card *card, const struct first *first,
         return 5;
     if (first->amount > AMOUNT_MAX || !is_currency(first->currency))
         return 6;
+    if (dated && !read_date(&date, first->date))
+        return 13;
 
+    open->date_error = false;
+    if (dated)
+        take_date(card, &date);
     convert_amount(card, first->amount, first->currency);
     open->adr = card->history | check_limits(card);
     const unsigned type = decide(open->profile, open->adr, first);
@@ -395,6 +454,9 @@ unsigned card_second(struct card *card, const struct second *second,
     else
         type = second_absent(card, second);
 
+    /* Recovery: an approval that is not offline makes the date right. */
+    if (card->open.date_error && type == TC && !is_unable(second->code))
+        card->last = card->open.date;
     card->open.cvr[0] = (uint8_t)(type << 6 | (card->open.cvr[0] & 0x3F));
     card->due = NOTHING_DUE;
     give(card, type, answer);

@@ -8,11 +8,14 @@
 #include <stddef.h>
 #include <stdint.h>
 
+#include "calendar.h"
+
 #define AMOUNT_MAX UINT64_C(999999999999)
 
 enum {
     ACCUMULATORS = 4,
     COUNTERS = 4,
+    CYCLICS = 2, /* cyclic accumulators, where a set-up has them */
     PROFILES_MAX = 4,
     CONVERSIONS_MAX = 5,
     COUNTER_MAX = 255,
@@ -21,7 +24,8 @@ enum {
 
     VERSION_SELECTION = 2, /* papers from this version on have it */
     VERSION_SYLLABUS = 3,
-    VERSION_MAX = 3
+    VERSION_CYCLES = 4,
+    VERSION_MAX = 4
 };
 
 /* The decision bits (ADR) in house order; bits 0 to 4 are the history. */
@@ -36,6 +40,8 @@ enum {
     ACCUMULATOR_UPPER = 1 << 10,
     COUNTER_LOWER = 1 << 14,
     COUNTER_UPPER = 1 << 18,
+    CYCLIC_LIMIT = 1 << 22, /* cyclic accumulator 1; 2 follows */
+    DATE_ERROR = 1 << 24,
 
     ACCUMULATORS_LOWER = 15 * ACCUMULATOR_LOWER, /* all four */
     ACCUMULATORS_UPPER = 15 * ACCUMULATOR_UPPER,
@@ -43,8 +49,10 @@ enum {
     COUNTERS_UPPER = 15 * COUNTER_UPPER,
 
     HISTORY = 5, /* how many bits */
-    DECISIONS = 22,
+    OLD_DECISIONS = 22, /* named in papers before VERSION_CYCLES */
+    DECISIONS = 25,
     HISTORY_BITS = (1 << HISTORY) - 1,
+    OLD_ADR_BITS = (1 << OLD_DECISIONS) - 1,
     ADR_BITS = (1 << DECISIONS) - 1
 };
 
@@ -80,9 +88,15 @@ struct counter_rule {
     uint8_t switches, lower, upper;
 };
 
+struct cyclic_rule {
+    uint64_t limit;
+    uint8_t switches;
+};
+
 struct profile {
     struct accumulator_rule accumulator[ACCUMULATORS];
     struct counter_rule counter[COUNTERS];
+    struct cyclic_rule cyclic[CYCLICS];
     uint64_t mta;
     uint32_t online_mask, decline_mask, default_mask;
     uint16_t mta_currency;
@@ -109,13 +123,22 @@ struct selection {
 /* What becomes of a converted fraction. */
 enum { SYLLABUS_DROPS = 0, SYLLABUS_ROUNDS_UP = 1 };
 
+/* A cyclic accumulator in every profile. */
+struct cyclic {
+    uint16_t currency;
+    uint8_t kind;
+    uint8_t first_day; /* of a week */
+};
+
 /* What a set-up fixes for the whole paper. */
 struct setup {
     struct profile profile[PROFILES_MAX];
     struct conversion conversion[CONVERSIONS_MAX];
     struct selection selection;
+    struct cyclic cyclic[CYCLICS];
     uint16_t currency[ACCUMULATORS];
     uint8_t profiles, conversions;
+    uint8_t cyclics; /* none, or all: then First carries the date */
     uint8_t syllabus;
     uint8_t key_index;
     uint8_t pin_tries;
@@ -134,16 +157,21 @@ struct transaction {
     const struct profile *profile;
     struct converted for_mta;
     struct converted for_accumulator[ACCUMULATORS];
+    struct converted for_cyclic[CYCLICS];
     uint32_t adr;
+    struct date date;
+    bool date_error; /* it was earlier than the last date */
     uint8_t cvr[5];
 };
 
 struct card {
     struct setup setup;
     uint64_t accumulator[ACCUMULATORS];
+    uint64_t cyclic[CYCLICS]; /* of the present cycle */
     uint8_t counter[COUNTERS];
     uint32_t history;
     uint16_t atc;
+    struct date last; /* First's last date without error */
     enum { NOTHING_DUE, FIRST_DUE, SECOND_DUE } due;
     struct transaction open; /* points into `setup`: a card stays where it is */
 };
@@ -159,6 +187,7 @@ struct first {
     uint16_t currency;
     uint8_t type;
     uint8_t terminal;
+    const uint8_t *date; /* 3 bytes, where it carries one */
 };
 
 struct second {

@@ -1,10 +1,11 @@
 /* Papers made by hand, their lines worked out by hand from documents 01 and
- * 02: the printed sitting, the edges a) to l), CPA's examples of selection, and
- * what surrounds them. */
+ * 02: the printed sitting, the edges a) to l), CPA's examples of selection and
+ * of cyclic accumulators, and what surrounds them. */
 #include <stdio.h>
 #include <string.h>
 
 #include "answers.h"
+#include "examples.h"
 #include "script.h"
 
 /* An IAD of key 01 and profile 1: CVR, accumulator, counters. */
@@ -763,6 +764,281 @@ static void selection(void)
            "10 12\n");
 }
 
+/* Request Five ------------------------------------------------------------- */
+
+/* The sittings of examples/. */
+static void cyclic_sittings(void)
+{
+    day_and_month();
+    expect("day and month",
+           "0 0\n"
+           "1 0 1\n"
+           "2 0 40 1 " IAD("9030000000", "000000006000", "0000")
+           "3 0 2\n"
+           "4 0 00 2 " IAD("8030000000", "000000006000", "0000")
+           "5 0 3\n"
+           "6 0 40 3 " IAD("9030000000", "000000010000", "0000")
+           "7 0 4\n"
+           "8 0 00 4 " IAD("8030000000", "000000010000", "0000")
+           "9 0 5\n"
+           "10 0 40 5 " IAD("9030000000", "000000015000", "0000")
+           "11 0 6\n"
+           "12 0 40 6 " IAD("9030000000", "000000025000", "0000"));
+    weeks();
+    expect("weeks",
+           "0 0\n"
+           "1 0 1\n"
+           "2 0 00 1 " IAD("8030000000", "000000000000", "0000")
+           "3 0 2\n"
+           "4 0 00 2 " IAD("8030000000", "000000000000", "0000")
+           "5 0 3\n"
+           "6 0 40 3 " IAD("9030000000", "000000000001", "0000")
+           "7 0 4\n"
+           "8 0 00 4 " IAD("8030000000", "000000000001", "0000")
+           "9 0 5\n"
+           "10 0 40 5 " IAD("9030000000", "000000000100", "0000")
+           "11 0 6\n"
+           "12 0 80 6 " IAD("A030000000", "000000000100", "0000"));
+    date_error();
+    expect("date error",
+           "0 0\n"
+           "1 0 1\n"
+           "2 0 80 1 " IAD("A030020000", "000000000000", "0000")
+           "3 0 40 1 " IAD("6030020000", "000000000000", "0000")
+           "4 0 2\n"
+           "5 0 00 2 " IAD("8030000000", "000000000000", "0000")
+           "6 0 3\n"
+           "7 0 40 3 " IAD("9030000000", "000000000400", "0000")
+           "8 0 4\n"
+           "9 0 80 4 " IAD("A030020000", "000000000400", "0000")
+           "10 0 40 4 " IAD("6230020100", "000000000401", "0000")
+           "11 0 5\n"
+           "12 0 80 5 " IAD("A231020000", "000000000401", "0000")
+           "13 0 40 5 " IAD("6031020000", "000001000000", "0000")
+           "14 0 6\n"
+           "15 0 40 6 " IAD("9030000000", "000001000000", "0000")
+           "16 0 7\n"
+           "17 0 00 7 " IAD("8030000000", "000001000000", "0000"));
+    refused_dates();
+    expect("refused dates",
+           "0 0\n"
+           "1 2\n"
+           "2 0 1\n"
+           "3 5\n"
+           "4 6\n"
+           "5 13\n"
+           "6 5\n"
+           "7 0 00 1 " IAD("8030000000", "000000000000", "0000")
+           "8 0 2\n"
+           "9 0 40 2 " IAD("9030000000", "000000000009", "0000")
+           "10 0 3\n"
+           "11 9\n");
+}
+
+/* CPA Annex I: what one purchase makes of the first cyclic accumulator. Profile
+ * 2 declines above what it is to be, profile 3 above one less. */
+struct annex {
+    const char *name;
+    uint8_t kind, first_day, switches;
+    uint64_t amount, limit;
+    uint32_t last, date;
+    uint64_t paid;
+    uint16_t currency, digits;
+    int shift;
+    bool exceeds;
+    uint64_t after;
+};
+
+static void annex_case(const struct annex *annex)
+{
+    char expected[400];
+
+    for (unsigned declines = 0; declines < 2; declines++) {
+        lenient();
+        profiles_blank(3);
+        profile->accumulator_sent = 0;
+        cyclic(annex->last, annex->kind, annex->first_day, DAYS, FRI);
+        setup.cyclic[0].amount = annex->amount;
+        setup.conversions = annex->digits > 0;
+        rate(0, annex->currency, annex->digits, (uint8_t)(annex->shift + 9));
+        profile->cyclic[0].switches = annex->switches;
+        profile->cyclic[0].limit = annex->limit;
+        profile->decline = declines ? CYCLIC_1 : 0;
+        for (unsigned i = 1; i < 3; i++) {
+            setup.profile[i].cyclic[0].switches = 1;
+            setup.profile[i].cyclic[0].limit = annex->after - (i == 2);
+            setup.profile[i].decline = CYCLIC_1;
+        }
+        begin();
+        today = annex->date;
+        start(1);
+        first_in(TC, annex->paid, annex->currency);
+        const bool declined = declines && annex->exceeds;
+        if (declines) {
+            snprintf(expected, sizeof expected,
+                     "0 0\n1 0 1\n2 0 %s 1 0FA501%s30000000%s0F01" ZEROS "\n",
+                     declined ? "00" : "40", declined ? "80" : "90",
+                     "0000000000000000");
+        } else {
+            start(2);
+            first(TC, 0);
+            start(3);
+            first(TC, 0);
+            snprintf(expected, sizeof expected,
+                     "0 0\n1 0 1\n2 0 40 1 0FA5019030000000%s0F01" ZEROS "\n"
+                     "3 0 2\n4 0 40 2 0FA5019030000000%s0F02" ZEROS "\n"
+                     "5 0 3\n6 0 00 3 0FA5018030000000%s0F03" ZEROS "\n",
+                     "0000000000000000", "0000000000000000",
+                     "0000000000000000");
+        }
+        expect(annex->name, expected);
+    }
+}
+
+static void annex_i(void)
+{
+    static const struct annex cases[] = {
+        {"Annex I, 1", DAYS, FRI, 7, 85400, 100000, 0x050715, 0x050715, 35000,
+         USD, 82, -2, true, 114100},
+        {"Annex I, 2", WEEKS, MON, 7, 286950, 300000, 0x050711, 0x050721,
+         445500, 0x0124, 67, -2, false, 298485},
+        {"Annex I, 3", MONTHS, FRI, 7, 1510945, 1500000, 0x050715, 0x050725,
+         35000, 0x0414, 0, 0, true, 1510945},
+        {"Annex I, 4", MONTHS, FRI, 7, 1498945, 1500000, 0x050715, 0x050725,
+         65000, 0x0810, 28, -3, true, 1500765},
+        {"Annex I, 5", DAYS, FRI, 1, 85400, 100000, 0x050715, 0x050715, 15000,
+         EUR, 0, 0, false, 85400}};
+
+    for (size_t i = 0; i < sizeof cases / sizeof *cases; i++)
+        annex_case(&cases[i]);
+}
+
+/* 5 of 5 are spent, of the second accumulator: whether a purchase of 1 on this
+ * date begins a cycle, and so is approved. In error it is not tested. */
+static void begun(uint8_t kind, uint8_t first_day, uint32_t last, uint32_t date,
+                  bool begins)
+{
+    const bool in_error = date < last;
+    const bool approved = begins || in_error;
+    char expected[200];
+
+    lenient();
+    profiles_blank(1);
+    cyclic(last, DAYS, FRI, kind, first_day);
+    setup.cyclic[1].amount = 5;
+    profile->cyclic[1].switches = 7;
+    profile->cyclic[1].limit = 5;
+    profile->decline = CYCLIC_2;
+    begin();
+    start(1);
+    first_on(date, TC, 1);
+    snprintf(expected, sizeof expected,
+             "0 0\n1 0 1\n2 0 %s 1 0FA501%s30%s0000%s0F01" ZEROS "\n",
+             approved ? "40" : "00", approved ? "90" : "80",
+             in_error ? "02" : "00", "0000000000000000");
+    expect("a cycle", expected);
+}
+
+static void cycles(void)
+{
+    begun(DAYS, FRI, 0x050715, 0x050715, false);
+    begun(DAYS, FRI, 0x050715, 0x050716, true);
+    begun(DAYS, FRI, 0x050715, 0x050714, false);
+    begun(WEEKS, MON, 0x051231, 0x060101, false);
+    begun(WEEKS, SUN, 0x051231, 0x060101, true);
+    begun(WEEKS, MON, 0x060101, 0x060102, true);
+    begun(WEEKS, MON, 0x000101, 0x000102, false); /* not dropped toward zero */
+    begun(WEEKS, MON, 0x000102, 0x000103, true);
+    begun(WEEKS, THU, 0x000101, 0x000105, false);
+    begun(WEEKS, THU, 0x000105, 0x000106, true);
+    begun(WEEKS, FRI, 0x080228, 0x080229, true);
+    begun(WEEKS, SAT, 0x080228, 0x080229, false);
+    begun(WEEKS, MON, 0x050713, 0x050718, true); /* less than seven days */
+    begun(WEEKS, MON, 0x050711, 0x050717, false);
+    begun(WEEKS, MON, 0x050718, 0x050724, false);
+    begun(WEEKS, THU, 0x991230, 0x991231, true);
+    begun(MONTHS, FRI, 0x000229, 0x000301, true);
+    begun(MONTHS, FRI, 0x000228, 0x000229, false);
+    begun(MONTHS, FRI, 0x050701, 0x050731, false);
+    begun(MONTHS, FRI, 0x050715, 0x060715, true);
+    begun(MONTHS, FRI, 0x041231, 0x050101, true);
+    begun(MONTHS, FRI, 0x050715, 0x050701, false);
+    begun(MONTHS, FRI, 0x991231, 0x000101, false); /* no window */
+}
+
+/* Dates that are none, refused in a First and in a set-up. */
+static void no_days(void)
+{
+    static const uint32_t dates[] = {0x000230, 0x010229, 0x100229, 0x050431,
+                                     0x051301, 0x050001, 0x050100, 0x050732,
+                                     0x0A0101, 0x00010A, 0x001F01, 0x990229};
+    static const uint32_t days[] = {0x120229, 0x160229, 0x960229, 0x000229,
+                                    0x991231};
+
+    for (size_t i = 0; i < sizeof dates / sizeof *dates; i++) {
+        lenient();
+        cyclic(0x000101, DAYS, FRI, DAYS, FRI);
+        begin();
+        start(1);
+        first_on(dates[i], TC, 1);
+        expect("no day", "0 0\n1 0 1\n2 13\n");
+        setup.last = dates[i];
+        begin();
+        start(1);
+        expect("no last day", "0 1\n");
+    }
+    for (size_t i = 0; i < sizeof days / sizeof *days; i++) {
+        lenient();
+        cyclic(days[i], DAYS, FRI, DAYS, FRI);
+        begin();
+        start(1);
+        first_on(days[i], TC, 1);
+        expect("a day", "0 0\n1 0 1\n2 0 40 1 "
+                        IAD("9030000000", "000000000001", "0100"));
+    }
+}
+
+/* A First is as long as the set-up has it. */
+static void first_lengths(void)
+{
+    lenient();
+    setup.version = 4;
+    begin();
+    start(1);
+    first(TC, 1);
+    expect("04, undated", "0 0\n1 0 1\n2 0 40 1 "
+                          IAD("9030000000", "000000000001", "0100"));
+    for (uint8_t version = 1; version <= 4; version++) {
+        setup.version = version;
+        begin();
+        start(1);
+        draft_dated_first(draft, TC, 1, EUR, ONLINE_TERMINAL, 0x050715);
+        start(1);
+        expect("undated, 15 bytes", "0 0\n1 0 1\n2 9\n");
+    }
+    cyclic(0x050715, DAYS, FRI, DAYS, FRI);
+    begin();
+    start(1);
+    draft_first(draft, TC, 1, EUR, ONLINE_TERMINAL);
+    start(1);
+    expect("dated, 12 bytes", "0 0\n1 0 1\n2 9\n");
+}
+
+/* Masks name bits 22 to 24 in version 04, and there only. */
+static void mask_bits(void)
+{
+    for (uint8_t version = 1; version <= 4; version++)
+        for (unsigned bit = 21; bit < 27; bit++) {
+            const bool named = bit < 22 || (version == 4 && bit < 25);
+            lenient();
+            setup.version = version;
+            profile->decline = UINT32_C(1) << bit;
+            begin();
+            start(1);
+            expect("a mask's bit", named ? "0 0\n1 0 1\n" : "0 1\n");
+        }
+}
+
 /* The body of the printed set-up, the tail, and so many bytes more. */
 static void tail_case(uint8_t version, const char *tail, const char *more,
                       const char *lines)
@@ -782,6 +1058,63 @@ static void tail_case(uint8_t version, const char *tail, const char *more,
     draft->bytes[0] = version;
     start(1);
     expect(tail, lines);
+}
+
+/* Of version 04, behind selection off and syllabus 0. */
+static void dated_tails(void)
+{
+#define DATE "05 07 15"
+#define FIRST_SLOT "09 78 000000E8D4A50FFF 01 00"
+#define SECOND_SLOT "00 00 0000000000000000 03 06"
+#define ONE_RULE "07 000000E8D4A50FFF"
+#define ALL DATE FIRST_SLOT SECOND_SLOT ONE_RULE ONE_RULE
+    static const struct {
+        const char *tail;
+        bool taken;
+    } cases[] = {
+        {"00", true},
+        {"", false},
+        {"02", false},
+        {"FF", false},
+        {"00 00", false},
+        {"01", false},
+        {"02" ALL, false},
+        {"00" ALL, false},
+        {"01" ALL, true},
+        {"01" ALL "00", false},
+        {"01" ALL ONE_RULE ONE_RULE, false},
+        {"01" DATE FIRST_SLOT SECOND_SLOT ONE_RULE, false},
+        {"01" DATE FIRST_SLOT SECOND_SLOT ONE_RULE "07 000000E8D4A50F", false},
+        {"01" DATE FIRST_SLOT SECOND_SLOT, false},
+        {"01" DATE FIRST_SLOT, false},
+        {"01" "05 02 29" FIRST_SLOT SECOND_SLOT ONE_RULE ONE_RULE, false},
+        {"01" DATE "09 7A 0000000000000000 01 00" SECOND_SLOT ONE_RULE ONE_RULE,
+         false},
+        {"01" DATE "09 78 000000E8D4A51000 01 00" SECOND_SLOT ONE_RULE ONE_RULE,
+         false},
+        {"01" DATE "09 78 0000000000000000 00 00" SECOND_SLOT ONE_RULE ONE_RULE,
+         false},
+        {"01" DATE "09 78 0000000000000000 04 00" SECOND_SLOT ONE_RULE ONE_RULE,
+         false},
+        {"01" DATE "09 78 0000000000000000 01 07" SECOND_SLOT ONE_RULE ONE_RULE,
+         false},
+        {"01" DATE FIRST_SLOT SECOND_SLOT "08 0000000000000000" ONE_RULE,
+         false},
+        {"01" DATE FIRST_SLOT SECOND_SLOT ONE_RULE "00 000000E8D4A51000",
+         false}};
+
+    for (size_t i = 0; i < sizeof cases / sizeof *cases; i++) {
+        char tail[400];
+        snprintf(tail, sizeof tail, "00 00 %s", cases[i].tail);
+        tail_case(4, tail, "", cases[i].taken ? "0 0\n1 0 1\n" : "0 1\n");
+        if (*cases[i].tail)
+            tail_case(3, tail, "", "0 1\n");
+    }
+#undef DATE
+#undef FIRST_SLOT
+#undef SECOND_SLOT
+#undef ONE_RULE
+#undef ALL
 }
 
 static void tails(void)
@@ -819,6 +1152,7 @@ static void tails(void)
     tail_case(3, "00", "", "0 1\n");
     tail_case(3, "01 00", "", "0 1\n");
     tail_case(3, "00 FF", "", "0 1\n");
+    dated_tails();
 }
 
 static void refusals(void)
@@ -903,7 +1237,9 @@ static void papers(void)
     draft->bytes[0] = 3;
     expect("version 03 without a tail", "0 1\n");
     draft->bytes[0] = 4;
-    expect("version 04", "0 9\n");
+    expect("version 04 without a tail", "0 1\n");
+    draft->bytes[0] = 5;
+    expect("version 05", "0 9\n");
     begin();
     draft->length--;
     expect("set-up cut short", "0 9\n");
@@ -972,6 +1308,12 @@ int main(void)
     unconverted();
     over();
     counters();
+    cyclic_sittings();
+    annex_i();
+    cycles();
+    no_days();
+    first_lengths();
+    mask_bits();
     selection();
     tails();
     refusals();

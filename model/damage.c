@@ -10,10 +10,11 @@
 static void damage_field(struct chance *chance, const struct draft_setup *setup,
                          struct draft *draft)
 {
-    const struct field *field = &fields()[below(chance, FIELDS)];
+    const size_t count = setup->dated ? FIELDS : BASE_FIELDS;
+    const struct field *field = &fields()[below(chance, count)];
     unsigned place = 0;
 
-    if (field->part == IN_PROFILE)
+    if (field->part == IN_PROFILE || field->part == IN_LIMITS)
         place = (unsigned)below(chance, setup->profiles);
     if (field->part == IN_CONVERSION) {
         if (setup->conversions == 0)
@@ -21,10 +22,10 @@ static void damage_field(struct chance *chance, const struct draft_setup *setup,
         place = (unsigned)below(chance, setup->conversions);
     }
     const unsigned which = (unsigned)below(chance, bad_values(field));
-    uint64_t value = bad_value(chance, field, which);
+    uint64_t value = bad_value(chance, field, setup->version, which);
     if (field->width == 8 && percent(chance, 50))
         value = MOST + 1 + below(chance, UINT64_MAX - MOST);
-    put_field(draft->bytes + field_offset(field, setup->profiles, place),
+    put_field(draft->bytes + field_offset(field, setup, place),
               field->width, value);
 }
 
@@ -77,7 +78,49 @@ static void damage_setup_length(struct chance *chance, struct draft *draft)
     }
 }
 
-/* One byte of the tail that has a range or delimits: the syllabus, the switch,
+/* The set-up's record becomes so many bytes longer or shorter, at its end. */
+static void resize_setup(struct draft *draft, int more)
+{
+    static const uint8_t bytes[64];
+    const size_t length = get16(draft->bytes + 1);
+    const size_t place = SETUP_BODY + length - 1;
+
+    if (more > 0)
+        draft_insert(draft, place, bytes, (size_t)more);
+    else
+        draft_remove(draft, place - (size_t)-more, (size_t)-more);
+    put16(draft->bytes + 1, (unsigned)((int)length + more));
+}
+
+/* The tail of version 04: its switch, one field out of range, or its length,
+ * off by a field, by an accumulator or by a profile. */
+static void damage_cycles(struct chance *chance,
+                          const struct draft_setup *setup, struct draft *draft)
+{
+    static const int sizes[] = {1, -1, 3, -3, 9, -9, 12, -12, 18, -18, 28, -28};
+    uint8_t *at = draft->bytes + SETUP_BODY + draft_setup_cycles(setup);
+    const uint8_t value = any_byte(chance);
+
+    if (percent(chance, 25) || !setup->dated) {
+        *at = percent(chance, 50) ? 2 : value;
+        if (percent(chance, 50))
+            *at = !setup->dated;
+        return;
+    }
+    if (percent(chance, 40)) {
+        resize_setup(draft, PICK(chance, sizes));
+        return;
+    }
+    const size_t which = below(chance, FIELDS - BASE_FIELDS);
+    const struct field *field = &fields()[BASE_FIELDS + which];
+    const unsigned place = (unsigned)below(chance, setup->profiles);
+    const unsigned bad = (unsigned)below(chance, bad_values(field));
+    const uint64_t out = bad_value(chance, field, setup->version, bad);
+    put_field(draft->bytes + field_offset(field, setup, place), field->width,
+              out);
+}
+
+/* One byte of the tails that has a range or delimits: the syllabus, the switch,
  * the number of entries, or the length of one of them. */
 static void damage_tail(struct chance *chance, const struct draft_setup *setup,
                         struct draft *draft)
@@ -87,8 +130,12 @@ static void damage_tail(struct chance *chance, const struct draft_setup *setup,
 
     if (setup->version < 2)
         return;
+    if (setup->version > 3 && percent(chance, 60)) {
+        damage_cycles(chance, setup, draft);
+        return;
+    }
     if (setup->version > 2 && percent(chance, 50)) {
-        at = draft->bytes + SETUP_BODY + get16(draft->bytes + 1) - 2;
+        at = draft->bytes + SETUP_BODY + draft_setup_cycles(setup) - 1;
         *at = percent(chance, 50) ? 2 : value;
         return;
     }
@@ -108,9 +155,10 @@ static void damage_tail(struct chance *chance, const struct draft_setup *setup,
 }
 
 /* A record that cannot be read, before any record or after the last. */
-static void damage_record(struct chance *chance, struct draft *draft)
+static void damage_record(struct chance *chance,
+                          const struct draft_setup *setup, struct draft *draft)
 {
-    static const uint8_t sizes[] = {1, 12, 8};
+    const uint8_t sizes[] = {1, setup->dated ? 15 : 12, 8};
     uint8_t bytes[64];
     const size_t which = below(chance, draft->records + 1);
     const size_t place =
@@ -130,10 +178,12 @@ static void damage_record(struct chance *chance, struct draft *draft)
         bytes[2] = percent(chance, 50) ? 0 : (uint8_t)(5 + below(chance, 251));
         break;
     case 2: /* a body too short or too long */
-        length -= 1;
+        length -= kind == 1 && percent(chance, 50) ? 3 : 1;
         break;
     case 3:
         length += 1 + below(chance, percent(chance, 50) ? 1 : 30);
+        if (kind == 1 && percent(chance, 50))
+            length = sizes[kind] + 3;
         break;
     default: /* a second set-up, of any length */
         bytes[2] = 1;
@@ -178,21 +228,27 @@ static void damage_bytes(struct chance *chance, struct draft *draft)
     }
 }
 
-void fill_up(struct draft *draft, size_t length)
+void fill_up(struct draft *draft, bool dated, size_t length)
 {
+    const size_t size = dated ? 11 : 15;
+
     assert(length >= draft->length + 56);
-    while ((length - draft->length) % 15 != 0)
+    while ((length - draft->length) % size != 0)
         draft_start(draft, 0);
     while (draft->length < length)
-        draft_first(draft, TC, 1, EUR, ONLINE_TERMINAL);
+        if (dated)
+            draft_second(draft, TC, Y3, ABSENT, 0);
+        else
+            draft_first(draft, TC, 1, EUR, ONLINE_TERMINAL);
 }
 
 /* About as long as a paper may be: just so, or over. */
-static void damage_size(struct chance *chance, struct draft *draft)
+static void damage_size(struct chance *chance, const struct draft_setup *setup,
+                        struct draft *draft)
 {
     const size_t more = below(chance, 3);
 
-    fill_up(draft, PAPER + (more == 1));
+    fill_up(draft, setup->dated, PAPER + (more == 1));
     if (more == 2) {
         const size_t count = 1 + below(chance, 40000);
         memset(draft->bytes + draft->length, 0, count);
@@ -203,12 +259,13 @@ static void damage_size(struct chance *chance, struct draft *draft)
 void damage(struct chance *chance, const struct draft_setup *setup,
             struct draft *draft)
 {
-    static const uint8_t versions[] = {0, 1, 2, 3, 4, 0x10, 0x80, 0x81, 0xFF};
+    static const uint8_t versions[] = {0, 1, 2, 3, 4,
+                                       5, 0x10, 0x80, 0x81, 0xFF};
     uint8_t tail[4];
     size_t place;
 
     if (below(chance, 400) == 0) {
-        damage_size(chance, draft);
+        damage_size(chance, setup, draft);
         return;
     }
     switch (below(chance, 22)) {
@@ -240,7 +297,7 @@ void damage(struct chance *chance, const struct draft_setup *setup,
     case 8:
     case 9:
     case 10:
-        damage_record(chance, draft);
+        damage_record(chance, setup, draft);
         break;
     case 11:
         damage_length(chance, draft);

@@ -9,8 +9,9 @@
 void damage(struct chance *chance, const struct draft_setup *setup,
             struct draft *draft);
 
-/* Makes the paper exactly so long by records that can be read: Firsts, and
- * Starts of profile 0. Needs 56 bytes or more to fill. */
-void fill_up(struct draft *draft, size_t length);
+/* Makes the paper exactly so long by records that can be read: Firsts, where
+ * these are dated Seconds, and Starts of profile 0. Needs 56 bytes or more to
+ * fill. */
+void fill_up(struct draft *draft, bool dated, size_t length);
 
 #endif

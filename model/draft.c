@@ -27,6 +27,34 @@ void draft_record(struct draft *draft, uint8_t kind, const uint8_t *body,
     draft->length += 3 + length;
 }
 
+static void put24(uint8_t *at, uint32_t value)
+{
+    at[0] = (uint8_t)(value >> 16);
+    put16(at + 1, value & 0xFFFF);
+}
+
+/* Where they end. */
+static uint8_t *put_cycles(const struct draft_setup *setup, uint8_t *at)
+{
+    *at++ = setup->dated;
+    if (!setup->dated)
+        return at;
+    put24(at, setup->last);
+    at += 3;
+    for (int i = 0; i < 2; i++, at += 12) {
+        put16(at, setup->cyclic[i].currency);
+        put64(at + 2, setup->cyclic[i].amount);
+        at[10] = setup->cyclic[i].kind;
+        at[11] = setup->cyclic[i].first_day;
+    }
+    for (int p = 0; p < setup->profiles; p++)
+        for (int i = 0; i < 2; i++, at += 9) {
+            at[0] = setup->profile[p].cyclic[i].switches;
+            put64(at + 1, setup->profile[p].cyclic[i].limit);
+        }
+    return at;
+}
+
 size_t draft_setup_body(const struct draft_setup *setup, uint8_t *body)
 {
     uint8_t *at = body;
@@ -86,6 +114,8 @@ size_t draft_setup_body(const struct draft_setup *setup, uint8_t *body)
     }
     if (setup->version > 2)
         *at++ = setup->syllabus;
+    if (setup->version > 3)
+        at = put_cycles(setup, at);
     return (size_t)(at - body);
 }
 
@@ -93,6 +123,13 @@ size_t draft_setup_base(const struct draft_setup *setup)
 {
     return SETUP_HEAD + (size_t)SETUP_PROFILE * setup->profiles
         + (size_t)SETUP_CONVERSION * setup->conversions;
+}
+
+size_t draft_setup_cycles(const struct draft_setup *setup)
+{
+    const size_t file = setup->file.on ? 2 + setup->file.length : 1;
+
+    return draft_setup_base(setup) + file + 1;
 }
 
 void draft_entry(struct draft_file *file, const uint8_t *entry, size_t length)
@@ -135,6 +172,19 @@ void draft_first(struct draft *draft, uint8_t type, uint64_t amount,
     put64(body + 1, amount);
     put16(body + 9, currency);
     body[11] = terminal;
+    draft_record(draft, KIND_FIRST, body, sizeof body);
+}
+
+void draft_dated_first(struct draft *draft, uint8_t type, uint64_t amount,
+                       uint16_t currency, uint8_t terminal, uint32_t date)
+{
+    uint8_t body[15];
+
+    body[0] = type;
+    put64(body + 1, amount);
+    put16(body + 9, currency);
+    body[11] = terminal;
+    put24(body + 12, date);
     draft_record(draft, KIND_FIRST, body, sizeof body);
 }
 

@@ -26,10 +26,19 @@ enum {
     MTA_EXCEEDED = 1 << 5,
     LOWER_1 = 1 << 6, /* of accumulator 1 */
     UPPER_1 = 1 << 10,
+    CYCLIC_1 = 1 << 22, /* the limit of cyclic accumulator 1 */
+    CYCLIC_2 = 1 << 23,
+    PAST_DATE = 1 << 24,
 
     BITS = 22,
-    ALL_BITS = (1 << BITS) - 1
+    ALL_BITS = (1 << BITS) - 1,
+    BITS_04 = 25, /* from version 04 on */
+    ALL_BITS_04 = (1 << BITS_04) - 1
 };
+
+/* Kinds of cycle, and days that a week begins with. */
+enum { DAYS = 1, WEEKS = 2, MONTHS = 3 };
+enum { FRI, SAT, SUN, MON, TUE, WED, THU };
 
 enum {
     DRAFT_BYTES = 1 << 17,
@@ -40,7 +49,10 @@ enum {
     SETUP_CONVERSION = 7,
     SETUP_BASE = SETUP_HEAD + 5 * SETUP_PROFILE + 6 * SETUP_CONVERSION,
     FILE_ROOM = 8192,
-    SETUP_ROOM = SETUP_BASE + 2 + FILE_ROOM + 1
+    SETUP_CYCLES = 28, /* the tail of version 04, dated, without its limits */
+    SETUP_LIMITS = 18, /* of a profile in it */
+    SETUP_ROOM = SETUP_BASE + 2 + FILE_ROOM + 1 + SETUP_CYCLES
+        + 5 * SETUP_LIMITS
 };
 
 struct draft_profile {
@@ -57,6 +69,10 @@ struct draft_profile {
         uint8_t switches, lower, upper;
     } counter[4];
     uint8_t accumulator_sent, counter_sent[2];
+    struct {
+        uint8_t switches;
+        uint64_t limit;
+    } cyclic[2];
 };
 
 /* Profile selection: a switch, the number of entries, and the entries, each
@@ -86,6 +102,13 @@ struct draft_setup {
     } conversion[6];
     struct draft_file file; /* written from version 02 on */
     uint8_t syllabus;       /* from version 03 on */
+    uint8_t dated;          /* from version 04 on, and if it is 1: */
+    uint32_t last;          /* as 0x050715 */
+    struct {
+        uint16_t currency;
+        uint64_t amount;
+        uint8_t kind, first_day;
+    } cyclic[2];
 };
 
 struct draft {
@@ -104,12 +127,16 @@ void draft_start(struct draft *draft, uint8_t profile);
 void draft_data(struct draft *draft, const uint8_t *data, size_t length);
 void draft_first(struct draft *draft, uint8_t type, uint64_t amount,
                  uint16_t currency, uint8_t terminal);
+void draft_dated_first(struct draft *draft, uint8_t type, uint64_t amount,
+                       uint16_t currency, uint8_t terminal, uint32_t date);
 void draft_second(struct draft *draft, uint8_t type, uint16_t code,
                   uint8_t issuer_data, uint32_t csu);
 
-/* The body alone, and where its tail begins; both return a length. */
+/* The body alone, and where its tails and that of version 04 begin; all return
+ * a length. */
 size_t draft_setup_body(const struct draft_setup *setup, uint8_t *body);
 size_t draft_setup_base(const struct draft_setup *setup);
+size_t draft_setup_cycles(const struct draft_setup *setup);
 
 /* The next entry of a file, its length before it; it may be ill-formed. */
 void draft_entry(struct draft_file *file, const uint8_t *entry, size_t length);

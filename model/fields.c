@@ -2,6 +2,7 @@
 
 #include <assert.h>
 
+#include "dates.h"
 #include "draft.h"
 #include "invent.h"
 
@@ -15,7 +16,7 @@ static void add(int part, size_t offset, unsigned width, uint64_t low,
     table[filled].part = part;
     table[filled].offset = offset;
     table[filled].width = width;
-    table[filled].currency = false;
+    table[filled].kind = NUMBER;
     table[filled].low = low;
     table[filled].high = high;
     filled++;
@@ -24,7 +25,13 @@ static void add(int part, size_t offset, unsigned width, uint64_t low,
 static void add_currency(int part, size_t offset)
 {
     add(part, offset, 2, 0, 0x999);
-    table[filled - 1].currency = true;
+    table[filled - 1].kind = CURRENCY;
+}
+
+static void add_mask(size_t offset)
+{
+    add(IN_PROFILE, offset, 4, 0, ALL_BITS);
+    table[filled - 1].kind = MASK;
 }
 
 const struct field *fields(void)
@@ -41,8 +48,8 @@ const struct field *fields(void)
     }
 
     add(IN_PROFILE, 0, 1, 1, 124);
-    for (size_t i = 0; i < 3; i++) /* masks */
-        add(IN_PROFILE, 1 + 4 * i, 4, 0, ALL_BITS);
+    for (size_t i = 0; i < 3; i++)
+        add_mask(1 + 4 * i);
     add(IN_PROFILE, 13, 1, 0, 1); /* MTA */
     add_currency(IN_PROFILE, 14);
     add(IN_PROFILE, 16, 8, 0, MOST);
@@ -60,25 +67,46 @@ const struct field *fields(void)
     add_currency(IN_CONVERSION, 2);
     add(IN_CONVERSION, 4, 2, 1, 9999);
     add(IN_CONVERSION, 6, 1, 0, 12);
+
+    assert(filled == BASE_FIELDS);
+    add(IN_CYCLES, 0, 1, 0, 1);               /* dated */
+    add(IN_CYCLES, 1, 3, 0x000101, 0x991231); /* the last date */
+    table[filled - 1].kind = DATE;
+    for (size_t i = 0; i < 2; i++) {
+        add_currency(IN_CYCLES, 4 + 12 * i);
+        add(IN_CYCLES, 6 + 12 * i, 8, 0, MOST);
+        add(IN_CYCLES, 14 + 12 * i, 1, 1, 3); /* kind */
+        add(IN_CYCLES, 15 + 12 * i, 1, 0, 6); /* first day */
+        add(IN_LIMITS, 9 * i, 1, 0, 7);
+        add(IN_LIMITS, 9 * i + 1, 8, 0, MOST);
+    }
     assert(filled == FIELDS);
     return table;
 }
 
 unsigned bad_values(const struct field *field)
 {
-    if (field->currency)
+    switch (field->kind) {
+    case CURRENCY:
         return 4;
-    return field->low > 0 ? 3 : 2;
+    case DATE:
+        return NOT_DAYS;
+    default:
+        return field->low > 0 ? 3 : 2;
+    }
 }
 
 uint64_t bad_value(struct chance *chance, const struct field *field,
-                   unsigned which)
+                   unsigned version, unsigned which)
 {
-    if (field->currency)
+    if (field->kind == CURRENCY)
         return bad_currency(chance, which);
+    if (field->kind == DATE)
+        return not_day[which];
     switch (which) {
     case 0:
-        return field->high + 1;
+        return 1 + (field->kind == MASK && version > 3 ? ALL_BITS_04
+                                                       : field->high);
     case 1:
         return field->width == 8 ? UINT64_MAX
                                  : (UINT64_C(1) << 8 * field->width) - 1;
@@ -87,20 +115,24 @@ uint64_t bad_value(struct chance *chance, const struct field *field,
     }
 }
 
-size_t field_offset(const struct field *field, unsigned profiles,
+size_t field_offset(const struct field *field, const struct draft_setup *setup,
                     unsigned place)
 {
-    const size_t conversions = SETUP_BODY + SETUP_HEAD
-        + (size_t)SETUP_PROFILE * profiles;
+    const size_t offset = SETUP_BODY + field->offset;
 
     switch (field->part) {
     case IN_HEAD:
-        return SETUP_BODY + field->offset;
+        return offset;
     case IN_PROFILE:
-        return SETUP_BODY + SETUP_HEAD + (size_t)SETUP_PROFILE * place
-            + field->offset;
+        return offset + SETUP_HEAD + (size_t)SETUP_PROFILE * place;
+    case IN_CONVERSION:
+        return offset + SETUP_HEAD + (size_t)SETUP_PROFILE * setup->profiles
+            + (size_t)SETUP_CONVERSION * place;
+    case IN_CYCLES:
+        return offset + draft_setup_cycles(setup);
     default:
-        return conversions + (size_t)SETUP_CONVERSION * place + field->offset;
+        return offset + draft_setup_cycles(setup) + SETUP_CYCLES
+            + (size_t)SETUP_LIMITS * place;
     }
 }
 

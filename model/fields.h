@@ -4,28 +4,40 @@
 #define MODEL_FIELDS_H
 
 #include "chance.h"
+#include "draft.h"
 
 struct field {
-    enum { IN_HEAD, IN_PROFILE, IN_CONVERSION } part;
-    size_t offset; /* in its head, profile or conversion */
+    enum {
+        IN_HEAD,
+        IN_PROFILE,
+        IN_CONVERSION,
+        IN_CYCLES, /* the tail of version 04, dated */
+        IN_LIMITS  /* a profile's in it */
+    } part;
+    size_t offset; /* in its part */
     unsigned width;
-    bool currency; /* or a number: */
-    uint64_t low, high;
+    enum { NUMBER, MASK, CURRENCY, DATE } kind;
+    uint64_t low, high; /* of a number or a mask */
 };
 
-enum { FIELDS = 3 + 8 + (3 + 1 + 3 + 12 + 4 + 3) + 4 };
+/* Those of every set-up come first. */
+enum {
+    BASE_FIELDS = 3 + 8 + (3 + 1 + 3 + 12 + 4 + 3) + 4,
+    FIELDS = BASE_FIELDS + 2 + 8 + 4
+};
 
 /* All of them; filled at the first call. */
 const struct field *fields(void);
 
-/* How many values outside its range there are to try, and one of them. */
+/* How many values outside its range there are to try, and one of them, in a
+ * paper of this version. */
 unsigned bad_values(const struct field *field);
 uint64_t bad_value(struct chance *chance, const struct field *field,
-                   unsigned which);
+                   unsigned version, unsigned which);
 
-/* Where the field stands in a paper whose set-up has so many profiles; place
- * is that of the profile or conversion. */
-size_t field_offset(const struct field *field, unsigned profiles,
+/* Where the field stands in a paper with this set-up; place is that of the
+ * profile or conversion. */
+size_t field_offset(const struct field *field, const struct draft_setup *setup,
                     unsigned place);
 
 void put_field(uint8_t *at, unsigned width, uint64_t value);

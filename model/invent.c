@@ -2,6 +2,8 @@
 
 #include <string.h>
 
+#include "dates.h"
+
 static uint64_t around_thousands(struct chance *chance)
 {
     const uint64_t base = 1 + below(chance, 12);
@@ -77,33 +79,34 @@ static uint8_t invent_count(struct chance *chance)
     return PICK(chance, counts);
 }
 
-static uint32_t one_bit(struct chance *chance)
+static uint32_t one_bit(struct chance *chance, unsigned bits)
 {
-    return UINT32_C(1) << below(chance, BITS);
+    return UINT32_C(1) << below(chance, bits);
 }
 
-static uint32_t invent_mask(struct chance *chance, unsigned none)
+static uint32_t invent_mask(struct chance *chance, unsigned bits, unsigned none)
 {
+    const uint32_t all = (UINT32_C(1) << bits) - 1;
     uint32_t mask;
 
     if (percent(chance, none))
         return 0;
     switch (below(chance, 8)) {
     case 0:
-        return ALL_BITS;
+        return all;
     case 1:
-        return (uint32_t)draw(chance) & ALL_BITS;
+        return (uint32_t)draw(chance) & all;
     case 2:
-        mask = one_bit(chance);
-        return ALL_BITS & ~mask;
+        mask = one_bit(chance, bits);
+        return all & ~mask;
     case 3:
     case 4:
-        mask = one_bit(chance);
-        mask |= one_bit(chance);
-        mask |= one_bit(chance);
+        mask = one_bit(chance, bits);
+        mask |= one_bit(chance, bits);
+        mask |= one_bit(chance, bits);
         return mask;
     default:
-        return one_bit(chance);
+        return one_bit(chance, bits);
     }
 }
 
@@ -125,9 +128,9 @@ static void invent_world(struct chance *chance, struct world *world)
 static void invent_profile(struct chance *chance, const struct world *world,
                            struct draft_profile *profile)
 {
-    profile->online = invent_mask(chance, 30);
-    profile->decline = invent_mask(chance, 60);
-    profile->by_default = invent_mask(chance, 40);
+    profile->online = invent_mask(chance, BITS, 30);
+    profile->decline = invent_mask(chance, BITS, 60);
+    profile->by_default = invent_mask(chance, BITS, 40);
     profile->mta_on = percent(chance, 60);
     profile->mta_currency = PICK(chance, world->currency);
     profile->mta = invent_value(chance, world);
@@ -216,6 +219,9 @@ void invent_setup(struct chance *chance, struct world *world,
     static const uint8_t tries[] = {0, 1, 3, 9, 10, 15};
 
     invent_world(chance, world);
+    world->last = 0;
+    world->past = 0;
+    world->in_error = false;
     memset(setup, 0, sizeof *setup);
     setup->version = 1;
     setup->key = any_byte(chance);
@@ -372,16 +378,96 @@ static void invent_file(struct chance *chance, struct world *world,
         invent_entry(chance, world, setup, --entries, room);
 }
 
+/* Days at the ends of weeks, months and years. */
+static const uint32_t turns[] = {
+    0x000101, 0x000102, 0x000103, 0x000131, 0x000228, 0x000229, 0x000301,
+    0x001231, 0x010101, 0x010228, 0x010301, 0x031231, 0x040101, 0x040228,
+    0x040229, 0x040301, 0x041231, 0x050715, 0x050731, 0x050801, 0x051231,
+    0x060101, 0x060102, 0x080229, 0x091231, 0x100101, 0x120229, 0x120301,
+    0x500630, 0x500701, 0x960229, 0x980930, 0x991130, 0x991230, 0x991231};
+
+static uint32_t any_day(struct chance *chance)
+{
+    const uint32_t year = (uint32_t)below(chance, 100);
+    const unsigned days = (unsigned)below(chance, 366);
+
+    return days_later((year / 10 << 4 | year % 10) << 16 | 0x0101, days);
+}
+
+/* A date for a set-up: in the main one that something follows. */
+static uint32_t invent_last(struct chance *chance)
+{
+    const uint32_t turn = PICK(chance, turns);
+
+    switch (below(chance, 4)) {
+    case 0:
+        return any_day(chance);
+    case 1:
+        return turn;
+    default:
+        return day_before(turn);
+    }
+}
+
+/* One of the mask's bits is in the main of those that version 04 names. */
+static uint32_t invent_mask_04(struct chance *chance, unsigned none)
+{
+    const uint32_t bit = CYCLIC_1 << below(chance, 3);
+    const uint32_t mask = invent_mask(chance, BITS_04, none);
+
+    switch (below(chance, 4)) {
+    case 0:
+        return mask;
+    case 1:
+        return mask | bit;
+    default:
+        return bit;
+    }
+}
+
+void invent_cycles(struct chance *chance, struct world *world,
+                   struct draft_setup *setup)
+{
+    setup->version = 4;
+    setup->dated = 1;
+    setup->last = invent_last(chance);
+    world->last = setup->last;
+    for (unsigned i = 0; i < 2; i++) {
+        setup->cyclic[i].currency = PICK(chance, world->currency);
+        if (percent(chance, 60))
+            setup->cyclic[i].currency = world->currency[0];
+        setup->cyclic[i].amount = invent_value(chance, world);
+        setup->cyclic[i].kind = (uint8_t)(1 + below(chance, 3));
+        setup->cyclic[i].first_day = (uint8_t)below(chance, 7);
+    }
+    for (unsigned i = 0; i < setup->profiles; i++) {
+        struct draft_profile *profile = &setup->profile[i];
+        for (unsigned j = 0; j < 2; j++) {
+            const bool plain = percent(chance, 60);
+            const uint8_t switches = any_byte(chance) & 7;
+            profile->cyclic[j].switches = plain ? 7 : switches;
+            profile->cyclic[j].limit = invent_value(chance, world);
+        }
+        profile->online = invent_mask_04(chance, 50);
+        profile->decline = invent_mask_04(chance, 60);
+        profile->by_default = invent_mask_04(chance, 40);
+    }
+}
+
 void invent_version(struct chance *chance, struct world *world,
                     struct draft_setup *setup)
 {
-    if (percent(chance, 45))
+    if (percent(chance, 35))
         return;
-    setup->version = percent(chance, 50) ? 2 : 3;
-    if (percent(chance, 70))
+    setup->version = (uint8_t)(2 + below(chance, 4));
+    if (setup->version == 5)
+        setup->version = 4;
+    if (percent(chance, setup->version > 3 ? 30 : 70))
         invent_file(chance, world, setup);
-    if (setup->version == 3)
+    if (setup->version > 2)
         setup->syllabus = percent(chance, 75);
+    if (setup->version > 3 && percent(chance, 90))
+        invent_cycles(chance, world, setup);
 }
 
 /* The terminal's data, now and then shorter or longer than the rule. */
@@ -434,8 +520,74 @@ static uint8_t invent_terminal(struct chance *chance)
     return any_byte(chance);
 }
 
+/* The next of the days at which something turns, after the last the last. */
+static uint32_t next_turn(uint32_t date)
+{
+    const unsigned count = sizeof turns / sizeof *turns;
+    unsigned i = 0;
+
+    while (i + 1 < count && turns[i] <= date)
+        i++;
+    return turns[i];
+}
+
+/* Today as a rule, or later; now and then before. */
+static uint32_t invent_day(struct chance *chance, const struct world *world)
+{
+    const unsigned some = (unsigned)below(chance, 7);
+    uint32_t date = world->last;
+
+    switch (below(chance, 20)) {
+    case 0:
+    case 1:
+    case 2:
+    case 3:
+        return next_day(date);
+    case 4:
+    case 5:
+        return days_later(date, 1 + some);
+    case 6:
+        return days_later(date, 7 * (1 + some));
+    case 7:
+        return next_month(date);
+    case 8:
+        return day_before(next_month(date));
+    case 9:
+        return next_turn(date);
+    case 10:
+        return percent(chance, 30) ? any_day(chance) : next_turn(date);
+    case 11:
+    case 12:
+        for (unsigned i = 0; i <= some; i++)
+            date = day_before(date);
+        return date;
+    case 13:
+        return day_before(date);
+    case 14: /* as before, whether it is in error again or not */
+        return world->past > 0 ? world->past : date;
+    default:
+        return date;
+    }
+}
+
+static uint32_t invent_date(struct chance *chance, struct world *world,
+                            bool tidy)
+{
+    const uint32_t date = invent_day(chance, world);
+
+    if (!tidy && percent(chance, 4))
+        return PICK(chance, not_day);
+    world->in_error = date < world->last;
+    if (world->in_error)
+        world->past = date;
+    else
+        world->last = date;
+    return date;
+}
+
 /* Returns the type asked for. */
-static uint8_t invent_first(struct chance *chance, const struct world *world,
+static uint8_t invent_first(struct chance *chance, struct world *world,
+                            const struct draft_setup *setup,
                             struct draft *draft, bool tidy)
 {
     static const uint8_t types[] = {1, 1, 1, 1, 1, 1, 2, 2, 2, 0};
@@ -462,7 +614,14 @@ static uint8_t invent_first(struct chance *chance, const struct world *world,
         const unsigned digit = (unsigned)below(chance, 4);
         currency = bad_currency(chance, digit);
     }
-    draft_first(draft, type, amount, currency, terminal);
+    if (!setup->dated) {
+        draft_first(draft, type, amount, currency, terminal);
+        return type;
+    }
+    const uint32_t date = invent_date(chance, world, tidy);
+    if (world->in_error && percent(chance, 40))
+        type = ARQC;
+    draft_dated_first(draft, type, amount, currency, terminal, date);
     return type;
 }
 
@@ -502,8 +661,20 @@ static void invent_second(struct chance *chance, struct draft *draft, bool tidy)
     draft_second(draft, type, code, data, rest);
 }
 
+/* A Second that makes the date in error the last one, if an ARQC is open. */
+static void invent_recovery(struct chance *chance, struct world *world,
+                            struct draft *draft)
+{
+    const uint32_t status = 0x80 | (uint32_t)below(chance, 4);
+    const uint8_t data = percent(chance, 75) ? VERIFIED : ABSENT;
+
+    draft_second(draft, TC, OTHER, data, status << 16);
+    if (percent(chance, 50))
+        world->last = world->past;
+}
+
 /* Any command, in turn or not. */
-static void invent_any(struct chance *chance, const struct world *world,
+static void invent_any(struct chance *chance, struct world *world,
                        const struct draft_setup *setup, struct draft *draft)
 {
     switch (below(chance, 3)) {
@@ -511,7 +682,7 @@ static void invent_any(struct chance *chance, const struct world *world,
         invent_start(chance, world, setup, draft, false);
         break;
     case 1:
-        invent_first(chance, world, draft, false);
+        invent_first(chance, world, setup, draft, false);
         break;
     default:
         invent_second(chance, draft, false);
@@ -519,7 +690,7 @@ static void invent_any(struct chance *chance, const struct world *world,
     }
 }
 
-void invent_commands(struct chance *chance, const struct world *world,
+void invent_commands(struct chance *chance, struct world *world,
                      const struct draft_setup *setup, struct draft *draft,
                      size_t count, bool tidy)
 {
@@ -534,11 +705,13 @@ void invent_commands(struct chance *chance, const struct world *world,
         invent_start(chance, world, setup, draft, tidy);
         if (draft->records == end)
             break;
-        const uint8_t type = invent_first(chance, world, draft, tidy);
+        const uint8_t type = invent_first(chance, world, setup, draft, tidy);
         const unsigned share = second_after[type < 6 ? type : 5];
         if (draft->records == end)
             break;
-        if (percent(chance, share))
+        if (setup->dated && world->in_error && percent(chance, 60))
+            invent_recovery(chance, world, draft);
+        else if (percent(chance, share))
             invent_second(chance, draft, tidy);
     }
 }

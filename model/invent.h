@@ -12,6 +12,9 @@ struct world {
     enum { SMALL, THOUSANDS, TOP, WIDE, WORLDS } amounts;
     uint16_t currency[POOL]; /* all different */
     size_t data;             /* how long, as a rule */
+    uint32_t last;           /* the card's last date, about */
+    uint32_t past;           /* the last date in error, or 0 */
+    bool in_error;           /* the last First's date was */
 };
 
 /* A set-up of version 01 in range; 0 profiles: as many as chance gives; 6
@@ -24,9 +27,13 @@ void invent_setup(struct chance *chance, struct world *world,
 void invent_version(struct chance *chance, struct world *world,
                     struct draft_setup *setup);
 
+/* Version 04, dated. */
+void invent_cycles(struct chance *chance, struct world *world,
+                   struct draft_setup *setup);
+
 /* So many commands. Tidy ones are in range and in turn as far as the card
  * decides so; the others stray now and then. */
-void invent_commands(struct chance *chance, const struct world *world,
+void invent_commands(struct chance *chance, struct world *world,
                      const struct draft_setup *setup, struct draft *draft,
                      size_t count, bool tidy);
 

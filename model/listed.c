@@ -32,6 +32,17 @@ static void begin_any(unsigned profiles, unsigned conversions)
 
 /* Refusal 1 ------------------------------------------------------------- */
 
+/* The same with a set-up of version 04, dated. */
+static void begin_dated(unsigned profiles)
+{
+    struct world world;
+
+    invent_setup(&chance, &world, &setup, profiles, 6);
+    invent_cycles(&chance, &world, &setup);
+    begin();
+    invent_commands(&chance, &world, &setup, draft, 3, true);
+}
+
 /* Each field just out of range, in the first to the last of its kind. */
 static void fields_out_of_range(void)
 {
@@ -43,14 +54,18 @@ static void fields_out_of_range(void)
             const unsigned profiles = 1 + turn % 4;
             const unsigned conversions = 1 + turn % 5;
             unsigned place = 0;
-            if (field->part == IN_PROFILE)
+            if (field->part == IN_PROFILE || field->part == IN_LIMITS)
                 place = profiles - 1;
             if (field->part == IN_CONVERSION)
                 place = conversions - 1;
-            begin_any(profiles,
-                      field->part == IN_CONVERSION ? conversions : 0);
-            const uint64_t value = bad_value(&chance, field, which);
-            put_field(draft->bytes + field_offset(field, profiles, place),
+            if (i < BASE_FIELDS)
+                begin_any(profiles,
+                          field->part == IN_CONVERSION ? conversions : 0);
+            else
+                begin_dated(profiles);
+            const uint64_t value =
+                bad_value(&chance, field, setup.version, which);
+            put_field(draft->bytes + field_offset(field, &setup, place),
                       field->width, value);
             emit();
             turn++;
@@ -176,7 +191,7 @@ static void raw(const uint8_t *bytes, size_t count)
 
 static void papers_unreadable(void)
 {
-    static const uint8_t versions[] = {0, 4, 0xFF};
+    static const uint8_t versions[] = {0, 5, 0xFF};
     static const uint8_t cut[] = {1, 0, 0xA0, 1};
     static const uint8_t kinds[] = {0, 2, 3, 4, 5, 0xFF};
 
@@ -270,7 +285,7 @@ static void papers_large(void)
     for (size_t length = PAPER; length <= PAPER + 1; length++) {
         draft_printed_setup(&setup);
         begin();
-        fill_up(draft, length);
+        fill_up(draft, false, length);
         emit();
     }
 }
@@ -1058,5 +1073,7 @@ void listed_papers(uint64_t seed, void (*then)(struct draft *draft))
     listed_selection();
     listed_blocks();
     listed_closing();
+    listed_cycles();
+    listed_dates();
     listed_bounds();
 }

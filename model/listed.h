@@ -22,6 +22,10 @@ void listed_blocks(void);
  * what is open. */
 void listed_closing(void);
 
+/* Cyclic accumulators, and dates one after the other. */
+void listed_cycles(void);
+void listed_dates(void);
+
 /* Every version and kind that is none, and the largest of everything. */
 void listed_bounds(void);
 

@@ -12,9 +12,9 @@ static uint8_t many[PAPER];
 static void versions(void)
 {
     draft_printed_setup(&setup);
-    setup.version = 3;
+    setup.version = 4;
     for (unsigned version = 0; version < 256; version++) {
-        if (version >= 1 && version <= 3)
+        if (version >= 1 && version <= 4)
             continue;
         begin();
         draft->bytes[0] = (uint8_t)version;

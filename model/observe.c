@@ -40,6 +40,12 @@ enum {
 };
 static unsigned closed_by;
 
+/* Whether the open transaction's First began a cycle; the last date that was in
+ * error, 0 for none, and whether a Second recovered it. */
+static bool begun_open;
+static unsigned error_date;
+static bool recovered;
+
 /* The set-up ------------------------------------------------------------ */
 
 static void observe_setup(const struct setup *setup, unsigned version)
@@ -49,18 +55,26 @@ static void observe_setup(const struct setup *setup, unsigned version)
     unsigned long_entries = 0;
 
     closed_by = NOT_CLOSED;
+    error_date = 0;
     for (unsigned i = 0; on && i < setup->selection.entries; i++) {
         long_entries += *at == 255;
         at += 1 + *at;
     }
     reached_if(long_entries == 255, LARGEST + 2);
-    if (version < VERSION_SELECTION) {
+    if (version < VERSION_SELECTION)
         reached(SETUP_TAKEN + 0);
-    } else if (version < VERSION_SYLLABUS) {
-        reached(SETUP_TAKEN + 1 + on);
-    } else {
-        reached(SETUP_TAKEN + 3 + on);
-        reached(SYLLABUS_TAKEN + setup->syllabus);
+    else
+        reached(SETUP_TAKEN + 1 + 2 * (version - VERSION_SELECTION) + on
+                + 2 * (setup->cyclics > 0));
+    reached_if(version == VERSION_SYLLABUS, SYLLABUS_TAKEN + setup->syllabus);
+    reached_if(version > VERSION_SYLLABUS,
+               SYLLABUS_TAKEN + 2 + setup->syllabus);
+    for (unsigned i = 0; i < setup->cyclics; i++) {
+        const struct cyclic *cyclic = &setup->cyclic[i];
+        const unsigned place = 7 * i + cyclic->first_day;
+        reached_if(cyclic->kind == CYCLE_DAY, DAY_TAKEN + place);
+        reached_if(cyclic->kind == CYCLE_WEEK, WEEK_TAKEN + place);
+        reached_if(cyclic->kind == CYCLE_MONTH, MONTH_TAKEN + place);
     }
 }
 
@@ -245,6 +259,7 @@ static void observe_start(const struct card *before, const struct card *after,
         reached(START_PROFILE
                 + (unsigned)(after->open.profile - after->setup.profile));
         reached_if(after->atc == ATC_MAX, START_LAST);
+        reached_if(due == SECOND_DUE && begun_open, CYCLE_DROPPED);
         closed_by = NOT_CLOSED;
         break;
     }
@@ -309,6 +324,9 @@ static void observe_amount(const struct setup *setup,
     for (unsigned i = 0; i < ACCUMULATORS; i++)
         if (profile->accumulator[i].switches & ACTIVE)
             observe_conversion(setup, first, setup->currency[i]);
+    for (unsigned i = 0; i < setup->cyclics; i++)
+        if (profile->cyclic[i].switches & ACTIVE)
+            observe_conversion(setup, first, setup->cyclic[i].currency);
 }
 
 /* The tests, and what changes the values: the card before, the transaction
@@ -371,8 +389,10 @@ static void observe_count(unsigned row, unsigned switches, unsigned value,
     reached_if(!included && exceeds, COUNT_LEFT_OUT + row);
 }
 
+/* The cyclic amounts are those that are tested. */
 static void observe_checks(const struct card *before,
-                           const struct transaction *open)
+                           const struct transaction *open,
+                           const uint64_t *cyclic)
 {
     const struct profile *profile = open->profile;
 
@@ -398,26 +418,57 @@ static void observe_checks(const struct card *before,
         observe_count(i, rule->switches, before->counter[i], rule->lower);
         observe_count(i + 4, rule->switches, before->counter[i], rule->upper);
     }
+    for (unsigned i = 0; i < before->setup.cyclics && !open->date_error; i++) {
+        const struct cyclic_rule *rule = &profile->cyclic[i];
+        observe_limit(8 + i, rule->switches, cyclic[i], open->for_cyclic[i],
+                      rule->limit);
+    }
 }
 
-static void observe_approval(const struct card *before,
-                             const struct transaction *open)
+/* What grows by an amount; true if it does. */
+static bool observe_growth(unsigned row, unsigned on, uint64_t value,
+                           struct converted added)
 {
-    for (unsigned i = 0; i < ACCUMULATORS; i++) {
-        const unsigned on = open->profile->accumulator[i].switches;
-        const struct converted added = open->for_accumulator[i];
-        if (!(on & ACTIVE))
-            reached(GROW_INACTIVE + i);
-        else if (!(on & ALLOW))
-            reached(GROW_NOT_ALLOWED + i);
-        else if (added.how == NO_ENTRY)
-            reached(GROW_UNCONVERTED + i);
-        else if (added.how == OVER)
-            reached(GROW_OVER + i);
-        else if (before->accumulator[i] + added.amount > AMOUNT_MAX)
-            reached(GROW_STOPPED + i);
+    if (!(on & ACTIVE))
+        reached(GROW_INACTIVE + row);
+    else if (!(on & ALLOW))
+        reached(GROW_NOT_ALLOWED + row);
+    else if (added.how == NO_ENTRY)
+        reached(GROW_UNCONVERTED + row);
+    else if (added.how == OVER)
+        reached(GROW_OVER + row);
+    else if (value + added.amount > AMOUNT_MAX)
+        reached(GROW_STOPPED + row);
+    else
+        reached_if(added.amount > 0, GROW_ADDED + row);
+    return counts_approvals((uint8_t)on) && added.how != NO_ENTRY
+        && (added.how == OVER || added.amount > 0) && value < AMOUNT_MAX;
+}
+
+/* At First, after Y3 or Z3, or by order 11. */
+enum where { AT_FIRST, AT_UNABLE, AT_ORDER };
+
+static void observe_approval(const struct card *before,
+                             const struct transaction *open,
+                             const uint64_t *cyclic, enum where where)
+{
+    bool grows = false;
+
+    for (unsigned i = 0; i < ACCUMULATORS; i++)
+        if (observe_growth(i, open->profile->accumulator[i].switches,
+                           before->accumulator[i], open->for_accumulator[i]))
+            grows = true;
+    reached_if(open->date_error && grows, ERROR_GROWS + where);
+    for (unsigned i = 0; i < before->setup.cyclics; i++) {
+        const unsigned on = open->profile->cyclic[i].switches;
+        const struct converted added = open->for_cyclic[i];
+        if (!open->date_error)
+            observe_growth(4 + i, on, cyclic[i], added);
         else
-            reached_if(added.amount > 0, GROW_ADDED + i);
+            reached_if(counts_approvals((uint8_t)on)
+                       && (added.how == OVER
+                           || (added.how == CONVERTED && added.amount > 0)),
+                       ERROR_UNCOUNTED + 3 * i + where);
     }
     for (unsigned i = 0; i < COUNTERS; i++) {
         const unsigned on = open->profile->counter[i].switches;
@@ -477,7 +528,20 @@ static void observe_update(const struct card *before,
     const struct profile *profile = open->profile;
 
     if (order == 3)
-        observe_approval(before, open);
+        observe_approval(before, open, before->cyclic, AT_ORDER);
+    for (unsigned i = 0; i < before->setup.cyclics; i++) {
+        const bool active = profile->cyclic[i].switches & ACTIVE;
+        const bool to_limit = order == 1
+            && before->cyclic[i] != profile->cyclic[i].limit;
+        const bool to_zero = order == 2 && before->cyclic[i] != 0;
+        const bool error = active && open->date_error;
+        reached_if(to_limit,
+                   (active ? ORDER_UPPER : ORDER_UPPER_INACTIVE) + 4 + i);
+        reached_if(to_zero,
+                   (active ? ORDER_ZERO : ORDER_ZERO_INACTIVE) + 4 + i);
+        reached_if(error && to_limit, ERROR_ORDER + 2 * i);
+        reached_if(error && to_zero, ERROR_ORDER + 2 * i + 1);
+    }
     for (unsigned i = 0; i < ACCUMULATORS; i++) {
         const bool active = profile->accumulator[i].switches & ACTIVE;
         const uint64_t value = before->accumulator[i];
@@ -536,26 +600,76 @@ static unsigned terminal_place(uint8_t terminal)
     return i;
 }
 
+/* The number of the cycle in which a day falls (CPA Annex E). */
+static unsigned cycle_of(const struct cyclic *cyclic, const struct date *date)
+{
+    switch (cyclic->kind) {
+    case CYCLE_DAY:
+        return date->number;
+    case CYCLE_WEEK:
+        return (date->number + WEEK - cyclic->first_day) / WEEK;
+    default:
+        return 12u * date->year + date->month;
+    }
+}
+
+static bool same_cycle(const struct cyclic *cyclic, const struct date *one,
+                       const struct date *other)
+{
+    return cycle_of(cyclic, one) == cycle_of(cyclic, other);
+}
+
+/* What a refused First's date would have done; the refusals 2, 5, 6 are
+ * numbered from 0. */
+static void observe_refused_date(const struct card *before,
+                                 const uint8_t *bytes, unsigned refusal)
+{
+    struct date date;
+    bool begins = false;
+
+    if (!read_date(&date, bytes))
+        return;
+    for (unsigned i = 0; i < CYCLICS; i++)
+        if (!same_cycle(&before->setup.cyclic[i], &before->last, &date))
+            begins = true;
+    if (date.number < before->last.number)
+        reached(FIRST_REFUSED_PAST + refusal);
+    else
+        reached_if(begins, FIRST_REFUSED_NEW + refusal);
+}
+
 static void observe_first_refusal(const struct card *before,
                                   const struct first *first)
 {
     const bool type = first->type > ARQC;
     const bool amount = first->amount > AMOUNT_MAX;
     const bool currency = !is_currency(first->currency);
+    const bool dated = before->setup.cyclics > 0;
+    struct date any;
+    const bool no_day = dated && !read_date(&any, first->date);
+    const unsigned refusal = before->due != FIRST_DUE ? 0 : type ? 1 : 2;
 
     if (before->due != FIRST_DUE) {
         reached_if(closed_by < NOT_CLOSED, CLOSED_FIRST + closed_by);
         reached(FIRST_REFUSED_2 + (before->due == SECOND_DUE));
         reached_if(type, FIRST_REFUSED_2_OF + 0);
         reached_if(amount || currency, FIRST_REFUSED_2_OF + 1);
+        reached_if(no_day, FIRST_REFUSED_2_OF + 2);
     } else if (type) {
         reached(FIRST_REFUSED_5 + (first->type > 3));
-        reached_if(amount || currency, FIRST_REFUSED_5_OF_6);
-    } else {
+        reached_if(amount || currency, FIRST_REFUSED_5_OF + 0);
+        reached_if(no_day, FIRST_REFUSED_5_OF + 1);
+    } else if (amount || currency) {
         reached_if(amount, FIRST_REFUSED_6_AMOUNT);
         reached_if(currency,
                    FIRST_REFUSED_6_CURRENCY + bad_digit(first->currency));
+        reached_if(no_day, FIRST_REFUSED_6_OF_13);
+    } else {
+        reached_if(no_day, FIRST_REFUSED_13 + bad_date(first->date));
+        return;
     }
+    if (dated)
+        observe_refused_date(before, first->date, refusal);
 }
 
 /* Why this type was given. */
@@ -605,22 +719,188 @@ static void observe_decision(const struct transaction *open,
     }
 }
 
+/* The date ---------------------------------------------------------------- */
+
+/* A date's last day of the month, by its bytes. */
+static bool ends_month(const uint8_t *date, unsigned year)
+{
+    switch (date[1]) {
+    case 0x02:
+        return date[2] == (year % 4 == 0 ? 0x29 : 0x28);
+    case 0x04:
+    case 0x06:
+    case 0x09:
+    case 0x11:
+        return date[2] == 0x30;
+    default:
+        return date[2] == 0x31;
+    }
+}
+
+/* A later date in the same cycle. */
+static void observe_span(const struct cyclic *cyclic, const struct date *last,
+                         const struct date *now, const uint8_t *date)
+{
+    const unsigned days = (unsigned)now->number - last->number;
+
+    if (cyclic->kind == CYCLE_WEEK) {
+        reached_if(now->month != last->month, DATE_SPAN + 0);
+        reached_if(now->year != last->year, DATE_SPAN + 1);
+        reached_if((now->number + 1) % WEEK == cyclic->first_day,
+                   DATE_SPAN + 2);
+        reached_if(days == 6, DATE_SPAN + 4);
+    } else {
+        reached_if(ends_month(date, now->year), DATE_SPAN + 3);
+        reached_if(days > 28, DATE_SPAN + 5);
+    }
+}
+
+static void observe_begun(unsigned place, const struct cyclic *cyclic,
+                          const struct date *last, const struct date *now,
+                          const uint8_t *date)
+{
+    reached(CYCLE_BEGINS + 3 * place + cyclic->kind - 1);
+    if (cyclic->kind == CYCLE_WEEK) {
+        reached(DATE_FIRST_OF + (now->number % WEEK != cyclic->first_day));
+        reached_if(now->number - last->number < WEEK, DATE_WEEK_AGAIN + place);
+    }
+    if (cyclic->kind == CYCLE_MONTH) {
+        reached(DATE_FIRST_OF + 2 + (date[2] != 0x01));
+        reached_if(now->month == last->month, DATE_MONTH_AGAIN + place);
+    }
+}
+
+/* By the First's type and what it gave: AAC requested, AAC, ARQC, TC. */
+static unsigned gives(const struct first *first, unsigned given)
+{
+    if (given == AAC)
+        return first->type != AAC;
+    return given == ARQC ? 2 : 3;
+}
+
+/* An amount that was not 0 when its cycle began. */
+static void observe_cleared(unsigned place, const struct card *before,
+                            const struct transaction *open,
+                            const struct first *first, unsigned given)
+{
+    const struct cyclic_rule *rule = &open->profile->cyclic[place];
+    const struct converted added = open->for_cyclic[place];
+    const bool active = rule->switches & ACTIVE;
+    const bool exceeds = open->adr & (uint32_t)CYCLIC_LIMIT << place;
+    uint64_t kept = before->cyclic[place];
+
+    reached(CYCLE_CLEARS + 3 * place
+            + (active ? !(rule->switches & ALLOW) : 2));
+    reached(CYCLE_CLEARS_AT + 4 * place + gives(first, given));
+    if (rule->switches & INCLUDE && added.how == CONVERTED)
+        kept += added.amount;
+    reached_if(active && kept > rule->limit && !exceeds,
+               CYCLE_BEFORE_TEST + place);
+    reached_if(exceeds, CYCLE_AND_OVER_LIMIT + place);
+}
+
+static void observe_error(const struct card *before,
+                          const struct transaction *open,
+                          const struct first *first, unsigned given)
+{
+    bool active = false;
+
+    for (unsigned i = 0; i < CYCLICS; i++) {
+        const struct cyclic *cyclic = &before->setup.cyclic[i];
+        const struct cyclic_rule *rule = &open->profile->cyclic[i];
+        const struct converted added = open->for_cyclic[i];
+        const uint64_t value = before->cyclic[i];
+        if (!same_cycle(cyclic, &open->date, &before->last))
+            reached(ERROR_IN + 3 * i + 2);
+        else
+            reached(ERROR_IN + 3 * i + (cyclic->kind == CYCLE_MONTH));
+        if (!(rule->switches & ACTIVE))
+            continue;
+        active = true;
+        if (value > rule->limit)
+            reached(ERROR_UNTESTED + 2 * i);
+        else
+            reached_if(rule->switches & INCLUDE
+                       && (added.how == OVER
+                           || (added.how == CONVERTED
+                               && value + added.amount > rule->limit)),
+                       ERROR_UNTESTED + 2 * i + 1);
+    }
+    reached_if(!active, ERROR_INACTIVE);
+    reached(ERROR_GIVES + gives(first, given));
+}
+
+/* What the date of an accepted First did; the amounts that are tested. */
+static void observe_date(const struct card *before, const struct card *after,
+                         const struct first *first, unsigned given,
+                         uint64_t *tested)
+{
+    const struct transaction *open = &after->open;
+    const struct date *last = &before->last, *now = &open->date;
+    const int days = (int)now->number - last->number;
+    const bool leap = first->date[1] == 0x02 && first->date[2] == 0x29;
+    bool begun[CYCLICS];
+
+    assert(open->date_error == (days < 0));
+    reached(DATE_IS + (days < 0 ? 0 : days < 2 ? 1 + (unsigned)days : 3));
+    if (now->number == error_date)
+        reached_if(recovered != (days < 0), ERROR_AGAIN + !recovered);
+    error_date = 0;
+    begun_open = false;
+    if (days < 0) {
+        assert(after->last.number == last->number);
+        error_date = now->number;
+        recovered = false;
+        observe_error(before, open, first, given);
+        return;
+    }
+    assert(after->last.number == now->number);
+    reached_if(leap && days == 1, DATE_LEAP + 0);
+    reached_if(now->year % 4 == 0 && first->date[1] == 0x03
+               && first->date[2] == 0x01 && days == 1, DATE_LEAP + 1);
+    reached_if(leap, DATE_LEAP + 2 + (now->year > 0));
+    for (unsigned i = 0; i < CYCLICS; i++) {
+        const struct cyclic *cyclic = &before->setup.cyclic[i];
+        begun[i] = !same_cycle(cyclic, last, now);
+        if (begun[i]) {
+            observe_begun(i, cyclic, last, now, first->date);
+            if (before->cyclic[i] > 0)
+                observe_cleared(i, before, open, first, given);
+            tested[i] = 0;
+            begun_open = true;
+        } else if (days > 0) {
+            reached(CYCLE_GOES_ON + 2 * i + (cyclic->kind == CYCLE_MONTH));
+            observe_span(cyclic, last, now, first->date);
+        }
+    }
+    if (begun_open)
+        reached(CYCLE_ONE + (begun[0] ? begun[1] ? 2 : 0 : 1));
+    reached_if(days > 0, LAST_MOVES + given);
+    reached_if(days > 0 && !begun_open, LAST_MOVES + 3);
+}
+
 static void observe_first(const struct card *before, const struct card *after,
                           const struct first *first, unsigned refusal)
 {
     const struct transaction *open = &after->open;
     const unsigned given = open->cvr[0] >> 4 & 3;
+    uint64_t cyclic[CYCLICS];
 
     observe_first_refusal(before, first);
     if (refusal != 0)
         return;
+    memcpy(cyclic, before->cyclic, sizeof cyclic);
+    if (before->setup.cyclics > 0)
+        observe_date(before, after, first, given, cyclic);
+    for (unsigned i = 0; i < CYCLICS && given != TC; i++)
+        assert(after->cyclic[i] == cyclic[i]);
     observe_amount(&before->setup, open->profile, first);
-    observe_checks(before, open);
+    observe_checks(before, open, cyclic);
     observe_decision(open, first, given);
     if (given == AAC)
         observe_decline(before, open);
     if (given == TC)
-        observe_approval(before, open);
+        observe_approval(before, open, cyclic, AT_FIRST);
     observe_sent(after);
 }
 
@@ -703,9 +983,10 @@ static void observe_unable(const struct card *before,
 {
     const struct profile *profile = open->profile;
 
-    observe_checks(before, open);
+    observe_checks(before, open, before->cyclic);
+    reached_if(open->date_error, ERROR_UNABLE + (given == AAC));
     if (given == TC) {
-        observe_approval(before, open);
+        observe_approval(before, open, before->cyclic, AT_UNABLE);
         reached(UNABLE_TC);
         reached_if(open->adr & profile->decline_mask, UNABLE_TC_DECLINE);
         return;
@@ -717,6 +998,37 @@ static void observe_unable(const struct card *before,
         reached(UNABLE_AAC_DEFAULT);
         reached_alone(open->adr & profile->default_mask, UNABLE_BY_DEFAULT);
     }
+}
+
+/* The end of a transaction whose date was in error. */
+static void observe_recovery(const struct card *before,
+                             const struct transaction *open,
+                             const struct second *second, unsigned given)
+{
+    const bool required = before->setup.authentication_required;
+    bool active = false, amount = false;
+
+    if (is_unable(second->code)) {
+        reached(NO_RECOVERY + (given == TC ? 5 : 6));
+        return;
+    }
+    if (given == AAC) {
+        if (second->issuer_data == ISSUER_VERIFIED)
+            reached(NO_RECOVERY + (second->type == AAC));
+        else if (second->issuer_data == ISSUER_FAILED)
+            reached(NO_RECOVERY + 2);
+        else
+            reached(NO_RECOVERY + (required ? 3 : 4));
+        return;
+    }
+    for (unsigned i = 0; i < CYCLICS; i++) {
+        active = active || open->profile->cyclic[i].switches & ACTIVE;
+        amount = amount || before->cyclic[i] > 0;
+    }
+    reached(RECOVERY + (second->issuer_data == ISSUER_ABSENT));
+    reached_if(!active, RECOVERY + 2);
+    reached_if(amount, RECOVERY + 3);
+    recovered = true;
 }
 
 static void observe_second(const struct card *before, const struct card *after,
@@ -736,6 +1048,11 @@ static void observe_second(const struct card *before, const struct card *after,
                    DECLINE_ONLINE + second->issuer_data);
     if (!is_unable(second->code) && second->issuer_data == ISSUER_VERIFIED)
         observe_update(before, open, second->csu[1] & 3);
+    if (open->date_error)
+        observe_recovery(before, open, second, given);
+    assert(after->last.number
+           == (open->date_error && recovered ? open->date : before->last)
+                  .number);
     closed_by = way_of(&before->setup, second, given);
     observe_sent(after);
 }

@@ -10,6 +10,7 @@
 #define MODEL_REACHED_H
 
 #include <stdbool.h>
+#include <stddef.h>
 #include <stdint.h>
 
 /* The ways a transaction closes, as observe.c numbers them. */
@@ -22,10 +23,27 @@
     "verified AAC 00|verified AAC 01|verified AAC 10|verified AAC 11|"         \
     "failed|absent, required|absent AAC|absent TC"
 
+/* How three bytes fail to be a day: by a digit of theirs, or else so. */
+#define NOT_DAYS                                                               \
+    "digit 1|digit 2|digit 3|digit 4|digit 5|digit 6|month 00|month above 12|" \
+    "day 00|day above 31|31 in a month of 30|30 or 31 February|"               \
+    "29 February"
+
+#define KINDS "1 day|1 week|1 month|2 day|2 week|2 month"
+#define FIRST_DAYS                                                             \
+    "1 Fri|1 Sat|1 Sun|1 Mon|1 Tue|1 Wed|1 Thu|"                               \
+    "2 Fri|2 Sat|2 Sun|2 Mon|2 Tue|2 Wed|2 Thu"
+
+/* What has a value and grows by amounts, and its limits. */
+#define SLOTS "1|2|3|4|cyclic 1|cyclic 2"
+#define LIMITS                                                                 \
+    "1 lower|2 lower|3 lower|4 lower|1 upper|2 upper|3 upper|4 upper|"         \
+    "cyclic 1|cyclic 2"
+
 #define REACHED_LIST(X)                                                        \
     X(PAPER_EMPTY, 1, "refusal 9", "paper empty", "")                          \
     X(PAPER_LONG, 1, "refusal 9", "paper over 65,536 bytes", "")               \
-    X(PAPER_VERSION, 2, "refusal 9", "version unknown", "00|above 03")         \
+    X(PAPER_VERSION, 2, "refusal 9", "version unknown", "00|above 04")         \
     X(PAPER_BARE, 1, "refusal 9", "set-up missing: no record at all", "")      \
     X(SETUP_MISSING, 3, "refusal 9",                                           \
       "set-up missing, first record of another kind",                          \
@@ -42,7 +60,9 @@
     X(KIND_ABOVE, 2, "refusal 9", "kind above 4", "record 0|later")            \
     X(START_LENGTH, 2, "refusal 9", "Start's body length, selection off",      \
       "short|long")                                                            \
-    X(FIRST_LENGTH, 2, "refusal 9", "First's body length", "short|long")       \
+    X(FIRST_LENGTH, 6, "refusal 9", "First's body length",                     \
+      "undated, short|undated, long|undated, 15|"                              \
+      "dated, short|dated, 12|dated, long")                                    \
     X(SECOND_LENGTH, 2, "refusal 9", "Second's body length", "short|long")     \
                                                                                \
     X(BODY_HEAD, 1, "refusal 1", "body under 52 bytes", "")                    \
@@ -61,9 +81,12 @@
     X(BAD_VALUE, 4, "refusal 1", "value of accumulator above MAX", "#1")       \
     X(BAD_NUMBER, 2, "refusal 1", "profile number", "0|above 124")             \
     X(BAD_NUMBER_TWICE, 1, "refusal 1", "profile number twice", "")            \
-    X(BAD_ONLINE, 1, "refusal 1", "Online mask has an unnamed bit", "")        \
-    X(BAD_DECLINE, 1, "refusal 1", "Decline mask has an unnamed bit", "")      \
-    X(BAD_DEFAULT, 1, "refusal 1", "Default mask has an unnamed bit", "")      \
+    X(BAD_ONLINE, 2, "refusal 1", "Online mask has an unnamed bit",            \
+      "01 to 03|04")                                                           \
+    X(BAD_DECLINE, 2, "refusal 1", "Decline mask has an unnamed bit",          \
+      "01 to 03|04")                                                           \
+    X(BAD_DEFAULT, 2, "refusal 1", "Default mask has an unnamed bit",          \
+      "01 to 03|04")                                                           \
     X(BAD_MTA_ON, 1, "refusal 1", "MTA on above 1", "")                        \
     X(BAD_MTA_CURRENCY, 4, "refusal 1", "MTA's currency, digit", "#1")         \
     X(BAD_MTA, 1, "refusal 1", "MTA above MAX", "")                            \
@@ -95,12 +118,43 @@
       "the first|a later one")                                                 \
     X(SYLLABUS_MISSING, 1, "refusal 1", "no syllabus", "")                     \
     X(BAD_SYLLABUS, 2, "refusal 1", "syllabus", "2|above")                     \
-    X(TAIL_LONG, 4, "refusal 1", "bytes left over behind the tail, selection", \
-      "02 off|02 on|03 off|03 on")                                             \
+    X(DATED_MISSING, 1, "refusal 1", "dated: no switch", "")                   \
+    X(BAD_DATED, 2, "refusal 1", "dated: switch", "2|above")                   \
+    X(CYCLES_SHORT, 2, "refusal 1", "dated, the tail ends too early",          \
+      "before the limits|within them")                                         \
+    X(BAD_LAST, 13, "refusal 1", "last date is no day", NOT_DAYS)              \
+    X(BAD_CYCLIC_CURRENCY, 8, "refusal 1",                                     \
+      "currency of cyclic accumulator, its digit",                             \
+      "1.1|1.2|1.3|1.4|2.1|2.2|2.3|2.4")                                       \
+    X(BAD_CYCLIC_VALUE, 2, "refusal 1",                                        \
+      "amount of cyclic accumulator above MAX",                                \
+      "#1")                                                                    \
+    X(BAD_KIND, 4, "refusal 1", "kind of cyclic accumulator",                  \
+      "0 in 1|above 3 in 1|0 in 2|above 3 in 2")                               \
+    X(BAD_FIRST_DAY, 4, "refusal 1", "first day of cyclic accumulator",        \
+      "7 in 1|above 7 in 1|7 in 2|above 7 in 2")                               \
+    X(BAD_CYCLIC_SWITCHES, 2, "refusal 1",                                     \
+      "cyclic accumulator has an unnamed switch",                              \
+      "#1")                                                                    \
+    X(BAD_LIMIT, 2, "refusal 1", "limit of cyclic accumulator above MAX",      \
+      "#1")                                                                    \
+    X(BAD_LIMITS_AT, 4, "refusal 1", "the fault is in the limits of profile",  \
+      "#1")                                                                    \
+    X(TAIL_LONG, 8, "refusal 1", "bytes left over behind the tail, selection", \
+      "02 off|02 on|03 off|03 on|"                                             \
+      "04 off|04 on|04 off, dated|04 on, dated")                               \
                                                                                \
-    X(SETUP_TAKEN, 5, "set-up", "taken, of version, selection",                \
-      "01|02 off|02 on|03 off|03 on")                                          \
-    X(SYLLABUS_TAKEN, 2, "set-up", "taken, of version 03, syllabus", "#0")     \
+    X(SETUP_TAKEN, 9, "set-up", "taken, of version, selection",                \
+      "01|02 off|02 on|03 off|03 on|"                                          \
+      "04 off|04 on|04 off, dated|04 on, dated")                               \
+    X(SYLLABUS_TAKEN, 4, "set-up", "taken, syllabus",                          \
+      "0 in 03|1 in 03|0 in 04|1 in 04")                                       \
+    X(DAY_TAKEN, 14, "set-up", "taken, days from, cyclic accumulator",         \
+      FIRST_DAYS)                                                              \
+    X(WEEK_TAKEN, 14, "set-up", "taken, weeks from, cyclic accumulator",       \
+      FIRST_DAYS)                                                              \
+    X(MONTH_TAKEN, 14, "set-up", "taken, months from, cyclic accumulator",     \
+      FIRST_DAYS)                                                              \
                                                                                \
     X(LARGEST, 4, "paper", "the largest",                                      \
       "65,536 bytes|21,000 records and more|255 entries of 255 bytes|"         \
@@ -189,16 +243,23 @@
     X(FIRST_REFUSED_6_AMOUNT, 1, "First", "refused 6: amount above MAX", "")   \
     X(FIRST_REFUSED_6_CURRENCY, 4, "First", "refused 6: currency, digit",      \
       "#1")                                                                    \
-    X(FIRST_REFUSED_2_OF, 2, "First", "refused 2 where another applies too",   \
-      "5|6")                                                                   \
-    X(FIRST_REFUSED_5_OF_6, 1, "First", "refused 5 where 6 applies too", "")   \
+    X(FIRST_REFUSED_13, 13, "First", "refused 13: no day", NOT_DAYS)           \
+    X(FIRST_REFUSED_2_OF, 3, "First", "refused 2 where another applies too",   \
+      "5|6|13")                                                                \
+    X(FIRST_REFUSED_5_OF, 2, "First", "refused 5 where another applies too",   \
+      "6|13")                                                                  \
+    X(FIRST_REFUSED_6_OF_13, 1, "First", "refused 6 where 13 applies too", "") \
+    X(FIRST_REFUSED_NEW, 3, "First", "refused where a cycle would begin",      \
+      "2|5|6")                                                                 \
+    X(FIRST_REFUSED_PAST, 3, "First", "refused where the date is in error",    \
+      "2|5|6")                                                                 \
     X(MTA_IS_OFF, 1, "First", "MTA off", "")                                   \
     X(MTA_UNCONVERTED, 1, "First", "MTA on, no conversion: bit 5 clear", "")   \
     X(MTA_KEPT, 2, "First", "MTA on, not exceeded", "under|equal")             \
     X(MTA_BROKEN, 1, "First", "MTA on, exceeded", "")                          \
     X(MTA_OVER, 2, "First", "MTA on, exceeded as the amount is over",          \
       "MTA under MAX|MTA is MAX")                                              \
-    X(ADR_SET, 22, "First", "ADR bit set", "#0")                               \
+    X(ADR_SET, 25, "First", "ADR bit set", "#0")                               \
     X(FIRST_AAC_ASKED, 1, "First", "AAC: requested", "")                       \
     X(FIRST_AAC_DECLINE, 2, "First", "AAC, ADR meets Decline",                 \
       "TC requested|ARQC requested")                                           \
@@ -222,43 +283,104 @@
     X(FIRST_ONLINE_DEFAULT, 1, "First",                                        \
       "TC: any other terminal, though ADR meets Default",                      \
       "")                                                                      \
-    X(BY_DECLINE, 22, "First", "AAC by Decline, by one bit alone", "#0")       \
-    X(BY_ONLINE, 22, "First", "ARQC by Online, by one bit alone", "#0")        \
-    X(BY_DEFAULT, 22, "First", "AAC by Default, by one bit alone", "#0")       \
+    X(BY_DECLINE, 25, "First", "AAC by Decline, by one bit alone", "#0")       \
+    X(BY_ONLINE, 25, "First", "ARQC by Online, by one bit alone", "#0")        \
+    X(BY_DEFAULT, 25, "First", "AAC by Default, by one bit alone", "#0")       \
                                                                                \
-    X(TEST_INACTIVE, 8, "tests",                                               \
+    X(DATE_IS, 4, "date", "against the last one",                              \
+      "before|the same|the next day|later")                                    \
+    X(DATE_FIRST_OF, 4, "date", "a cycle begins on",                           \
+      "the week's first day|another|the month's first day|another")            \
+    X(DATE_SPAN, 6, "date", "later, in the same cycle",                        \
+      "a week over a month's end|a week over a year's end|"                    \
+      "the last day of a week|the last day of a month|"                        \
+      "six days, in a week|29 and more days, in a month")                      \
+    X(DATE_LEAP, 4, "date", "29 February",                                     \
+      "from the 28th|to the 1st of March|of 00|of another year")               \
+    X(DATE_MONTH_AGAIN, 2, "date",                                             \
+      "the same month of another year, cyclic accumulator",                    \
+      "#1")                                                                    \
+    X(DATE_WEEK_AGAIN, 2, "date",                                              \
+      "less than a week later, another week, cyclic accumulator",              \
+      "#1")                                                                    \
+    X(CYCLE_BEGINS, 6, "date", "a cycle begins, cyclic accumulator",           \
+      KINDS)                                                                   \
+    X(CYCLE_GOES_ON, 4, "date", "later, the cycle goes on",                    \
+      "1 week|1 month|2 week|2 month")                                         \
+    X(CYCLE_ONE, 3, "date", "a cycle begins, of",                              \
+      "the first alone|the second alone|both")                                 \
+    X(CYCLE_CLEARS, 6, "date", "an amount becomes 0, cyclic accumulator",      \
+      "1 active|1 not allowed|1 inactive|2 active|2 not allowed|2 inactive")   \
+    X(CYCLE_CLEARS_AT, 8, "date", "an amount becomes 0, First gives",          \
+      "1 AAC, requested|1 AAC|1 ARQC|1 TC|"                                    \
+      "2 AAC, requested|2 AAC|2 ARQC|2 TC")                                    \
+    X(CYCLE_BEFORE_TEST, 2, "date",                                            \
+      "kept would exceed, begun does not, cyclic accumulator",                 \
+      "#1")                                                                    \
+    X(CYCLE_AND_OVER_LIMIT, 2, "date",                                         \
+      "begun, and exceeded by this transaction, cyclic accumulator",           \
+      "#1")                                                                    \
+    X(CYCLE_DROPPED, 1, "date", "begun, and a Start drops the transaction",    \
+      "")                                                                      \
+    X(LAST_MOVES, 4, "date", "the last date moves, First gives",               \
+      "AAC|TC|ARQC|no cycle begins")                                           \
+                                                                               \
+    X(ERROR_IN, 6, "date error", "in the cycle of the last date or before it", \
+      "1 in its week|1 in its month|1 before|"                                 \
+      "2 in its week|2 in its month|2 before")                                 \
+    X(ERROR_GIVES, 4, "date error", "First gives",                             \
+      "AAC, requested|AAC|ARQC|TC")                                            \
+    X(ERROR_INACTIVE, 1, "date error", "no cyclic accumulator active", "")     \
+    X(ERROR_UNTESTED, 4, "date error", "not tested though it would exceed",    \
+      "1 amount|1 sum|2 amount|2 sum")                                         \
+    X(ERROR_UNCOUNTED, 6, "date error", "approved, not counted",               \
+      "1 First|1 Y3 or Z3|1 order 11|2 First|2 Y3 or Z3|2 order 11")           \
+    X(ERROR_ORDER, 4, "date error", "ordered all the same",                    \
+      "1 order 01|1 order 10|2 order 01|2 order 10")                           \
+    X(ERROR_GROWS, 3, "date error", "accumulators 1 to 4 grow",                \
+      "First|Y3 or Z3|order 11")                                               \
+    X(ERROR_UNABLE, 2, "date error", "after Y3 or Z3", "TC|AAC")               \
+    X(RECOVERY, 4, "date error", "recovery, the last date falls",              \
+      "verified|absent|none active|amount not 0")                              \
+    X(NO_RECOVERY, 7, "date error", "no recovery",                             \
+      "verified, not approved|verified, AAC requested|failed|"                 \
+      "absent, required|absent, AAC requested|Y3 or Z3, TC|Y3 or Z3, AAC")     \
+    X(ERROR_AGAIN, 2, "date error", "the same date next time",                 \
+      "recovered, so in order|not recovered, so in error")                     \
+                                                                               \
+    X(TEST_INACTIVE, 10, "tests",                                              \
       "inactive though value exceeds, accumulator",                            \
-      "1 lower|2 lower|3 lower|4 lower|1 upper|2 upper|3 upper|4 upper")       \
-    X(TEST_EQUAL, 8, "tests", "included, sum equals the limit, accumulator",   \
-      "1 lower|2 lower|3 lower|4 lower|1 upper|2 upper|3 upper|4 upper")       \
-    X(TEST_SUM, 8, "tests", "only the sum exceeds, accumulator",               \
-      "1 lower|2 lower|3 lower|4 lower|1 upper|2 upper|3 upper|4 upper")       \
-    X(TEST_SUM_OVER, 8, "tests",                                               \
+      LIMITS)                                                                  \
+    X(TEST_EQUAL, 10, "tests", "included, sum equals the limit, accumulator",  \
+      LIMITS)                                                                  \
+    X(TEST_SUM, 10, "tests", "only the sum exceeds, accumulator",              \
+      LIMITS)                                                                  \
+    X(TEST_SUM_OVER, 10, "tests",                                              \
       "only the sum exceeds, limit MAX, accumulator",                          \
-      "1 lower|2 lower|3 lower|4 lower|1 upper|2 upper|3 upper|4 upper")       \
-    X(TEST_VALUE, 8, "tests", "value exceeds, accumulator",                    \
-      "1 lower|2 lower|3 lower|4 lower|1 upper|2 upper|3 upper|4 upper")       \
-    X(TEST_UNCONVERTED, 8, "tests",                                            \
+      LIMITS)                                                                  \
+    X(TEST_VALUE, 10, "tests", "value exceeds, accumulator",                   \
+      LIMITS)                                                                  \
+    X(TEST_UNCONVERTED, 10, "tests",                                           \
       "value exceeds, included, no conversion, accumulator",                   \
-      "1 lower|2 lower|3 lower|4 lower|1 upper|2 upper|3 upper|4 upper")       \
-    X(TEST_LEFT_OUT, 8, "tests",                                               \
+      LIMITS)                                                                  \
+    X(TEST_LEFT_OUT, 10, "tests",                                              \
       "not included though the sum exceeds, accumulator",                      \
-      "1 lower|2 lower|3 lower|4 lower|1 upper|2 upper|3 upper|4 upper")       \
-    X(TEST_NOT_ALLOWED, 8, "tests",                                            \
+      LIMITS)                                                                  \
+    X(TEST_NOT_ALLOWED, 10, "tests",                                           \
       "only the sum exceeds, not allowed, accumulator",                        \
-      "1 lower|2 lower|3 lower|4 lower|1 upper|2 upper|3 upper|4 upper")       \
-    X(TEST_OVER, 8, "tests",                                                   \
+      LIMITS)                                                                  \
+    X(TEST_OVER, 10, "tests",                                                  \
       "included, over, value does not exceed, accumulator",                    \
-      "1 lower|2 lower|3 lower|4 lower|1 upper|2 upper|3 upper|4 upper")       \
-    X(TEST_OVER_AT_MAX, 8, "tests",                                            \
+      LIMITS)                                                                  \
+    X(TEST_OVER_AT_MAX, 10, "tests",                                           \
       "included, over, value 0, limit MAX, accumulator",                       \
-      "1 lower|2 lower|3 lower|4 lower|1 upper|2 upper|3 upper|4 upper")       \
-    X(TEST_OVER_NOT_ALLOWED, 8, "tests",                                       \
+      LIMITS)                                                                  \
+    X(TEST_OVER_NOT_ALLOWED, 10, "tests",                                      \
       "included, over, not allowed, accumulator",                              \
-      "1 lower|2 lower|3 lower|4 lower|1 upper|2 upper|3 upper|4 upper")       \
-    X(TEST_OVER_LEFT_OUT, 8, "tests",                                          \
+      LIMITS)                                                                  \
+    X(TEST_OVER_LEFT_OUT, 10, "tests",                                         \
       "over, not included, value alone, accumulator",                          \
-      "1 lower|2 lower|3 lower|4 lower|1 upper|2 upper|3 upper|4 upper")       \
+      LIMITS)                                                                  \
     X(COUNT_INACTIVE, 8, "tests", "inactive though value exceeds, counter",    \
       "1 lower|2 lower|3 lower|4 lower|1 upper|2 upper|3 upper|4 upper")       \
     X(COUNT_EQUAL, 8, "tests",                                                 \
@@ -277,15 +399,15 @@
       "only value + 1 exceeds, not allowed, counter",                          \
       "1 lower|2 lower|3 lower|4 lower|1 upper|2 upper|3 upper|4 upper")       \
                                                                                \
-    X(GROW_ADDED, 4, "approval", "grows, accumulator", "#1")                   \
-    X(GROW_STOPPED, 4, "approval", "stopped at MAX, accumulator", "#1")        \
-    X(GROW_OVER, 4, "approval", "over, MAX stored, accumulator", "#1")         \
-    X(GROW_INACTIVE, 4, "approval", "inactive, accumulator", "#1")             \
-    X(GROW_NOT_ALLOWED, 4, "approval", "active, not allowed, accumulator",     \
-      "#1")                                                                    \
-    X(GROW_UNCONVERTED, 4, "approval",                                         \
+    X(GROW_ADDED, 6, "approval", "grows, accumulator", SLOTS)                  \
+    X(GROW_STOPPED, 6, "approval", "stopped at MAX, accumulator", SLOTS)       \
+    X(GROW_OVER, 6, "approval", "over, MAX stored, accumulator", SLOTS)        \
+    X(GROW_INACTIVE, 6, "approval", "inactive, accumulator", SLOTS)            \
+    X(GROW_NOT_ALLOWED, 6, "approval", "active, not allowed, accumulator",     \
+      SLOTS)                                                                   \
+    X(GROW_UNCONVERTED, 6, "approval",                                         \
       "active, allowed, no conversion, accumulator",                           \
-      "#1")                                                                    \
+      SLOTS)                                                                   \
     X(COUNT_ADDED, 4, "approval", "grows, counter", "#1")                      \
     X(COUNT_STOPPED, 4, "approval", "stopped at 255, counter", "#1")           \
     X(COUNT_UNTOUCHED, 4, "approval", "inactive, counter", "#1")               \
@@ -325,7 +447,7 @@
     X(UNABLE_CSU, 1, "Second", "unable, CSU not zero has no effect", "")       \
     X(UNABLE_AAC_ASKED, 1, "Second", "unable, AAC: requested", "")             \
     X(UNABLE_AAC_DEFAULT, 1, "Second", "unable, AAC: ADR meets Default", "")   \
-    X(UNABLE_BY_DEFAULT, 22, "Second",                                         \
+    X(UNABLE_BY_DEFAULT, 25, "Second",                                         \
       "unable, AAC by Default, by one bit alone",                              \
       "#0")                                                                    \
     X(UNABLE_TC, 1, "Second", "unable, TC", "")                                \
@@ -346,12 +468,12 @@
     X(VERIFIED_OTHER_BITS, 1, "Second",                                        \
       "verified, other CSU bits have no effect",                               \
       "")                                                                      \
-    X(ORDER_UPPER, 4, "Second", "order 01, accumulator", "#1")                 \
-    X(ORDER_UPPER_INACTIVE, 4, "Second", "order 01, inactive, accumulator",    \
-      "#1")                                                                    \
-    X(ORDER_ZERO, 4, "Second", "order 10, accumulator", "#1")                  \
-    X(ORDER_ZERO_INACTIVE, 4, "Second", "order 10, inactive, accumulator",     \
-      "#1")                                                                    \
+    X(ORDER_UPPER, 6, "Second", "order 01, accumulator", SLOTS)                \
+    X(ORDER_UPPER_INACTIVE, 6, "Second", "order 01, inactive, accumulator",    \
+      SLOTS)                                                                   \
+    X(ORDER_ZERO, 6, "Second", "order 10, accumulator", SLOTS)                 \
+    X(ORDER_ZERO_INACTIVE, 6, "Second", "order 10, inactive, accumulator",     \
+      SLOTS)                                                                   \
     X(ORDER_UPPER_COUNTER, 4, "Second", "order 01, counter", "#1")             \
     X(ORDER_UPPER_COUNTER_INACTIVE, 4, "Second",                               \
       "order 01, inactive, counter",                                           \
@@ -407,6 +529,29 @@ static inline bool fault(unsigned cause)
 {
     reached(cause);
     return false;
+}
+
+/* How a First's length is wrong, in a set-up with the date or without. */
+static inline unsigned bad_first(size_t length, bool dated)
+{
+    if (dated)
+        return length == 12 ? 4 : length < 15 ? 3 : 5;
+    return length == 15 ? 2 : length > 12;
+}
+
+/* How three bytes that are no day fail, in the order of NOT_DAYS. */
+static inline unsigned bad_date(const uint8_t *at)
+{
+    for (unsigned i = 0; i < 6; i++)
+        if ((i % 2 == 0 ? at[i / 2] >> 4 : at[i / 2] & 15) > 9)
+            return i;
+    if (at[1] == 0x00 || at[1] > 0x12)
+        return 6 + (at[1] > 0x12);
+    if (at[2] == 0x00 || at[2] > 0x31)
+        return 8 + (at[2] > 0x31);
+    if (at[1] != 0x02)
+        return 10;
+    return 11 + (at[2] == 0x29);
 }
 
 /* Which of a currency's four digits, from 0, is the first at fault. */

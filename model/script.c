@@ -5,6 +5,7 @@
 static struct draft paper;
 struct draft *const draft = &paper;
 struct draft_setup setup;
+uint32_t today;
 
 static void (*emit_paper)(struct draft *draft);
 
@@ -36,17 +37,48 @@ void first(uint8_t type, uint64_t amount)
 
 void first_offline(uint8_t type, uint64_t amount)
 {
-    draft_first(draft, type, amount, EUR, OFFLINE_TERMINAL);
+    first_at(type, amount, EUR, OFFLINE_TERMINAL);
 }
 
 void first_in(uint8_t type, uint64_t amount, uint16_t currency)
 {
-    draft_first(draft, type, amount, currency, ONLINE_TERMINAL);
+    first_at(type, amount, currency, ONLINE_TERMINAL);
+}
+
+void first_on(uint32_t date, uint8_t type, uint64_t amount)
+{
+    today = date;
+    first(type, amount);
+}
+
+void first_at(uint8_t type, uint64_t amount, uint16_t currency,
+              uint8_t terminal)
+{
+    if (setup.version > 3 && setup.dated)
+        draft_dated_first(draft, type, amount, currency, terminal, today);
+    else
+        draft_first(draft, type, amount, currency, terminal);
 }
 
 void second(uint8_t type, uint16_t code, uint8_t data, unsigned status)
 {
     draft_second(draft, type, code, data, (uint32_t)status << 16);
+}
+
+void cyclic(uint32_t last, uint8_t kind_1, uint8_t first_day_1, uint8_t kind_2,
+            uint8_t first_day_2)
+{
+    setup.version = 4;
+    setup.dated = 1;
+    setup.last = today = last;
+    setup.cyclic[0].kind = kind_1;
+    setup.cyclic[0].first_day = first_day_1;
+    setup.cyclic[1].kind = kind_2;
+    setup.cyclic[1].first_day = first_day_2;
+    for (unsigned i = 0; i < 2; i++) {
+        setup.cyclic[i].currency = EUR;
+        setup.cyclic[i].amount = 0;
+    }
 }
 
 void printed_sitting(void)

@@ -18,13 +18,23 @@ void begin(void);
 /* Start by one byte: the profile's number, or all of the terminal's data. */
 void start(uint8_t byte);
 
-/* First in EUR where one can go online; elsewhere; in another currency. */
+/* First in EUR where one can go online; elsewhere; in another currency. Where
+ * the set-up is dated they carry `today`; `first_on` sets it. */
+extern uint32_t today;
 void first(uint8_t type, uint64_t amount);
 void first_offline(uint8_t type, uint64_t amount);
 void first_in(uint8_t type, uint64_t amount, uint16_t currency);
+void first_on(uint32_t date, uint8_t type, uint64_t amount);
+void first_at(uint8_t type, uint64_t amount, uint16_t currency,
+              uint8_t terminal);
 
 /* Second; of the CSU its byte 2. */
 void second(uint8_t type, uint16_t code, uint8_t data, unsigned status);
+
+/* Cyclic accumulators in EUR, of these kinds, from 0 on; the set-up becomes
+ * version 04, and nothing asks about them yet. */
+void cyclic(uint32_t last, uint8_t kind_1, uint8_t first_day_1, uint8_t kind_2,
+            uint8_t first_day_2);
 
 /* Document 01's sitting: its set-up, its commands. */
 void printed_sitting(void);

@@ -4,10 +4,20 @@
 #include "card.h"
 #include "reached.h"
 
-enum { HEAD_BYTES = 52, PROFILE_BYTES = 107, CONVERSION_BYTES = 7 };
+enum {
+    HEAD_BYTES = 52,
+    PROFILE_BYTES = 107,
+    CONVERSION_BYTES = 7,
+    CYCLES_BYTES = 27, /* behind the switch, without the limits */
+    LIMITS_BYTES = 18  /* of a profile */
+};
 
-static bool read_profile(struct profile *profile, const uint8_t *at)
+static bool read_profile(struct profile *profile, unsigned version,
+                         const uint8_t *at)
 {
+    const bool cycles = version >= VERSION_CYCLES;
+    const uint32_t named = cycles ? ADR_BITS : OLD_ADR_BITS;
+
     profile->number = at[0];
     if (profile->number == 0)
         return fault(BAD_NUMBER + 0);
@@ -17,12 +27,12 @@ static bool read_profile(struct profile *profile, const uint8_t *at)
     profile->online_mask = get32(at + 1);
     profile->decline_mask = get32(at + 5);
     profile->default_mask = get32(at + 9);
-    if (profile->online_mask > ADR_BITS)
-        return fault(BAD_ONLINE);
-    if (profile->decline_mask > ADR_BITS)
-        return fault(BAD_DECLINE);
-    if (profile->default_mask > ADR_BITS)
-        return fault(BAD_DEFAULT);
+    if (profile->online_mask > named)
+        return fault(BAD_ONLINE + cycles);
+    if (profile->decline_mask > named)
+        return fault(BAD_DECLINE + cycles);
+    if (profile->default_mask > named)
+        return fault(BAD_DEFAULT + cycles);
 
     if (at[13] > 1)
         return fault(BAD_MTA_ON);
@@ -130,6 +140,68 @@ static bool read_syllabus(uint8_t *syllabus, const uint8_t **place,
     return true;
 }
 
+static bool read_cyclic_rule(struct cyclic_rule *rule, unsigned place,
+                             const uint8_t *at)
+{
+    rule->switches = at[0];
+    rule->limit = get64(at + 1);
+    if (rule->switches > ACCUMULATOR_SWITCHES)
+        return fault(BAD_CYCLIC_SWITCHES + place);
+    if (rule->limit > AMOUNT_MAX)
+        return fault(BAD_LIMIT + place);
+    return true;
+}
+
+/* A switch, 0 or 1; if 1, the last date, the cyclic accumulators, and what each
+ * profile says of them. */
+static bool read_cycles(struct card *card, const uint8_t **place,
+                        const uint8_t *end)
+{
+    struct setup *setup = &card->setup;
+    const uint8_t *at = *place;
+
+    if (at == end)
+        return fault(DATED_MISSING);
+    if (*at > 1)
+        return fault(BAD_DATED + (*at > 2));
+    setup->cyclics = *at++ ? CYCLICS : 0;
+    *place = at;
+    if (setup->cyclics == 0)
+        return true;
+
+    if (end - at < CYCLES_BYTES)
+        return fault(CYCLES_SHORT + 0);
+    if (end - at < CYCLES_BYTES + LIMITS_BYTES * setup->profiles)
+        return fault(CYCLES_SHORT + 1);
+    if (!read_date(&card->last, at))
+        return fault(BAD_LAST + bad_date(at));
+    at += 3;
+    for (unsigned i = 0; i < CYCLICS; i++, at += 12) {
+        struct cyclic *cyclic = &setup->cyclic[i];
+        cyclic->currency = get16(at);
+        card->cyclic[i] = get64(at + 2);
+        cyclic->kind = at[10];
+        cyclic->first_day = at[11];
+        if (!is_currency(cyclic->currency))
+            return fault(BAD_CYCLIC_CURRENCY + 4 * i
+                         + bad_digit(cyclic->currency));
+        if (card->cyclic[i] > AMOUNT_MAX)
+            return fault(BAD_CYCLIC_VALUE + i);
+        if (cyclic->kind < CYCLE_DAY)
+            return fault(BAD_KIND + 2 * i);
+        if (cyclic->kind > CYCLE_MONTH)
+            return fault(BAD_KIND + 2 * i + 1);
+        if (cyclic->first_day >= WEEK)
+            return fault(BAD_FIRST_DAY + 2 * i + (cyclic->first_day > WEEK));
+    }
+    for (unsigned i = 0; i < setup->profiles; i++)
+        for (unsigned j = 0; j < CYCLICS; j++, at += 9)
+            if (!read_cyclic_rule(&setup->profile[i].cyclic[j], j, at))
+                return fault(BAD_LIMITS_AT + i);
+    *place = at;
+    return true;
+}
+
 bool card_set_up(struct card *card, unsigned version, const uint8_t *body,
                  size_t length)
 {
@@ -181,7 +253,7 @@ bool card_set_up(struct card *card, unsigned version, const uint8_t *body,
         card->counter[i] = *at++;
 
     for (unsigned i = 0; i < setup->profiles; i++, at += PROFILE_BYTES) {
-        if (!read_profile(&setup->profile[i], at))
+        if (!read_profile(&setup->profile[i], version, at))
             return fault(BAD_PROFILE_AT + i);
         for (unsigned j = 0; j < i; j++)
             if (setup->profile[j].number == setup->profile[i].number)
@@ -206,8 +278,11 @@ bool card_set_up(struct card *card, unsigned version, const uint8_t *body,
     if (version >= VERSION_SYLLABUS
         && !read_syllabus(&setup->syllabus, &at, body + length))
         return false;
+    setup->cyclics = 0;
+    if (version >= VERSION_CYCLES && !read_cycles(card, &at, body + length))
+        return false;
     if (at != body + length)
-        return fault(TAIL_LONG + (version > VERSION_SELECTION ? 2 : 0)
-                     + setup->selection.on);
+        return fault(TAIL_LONG + setup->selection.on + 2 * (setup->cyclics > 0)
+                     + 2 * (version - VERSION_SELECTION));
     return true;
 }

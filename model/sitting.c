@@ -3,7 +3,7 @@
 #include "bytes.h"
 #include "reached.h"
 
-enum { START_BYTES = 1, FIRST_BYTES = 12, SECOND_BYTES = 8 };
+enum { START_BYTES = 1, FIRST_BYTES = 12, DATE_BYTES = 3, SECOND_BYTES = 8 };
 
 static unsigned unreadable(unsigned cause)
 {
@@ -128,6 +128,7 @@ struct first read_first(const struct record *record)
         .amount = get64(body + 1),
         .currency = get16(body + 9),
         .terminal = body[11],
+        .date = body + FIRST_BYTES,
     };
 }
 
@@ -169,8 +170,10 @@ static unsigned command(struct card *card, const struct record *record,
         return 0;
     }
     case KIND_FIRST: {
-        if (record->length != FIRST_BYTES)
-            return unreadable(FIRST_LENGTH + (record->length > FIRST_BYTES));
+        const bool dated = card->setup.cyclics > 0;
+        const size_t length = FIRST_BYTES + (dated ? DATE_BYTES : 0);
+        if (record->length != length)
+            return unreadable(FIRST_LENGTH + bad_first(record->length, dated));
         const struct first first = read_first(record);
         refusal = card_first(card, &first, &answer);
         break;

@@ -1,11 +1,12 @@
--- The card: a ruling, then a performance (document 01, "Refusal numbers", "Start and the checks"; document 02, Three).
+-- The card: a ruling, then a performance (document 01, "Refusal numbers", "Start and the checks"; document 02, Three and Five).
 use Prim.Native.Nat.{ℕ, _+_}
-use mathlib.Core.Bool.{false, cond, _&&_}
+use mathlib.Core.Bool.{Bool, true, false, cond, _&&_}
 use lib.Dec.{eqb, ltb, leb}
 use Rattle.wire.specs.Wire.{isCurrency}
 use Rattle.money.specs.Money.{max}
+use Rattle.calendar.specs.Calendar.{isDay}
 use Rattle.refusal.specs.declared.Refusal.{Refusal}
-use Rattle.refusal.specs.declared.Refusal.the-variants.{OutOfTurn, UnknownProfile, AtcUsedUp, BadType, OutOfRange, NotSelected}
+use Rattle.refusal.specs.declared.Refusal.the-variants.{OutOfTurn, UnknownProfile, AtcUsedUp, BadType, OutOfRange, NotSelected, NotADay}
 use Rattle.refusal.specs.Refusal.{refusalNumber}
 use Rattle.rules.specs.declared.Place.{Place}
 use Rattle.rules.specs.declared.Found.{Found}
@@ -16,6 +17,8 @@ use Rattle.selection.specs.declared.Selection.{Selection}
 use Rattle.selection.specs.declared.Selection.the-variants.{Selected, NotSelected as NoneSelected}
 use Rattle.selection.specs.Selection.{visitsOf}
 use Rattle.command.specs.declared.Start.{Start}
+use Rattle.command.specs.declared.When.{When}
+use Rattle.command.specs.declared.When.the-variants.{Undated, On}
 use Rattle.command.specs.declared.First.{First}
 use Rattle.command.specs.declared.Second.{Second}
 use Rattle.command.specs.declared.Command.{Command}
@@ -37,6 +40,7 @@ freshState fresh =
       values = fresh .values;
       phase = Idle;
       atc = fresh .atc;
+      last = fresh .last;
       history = record { uncompleted = false; online = fresh .online; failed = false; unable = false; missing = false };
     }
 
@@ -54,11 +58,17 @@ abbrev pub ruleStart : Rules → ℕ → Selection → Ruling Place
 ruleStart rules atc NoneSelected = refuse NotSelected
 ruleStart rules atc (Selected profile visits) = ruleOpening atc (findProfile rules profile)
 
--- First: 2, 5, 6
+-- First: 2, 5, 6, and 13 for a date that isn't a calendar day
+abbrev pub isDated : When → Bool
+isDated Undated = true
+isDated (On date) = isDay date
+
 abbrev pub ruleFirstFields : First → Place → Ruling Place
 ruleFirstFields first place =
     cond (ltb 2 (first .requested)) (refuse BadType)
-    (cond (leb (first .amount .0) max && isCurrency (first .currency)) (take place) (refuse OutOfRange))
+    (cond (leb (first .amount .0) max && isCurrency (first .currency))
+    (cond (isDated (first .when)) (take place) (refuse NotADay))
+    (refuse OutOfRange))
 
 abbrev pub ruleFirst : Phase → First → Ruling Place
 ruleFirst Idle first = refuse OutOfTurn
@@ -87,7 +97,7 @@ carried state perform (take what) = perform what
 abbrev pub startPerformed : State → (visits : ℕ) → Place → Outcome
 startPerformed state visits place =
     record {
-      state = record { values = state .values; phase = Opened place; atc = state .atc + 1; history = state .history };
+      state = record { values = state .values; phase = Opened place; atc = state .atc + 1; last = state .last; history = state .history };
       answer = Started (state .atc + 1) visits;
     }
 

@@ -1,11 +1,12 @@
 // The card: which commands it takes, and what each comes to.
 ghost use mathlib.Core.Path.{_≡_};
 ghost use Rattle.rules.specs.Rules.{rulesOf};
-ghost use Rattle.card.specs.Card.{freshState, refused, openingStep, startStep, firstTaken, firstStep, secondTaken, secondStep, stepOf};
+ghost use Rattle.card.specs.Card.{freshState, refused, openingStep, startStep, isDated, firstTaken, firstStep, secondTaken, secondStep, stepOf};
 use command::Command;
 use command::First;
 use command::Second;
 use command::Start;
+use command::When;
 use refusal::Refusal;
 use rules::Found;
 use rules::Place;
@@ -24,10 +25,12 @@ pub fn fresh_card(fresh: Fresh) -> State
     ensures { λ r. ⌜ r ≡ freshState fresh ⌝ }
 {
     let values = fresh.values;
+    let last = fresh.last;
     State {
         values,
         phase: Phase::Idle,
         atc: fresh.atc,
+        last,
         history: History {
             uncompleted: false,
             online: fresh.online,
@@ -59,12 +62,14 @@ fn open_profile(words: &Words, state: State, profile: u8, visits: u8) -> Outcome
     }
     let values = state.values;
     let history = state.history;
+    let last = state.last;
     let atc = state.atc + 1;
     Outcome {
         state: State {
             values,
             phase: Phase::Opened(place),
             atc,
+            last,
             history,
         },
         answer: Answer::Started { atc, visits },
@@ -81,6 +86,16 @@ fn answer_start(words: &Words, state: State, start: Start) -> Outcome
     }
 }
 
+// Whether a First's date, if it has one, is a calendar day.
+fn is_dated(when: When) -> bool
+    ensures { λ r. ⌜ r ≡ isDated when ⌝ }
+{
+    match when {
+        When::Undated => true,
+        When::On(date) => calendar::is_day(date),
+    }
+}
+
 // A First in turn.
 fn take_first(words: &Words, state: State, place: Place, first: First) -> Outcome
     ensures { λ r. ⌜ r ≡ firstTaken (rulesOf (now (words .entry))) state first place ⌝ }
@@ -89,10 +104,14 @@ fn take_first(words: &Words, state: State, place: Place, first: First) -> Outcom
         return refuse(state, Refusal::BadType);
     }
     let in_range = (first.amount.0 <= money::MAX) & wire::is_currency(first.currency);
-    if in_range {
-        return first::perform(words, state, place, first);
+    if !in_range {
+        return refuse(state, Refusal::OutOfRange);
     }
-    refuse(state, Refusal::OutOfRange)
+    let when = first.when;
+    if !is_dated(when) {
+        return refuse(state, Refusal::NotADay);
+    }
+    first::perform(words, state, place, first)
 }
 
 fn answer_first(words: &Words, state: State, first: First) -> Outcome

@@ -11,12 +11,12 @@ use lib.ListN.{length, getD}
 use Rattle.rules.specs.declared.Place.{Place}
 use Rattle.rules.specs.declared.Values.{Values}
 use Rattle.rules.specs.Rules.{Rules}
-use Rattle.rules.proofs.Places.{each}
+use Rattle.rules.proofs.Places.{each, both}
 use Rattle.purchase.specs.declared.Purchase.{Purchase}
-use Rattle.purchase.specs.Meter.{Meter, accumulator, counter, IsMeter}
+use Rattle.purchase.specs.Meter.{Meter, accumulator, counter, cyclic, IsMeter, isDateError}
 use Rattle.state.specs.declared.History.{History}
 use Rattle.checks.specs.Checks.{bit, packed, meetsMask, lowerBit, upperBit, exceedsLower, exceedsUpper, maximumExceeded}
-use Rattle.checks.specs.Checks.{accumulatorsLower, accumulatorsUpper, countersLower, countersUpper, decisionFlags, decisionBits}
+use Rattle.checks.specs.Checks.{accumulatorsLower, accumulatorsUpper, countersLower, countersUpper, datingFlags, decisionFlags, decisionBits}
 
 -- bit k of a number
 abbrev pub bitOf : ℕ → ℕ → ℕ
@@ -70,7 +70,7 @@ module _ (rules : Rules) (place : Place) (values : Values) (purchase : Purchase)
   abbrev Upper : ℕ → Meter → Type 0
   Upper adr meter = bitOf (upperBit meter) adr ≡ bit (exceedsUpper rules place values purchase meter)
 
-  -- document 01's list of the decision bits; no bit stands above 21
+  -- document 01's list of the decision bits, with request Five's; no bit stands above 24
   pub record HouseOrder (adr : ℕ) : Type 0 where
     pub uncompleted : bitOf 0 adr ≡ bit (history .uncompleted)
     pub online : bitOf 1 adr ≡ bit (history .online)
@@ -80,7 +80,8 @@ module _ (rules : Rules) (place : Place) (values : Values) (purchase : Purchase)
     pub maximum : bitOf 5 adr ≡ bit (maximumExceeded rules place purchase)
     pub lower : (meter : Meter) → IsMeter meter → bitOf (lowerBit meter) adr ≡ bit (exceedsLower rules place values purchase meter)
     pub upper : (meter : Meter) → IsMeter meter → bitOf (upperBit meter) adr ≡ bit (exceedsUpper rules place values purchase meter)
-    pub rest : adr < 2 ^ 22
+    pub date-error : bitOf 24 adr ≡ bit (isDateError (purchase .timing))
+    pub rest : adr < 2 ^ 25
 
   abbrev Adr : ℕ
   Adr = packed (decisionFlags rules place values purchase history)
@@ -89,17 +90,19 @@ module _ (rules : Rules) (place : Place) (values : Values) (purchase : Purchase)
   flag = packed-bit (decisionFlags rules place values purchase history)
 
   lower-bits : (meter : Meter) → IsMeter meter → Lower Adr meter
-  unfolding accumulatorsLower accumulatorsUpper countersLower countersUpper
+  unfolding accumulatorsLower accumulatorsUpper countersLower countersUpper datingFlags
   lower-bits (accumulator i) l = each (λ i. Lower Adr (accumulator i)) (flag 6) (flag 7) (flag 8) (flag 9) i l
   lower-bits (counter i) l = each (λ i. Lower Adr (counter i)) (flag 14) (flag 15) (flag 16) (flag 17) i l
+  lower-bits (cyclic i) l = both (λ i. Lower Adr (cyclic i)) (flag 22) (flag 23) i l
 
   upper-bits : (meter : Meter) → IsMeter meter → Upper Adr meter
-  unfolding accumulatorsLower accumulatorsUpper countersLower countersUpper
+  unfolding accumulatorsLower accumulatorsUpper countersLower countersUpper datingFlags
   upper-bits (accumulator i) l = each (λ i. Upper Adr (accumulator i)) (flag 10) (flag 11) (flag 12) (flag 13) i l
   upper-bits (counter i) l = each (λ i. Upper Adr (counter i)) (flag 18) (flag 19) (flag 20) (flag 21) i l
+  upper-bits (cyclic i) l = both (λ i. Upper Adr (cyclic i)) (flag 22) (flag 23) i l
 
   pub house-order : HouseOrder (decisionBits rules place values purchase history)
-  unfolding decisionBits accumulatorsLower accumulatorsUpper countersLower countersUpper
+  unfolding decisionBits accumulatorsLower accumulatorsUpper countersLower countersUpper datingFlags
   house-order =
       record {
         uncompleted = flag 0;
@@ -110,5 +113,6 @@ module _ (rules : Rules) (place : Place) (values : Values) (purchase : Purchase)
         maximum = flag 5;
         lower = lower-bits;
         upper = upper-bits;
+        date-error = flag 24;
         rest = packed-small (decisionFlags rules place values purchase history);
       }

@@ -24,6 +24,13 @@ sumAbove limit value (Amount more) = ltb limit (value + more .0)
 sumAbove limit value Over = true
 sumAbove limit value NoEntry = ltb limit (value + 0)
 
+-- what is above by itself is above with more
+pub sum-alone : (limit value more : ℕ) → (ltb limit value || ltb limit (value + more)) ≡ ltb limit (value + more)
+sum-alone limit value more = by (ltb limit value) refl where
+  by : (b : Bool) → ltb limit value ≡ b → (b || ltb limit (value + more)) ≡ ltb limit (value + more)
+  by true e = let h = ltb-true limit value e in sym (lt-ltb limit (value + more) (omega arith))
+  by false e = refl
+
 -- so an accumulator is tested by one sum, to which a purchase that isn't included or doesn't convert adds nothing
 pub exceeds-sum : (limit value : ℕ) (include : Bool) (worth : Converted)
     → valueExceeds limit value include worth ≡ sumAbove limit value (cond include worth NoEntry)
@@ -31,12 +38,8 @@ exceeds-sum limit value = by where
   alone : ltb limit value ≡ ltb limit (value + 0)
   alone = let e : value ≡ value + 0 = omega arith in ap (ltb limit) e
 
-  together : (more : ℕ) (b : Bool) → ltb limit value ≡ b → (b || ltb limit (value + more)) ≡ ltb limit (value + more)
-  together more true e = let h = ltb-true limit value e in sym (lt-ltb limit (value + more) (omega arith))
-  together more false e = refl
-
   by : (include : Bool) (worth : Converted) → valueExceeds limit value include worth ≡ sumAbove limit value (cond include worth NoEntry)
-  by true (Amount more) = together (more .0) (ltb limit value) refl
+  by true (Amount more) = sum-alone limit value (more .0)
   by true Over = or-true (ltb limit value)
   by true NoEntry = or-false (ltb limit value) ∙ alone
   by false worth = or-false (ltb limit value) ∙ alone

@@ -1,4 +1,4 @@
--- The tests and the decision bits (document 01, "Start and the checks").
+-- The tests and the decision bits (document 01, "Start and the checks"; document 02, Five).
 use Prim.Native.Nat.{ℕ, _+_, _*_}
 use mathlib.Core.Bool.{Bool, true, false, not, _&&_, _||_}
 use mathlib.Core.List.{List, [], _∷_, _++_}
@@ -8,10 +8,11 @@ use Rattle.money.specs.declared.Converted.{Converted}
 use Rattle.money.specs.declared.Converted.the-variants.{Amount, Over, NoEntry}
 use Rattle.money.specs.Money.{convertOf}
 use Rattle.rules.specs.declared.Place.{Place}
+use Rattle.rules.specs.declared.CyclicRule.{CyclicRule}
 use Rattle.rules.specs.declared.Values.{Values}
 use Rattle.rules.specs.Rules.{Rules, four, profileAt}
 use Rattle.purchase.specs.declared.Purchase.{Purchase}
-use Rattle.purchase.specs.Meter.{Meter, accumulator, counter, MeterRule, ruleOf, valueOf, worthTo}
+use Rattle.purchase.specs.Meter.{Meter, accumulator, counter, cyclic, MeterRule, ruleOf, valueOf, worthTo, takesPart, isDateError}
 use Rattle.state.specs.declared.History.{History}
 
 -- a value and what a purchase is worth exceed a limit; the sum isn't stopped, and over exceeds every limit (request Four)
@@ -24,7 +25,7 @@ sumExceeds limit value NoEntry = false
 abbrev pub valueExceeds : (limit value : ℕ) (include : Bool) → Converted → Bool
 valueExceeds limit value include worth = ltb limit value || (include && sumExceeds limit value worth)
 
--- a meter is tested if it is active
+-- a meter is tested if it is active and takes part in the transaction
 abbrev pub isTested : MeterRule → Bool
 isTested rule = rule .active
 
@@ -34,21 +35,24 @@ exceeds rule worth limit value = isTested rule && valueExceeds limit value (rule
 abbrev pub exceedsLower : Rules → Place → Values → Purchase → Meter → Bool
 exceedsLower rules place values purchase meter =
     let rule = ruleOf rules place meter in
-    exceeds rule (worthTo rules purchase meter) (rule .lower) (valueOf values meter)
+    takesPart purchase meter && exceeds rule (worthTo rules purchase meter) (rule .lower) (valueOf values meter)
 
 abbrev pub exceedsUpper : Rules → Place → Values → Purchase → Meter → Bool
 exceedsUpper rules place values purchase meter =
     let rule = ruleOf rules place meter in
-    exceeds rule (worthTo rules purchase meter) (rule .upper) (valueOf values meter)
+    takesPart purchase meter && exceeds rule (worthTo rules purchase meter) (rule .upper) (valueOf values meter)
 
--- the bits of a meter: the accumulators' lower limits from 6 on and upper ones from 10 on, the counters' from 14 and from 18 on
+-- the bits of a meter: the accumulators' lower limits from 6 on and upper ones from 10 on, the counters' from 14 and from 18 on; a cyclic
+-- accumulator's one limit from 22 on
 abbrev pub lowerBit : Meter → ℕ
 lowerBit (accumulator i) = 6 + i
 lowerBit (counter i) = 14 + i
+lowerBit (cyclic i) = 22 + i
 
 abbrev pub upperBit : Meter → ℕ
 upperBit (accumulator i) = 10 + i
 upperBit (counter i) = 18 + i
+upperBit (cyclic i) = 22 + i
 
 unfoldable pub accumulatorsLower : Rules → Place → Values → Purchase → List Bool
 accumulatorsLower rules place values purchase = four (λ i. exceedsLower rules place values purchase (accumulator i))
@@ -61,6 +65,13 @@ countersLower rules place values purchase = four (λ i. exceedsLower rules place
 
 unfoldable pub countersUpper : Rules → Place → Values → Purchase → List Bool
 countersUpper rules place values purchase = four (λ i. exceedsUpper rules place values purchase (counter i))
+
+-- bits 22 and 23: the cyclic accumulators' limits, in a transaction whose date is in order; bit 24: a date error
+unfoldable pub datingFlags : Rules → Place → Values → Purchase → List Bool
+datingFlags rules place values purchase =
+    exceedsUpper rules place values purchase (cyclic 0) ∷ exceedsUpper rules place values purchase (cyclic 1)
+    ∷ isDateError (purchase .timing)
+    ∷ []
 
 -- bit 5: MTA is on and the amount, converted to its currency, exceeds it, as over does; without a conversion it isn't set
 abbrev pub spentExceeds : (limit : ℕ) → Converted → Bool
@@ -83,6 +94,7 @@ abbrev pub decisionFlags : Rules → Place → Values → Purchase → History �
 decisionFlags rules place values purchase history =
     historyFlags history ++ maximumExceeded rules place purchase ∷ accumulatorsLower rules place values purchase
     ++ accumulatorsUpper rules place values purchase ++ countersLower rules place values purchase ++ countersUpper rules place values purchase
+    ++ datingFlags rules place values purchase
 
 -- flags as a number, bit 0 first
 abbrev pub bit : Bool → ℕ
@@ -100,6 +112,10 @@ decisionBits rules place values purchase history = packed (decisionFlags rules p
 abbrev pub limitBits : MeterRule → Converted → ℕ → ℕ
 limitBits rule worth value = bit (exceeds rule worth (rule .lower) value) + bit (exceeds rule worth (rule .upper) value) * 16
 
+-- that a cyclic accumulator exceeds its limit, where it takes part
+abbrev pub cyclicExceeds : CyclicRule → Converted → ℕ → Bool
+cyclicExceeds rule worth value = rule .active && valueExceeds (rule .limit .0) value (rule .include) worth
+
 -- those of all four: bits 0 to 3 the lower, bits 4 to 7 the upper
 abbrev pub accumulatorBits : Rules → Place → Values → Purchase → ℕ
 accumulatorBits rules place values purchase =
@@ -107,6 +123,9 @@ accumulatorBits rules place values purchase =
 
 abbrev pub counterBits : Rules → Place → Values → Purchase → ℕ
 counterBits rules place values purchase = packed (countersLower rules place values purchase ++ countersUpper rules place values purchase)
+
+abbrev pub datingBits : Rules → Place → Values → Purchase → ℕ
+datingBits rules place values purchase = packed (datingFlags rules place values purchase)
 
 -- the groups of four among the decision bits
 abbrev pub accumulatorsLowerGroup : ℕ
@@ -120,6 +139,10 @@ countersLowerGroup = 0x3C000
 
 abbrev pub countersUpperGroup : ℕ
 countersUpperGroup = 0x3C0000
+
+-- bit 24
+abbrev pub dateError : ℕ
+dateError = 0x1000000
 
 -- some bit is in both
 abbrev pub meetsMask : (adr mask : ℕ) → Bool

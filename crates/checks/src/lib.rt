@@ -4,24 +4,28 @@ ghost use mathlib.Core.Bool.{cond};
 ghost use Prim.Native.Nat.{_+_, _*_, _≤_};
 ghost use lib.Dec.{ltb};
 ghost use Rattle.money.specs.declared.Converted.the-variants.{NoEntry};
-ghost use Rattle.rules.specs.Rules.{rulesOf};
-ghost use Rattle.purchase.specs.Meter.{accumulator, counter, ruleOf, worth, once};
-ghost use Rattle.checks.specs.Checks.{bit, packed, limitBits, accumulatorBits, counterBits, maximumExceeded, historyFlags, decisionBits, meetsMask};
+ghost use Rattle.rules.specs.Rules.{rulesOf, cyclicRule};
+ghost use Rattle.purchase.specs.Meter.{accumulator, counter, ruleOf, worth, cyclicWorth, once};
+ghost use Rattle.checks.specs.Checks.{bit, packed, limitBits, accumulatorBits, counterBits, cyclicExceeds, datingBits, maximumExceeded, historyFlags, decisionBits, meetsMask};
 use money::AccumulatorAmount;
 use money::Converted;
 use purchase::Purchase;
+use purchase::Timing;
 use rules::Place;
 use rules::Values;
 use rules::Words;
 use state::History;
 
-// Of the decision bits, from bit 0 upward: 0 to 4 copy the history, 5 is the MTA, and from 6 and
-// from 14 on stand the limits that the four accumulators and the four counters exceed.
+// Of the decision bits, from bit 0 upward: 0 to 4 copy the history, 5 is the MTA, from 6 and from 14
+// on stand the limits that the four accumulators and the four counters exceed, 22 and 23 are the two
+// cyclic accumulators' limits and 24 a date error.
 const MAXIMUM: u32 = 32;
 
 const ACCUMULATORS: u32 = 64;
 
 const COUNTERS: u32 = 16_384;
+
+const DATING: u32 = 4_194_304;
 
 // Their groups of four.
 pub const ACCUMULATORS_LOWER: u32 = 0x3C0;
@@ -31,6 +35,8 @@ pub const ACCUMULATORS_UPPER: u32 = 0x3C00;
 pub const COUNTERS_LOWER: u32 = 0x3C000;
 
 pub const COUNTERS_UPPER: u32 = 0x3C0000;
+
+pub const DATE_ERROR: u32 = 0x100_0000;
 
 pub fn bit(flag: bool) -> u8
     ensures { λ r. ⌜ (r ≡ bit flag) × (r ≤ 1) ⌝ }
@@ -98,8 +104,8 @@ fn test_counter(words: &Words, place: Place, i: usize, value: u8) -> u8
     if !rule.active {
         return 0;
     }
-    let more = bit(rule.include) as u64;
-    limits_exceeded(rule.lower as u64, rule.upper as u64, value as u64, more)
+    let sum = value as u16 + bit(rule.include) as u16;
+    bit((rule.lower as u16) < sum) + bit((rule.upper as u16) < sum) * 16
 }
 
 // Bits 0 to 3 the lower limits, 4 to 7 the upper.
@@ -121,6 +127,47 @@ fn test_counters(words: &Words, place: Place, values: Values, purchase: Purchase
         + test_counter(words, place, 1, counts[1]) * 2
         + test_counter(words, place, 2, counts[2]) * 4
         + test_counter(words, place, 3, counts[3]) * 8
+}
+
+// Cyclic accumulator i + 1 exceeds its limit, with a purchase whose date is in order.
+fn test_cyclic(
+    words: &Words,
+    place: Place,
+    i: usize,
+    value: AccumulatorAmount,
+    purchase: Purchase,
+) -> bool
+    ensures { λ r. ⌜ r ≡ cyclicExceeds (cyclicRule (rulesOf (now (words .entry))) place i)
+        (cyclicWorth (rulesOf (now (words .entry))) purchase i) (value .0) ⌝ }
+{
+    let rule = rules::cyclic_rule(words, place, i);
+    if !rule.active {
+        return false;
+    }
+    if !rule.include {
+        return rule.limit.0 < value.0;
+    }
+    match purchase::cyclic_worth(words, purchase, i) {
+        Converted::Amount(more) => sum_exceeds(rule.limit.0, value.0, more.0),
+        Converted::Over => true,
+        Converted::NoEntry => rule.limit.0 < value.0,
+    }
+}
+
+// Bits 0 and 1 the cyclic accumulators' limits, bit 2 a date error, in which they are not tested.
+fn test_dating(words: &Words, place: Place, values: Values, purchase: Purchase) -> u8
+    ensures { λ r. ⌜ (r ≡ datingBits (rulesOf (now (words .entry))) place values purchase) × (r ≤ 4) ⌝ }
+{
+    let timing = purchase.timing;
+    match timing {
+        Timing::Undated => 0,
+        Timing::InOrder => {
+            let amounts = values.cyclic;
+            bit(test_cyclic(words, place, 0, amounts[0], purchase))
+                + bit(test_cyclic(words, place, 1, amounts[1], purchase)) * 2
+        }
+        Timing::DateError(_) => 4,
+    }
 }
 
 // The MTA is on and the amount, converted to its currency, exceeds it.
@@ -162,6 +209,7 @@ pub fn decision_bits(
         + bit(exceeds_maximum(words, place, purchase)) as u32 * MAXIMUM
         + test_accumulators(words, place, values, purchase) as u32 * ACCUMULATORS
         + test_counters(words, place, values, purchase) as u32 * COUNTERS
+        + test_dating(words, place, values, purchase) as u32 * DATING
 }
 
 // Some bit is in both.

@@ -8,6 +8,7 @@ use borrow.Author.Tests.{leb-true}
 use lib.Dec.{leb}
 use Rattle.shape.specs.declared.Selecting.{Selecting}
 use Rattle.shape.specs.declared.Selecting.the-variants.{Off, On}
+use Rattle.shape.specs.declared.Dating.{Dating}
 use Rattle.command.specs.declared.Command.the-variants.{Start as StartCommand}
 use Rattle.command.specs.declared.ReadCommand.the-variants.{Taken}
 use Rattle.command.specs.Command.{commandOf, selectingOf, isSelecting, selectedIn, readBy}
@@ -20,14 +21,14 @@ both a b c d e = by (leb a b) (leb c d) refl refl e where
   by true false h k e = let z : _≡_ {A = ℕ} 0 1 = cc in (omega arith, omega arith)
   by false q h k e = let z : _≡_ {A = ℕ} 0 1 = cc in (omega arith, omega arith)
 
-pub selected : (selecting : Selecting) (paper : List ℕ) (kind : ℕ) (body : List ℕ) → isSelecting selecting kind ≡ true
-    → readBy selecting paper kind body ≡ Taken (StartCommand (record { chosen = selectedIn selecting paper body }))
+pub selected : (selecting : Selecting) (dating : Dating) (paper : List ℕ) (kind : ℕ) (body : List ℕ) → isSelecting selecting kind ≡ true
+    → readBy selecting dating paper kind body ≡ Taken (StartCommand (record { chosen = selectedIn selecting paper body }))
 unfolding selectingOf
-selected Off paper kind body e = absurd (let z : _≡_ {A = ℕ} 0 1 = cc in omega arith)
-selected (On start end entries) paper kind body e = rw e
+selected Off dating paper kind body e = absurd (let z : _≡_ {A = ℕ} 0 1 = cc in omega arith)
+selected (On start end entries) dating paper kind body e = rw e
 
-pub unselected : (selecting : Selecting) (paper : List ℕ) (kind : ℕ) (body : List ℕ) → isSelecting selecting kind ≡ false
-    → readBy selecting paper kind body ≡ commandOf kind body
+pub unselected : (selecting : Selecting) (dating : Dating) (paper : List ℕ) (kind : ℕ) (body : List ℕ) → isSelecting selecting kind ≡ false
+    → readBy selecting dating paper kind body ≡ commandOf dating kind body
 unfolding selectingOf
-unselected Off paper kind body e = refl
-unselected (On start end entries) paper kind body e = rw e
+unselected Off dating paper kind body e = refl
+unselected (On start end entries) dating paper kind body e = rw e

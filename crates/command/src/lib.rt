@@ -1,9 +1,11 @@
 // Commands out of record bodies. What a command says is judged by the card.
 ghost use mathlib.Core.Path.{_≡_};
-ghost use Rattle.command.specs.Command.{startOf, firstOf, secondOf, commandOf, isSelecting, selectedIn, commandIn};
+ghost use Rattle.command.specs.Command.{startOf, firstLength, whenOf, firstOf, secondOf, commandOf, isSelecting, selectedIn, commandIn};
+use calendar::Date;
 use money::TransactionAmount;
 use refusal::Refusal;
 use selection::Selection;
+use shape::Dating;
 use shape::Selecting;
 use shape::Shape;
 
@@ -18,11 +20,18 @@ pub struct Start {
     pub chosen: Selection,
 }
 
+// A First's date, where the paper is dated.
+pub enum When {
+    Undated,
+    On(Date),
+}
+
 pub struct First {
     pub amount: TransactionAmount,
     pub currency: u16,
     pub requested: u8,
     pub terminal: u8,
+    pub when: When,
 }
 
 // The response code has more room than its two bytes: a Second of eight bytes would be moved as one
@@ -57,15 +66,35 @@ fn read_start(body: &[u8]) -> Start
     }
 }
 
-// Type, amount (8), currency (2), terminal type.
-fn read_first(body: &[u8]) -> First
-    ensures { λ r. ⌜ r ≡ firstOf (now (body .entry)) ⌝ }
+// 12 bytes, and the date's 3 where the paper is dated.
+fn first_length(dating: Dating) -> usize
+    ensures { λ r. ⌜ r ≡ firstLength dating ⌝ }
+{
+    match dating {
+        Dating::Off => 12,
+        Dating::On { .. } => 15,
+    }
+}
+
+fn read_when(dating: Dating, body: &[u8]) -> When
+    ensures { λ r. ⌜ r ≡ whenOf dating (now (body .entry)) ⌝ }
+{
+    match dating {
+        Dating::Off => When::Undated,
+        Dating::On { .. } => When::On(calendar::date_at(body, 12)),
+    }
+}
+
+// Type, amount (8), currency (2), terminal type, and the date (3) where the paper is dated.
+fn read_first(dating: Dating, body: &[u8]) -> First
+    ensures { λ r. ⌜ r ≡ firstOf dating (now (body .entry)) ⌝ }
 {
     First {
         amount: TransactionAmount(wire::u64_at(body, 1)),
         currency: wire::u16_at(body, 9),
         requested: wire::byte_at(body, 0),
         terminal: wire::byte_at(body, 11),
+        when: read_when(dating, body),
     }
 }
 
@@ -83,14 +112,14 @@ fn read_second(body: &[u8]) -> Second
 
 // The command in a record of a kind, or refusal 9 for an unknown kind, a repeated set-up or a body
 // of another length.
-fn read_command(kind: u8, body: &[u8]) -> ReadCommand
-    ensures { λ r. ⌜ r ≡ commandOf kind (now (body .entry)) ⌝ }
+fn read_command(dating: Dating, kind: u8, body: &[u8]) -> ReadCommand
+    ensures { λ r. ⌜ r ≡ commandOf dating kind (now (body .entry)) ⌝ }
 {
     if (kind == START) & (body.len() == 1) {
         return ReadCommand::Taken(Command::Start(read_start(body)));
     }
-    if (kind == FIRST) & (body.len() == 12) {
-        return ReadCommand::Taken(Command::First(read_first(body)));
+    if (kind == FIRST) & (body.len() == first_length(dating)) {
+        return ReadCommand::Taken(Command::First(read_first(dating, body)));
     }
     if (kind == SECOND) & (body.len() == 8) {
         return ReadCommand::Taken(Command::Second(read_second(body)));
@@ -133,9 +162,10 @@ pub fn read_record(shape: Shape, paper: &[u8], kind: u8, body: &[u8]) -> ReadCom
     ensures { λ r. ⌜ r ≡ commandIn shape (now (paper .entry)) kind (now (body .entry)) ⌝ }
 {
     let selecting = shape.selecting;
+    let dating = shape.dating;
     if selects(selecting, kind) {
         let chosen = select_profile(selecting, paper, body);
         return ReadCommand::Taken(Command::Start(Start { chosen }));
     }
-    read_command(kind, body)
+    read_command(dating, kind, body)
 }

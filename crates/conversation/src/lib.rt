@@ -5,8 +5,11 @@ ghost use Prim.Native.Nat.{_+_, _<_, _^_};
 ghost use lib.ListN.{length};
 ghost use Rattle.rules.specs.Rules.{rulesOf};
 ghost use Rattle.setup.specs.Setup.{wordsAfter};
-ghost use Rattle.shape.specs.Shape.{Lies, selectingAt, shapeAt};
-ghost use Rattle.conversation.specs.Conversation.{answeredBy, takenOf, setUpEvent, refusedAt, baseBegun, setupBegun, setupWords, begunOf, wordsBegun};
+ghost use Rattle.shape.specs.Shape.{cyclesPart, Lies, Spans, selectingAt, datingAt, shapeAt};
+ghost use Rattle.shape.specs.declared.ReadShape.the-variants.{Taken as ShapeTaken};
+ghost use Rattle.shape.proofs.Inside.{Inside};
+ghost use Rattle.conversation.specs.Conversation.{answeredBy, takenOf, setUpEvent, refusedAt, baseBegun, shapedBegun, shapedWords};
+ghost use Rattle.conversation.specs.Conversation.{setupBegun, setupWords, begunOf, wordsBegun};
 use command::Command;
 use command::ReadCommand;
 use paper::Next;
@@ -14,6 +17,7 @@ use paper::Opened;
 use refusal::Refusal;
 use rules::Words;
 use setup::SetupAnswer;
+use shape::Dating;
 use shape::ReadShape;
 use shape::Selecting;
 use shape::Shape;
@@ -109,6 +113,8 @@ fn refuse(refusal: Refusal, at: usize) -> Begun
             base: 0,
             selecting: Selecting::Off,
             syllabus: 0,
+            dating: Dating::Off,
+            unnamed: 4_194_304,
         },
         state: card::fresh_card(none),
         at,
@@ -116,12 +122,12 @@ fn refuse(refusal: Refusal, at: usize) -> Begun
     }
 }
 
-// The set-up's base, read into lent words.
-fn take_base(shape: Shape, base: &[u8], end: usize, words: &mut Words) -> Begun
-    ensures { λ r. ⌜ (r ≡ baseBegun shape (now (base .entry)) end)
-        × (now (words .exit) ≡ wordsAfter (now (words .entry)) (now (base .entry)) (shape .syllabus)) ⌝ }
+// The set-up's base and the tail with its cyclic accumulators, read into lent words.
+fn take_base(shape: Shape, base: &[u8], cycles: &[u8], end: usize, words: &mut Words) -> Begun
+    ensures { λ r. ⌜ (r ≡ baseBegun shape (now (base .entry)) (now (cycles .entry)) end)
+        × (now (words .exit) ≡ wordsAfter (now (words .entry)) (now (base .entry)) (now (cycles .entry)) (shape .syllabus) (shape .unnamed)) ⌝ }
 {
-    let read = setup::read_setup(base, shape.syllabus, words);
+    let read = setup::read_setup(base, cycles, shape.syllabus, shape.unnamed, words);
     let fresh = read.fresh;
     let answer = read.answer;
     Begun {
@@ -151,7 +157,63 @@ fn select_in(selecting: Selecting, place: usize, bytes: usize) -> Selecting
     }
 }
 
-// The set-up: its shape is read and then its base, or refused.
+// The tail's places likewise.
+fn date_in(dating: Dating, place: usize, bytes: usize) -> Dating
+    requires { ⌜ Spans dating bytes × (place + bytes < 2 ^ 63) ⌝ }
+    ensures { λ r. ⌜ r ≡ datingAt place dating ⌝ }
+{
+    match dating {
+        Dating::Off => Dating::Off,
+        Dating::On { start, end } => Dating::On {
+            start: place + start,
+            end: place + end,
+        },
+    }
+}
+
+// A shape with its places in the paper.
+fn place_in(shape: Shape, place: usize, bytes: usize) -> Shape
+    requires { ⌜ Inside shape bytes × (place + bytes < 2 ^ 63) ⌝ }
+    ensures { λ r. ⌜ r ≡ shapeAt place shape ⌝ }
+{
+    let read = shape.selecting;
+    let selecting = select_in(read, place, bytes);
+    let dates = shape.dating;
+    let dating = date_in(dates, place, bytes);
+    Shape {
+        base: shape.base,
+        selecting,
+        syllabus: shape.syllabus,
+        dating,
+        unnamed: shape.unnamed,
+    }
+}
+
+// The tail with dates, no byte where they are off.
+fn cycles_in(dating: Dating, body: &[u8]) -> &[u8]
+    requires { ⌜ Spans dating (length (now body)) ⌝ }
+    ensures { λ r. ⌜ now r ≡ cyclesPart dating (now (body .entry)) ⌝ }
+{
+    match dating {
+        Dating::Off => &body[..0],
+        Dating::On { start, end } => &body[start..end],
+    }
+}
+
+// A set-up of this shape: its base, and its tail with dates where there is one.
+fn take_shaped(shape: Shape, body: &[u8], place: usize, end: usize, words: &mut Words) -> Begun
+    requires { ⌜ Inside shape (length (now body)) × (place + length (now body) < 2 ^ 63) ⌝ }
+    ensures { λ r. ⌜ (r ≡ shapedBegun (now (body .entry)) place end (ShapeTaken shape))
+        × (now (words .exit) ≡ shapedWords (now (words .entry)) (now (body .entry)) (ShapeTaken shape)) ⌝ }
+{
+    let placed = place_in(shape, place, body.len());
+    let base = shape.base;
+    let dating = shape.dating;
+    let cycles = cycles_in(dating, body);
+    take_base(placed, &body[..base], cycles, end, words)
+}
+
+// The set-up: its shape is read, and then what it says, or refused.
 fn take_setup(version: u8, body: &[u8], place: usize, end: usize, words: &mut Words) -> Begun
     requires { ⌜ place + length (now body) < 2 ^ 63 ⌝ }
     ensures { λ r. ⌜ (r ≡ setupBegun version (now (body .entry)) place end)
@@ -159,17 +221,7 @@ fn take_setup(version: u8, body: &[u8], place: usize, end: usize, words: &mut Wo
 {
     match shape::read_shape(version, body) {
         ReadShape::Refused(refusal) => refuse(refusal, end),
-        ReadShape::Taken(shape) => {
-            let base = shape.base;
-            let read = shape.selecting;
-            let selecting = select_in(read, place, body.len());
-            let placed = Shape {
-                base,
-                selecting,
-                syllabus: shape.syllabus,
-            };
-            take_base(placed, &body[..base], end, words)
-        }
+        ReadShape::Taken(shape) => take_shaped(shape, body, place, end, words),
     }
 }
 

@@ -10,7 +10,7 @@ use Rattle.iad.specs.declared.Iad.{Iad}
 use Rattle.rules.specs.declared.Place.{Place}
 use Rattle.rules.specs.declared.Values.{Values}
 use Rattle.rules.specs.Rules.{Rules, profileAt}
-use Rattle.checks.specs.Checks.{bit, meetsMask, accumulatorsLowerGroup, accumulatorsUpperGroup, countersLowerGroup, countersUpperGroup}
+use Rattle.checks.specs.Checks.{bit, meetsMask, accumulatorsLowerGroup, accumulatorsUpperGroup, dateError, countersLowerGroup, countersUpperGroup}
 use Rattle.state.specs.declared.History.{History}
 use Rattle.cryptogram.specs.declared.Issuer.{Issuer}
 use Rattle.state.specs.declared.Kind.{Kind}
@@ -30,12 +30,13 @@ laterCode LaterAac = 0
 laterCode LaterTc = 1
 laterCode NotRequested = 2
 
--- byte 3, of the decision bits: b8 any counter lower, b7 upper, b6 any accumulator lower, b5 upper
+-- byte 3, of the decision bits: b8 any counter lower, b7 upper, b6 any accumulator lower, b5 upper, b2 a date error (request Five)
 unfoldable pub limitsByte : ℕ → ℕ
 limitsByte adr =
     bit (meetsMask adr countersLowerGroup) * 128 + bit (meetsMask adr countersUpperGroup) * 64
     + bit (meetsMask adr accumulatorsLowerGroup) * 32
     + bit (meetsMask adr accumulatorsUpperGroup) * 16
+    + bit (meetsMask adr dateError) * 2
 
 -- byte 1: b8-b7 second type, b6-b5 first type, b2 issuer authentication not performed, b1 failed.
 -- byte 2: high nibble PIN tries, b2 set when they are 0, b1 last online not completed at First.

@@ -46,7 +46,7 @@ fn later_code(later: Later) -> u8
     }
 }
 
-// CVR byte 3: any counter lower, upper, any accumulator lower, upper.
+// CVR byte 3: any counter lower, upper, any accumulator lower, upper, and a date error.
 pub fn limits_of(adr: u32) -> u8
     ensures { λ r. ⌜ r ≡ limitsByte adr ⌝ }
 {
@@ -54,6 +54,7 @@ pub fn limits_of(adr: u32) -> u8
         + checks::bit(checks::meets(adr, checks::COUNTERS_UPPER)) * 64
         + checks::bit(checks::meets(adr, checks::ACCUMULATORS_LOWER)) * 32
         + checks::bit(checks::meets(adr, checks::ACCUMULATORS_UPPER)) * 16
+        + checks::bit(checks::meets(adr, checks::DATE_ERROR)) * 2
 }
 
 // The Card Verification Results. History and limits are those of the First.

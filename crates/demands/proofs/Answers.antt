@@ -7,10 +7,10 @@ use Prim.Native.Nat.{ℕ, zero, suc, _+_, _/_, _%_, _≤_}
 use native.Mathlib.Omega.{arith}
 use borrow.Author.Tests.{leb-true, leb-false, eq-eqb, ne-eqb}
 use lib.Dec.{leb, eqb}
+use Rattle.calendar.specs.declared.Date.{Date}
 use Rattle.money.specs.Money.{max}
 use Rattle.refusal.specs.declared.Refusal.{Refusal}
 use Rattle.iad.specs.declared.Cvr.{Cvr}
-use Rattle.iad.specs.declared.Iad.{Iad}
 use Rattle.rules.specs.declared.Place.{Place}
 use Rattle.rules.specs.declared.Values.{Values}
 use Rattle.rules.specs.Rules.{Rules, Profile, indexOf, profileAt}
@@ -22,6 +22,7 @@ use Rattle.command.specs.declared.First.{First}
 use Rattle.command.specs.declared.Second.{Second}
 use Rattle.command.specs.declared.Command.{Command}
 use Rattle.command.specs.declared.Command.the-variants.{Start as StartCommand, First as FirstCommand, Second as SecondCommand}
+use Rattle.purchase.specs.declared.Timing.{Timing}
 use Rattle.purchase.specs.declared.Purchase.{Purchase}
 use Rattle.state.specs.declared.History.{History}
 use Rattle.checks.specs.Checks.{meetsMask}
@@ -37,15 +38,16 @@ use Rattle.state.specs.declared.Phase.the-variants.{Idle, Opened, Asked}
 use Rattle.state.specs.declared.State.{State}
 use Rattle.state.specs.declared.Outcome.{Outcome}
 use Rattle.cryptogram.specs.Cryptogram.{limitsByte, laterCode, verification, issuerBefore, sentIad}
-use Rattle.first.specs.First.{purchaseOf, firstBits, firstKind, firstPerformed, settled, asked, concluded}
+use Rattle.cycles.specs.Cycles.{timingOf, dated}
+use Rattle.first.specs.First.{purchaseOf, firstBits, firstKind, firstPerformed, firstAnswered, settled, asked, concluded}
 use Rattle.state.specs.State.{unableIn}
 use Rattle.second.specs.Second.{isUnable, unableBits, issuerUnable, closingKind, laterKind, unablePerformed, verifiedPerformed}
 use Rattle.second.specs.Second.{failedPerformed, absentPerformed, secondPerformed, closed, updateByte}
-use Rattle.card.specs.Card.{refused, freshState}
+use Rattle.card.specs.Card.{refused, isDated, freshState}
 use Rattle.demands.specs.Setup.{Setup, byteAt, numberAt, AcceptedSetup}
 use Rattle.purchase.specs.Meter.{Meter, valueOf}
 use Rattle.demands.specs.Conversation.{Exchange, Sitting, after, told, run, rulesBy, sat, next}
-use Rattle.demands.specs.Audit.{isOn, named, brought, bought, inForce, placeBy, audited}
+use Rattle.demands.specs.Audit.{isOn, named, brought, bought, lastDate, dealing, inForce, placeBy, audited, tested}
 use Rattle.demands.specs.Past.{past, beforeFirst}
 use Rattle.demands.specs.Rows.{InSetup}
 use Rattle.demands.specs.Decision.{flags, meets}
@@ -56,7 +58,9 @@ use Rattle.demands.proofs.Run.{Ruled, ruled-keeps, always-ruled, did-by
 use Rattle.demands.proofs.Ends.{second-closes}
 use Rattle.demands.proofs.Refusal.{in-rules, in-bytes}
 use Rattle.demands.proofs.Bytes.{fits, Stands, profile-is, number-there}
-use Rattle.demands.proofs.Total.{Remembers, Agrees, Holding, did-holds, begin-holds}
+use Rattle.demands.proofs.Dated.{same-history}
+use Rattle.demands.proofs.Deals.{Remembers, Deals, brought-as, did-deals, begin-deals}
+use Rattle.demands.proofs.Total.{Agrees, Holding, begun-values, did-holds, begin-holds}
 use Rattle.demands.proofs.Past.{Recalls, did-keeps, begin-recalls}
 use Rattle.demands.proofs.Decision.{met-is}
 use Rattle.demands.proofs.First.{flags-same, kind-answers}
@@ -73,9 +77,11 @@ KeepsIn setup before at purchase (Opened place) = Unit
 KeepsIn setup before at purchase (Asked pending) = Keeps setup before at purchase pending
 
 abbrev pub Keeping : Setup → Sitting → Type 0
-Keeping setup sitting = KeepsIn setup (beforeFirst (sitting .log)) (placeBy setup (sitting .log)) (bought (sitting .log)) (sitting .state .phase)
+Keeping setup sitting =
+    KeepsIn setup (beforeFirst (sitting .log)) (placeBy setup (sitting .log)) (bought setup (sitting .log)) (sitting .state .phase)
 
 pub record Knows (setup : Setup) (sitting : Sitting) : Type 0 where
+  pub deals : Deals setup sitting
   pub holding : Holding setup sitting
   pub recalls : Recalls setup sitting
   pub keeps : Keeping setup sitting
@@ -110,46 +116,64 @@ module _ (setup : Setup) (sitting : Sitting) (ruled : Ruled setup sitting) (know
 
   -- ---- First
 
-  module _ (first : First) (place : Place) (stands : Stands now place at) (type : first .requested ≤ 2) (small : first .amount .0 ≤ max) where
-    abbrev limits : ℕ
-    limits = limitsByte (firstBits rules state place first)
+  module _ (first : First) (place : Place) (stands : Stands now place at) (type : first .requested ≤ 2) (small : first .amount .0 ≤ max)
+      (day : isDated (first .when) ≡ true) where
+    -- the card when the tests come, and what they see
+    abbrev begun : State
+    begun = dated rules state (first .when)
 
-    limits-now : limits ≡ limitsBy now at (brought first) (audited setup log)
+    abbrev timing : Timing
+    timing = timingOf (state .last) (first .when)
+
+    abbrev purchase : Purchase
+    purchase = brought (lastDate setup log) first
+
+    abbrev value : Meter → ℕ
+    value = tested setup log first
+
+    abbrev limits : ℕ
+    limits = limitsByte (firstBits rules begun place first timing)
+
+    limits-now : limits ≡ limitsBy now at purchase value
     limits-now =
-        limits-are now good place at stands (state .values) (purchaseOf first) small (state .history)
-        ∙ limits-audited now at (brought first) (valueOf (state .values)) (audited setup log) (knows .holding .values)
+        limits-are now good place at stands (begun .values) (purchaseOf first timing) small (begun .history)
+        ∙ limits-audited now at (purchaseOf first timing) (valueOf (begun .values)) value
+        (begun-values setup sitting ruled (knows .deals) (knows .holding) first small day)
+        ∙ ap (λ p. limitsBy now at p value) (brought-as setup sitting ruled (knows .deals) first small day)
+
+    history-then : begun .history ≡ past setup log
+    history-then = same-history rules state (first .when) ∙ knows .recalls .history-is
 
     abbrev cvr-of : Kind → Cvr
-    cvr-of kind = verification rules (state .history) limits kind NotRequested (issuerBefore (state .history))
+    cvr-of kind = verification rules (begun .history) limits kind NotRequested (issuerBefore (begun .history))
 
-    cvr-verifies : (kind : Kind) → Verifies now at (brought first) (audited setup log) (past setup log) notRequested (typeOf kind)
-        (issuingAtFirst (past setup log)) (cvr-of kind)
+    cvr-verifies : (kind : Kind)
+        → Verifies now at purchase value (past setup log) notRequested (typeOf kind) (issuingAtFirst (past setup log)) (cvr-of kind)
     cvr-verifies kind =
-        subst (λ history. Verifies now at (brought first) (audited setup log) history notRequested (typeOf kind) (issuingAtFirst history) (cvr-of kind))
-        (knows .recalls .history-is)
-        (verifies now at (brought first) (audited setup log) (state .history) limits limits-now kind NotRequested (issuerBefore (state .history)))
+        subst (λ history. Verifies now at purchase value history notRequested (typeOf kind) (issuingAtFirst history) (cvr-of kind)) history-then
+        (verifies now at purchase value (begun .history) limits limits-now kind NotRequested (issuerBefore (begun .history)))
 
     abbrev outcome-of : Kind → Outcome
-    outcome-of kind = concluded rules state place (purchaseOf first) limits (cvr-of kind) kind
+    outcome-of kind = concluded rules begun place (purchaseOf first timing) limits (cvr-of kind) kind
 
-    concluded-iad : (kind : Kind) → outcome-of kind .answer ≡ Given kind (state .atc) (sentIad rules place (outcome-of kind .state .values) (cvr-of kind))
+    concluded-iad : (kind : Kind) → outcome-of kind .answer ≡ Given kind (begun .atc) (sentIad rules place (outcome-of kind .state .values) (cvr-of kind))
     unfolding settled asked concluded
     concluded-iad Aac = refl
     concluded-iad Tc = refl
     concluded-iad Arqc = refl
 
     concluded-knows : (kind : Kind) → Keeping setup (after sitting (FirstCommand first) (outcome-of kind))
-    unfolding settled asked concluded beforeFirst named bought inForce
+    unfolding settled asked concluded beforeFirst named dealing inForce
     concluded-knows Aac = tt
     concluded-knows Tc = tt
-    concluded-knows Arqc = record { history-is = knows .recalls .history-is; limits-is = limits-now }
+    concluded-knows Arqc = record { history-is = history-then; limits-is = limits-now }
 
     -- the parts of an answer are those of the answer that it equals
-    first-gives : Holding setup (after sitting (FirstCommand first) (outcome-of (firstKind rules state place first)))
-        → Gives setup log (FirstCommand first) (outcome-of (firstKind rules state place first))
+    first-gives : Holding setup (after sitting (FirstCommand first) (outcome-of (firstKind rules begun place first timing)))
+        → Gives setup log (FirstCommand first) (outcome-of (firstKind rules begun place first timing))
     unfolding sentIad
     first-gives held kind atc iad e =
-        let decided = firstKind rules state place first in
+        let decided = firstKind rules begun place first timing in
         let given = sym (concluded-iad decided) ∙ e in
         let same : decided ≡ kind = cc in
         let sent : sentIad rules place (outcome-of decided .state .values) (cvr-of decided) ≡ iad = cc in
@@ -157,7 +181,7 @@ module _ (setup : Setup) (sitting : Sitting) (ruled : Ruled setup sitting) (know
         let parts : FirstGives setup log (exchange ∷ log) first decided (sentIad rules place (outcome-of decided .state .values) (cvr-of decided)) =
         record {
           known = standing place stands;
-          decides = kind-answers setup sitting ruled (knows .holding) (knows .recalls .history-is) first place stands type small;
+          decides = kind-answers setup sitting ruled (knows .deals) (knows .holding) (knows .recalls .history-is) first place stands type small day;
           verifies = cvr-verifies decided;
           sends = sends-audited now good (named log) place stands (outcome-of decided .state .values) (cvr-of decided) _ (held .values);
         } in
@@ -166,11 +190,17 @@ module _ (setup : Setup) (sitting : Sitting) (ruled : Ruled setup sitting) (know
   -- ---- Second
 
   module _ (second : Second) (pending : Pending) (is : state .phase ≡ Asked pending) (type : second .requested ≤ 1) where
-    remembers : Remembers now (named log) (bought log) pending
-    remembers = subst (Agrees now (named log) (bought log)) is (knows .holding .agrees)
+    stands-there : Stands now (pending .place) at
+    stands-there = subst (Agrees now (named log)) is (knows .holding .agrees)
 
-    kept : Keeps setup (beforeFirst log) at (bought log) pending
-    kept = subst (KeepsIn setup (beforeFirst log) at (bought log)) is (knows .keeps)
+    purchase-is : pending .purchase ≡ bought setup log
+    purchase-is = subst (Remembers (bought setup log)) is (knows .deals .remembers) .0
+
+    no-more : pending .purchase .amount .0 ≤ max
+    no-more = subst (λ (p : Purchase). p .amount .0 ≤ max) (sym purchase-is) (subst (Remembers (bought setup log)) is (knows .deals .remembers) .1)
+
+    kept : Keeps setup (beforeFirst log) at (bought setup log) pending
+    kept = subst (KeepsIn setup (beforeFirst log) at (bought setup log)) is (knows .keeps)
 
     -- the set-up, the values and the history at First
     abbrev first-setup : Setup
@@ -183,7 +213,7 @@ module _ (setup : Setup) (sitting : Sitting) (ruled : Ruled setup sitting) (know
     first-past = past setup (beforeFirst log)
 
     abbrev fs : List Bool
-    fs = flags now at (bought log) (audited setup log) (withUnable first-past)
+    fs = flags now at (bought setup log) (audited setup log) (withUnable first-past)
 
     abbrev Given-by : Outcome → Type 0
     Given-by outcome = Holding setup (after sitting (SecondCommand second) outcome) → Gives setup log (SecondCommand second) outcome
@@ -204,31 +234,31 @@ module _ (setup : Setup) (sitting : Sitting) (ruled : Ruled setup sitting) (know
     same-pin = pin-stays setup (beforeFirst log) ∙ sym (pin-stays setup log)
 
     cvr-closed : (approves : Bool) (issuer : Issuer)
-        → Verifies first-setup at (bought log) first-values first-past (typeOf (closingKind approves)) (typeOf Arqc) (issuing-of issuer)
+        → Verifies first-setup at (bought setup log) first-values first-past (typeOf (closingKind approves)) (typeOf Arqc) (issuing-of issuer)
         (verification rules (pending .history) (pending .limits) Arqc (laterKind approves) issuer)
     cvr-closed approves issuer =
-        subst₃ (λ history second cvr. Verifies first-setup at (bought log) first-values history second (typeOf Arqc) (issuing-of issuer) cvr)
+        subst₃ (λ history second cvr. Verifies first-setup at (bought setup log) first-values history second (typeOf Arqc) (issuing-of issuer) cvr)
         (kept .history-is) (later-is approves)
         (same-cvr (rulesBy first-setup) rules same-pin (pending .history) (pending .limits) Arqc (laterKind approves) issuer)
-        (verifies first-setup at (bought log) first-values (pending .history) (pending .limits) (kept .limits-is) Arqc (laterKind approves) issuer)
+        (verifies first-setup at (bought setup log) first-values (pending .history) (pending .limits) (kept .limits-is) Arqc (laterKind approves) issuer)
 
-    closed-gives : (approves : Bool) (values : Values) (history : History) (issuer : Issuer) → approves ≡ secondApproves now at fs second
-        → issuing-of issuer ≡ issuingAtSecond second first-past → Given-by (closed rules (state .atc) pending approves values history issuer)
+    closed-gives : (approves : Bool) (values : Values) (last : Date) (history : History) (issuer : Issuer) → approves ≡ secondApproves now at fs second
+        → issuing-of issuer ≡ issuingAtSecond second first-past → Given-by (closed rules (state .atc) pending approves values last history issuer)
     unfolding closed sentIad
-    closed-gives approves values history issuer right issuing held kind atc iad e =
+    closed-gives approves values last history issuer right issuing held kind atc iad e =
         let cvr = verification rules (pending .history) (pending .limits) Arqc (laterKind approves) issuer in
-        let answer = closed rules (state .atc) pending approves values history issuer .answer in
+        let answer = closed rules (state .atc) pending approves values last history issuer .answer in
         let exchange : Exchange = record { command = SecondCommand second; answer = answer } in
         let same : closingKind approves ≡ kind = cc in
         let sent : sentIad rules (pending .place) values cvr ≡ iad = cc in
         let parts : SecondGives setup log (exchange ∷ log) second (closingKind approves) (sentIad rules (pending .place) values cvr) =
         record {
-          known = standing (pending .place) (remembers .stands);
+          known = standing (pending .place) stands-there;
           decides = closing-is approves ∙ ap (λ b. cond b Tc Aac) right;
           verifies =
-              subst (λ i. Verifies first-setup at (bought log) first-values first-past (typeOf (closingKind approves)) (typeOf Arqc) i cvr) issuing
+              subst (λ i. Verifies first-setup at (bought setup log) first-values first-past (typeOf (closingKind approves)) (typeOf Arqc) i cvr) issuing
               (cvr-closed approves issuer);
-          sends = sends-audited now good (named log) (pending .place) (remembers .stands) values cvr _ (held .values);
+          sends = sends-audited now good (named log) (pending .place) stands-there values cvr _ (held .values);
         } in
         subst₂ (SecondGives setup log (exchange ∷ log) second) same sent parts
 
@@ -242,11 +272,11 @@ module _ (setup : Setup) (sitting : Sitting) (ruled : Ruled setup sitting) (know
     unfolding profileIn
     default-met =
         let history = unableIn (pending .history) in
-        let stands = remembers .stands in
-        met-is now good (pending .place) at stands (state .values) (pending .purchase) (remembers .small) history default-mask
+        let stands = stands-there in
+        met-is now good (pending .place) at stands (state .values) (pending .purchase) no-more history default-mask
         ∙ ap (λ f. meets f default-mask)
         (flags-same now at (pending .purchase) (valueOf (state .values)) (audited setup log) history (knows .holding .values)
-        ∙ ap₂ (λ purchase h. flags now at purchase (audited setup log) (withUnable h)) (remembers .purchase-is) (kept .history-is))
+        ∙ ap₂ (λ purchase h. flags now at purchase (audited setup log) (withUnable h)) purchase-is (kept .history-is))
         ∙ ap (λ (p : Profile). meets fs (p .masks .default)) (profile-is now (pending .place) at stands)
 
     unable-right : (r : ℕ) → r ≤ 1 → (m : Bool) → not (eqb r 0 || m) ≡ (eqb r 1 && not m)
@@ -254,9 +284,9 @@ module _ (setup : Setup) (sitting : Sitting) (ruled : Ruled setup sitting) (know
     unable-right (suc zero) l m = refl
     unable-right (suc (suc r)) l m = absurd (omega arith)
 
-    unable-gives : isUnable (second .code) ≡ true → (values : Values) (history : History)
-        → Given-by (closed rules (state .atc) pending (not (eqb (second .requested) 0 || meets-default)) values history (issuerUnable (pending .history)))
-    unable-gives u values history = closed-gives _ values history (issuerUnable (pending .history)) right issuing where
+    unable-gives : isUnable (second .code) ≡ true → (values : Values) (last : Date) (history : History)
+        → Given-by (closed rules (state .atc) pending (not (eqb (second .requested) 0 || meets-default)) values last history (issuerUnable (pending .history)))
+    unable-gives u values last history = closed-gives _ values last history (issuerUnable (pending .history)) right issuing where
       issuing : issuing-of (issuerUnable (pending .history)) ≡ issuingAtSecond second first-past
       issuing = rw u (ap (λ (h : History). record { unperformed = true; failed = h .failed; unable = true }) (kept .history-is))
 
@@ -274,29 +304,29 @@ module _ (setup : Setup) (sitting : Sitting) (ruled : Ruled setup sitting) (know
     not-required (suc zero) l = refl
     not-required (suc (suc b)) l = absurd (omega arith)
 
-    module _ (u : isUnable (second .code) ≡ false) (values : Values) (history : History) where
+    module _ (u : isUnable (second .code) ≡ false) (values : Values) (last : Date) (history : History) where
       verified-gives : eqb (second .issuer) 1 ≡ true
-          → Given-by (closed rules (state .atc) pending (eqb (second .requested) 1 && leb 128 (updateByte (second .csu))) values history
+          → Given-by (closed rules (state .atc) pending (eqb (second .requested) 1 && leb 128 (updateByte (second .csu))) values last history
           (record { unperformed = false; failed = false; unable = false }))
       verified-gives v =
-          closed-gives (eqb (second .requested) 1 && leb 128 (updateByte (second .csu))) values history
+          closed-gives (eqb (second .requested) 1 && leb 128 (updateByte (second .csu))) values last history
           (record { unperformed = false; failed = false; unable = false })
           (rw (u, v) (ap (λ b. eqb (second .requested) 1 && b) (b8 (second .csu / 65536)))) (rw (u, v))
 
       failed-gives : eqb (second .issuer) 1 ≡ false → eqb (second .issuer) 2 ≡ true
-          → Given-by (closed rules (state .atc) pending false values history
+          → Given-by (closed rules (state .atc) pending false values last history
           (record { unperformed = issuerBefore (pending .history) .unperformed; failed = true; unable = false }))
       failed-gives v f =
-          closed-gives false values history (record { unperformed = issuerBefore (pending .history) .unperformed; failed = true; unable = false })
+          closed-gives false values last history (record { unperformed = issuerBefore (pending .history) .unperformed; failed = true; unable = false })
           (rw (u, v, f))
           (rw (u, v, f) (ap (λ (h : History). record { unperformed = h .unable || h .missing; failed = true; unable = false }) (kept .history-is)))
 
       absent-gives : eqb (second .issuer) 1 ≡ false → eqb (second .issuer) 2 ≡ false
-          → Given-by (closed rules (state .atc) pending (eqb (second .requested) 1 && not (rules .required)) values history
+          → Given-by (closed rules (state .atc) pending (eqb (second .requested) 1 && not (rules .required)) values last history
           (record { unperformed = true; failed = pending .history .failed; unable = false }))
       unfolding rulesIn
       absent-gives v f =
-          closed-gives (eqb (second .requested) 1 && not (rules .required)) values history
+          closed-gives (eqb (second .requested) 1 && not (rules .required)) values last history
           (record { unperformed = true; failed = pending .history .failed; unable = false })
           (rw (u, v, f) (ap (λ b. eqb (second .requested) 1 && b) (not-required (byteAt now 2) (fits good .required))))
           (rw (u, v, f) (ap (λ (h : History). record { unperformed = true; failed = h .failed; unable = false }) (kept .history-is)))
@@ -308,10 +338,10 @@ module _ (setup : Setup) (sitting : Sitting) (ruled : Ruled setup sitting) (know
           → Given-by (cond u (unablePerformed rules state (second .requested) pending)
           (cond v (verifiedPerformed rules state second pending)
           (cond f (failedPerformed rules state pending) (absentPerformed rules state (second .requested) pending))))
-      by true u v p f q = unable-gives u _ _
-      by false u true p f q = verified-gives u _ _ p
-      by false u false p true q = failed-gives u _ _ p q
-      by false u false p false q = absent-gives u _ _ p q
+      by true u v p f q = unable-gives u _ _ _
+      by false u true p f q = verified-gives u _ _ _ p
+      by false u false p true q = failed-gives u _ _ _ p q
+      by false u false p false q = absent-gives u _ _ _ p q
 
   -- ---- every step
 
@@ -331,7 +361,7 @@ module _ (setup : Setup) (sitting : Sitting) (ruled : Ruled setup sitting) (know
   selected NotSelected some = absurd (omega arith)
 
   refused-kept : (command : Command) (r : Refusal) → Keeping setup (after sitting command (refused state r))
-  unfolding beforeFirst named bought inForce
+  unfolding beforeFirst named dealing inForce
   refused-kept (StartCommand start) r = knows .keeps
   refused-kept (FirstCommand first) r = knows .keeps
   refused-kept (SecondCommand second) r = knows .keeps
@@ -342,19 +372,21 @@ module _ (setup : Setup) (sitting : Sitting) (ruled : Ruled setup sitting) (know
   refused-gives (SecondCommand second) r = λ kind atc iad e. let z : _≡_ {A = ℕ} 0 1 = cc in absurd (omega arith)
 
   stood : (place : Place) → state .phase ≡ Opened place → Stands now place at
-  stood place is = subst (Agrees now (named log) (bought log)) is (knows .holding .agrees)
+  stood place is = subst (Agrees now (named log)) is (knows .holding .agrees)
 
   did-kept : {command : Command} {outcome : Outcome} → Did rules state command outcome → Keeping setup (after sitting command outcome)
-  unfolding firstPerformed
+  unfolding firstPerformed firstAnswered
   did-kept {command} (refused-it r) = refused-kept command r
   did-kept (started-it start place holds) = tt
-  did-kept (took-first first place is type small) = concluded-knows first place (stood place is) type small (firstKind rules state place first)
+  did-kept (took-first first place is type small day) =
+      concluded-knows first place (stood place is) type small day
+      (firstKind rules (dated rules state (first .when)) place first (timingOf (state .last) (first .when)))
   did-kept (took-second second pending is type issuer) =
       subst (KeepsIn setup _ _ _) (sym (second-closes rules state second pending .idle)) tt
 
   did-gives : {command : Command} {outcome : Outcome} → Did rules state command outcome → Holding setup (after sitting command outcome)
       → Gives setup log command outcome
-  unfolding firstPerformed
+  unfolding firstPerformed firstAnswered
   did-gives {command} (refused-it r) held = refused-gives command r
   did-gives (started-it start place holds) held = λ atc visits e.
       record {
@@ -362,7 +394,7 @@ module _ (setup : Setup) (sitting : Sitting) (ruled : Ruled setup sitting) (know
         chose = selected (start .chosen) (holds .some) ∙ ap (Selected (profileOf (start .chosen))) (ap saidVisits e);
         known = in-bytes now good _ (in-rules rules _ place holds);
       }
-  did-gives (took-first first place is type small) held = first-gives first place (stood place is) type small held
+  did-gives (took-first first place is type small day) held = first-gives first place (stood place is) type small day held
   did-gives (took-second second pending is type issuer) held = second-gives second pending is type held
 
 module _ (setup : Setup) where
@@ -370,14 +402,15 @@ module _ (setup : Setup) where
   told-knows sitting ruled knows command =
       let step = did-by setup sitting ruled command in
       record {
-        holding = did-holds setup sitting ruled (knows .holding) step;
+        deals = did-deals setup sitting ruled (knows .deals) step;
+        holding = did-holds setup sitting ruled (knows .deals) (knows .holding) step;
         recalls = did-keeps setup sitting (knows .recalls) step .recalls;
         keeps = did-kept setup sitting ruled knows step;
       }
 
   begin-knows : AcceptedSetup setup → Knows setup (sat setup [])
   unfolding run freshState
-  begin-knows good = record { holding = begin-holds setup good; recalls = begin-recalls setup good; keeps = tt }
+  begin-knows good = record { deals = begin-deals setup good; holding = begin-holds setup good; recalls = begin-recalls setup good; keeps = tt }
 
   -- WHAT FIRST AND SECOND ANSWER
   pub gives : AcceptedSetup setup → (commands : List Command) (command : Command)
@@ -387,4 +420,4 @@ module _ (setup : Setup) where
       let ruled = always-ruled setup good commands in
       let knows = ruled-keeps setup good (Knows setup) told-knows (begin-knows good) commands in
       let step = did-by setup sitting ruled command in
-      did-gives setup sitting ruled knows step (did-holds setup sitting ruled (knows .holding) step)
+      did-gives setup sitting ruled knows step (did-holds setup sitting ruled (knows .deals) (knows .holding) step)

@@ -2,7 +2,7 @@
 -- Assumes nothing.
 use mathlib.Core.Path.{_≡_, refl, sym, ap, ap₂, _∙_}
 use mathlib.Core.Bool.{Bool, true, false, cond, _&&_}
-use mathlib.Core.List.{List, [], _∷_}
+use mathlib.Core.List.{List, []}
 use Prim.Native.Nat.{ℕ, zero, suc, _+_, _-_, _*_, _/_, _%_, _^_, _≤_, _<_}
 use native.Mathlib.Nat.{add-zero, div-one}
 use native.Mathlib.Omega.{arith}
@@ -15,12 +15,15 @@ use Rattle.money.specs.declared.Converted.the-variants.{Amount, Over, NoEntry}
 use Rattle.money.specs.Money.{max, stopped, blank, isFor, isRate, rateFor, rounded, scaled, amountOf, amountOrOver, convertOf}
 use Rattle.rules.specs.declared.Place.{Place}
 use Rattle.rules.specs.declared.Place.the-variants.{One, Two, Three, Four}
-use Rattle.rules.specs.Rules.{Profile, blankProfile, blankAccumulator, blankCounter, indexOf, profileAt, currencyAt, accumulatorRule, counterRule}
-use Rattle.rules.proofs.Places.{four-at}
-use Rattle.ranges.proofs.Accepted.{Accepted, accepted}
-use Rattle.setup.specs.Setup.{rateIn, accumulatorIn, counterIn, profileIn, rulesIn}
+use Rattle.rules.specs.declared.Cycle.{Cycle}
+use Rattle.rules.specs.declared.CyclicRule.{CyclicRule}
+use Rattle.rules.specs.Rules.{Profile, two, blankProfile, blankAccumulator, blankCounter, blankCycle, blankCyclic, indexOf, profileAt}
+use Rattle.rules.specs.Rules.{currencyAt, accumulatorRule, counterRule, cycleOf, cyclicRule}
+use Rattle.rules.proofs.Places.{four-at, two-at}
+use Rattle.ranges.proofs.Accepted.{Accepted, accepted, CyclesAccepted, cycles-accepted}
+use Rattle.setup.specs.Setup.{rateIn, accumulatorIn, counterIn, profileIn, cycleIn, cyclicIn, rulesIn, isAccepted}
 use Rattle.purchase.specs.declared.Purchase.{Purchase}
-use Rattle.purchase.specs.Meter.{Meter, accumulator, counter, IsMeter, MeterRule, accumulating, counting, ruleOf, worth}
+use Rattle.purchase.specs.Meter.{Meter, accumulator, counter, cyclic, IsMeter, MeterRule, accumulating, counting, cycling, ruleOf, worth, cyclicWorth}
 use Rattle.purchase.specs.Meter.{worthTo as cardWorth}
 use Rattle.meters.specs.Meters.{addition}
 use Rattle.demands.specs.Setup.{Setup, byteAt, numberAt, AcceptedSetup}
@@ -31,8 +34,15 @@ use Rattle.demands.specs.Decision.{lowerOf}
 use Rattle.demands.proofs.Found.{Holds, below-four}
 
 -- every field of an accepted set-up is in its range
-pub fits : {setup : Setup} → AcceptedSetup setup → Accepted (setup .bytes)
-fits good = accepted _ (good .taken)
+pub fits : {setup : Setup} → AcceptedSetup setup → Accepted (setup .bytes) (setup .unnamed)
+fits good = accepted _ _ (good .taken)
+
+-- and of its tail, where it has one
+pub fits-tail : {setup : Setup} → AcceptedSetup setup → CyclesAccepted (setup .tail)
+fits-tail good = cycles-accepted _ (good .tail-taken)
+
+pub both-fit : {setup : Setup} → AcceptedSetup setup → isAccepted (setup .bytes) (setup .tail) (setup .unnamed) ≡ true
+both-fit good = simp (good .taken, good .tail-taken)
 
 -- the profile at a place of the rules stands at an offset in the bytes
 pub record Stands (setup : Setup) (place : Place) (at : ℕ) : Type 0 where
@@ -66,6 +76,16 @@ module _ (setup : Setup) (place : Place) (at : ℕ) (stands : Stands setup place
       ap (λ profile. getD (profile .counters) i blankCounter) profile-is
       ∙ four-at (λ j. counterIn (setup .bytes) (at + (92 + 3 * j))) blankCounter i l
 
+  -- its cyclic accumulators' rules stand in the tail behind those of the profiles before it
+  pub cyclic-is : (i : ℕ) → i < 2 → cyclicRule (rulesBy setup) place i ≡ cyclicIn (setup .tail) (28 + 18 * ((at - 52) / 107) + 9 * i)
+  unfolding rulesIn
+  cyclic-is i l =
+      let before : indexOf place ≡ (at - 52) / 107 = omega (arith, stands .offset) in
+      let each : ℕ → List CyclicRule = λ j. two (λ k. cyclicIn (setup .tail) (28 + 18 * j + 9 * k)) in
+      ap (λ rules. getD rules i blankCyclic) (four-at each [] (indexOf place) (below-four place))
+      ∙ two-at (λ k. cyclicIn (setup .tail) (28 + 18 * indexOf place + 9 * k)) blankCyclic i l
+      ∙ ap (λ j. cyclicIn (setup .tail) (28 + 18 * j + 9 * i)) before
+
 -- the rule of a meter as the auditor reads it
 abbrev pub ruleRead : Setup → ℕ → Meter → MeterRule
 ruleRead setup at meter =
@@ -80,9 +100,15 @@ ruleRead setup at meter =
 
 pub rule-read : (setup : Setup) (place : Place) (at : ℕ) → Stands setup place at → (meter : Meter) → IsMeter meter
     → ruleOf (rulesBy setup) place meter ≡ ruleRead setup at meter
-unfolding accumulatorIn counterIn
+unfolding accumulatorIn counterIn cyclicIn
 rule-read setup place at stands (accumulator i) l = ap accumulating (accumulator-is setup place at stands i l) ∙ rw div-one
 rule-read setup place at stands (counter i) l = ap counting (counter-is setup place at stands i l) ∙ rw div-one
+rule-read setup place at stands (cyclic i) l = ap cycling (cyclic-is setup place at stands i l) ∙ rw div-one
+
+-- a cyclic accumulator as it stands in the tail
+pub cycle-is : (setup : Setup) (i : ℕ) → i < 2 → cycleOf (rulesBy setup) i ≡ cycleIn (setup .tail) (4 + 12 * i)
+unfolding rulesIn
+cycle-is setup i l = two-at (λ j. cycleIn (setup .tail) (4 + 12 * j)) blankCycle i l
 
 -- the card's answer as the auditor reads it
 abbrev pub asRead : Converted → Conversion
@@ -250,19 +276,19 @@ module _ (setup : Setup) (good : AcceptedSetup setup) where
       same true = refl
       same false = by-entry purchase to 0 (byteAt setup 4) 5 (omega arith) refl
 
-  -- and to the currency of accumulator i + 1
-  pub converts : (purchase : Purchase) (i : ℕ) → i < 4 → purchase .amount .0 ≤ max
-      → asRead (worth (rulesBy setup) purchase i) ≡ converted setup purchase (numberAt setup (8 + 10 * i) 2)
-  unfolding worth
-  converts purchase i l small =
-      ap (λ to. asRead (convertOf (purchase .amount) (purchase .currency) to (rulesBy setup .rates))) (currency-at i l)
-      ∙ converts-to purchase (numberAt setup (8 + 10 * i) 2) small
+  -- and to a currency of the rules that stands in the bytes
+  converts : (purchase : Purchase) → purchase .amount .0 ≤ max → {from to : ℕ} → from ≡ to
+      → asRead (convertOf (purchase .amount) (purchase .currency) from (rulesBy setup .rates)) ≡ converted setup purchase to
+  converts purchase small {from} {to} e =
+      ap (λ c. asRead (convertOf (purchase .amount) (purchase .currency) c (rulesBy setup .rates))) e ∙ converts-to purchase to small
 
   -- and to a meter, with what it adds to it
   pub worth-read : (purchase : Purchase) → purchase .amount .0 ≤ max → (meter : Meter) → IsMeter meter
       → asRead (cardWorth (rulesBy setup) purchase meter) ≡ worthTo setup purchase meter
-  worth-read purchase small (accumulator i) l = converts purchase i l small
+  unfolding worth cyclicWorth cycleIn
+  worth-read purchase small (accumulator i) l = converts purchase small (currency-at i l)
   worth-read purchase small (counter i) l = refl
+  worth-read purchase small (cyclic i) l = converts purchase small (ap (λ (c : Cycle). c .currency) (cycle-is setup i l))
 
   pub worth-adds : (purchase : Purchase) → purchase .amount .0 ≤ max → (meter : Meter) → IsMeter meter
       → addition (cardWorth (rulesBy setup) purchase meter) ≡ adds (worthTo setup purchase meter)

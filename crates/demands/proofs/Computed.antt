@@ -3,62 +3,89 @@ use mathlib.Core.Bool.{Bool}
 use mathlib.Core.List.{List}
 use Prim.Native.Nat.{ℕ}
 use Rattle.wire.specs.Wire.{number}
+use Rattle.calendar.specs.declared.Date.{Date}
+use Rattle.calendar.specs.declared.Period.{Period}
+use Rattle.calendar.specs.Calendar.{dateAt, isDay, hasDay, isBefore, dayNumber, daysOf, cycleOf, begins}
+use Rattle.calendar.specs.Almanac.{Civil, civilOf, inYears, inMonths, ordinal, lastNamed, began, isNew}
 use Rattle.money.specs.declared.Converted.{Converted}
 use Rattle.money.specs.Money.{rateFor, rounded, scaled, convertOf}
 use Rattle.iad.specs.Iad.{pairsOf, iadBytes}
 use Rattle.ranges.specs.Ranges.{isSetup, hasLength, isHead, areAccumulators, isAccumulator, areProfiles, isProfileOrAbsent, isProfile}
 use Rattle.ranges.specs.Ranges.{areMasks, isMaximumAmount, areAccumulatorRules, isAccumulatorRule, areCounterRules, areSent}
-use Rattle.ranges.specs.Ranges.{areNumbersApart, profileNumber, areConversions, isConversionOrAbsent, isConversion, conversionPair, arePairsApart}
+use Rattle.ranges.specs.Ranges.{isCycle, isCyclicRule, areCyclicRules, areCycles, areNumbersApart, profileNumber, areConversions, isConversionOrAbsent, isConversion, conversionPair, arePairsApart}
 use Rattle.rules.specs.declared.Place.{Place}
 use Rattle.rules.specs.declared.Values.{Values}
 use Rattle.rules.specs.Rules.{Rules, findProfile}
-use Rattle.setup.specs.Setup.{rateIn, accumulatorIn, counterIn, profileIn, rulesIn, freshIn, readSetup}
+use Rattle.setup.specs.Setup.{rateIn, accumulatorIn, counterIn, profileIn, cycleIn, cyclicIn, rulesIn, freshIn, readSetup}
+use Rattle.command.specs.declared.First.{First}
 use Rattle.command.specs.declared.Command.{Command}
 use Rattle.purchase.specs.declared.Purchase.{Purchase}
-use Rattle.purchase.specs.Meter.{worth, Meter}
+use Rattle.purchase.specs.Meter.{worth, cyclicWorth, Meter}
 use Rattle.meters.specs.Meters.{applied}
 use Rattle.state.specs.declared.History.{History}
-use Rattle.checks.specs.Checks.{accumulatorsLower, accumulatorsUpper, countersLower, countersUpper, maximumExceeded, decisionBits}
+use Rattle.checks.specs.Checks.{accumulatorsLower, accumulatorsUpper, countersLower, countersUpper, datingFlags, maximumExceeded, decisionBits}
 use Rattle.state.specs.declared.State.{State}
 use Rattle.state.specs.declared.Outcome.{Outcome}
 use Rattle.cryptogram.specs.Cryptogram.{limitsByte, verification, sentIad}
-use Rattle.first.specs.First.{decision, settled, asked, concluded, firstPerformed}
+use Rattle.cycles.specs.Cycles.{timingOf, advanced, dated}
+use Rattle.first.specs.First.{decision, settled, asked, concluded, firstAnswered, firstPerformed}
 use Rattle.second.specs.Second.{closed, ordered, unablePerformed, verifiedPerformed, failedPerformed, absentPerformed, secondPerformed}
 use Rattle.card.specs.Card.{freshState, startStep, firstStep, secondStep, stepOf}
 use Rattle.demands.specs.Setup.{Setup}
 use Rattle.demands.specs.Ledger.{owed}
 use Rattle.demands.specs.Conversation.{Exchange, Sitting, run, rulesBy, sat}
-use Rattle.demands.specs.Audit.{placeOf, converted, named, bought, inForce, ledger, audited}
+use Rattle.demands.specs.Audit.{placeOf, converted, named, dealing, inForce, ledger, audited}
 use Rattle.demands.specs.Past.{past, atcBy}
 use Rattle.demands.specs.Due.{due}
 
--- the ranges of a set-up
-unfoldable pub inRange : List ℕ → Bool
+-- the ranges of a set-up's base, of its tail, and the calendar
+unfoldable pub inRange : List ℕ → (unnamed : ℕ) → Bool
 unfolding isSetup hasLength isHead areAccumulators isAccumulator number areProfiles isProfileOrAbsent isProfile areMasks isMaximumAmount
-inRange s = isSetup s
+inRange s unnamed = isSetup s unnamed
 
-unfoldable pub inRanges : List ℕ → Bool
+unfoldable pub inRanges : List ℕ → (unnamed : ℕ) → Bool
 unfolding inRange areAccumulatorRules isAccumulatorRule areCounterRules areSent areNumbersApart profileNumber areConversions
-inRanges s = inRange s
+inRanges s unnamed = inRange s unnamed
+
+unfoldable pub tailInRanges : List ℕ → Bool
+unfolding areCycles isCycle areCyclicRules isCyclicRule dateAt isDay hasDay
+tailInRanges t = areCycles t
+
+unfoldable pub begunBy : Period → (first : ℕ) → (last date : Date) → Bool
+unfolding begins isBefore cycleOf daysOf dayNumber
+begunBy period first last date = begins period first last date
+
+unfoldable pub begunSince : Period → (first : ℕ) → (last now : Civil) → Bool
+unfolding isNew began lastNamed ordinal inYears inMonths civilOf
+begunSince period first last now = isNew period first last now
 
 -- the rules and the state that it makes
+unfoldable pub parsed : Setup → Rules
+unfolding rulesIn rateIn profileIn accumulatorIn counterIn cycleIn cyclicIn
+parsed setup = rulesBy setup
+
 unfoldable pub decoded : Setup → Rules
-unfolding inRanges isConversionOrAbsent isConversion conversionPair arePairsApart rulesIn rateIn profileIn accumulatorIn counterIn readSetup freshIn freshState
+unfolding inRanges tailInRanges isConversionOrAbsent isConversion conversionPair arePairsApart parsed readSetup freshIn freshState
 decoded setup = rulesBy setup
 
 -- what a purchase is worth, and what the values become
 unfoldable pub worthIn : Rules → Purchase → ℕ → Converted
-unfolding worth convertOf rateFor rounded scaled applied ordered
+unfolding worth cyclicWorth convertOf rateFor rounded scaled applied ordered
 worthIn rules purchase i = worth rules purchase i
 
 -- the tests, the decision and what goes out
 unfoldable pub testedBits : Rules → Place → Values → Purchase → History → ℕ
-unfolding worthIn decisionBits accumulatorsLower accumulatorsUpper countersLower countersUpper maximumExceeded decision limitsByte verification
+unfolding worthIn decisionBits accumulatorsLower accumulatorsUpper countersLower countersUpper datingFlags maximumExceeded decision limitsByte verification
 testedBits rules place values purchase history = decisionBits rules place values purchase history
+
+-- a First and its date
+unfoldable pub answered : Rules → State → First → Place → Outcome
+unfolding testedBits begunBy timingOf dated advanced firstPerformed firstAnswered settled asked concluded
+answered rules state first place = firstPerformed rules state first place
 
 -- one command
 unfoldable pub stepped : Rules → State → Command → Outcome
-unfolding testedBits stepOf startStep firstStep findProfile firstPerformed settled asked concluded secondStep secondPerformed unablePerformed verifiedPerformed
+unfolding answered stepOf startStep firstStep findProfile secondStep secondPerformed unablePerformed verifiedPerformed
 stepped rules state command = stepOf rules state command
 
 unfoldable pub sent : Rules → State → Command → Outcome
@@ -67,7 +94,7 @@ sent rules state command = stepped rules state command
 
 -- what the auditor reads
 unfoldable pub found : Setup → List Exchange → Meter → ℕ
-unfolding placeOf converted named bought inForce ledger owed past atcBy due
+unfolding begunSince placeOf converted named dealing inForce ledger owed past atcBy due
 found setup log meter = audited setup log meter
 
 unfoldable pub computed : Setup → List Command → Sitting

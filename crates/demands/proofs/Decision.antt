@@ -16,19 +16,23 @@ use Rattle.rules.specs.declared.Values.{Values}
 use Rattle.rules.specs.declared.Masks.{Masks}
 use Rattle.rules.specs.Rules.{Rules, Profile, four}
 use Rattle.setup.specs.Setup.{profileIn}
+use Rattle.purchase.specs.declared.Timing.{Timing}
+use Rattle.purchase.specs.declared.Timing.the-variants.{Undated, InOrder, DateError}
 use Rattle.purchase.specs.declared.Purchase.{Purchase}
-use Rattle.purchase.specs.Meter.{Meter, accumulator, counter, IsMeter, MeterRule, ruleOf, valueOf, worthTo as cardWorth}
+use Rattle.purchase.specs.Meter.{Meter, accumulator, counter, cyclic, IsMeter, MeterRule, ruleOf, valueOf, takesPart, isDateError, worthTo as cardWorth}
 use Rattle.state.specs.declared.History.{History}
 use Rattle.checks.specs.Checks.{bit, packed, sumExceeds, spentExceeds, exceedsLower, exceedsUpper, exceeds as cardExceeds, maximumExceeded}
-use Rattle.checks.specs.Checks.{accumulatorsLower, accumulatorsUpper, countersLower, countersUpper, decisionBits, decisionFlags, meetsMask}
+use Rattle.checks.specs.Checks.{accumulatorsLower, accumulatorsUpper, countersLower, countersUpper, datingFlags, decisionBits, decisionFlags, meetsMask}
 use Rattle.state.specs.declared.Kind.{Kind}
 use Rattle.state.specs.declared.Kind.the-variants.{Aac, Tc, Arqc}
 use Rattle.first.specs.First.{decision, isOfflineOnly}
 use Rattle.demands.specs.Setup.{Setup, byteAt, numberAt, AcceptedSetup}
 use Rattle.demands.specs.Conversation.{rulesBy}
-use Rattle.demands.specs.Decision.{exceedsWith, exceeds, exceedsMta, eachOf, aboveLower, aboveUpper, flags, meets, Decides}
+use Rattle.demands.specs.Audit.{takesUp}
+use Rattle.demands.specs.Decision.{exceedsWith, exceeds, exceedsMta, eachOf, aboveLower, aboveUpper, isError, flags, meets, Decides}
 use Rattle.demands.specs.Decision.{aac-requested, meets-decline, arqc-requested, meets-default, offline-approves, meets-online, online-approves}
 use Rattle.demands.proofs.Bytes.{Stands, profile-is, ruleRead, rule-read, asRead, converts-to, worth-read}
+use Rattle.demands.proofs.Moves.{takes-part}
 
 -- ---- a mask that is met
 
@@ -73,6 +77,11 @@ spent-is limit (Amount spent) = rw zero-add
 spent-is limit Over = refl
 spent-is limit NoEntry = refl
 
+error-is : (timing : Timing) → isDateError timing ≡ isError timing
+error-is Undated = refl
+error-is InOrder = refl
+error-is (DateError date) = refl
+
 -- ---- the flags
 
 module _ (setup : Setup) (good : AcceptedSetup setup) (place : Place) (at : ℕ) (stands : Stands setup place at) (values : Values) (purchase : Purchase)
@@ -85,12 +94,14 @@ module _ (setup : Setup) (good : AcceptedSetup setup) (place : Place) (at : ℕ)
 
   -- a meter exceeds a limit of its rule by the card as by the bytes
   meter-flag : (limit : MeterRule → ℕ) (meter : Meter) → IsMeter meter
-      → cardExceeds (ruleOf rules place meter) (cardWorth rules purchase meter) (limit (ruleOf rules place meter)) (value meter)
+      → (takesPart purchase meter
+      && cardExceeds (ruleOf rules place meter) (cardWorth rules purchase meter) (limit (ruleOf rules place meter)) (value meter))
       ≡ exceeds setup at purchase (value meter) (limit (ruleRead setup at meter)) meter
   meter-flag limit meter l =
       let read = ruleRead setup at meter in
-      ap (λ (rule : MeterRule). cardExceeds rule (cardWorth rules purchase meter) (limit rule) (value meter)) (rule-read setup place at stands meter l)
-      ∙ ap (λ b. read .active && (ltb (limit read) (value meter) || (read .include && b)))
+      ap₂ (λ part (rule : MeterRule). part && cardExceeds rule (cardWorth rules purchase meter) (limit rule) (value meter)) (takes-part purchase meter)
+      (rule-read setup place at stands meter l)
+      ∙ ap (λ b. takesUp purchase meter && (read .active && (ltb (limit read) (value meter) || (read .include && b))))
       (sum-is (limit read) (value meter) (cardWorth rules purchase meter)
       ∙ ap (exceedsWith (limit read) (value meter)) (worth-read setup good purchase small meter l))
 
@@ -130,9 +141,17 @@ module _ (setup : Setup) (good : AcceptedSetup setup) (place : Place) (at : ℕ)
   unfolding countersUpper
   counters-upper = uppers counter (λ i l. l)
 
+  dating : datingFlags rules place values purchase
+      ≡ aboveUpper setup at purchase value (cyclic 0) ∷ aboveUpper setup at purchase value (cyclic 1) ∷ isError (purchase .timing) ∷ []
+  unfolding datingFlags
+  dating =
+      let upper : (i : ℕ) → i < 2 → exceedsUpper rules place values purchase (cyclic i) ≡ aboveUpper setup at purchase value (cyclic i) =
+      λ i l. meter-flag (λ rule. rule .upper) (cyclic i) l in
+      simp (upper 0 (omega arith), upper 1 (omega arith), error-is (purchase .timing))
+
   flags-are : (history : History) → decisionFlags rules place values purchase history ≡ flags setup at purchase value history
   unfolding flags
-  flags-are history = simp (mta-flag, accumulators-lower, accumulators-upper, counters-lower, counters-upper)
+  flags-are history = simp (mta-flag, accumulators-lower, accumulators-upper, counters-lower, counters-upper, dating)
 
   pub adr-is : (history : History) → decisionBits rules place values purchase history ≡ packed (flags setup at purchase value history)
   unfolding decisionBits

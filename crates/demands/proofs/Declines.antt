@@ -1,10 +1,11 @@
 -- An AAC at First and a counter, by cases: what the card then holds and what its IAD shows. Assumes nothing.
 use mathlib.Core.Bool.{Bool, true, false, _&&_}
 use mathlib.Core.List.{List, [], _∷_, _++_}
-use Prim.Native.Nat.{ℕ}
+use Prim.Native.Nat.{ℕ, _^_}
 use lib.Dec.{T, eqb}
 use lib.ListN.{replicate}
 use Rattle.selection.specs.declared.Selection.the-variants.{Selected}
+use Rattle.command.specs.declared.When.the-variants.{Undated}
 use Rattle.command.specs.declared.Command.{Command}
 use Rattle.command.specs.declared.Command.the-variants.{Start as StartCommand, First as FirstCommand}
 use Rattle.state.specs.declared.Answer.{Answer}
@@ -24,7 +25,9 @@ abbrev body : (value switches lower : ℕ) → Setup
 body value switches lower =
     record {
       bytes = zeros 3 ++ 1 ∷ zeros 44 ++ value ∷ zeros 3 ++ 1 ∷ zeros 91 ++ switches ∷ lower ∷ 255 ∷ zeros 9 ++ 0 ∷ 1 ∷ 0 ∷ [];
+      tail = [];
       syllabus = 0;
+      unnamed = 2 ^ 22;
     }
 
 abbrev start : Command
@@ -32,7 +35,7 @@ start = StartCommand (record { chosen = Selected 1 0 })
 
 -- an AAC requested
 abbrev first : Command
-first = FirstCommand (record { amount = record { 0 = 1 }; currency = 0x0978; requested = 0; terminal = 0x22 })
+first = FirstCommand (record { amount = record { 0 = 1 }; currency = 0x0978; requested = 0; terminal = 0x22; when = Undated })
 
 abbrev outcome : Setup → Outcome
 outcome setup = next setup (start ∷ []) first

@@ -9,7 +9,8 @@ use Rattle.money.specs.declared.Rates.{Rates}
 use Rattle.money.specs.Money.{max, blank, convertOf}
 use Rattle.rules.specs.declared.Place.the-variants.{One}
 use Rattle.rules.specs.declared.Values.{Values}
-use Rattle.rules.specs.Rules.{Rules, four, blankAccumulator, blankCounter, blankProfile}
+use Rattle.rules.specs.Rules.{Rules, two, four, blankAccumulator, blankCounter, blankProfile, blankCycle, blankCyclic}
+use Rattle.purchase.specs.declared.Timing.the-variants.{Undated}
 use Rattle.purchase.specs.declared.Purchase.{Purchase}
 use Rattle.purchase.specs.Meter.{amountAt, countAt}
 use Rattle.meters.specs.declared.Change.the-variants.{Approve}
@@ -59,14 +60,16 @@ card upper =
           ∷ blankProfile
           ∷ blankProfile
           ∷ [];
+      cycles = two (λ i. blankCycle);
+      cyclicRules = four (λ j. two (λ i. blankCyclic));
     }
 
 abbrev values : ℕ → ℕ → Values
 values amount count =
-    record { accumulators = four (λ i. record { 0 = amount }); counters = four (λ i. count) }
+    record { accumulators = four (λ i. record { 0 = amount }); counters = four (λ i. count); cyclic = two (λ i. record { 0 = 0 }) }
 
 abbrev purchase : ℕ → Purchase
-purchase amount = record { amount = record { 0 = amount }; currency = 1 }
+purchase amount = record { amount = record { 0 = amount }; currency = 1; timing = Undated }
 
 abbrev clear : History
 clear = record { uncompleted = false; online = false; failed = false; unable = false; missing = false }

@@ -5,6 +5,7 @@ use mathlib.Core.List.{List}
 use Prim.Native.Nat.{ℕ}
 use lib.Dec.{eqb}
 use Rattle.refusal.specs.declared.Refusal.{Refusal}
+use Rattle.calendar.specs.declared.Date.{Date}
 use Rattle.iad.specs.declared.Cvr.{Cvr}
 use Rattle.state.specs.declared.History.{History}
 use Rattle.rules.specs.declared.Place.{Place}
@@ -24,9 +25,10 @@ use Rattle.state.specs.declared.Pending.{Pending}
 use Rattle.state.specs.declared.Phase.the-variants.{Idle}
 use Rattle.state.specs.declared.State.{State}
 use Rattle.state.specs.declared.Outcome.{Outcome}
-use Rattle.first.specs.First.{firstPerformed, firstKind, settled, asked, concluded}
+use Rattle.cycles.specs.Cycles.{timingOf, dated}
+use Rattle.first.specs.First.{firstPerformed, firstAnswered, firstKind, settled, asked, concluded}
 use Rattle.second.specs.Second.{secondPerformed, isUnable, unablePerformed, verifiedPerformed, failedPerformed, absentPerformed, closed}
-use Rattle.card.specs.Card.{refused, freshState}
+use Rattle.card.specs.Card.{freshState}
 use Rattle.demands.specs.Audit.{isAccepted}
 use Rattle.demands.specs.Setup.{Setup}
 use Rattle.demands.specs.Conversation.{Sitting, told, satBy}
@@ -56,22 +58,24 @@ pub record Closes (second : Second) (outcome : Outcome) : Type 0 where
   pub idle : outcome .state .phase ≡ Idle
 
 module _ (rules : Rules) (state : State) where
-  concluded-ends : (first : First) (place : Place) (purchase : Purchase) (limits : ℕ) (cvr : Cvr) (kind : Kind)
+  concluded-ends : (state : State) (first : First) (place : Place) (purchase : Purchase) (limits : ℕ) (cvr : Cvr) (kind : Kind)
       → Concludes first (concluded rules state place purchase limits cvr kind)
   unfolding settled asked concluded
-  concluded-ends first place purchase limits cvr Tc = record { in-kind = tt; leaves = λ before. refl }
-  concluded-ends first place purchase limits cvr Aac = record { in-kind = tt; leaves = λ before. refl }
-  concluded-ends first place purchase limits cvr Arqc = record { in-kind = tt; leaves = λ before. refl }
+  concluded-ends state first place purchase limits cvr Tc = record { in-kind = tt; leaves = λ before. refl }
+  concluded-ends state first place purchase limits cvr Aac = record { in-kind = tt; leaves = λ before. refl }
+  concluded-ends state first place purchase limits cvr Arqc = record { in-kind = tt; leaves = λ before. refl }
 
   pub first-concludes : (first : First) (place : Place) → Concludes first (firstPerformed rules state first place)
-  unfolding firstPerformed
-  first-concludes first place = concluded-ends first place _ _ _ (firstKind rules state place first)
+  unfolding firstPerformed firstAnswered
+  first-concludes first place =
+      let begun = dated rules state (first .when) in
+      concluded-ends begun first place _ _ _ (firstKind rules begun place first (timingOf (state .last) (first .when)))
 
-  closed-ends : (second : Second) (pending : Pending) (approves : Bool) (values : Values) (history : History) (issuer : Issuer)
-      → Closes second (closed rules (state .atc) pending approves values history issuer)
+  closed-ends : (second : Second) (pending : Pending) (approves : Bool) (values : Values) (last : Date) (history : History) (issuer : Issuer)
+      → Closes second (closed rules (state .atc) pending approves values last history issuer)
   unfolding closed
-  closed-ends second pending true values history issuer = record { in-kind = tt; idle = refl }
-  closed-ends second pending false values history issuer = record { in-kind = tt; idle = refl }
+  closed-ends second pending true values last history issuer = record { in-kind = tt; idle = refl }
+  closed-ends second pending false values last history issuer = record { in-kind = tt; idle = refl }
 
   chosen : (b : Bool) {second : Second} {x y : Outcome} → Closes second x → Closes second y → Closes second (cond b x y)
   chosen true p q = p
@@ -82,8 +86,8 @@ module _ (rules : Rules) (state : State) where
   second-closes second pending =
       let closes = closed-ends second pending in
       chosen (isUnable (second .code))
-      (closes _ _ _ _)
-      (chosen (eqb (second .issuer) 1) (closes _ _ _ _) (chosen (eqb (second .issuer) 2) (closes _ _ _ _) (closes _ _ _ _)))
+      (closes _ _ _ _ _)
+      (chosen (eqb (second .issuer) 1) (closes _ _ _ _ _) (chosen (eqb (second .issuer) 2) (closes _ _ _ _ _) (closes _ _ _ _ _)))
 
   refused-leaves : (command : Command) (refusal : Refusal) (before : Due) → before ≡ dueBy command (Refused refusal) before
   refused-leaves (StartCommand start) refusal before = refl
@@ -94,7 +98,7 @@ module _ (rules : Rules) (state : State) where
       → dueIn (outcome .state .phase) ≡ dueBy command (outcome .answer) (dueIn (state .phase))
   did-leaves {command} (refused-it refusal) = refused-leaves command refusal (dueIn (state .phase))
   did-leaves (started-it start place holds) = refl
-  did-leaves (took-first first place is type small) = first-concludes first place .leaves (dueIn (state .phase))
+  did-leaves (took-first first place is type small day) = first-concludes first place .leaves (dueIn (state .phase))
   did-leaves (took-second second pending is type issuer) =
       let closes = second-closes second pending in
       let outcome = secondPerformed rules state second pending in

@@ -4,12 +4,15 @@ pub mod Run
 pub mod Ends
 pub mod Owed
 pub mod Bytes
+pub mod Dated
+pub mod Deals
 pub mod Moves
 pub mod Total
 pub mod Past
 pub mod Refusal
 pub mod Limit
 pub mod Computed
+pub mod Sittings
 pub mod Witness
 pub mod Only
 pub mod Decision

@@ -7,9 +7,11 @@ use Prim.Native.Nat.{ℕ, _+_, _^_, _≤_}
 use native.Mathlib.Omega.{arith}
 use borrow.Author.Tests.{ltb-true, eqb-true}
 use lib.Dec.{ltb, eqb}
+use Rattle.calendar.specs.declared.Date.{Date}
 use Rattle.money.specs.declared.AccumulatorAmount.{AccumulatorAmount}
 use Rattle.money.specs.declared.Converted.{Converted}
 use Rattle.money.specs.declared.Converted.the-variants.{Amount, Over, NoEntry}
+use Rattle.money.specs.Money.{max}
 use Rattle.iad.specs.declared.Cvr.{Cvr}
 use Rattle.rules.specs.declared.Place.{Place}
 use Rattle.rules.specs.declared.Values.{Values}
@@ -20,8 +22,9 @@ use Rattle.command.specs.declared.First.{First}
 use Rattle.command.specs.declared.Second.{Second}
 use Rattle.command.specs.declared.Command.{Command}
 use Rattle.command.specs.declared.Command.the-variants.{Start as StartCommand, First as FirstCommand, Second as SecondCommand}
+use Rattle.purchase.specs.declared.Timing.{Timing}
 use Rattle.purchase.specs.declared.Purchase.{Purchase}
-use Rattle.purchase.specs.Meter.{Meter, accumulator, counter, IsMeter, MeterRule, ruleOf, valueOf, worthTo, capOf as cap}
+use Rattle.purchase.specs.Meter.{Meter, accumulator, counter, cyclic, IsMeter, MeterRule, ruleOf, valueOf, worthTo, takesPart, capOf as cap}
 use Rattle.meters.specs.declared.Change.the-variants.{Approve}
 use Rattle.meters.specs.Meters.{add, moved, addition, offline, applied, entered as entriesOf}
 use Rattle.meters.proofs.Ledger.{applied-moves}
@@ -36,17 +39,21 @@ use Rattle.state.specs.declared.Kind.the-variants.{Aac, Tc, Arqc}
 use Rattle.state.specs.declared.Pending.{Pending}
 use Rattle.state.specs.declared.State.{State}
 use Rattle.state.specs.declared.Outcome.{Outcome}
-use Rattle.first.specs.First.{decision, purchaseOf, firstKind, firstPerformed, settled, asked, concluded}
+use Rattle.cycles.specs.Cycles.{timingOf, dated}
+use Rattle.first.specs.First.{decision, purchaseOf, firstKind, firstPerformed, firstAnswered, settled, asked, concluded}
 use Rattle.state.specs.State.{unableIn}
 use Rattle.second.specs.Second.{isUnable, unableBits, unablePerformed, secondPerformed, closed}
+use Rattle.card.specs.Card.{isDated}
 use Rattle.demands.specs.Setup.{Setup, numberAt, AcceptedSetup}
-use Rattle.demands.specs.Conversation.{Sitting, rulesBy, sat, next}
-use Rattle.demands.specs.Audit.{isOn, isActive, isIncluded, upperOf, approves, named, bought, inForce, placeBy}
+use Rattle.demands.specs.Conversation.{Exchange, Sitting, after, told, rulesBy, sat, next}
+use Rattle.demands.specs.Audit.{isOn, isActive, isIncluded, upperOf, approves, takesUp, named, bought, dealing, inForce, placeBy}
 use Rattle.demands.specs.Guards.{upperBit, Guards}
 use Rattle.demands.proofs.Refusal.{never}
 use Rattle.demands.proofs.Step.{Did, refused-it, started-it, took-first, took-second}
-use Rattle.demands.proofs.Run.{always-ruled, did-by}
+use Rattle.demands.proofs.Run.{Ruled, always-ruled, did-by}
 use Rattle.demands.proofs.Bytes.{Stands, profile-is, ruleRead, rule-read}
+use Rattle.demands.proofs.Deals.{Remembers, Deals, brought-as, always-deals}
+use Rattle.demands.proofs.Moves.{takes-part}
 use Rattle.demands.proofs.Total.{Agrees, Holding, always}
 
 -- ---- what an approval adds stays within a limit that the value, with the amount, is within
@@ -65,6 +72,11 @@ module _ (cap limit : ℕ) where
   approval-within value true Over h k o = absurd (o refl)
   approval-within value true NoEntry h k o = h
   approval-within value false worth h k o = h
+
+same-bit : (meter : Meter) → upperBit meter ≡ upperFlag meter
+same-bit (accumulator i) = refl
+same-bit (counter i) = refl
+same-bit (cyclic i) = refl
 
 -- a flag whose bit is in a mask that isn't met is not set
 unmet : (k adr mask : ℕ) (flag : Bool) → bitOf k adr ≡ bit flag → isOn mask (2 ^ k) ≡ true → meetsMask adr mask ≡ false → flag ≡ false
@@ -85,29 +97,26 @@ module _ (setup : Setup) (place : Place) (at : ℕ) (stands : Stands setup place
     is : rule ≡ ruleRead setup at meter
     is = rule-read setup place at stands meter l
 
-    unmet-within : (mask : ℕ) → isOn mask (2 ^ upperFlag meter) ≡ true → meetsMask adr mask ≡ false
+    unmet-within : takesPart purchase meter ≡ true → (mask : ℕ) → isOn mask (2 ^ upperFlag meter) ≡ true → meetsMask adr mask ≡ false
         → moved (cap meter) (valueOf values meter) (entriesOf rules place (Approve purchase) meter) ≤ upperOf setup at meter
-    unmet-within mask on q =
+    unmet-within takes mask on q =
         let active' : rule .active ≡ true = ap (λ (r : MeterRule). r .active) is ∙ active in
         let included' : rule .include ≡ true = ap (λ (r : MeterRule). r .include) is ∙ included in
         let flag = house-order rules place values purchase history .upper meter l in
         let unset = unmet (upperFlag meter) adr mask (exceedsUpper rules place values purchase meter) flag on q in
-        let w = active-within rule (worthTo rules purchase meter) (rule .upper) (valueOf values meter) active' unset in
+        let w = active-within rule (worthTo rules purchase meter) (rule .upper) (valueOf values meter) active' (rw takes at unset) in
         subst (λ upper. moved (cap meter) (valueOf values meter) (entriesOf rules place (Approve purchase) meter) ≤ upper)
         (ap (λ (r : MeterRule). r .upper) is)
-        (approval-within (cap meter) (rule .upper) (valueOf values meter) (rule .active && rule .allow) (worthTo rules purchase meter) (w .alone)
-        (λ more. w .together more included') (w .not-over included'))
+        (approval-within (cap meter) (rule .upper) (valueOf values meter) (takesPart purchase meter && (rule .active && rule .allow))
+        (worthTo rules purchase meter) (w .alone) (λ more. w .together more included') (w .not-over included'))
 
   -- an approval while a mask that holds the upper limit's bit isn't met
   pub approved-within : (meter : Meter) → IsMeter meter → isActive setup at meter ≡ true → isIncluded setup at meter ≡ true
-      → (mask : ℕ) → isOn mask (2 ^ upperBit meter) ≡ true → meetsMask adr mask ≡ false
+      → takesPart purchase meter ≡ true → (mask : ℕ) → isOn mask (2 ^ upperBit meter) ≡ true → meetsMask adr mask ≡ false
       → valueOf (applied rules place values (Approve purchase)) meter ≤ upperOf setup at meter
-  approved-within (accumulator i) l active included mask on q =
-      subst (λ value. value ≤ upperOf setup at (accumulator i)) (sym (applied-moves rules place values (Approve purchase) (accumulator i) l))
-      (unmet-within (accumulator i) l active included mask on q)
-  approved-within (counter i) l active included mask on q =
-      subst (λ value. value ≤ upperOf setup at (counter i)) (sym (applied-moves rules place values (Approve purchase) (counter i) l))
-      (unmet-within (counter i) l active included mask on q)
+  approved-within meter l active included takes mask on q =
+      subst (λ value. value ≤ upperOf setup at meter) (sym (applied-moves rules place values (Approve purchase) meter l))
+      (unmet-within meter l active included takes mask (subst (λ k. isOn mask (2 ^ k) ≡ true) (same-bit meter) on) q)
 
 both-false : (b : Bool) → (b && false) ≡ true → false ≡ true
 both-false true e = e
@@ -122,10 +131,13 @@ tc-unmet requested bits masks terminal e = by (eqb requested 0) (meetsMask bits 
   by false true rest e = cc
   by false false rest e = refl
 
-module _ (setup : Setup) (sitting : Sitting) (holding : Holding setup sitting) (meter : Meter) (l : IsMeter meter)
-    (guards : Guards (inForce setup (sitting .log)) (placeBy setup (sitting .log)) meter) where
+module _ (setup : Setup) (sitting : Sitting) (ruled : Ruled setup sitting) (deals : Deals setup sitting) (holding : Holding setup sitting)
+    (meter : Meter) (l : IsMeter meter) (guards : Guards (inForce setup (sitting .log)) (placeBy setup (sitting .log)) meter) where
+  abbrev log : List Exchange
+  log = sitting .log
+
   abbrev now : Setup
-  now = inForce setup (sitting .log)
+  now = inForce setup log
 
   abbrev card-rules : Rules
   card-rules = rulesBy now
@@ -134,56 +146,71 @@ module _ (setup : Setup) (sitting : Sitting) (holding : Holding setup sitting) (
   state = sitting .state
 
   abbrev at : ℕ
-  at = placeBy setup (sitting .log)
+  at = placeBy setup log
 
-  -- if an answer approves, the value is within
+  -- if an answer approves a purchase that the meter takes up, the value is within
   abbrev Within : Command → Outcome → Type 0
-  Within command outcome = approves command (outcome .answer) ≡ true → valueOf (outcome .state .values) meter ≤ upperOf now at meter
+  Within command outcome =
+      approves command (outcome .answer) ≡ true → takesUp (bought setup (after sitting command outcome .log)) meter ≡ true
+      → valueOf (outcome .state .values) meter ≤ upperOf now at meter
 
-  concluded-within : (first : First) (place : Place) → Stands now place at → (limits : ℕ) (cvr : Cvr) (kind : Kind)
-      → kind ≡ firstKind card-rules state place first
-      → Within (FirstCommand first) (concluded card-rules state place (purchaseOf first) limits cvr kind)
-  unfolding settled asked concluded profileIn
-  concluded-within first place stands limits cvr Tc is e =
-      let mask : profileAt card-rules place .masks .decline ≡ numberAt now (at + 5) 4 =
-      ap (λ (p : Profile). p .masks .decline) (profile-is now place at stands) in
-      approved-within now place at stands (state .values) (state .history) (purchaseOf first) meter l (guards .active) (guards .included)
-      (profileAt card-rules place .masks .decline) (rw mask (guards .decline))
-      (tc-unmet (first .requested) _ (profileAt card-rules place .masks) (first .terminal) is)
-  concluded-within first place stands limits cvr Aac is e = absurd (never e)
-  concluded-within first place stands limits cvr Arqc is e = absurd (never e)
+  -- the card's purchase is the auditor's
+  takes-as : {purchase said : Purchase} → purchase ≡ said → takesUp said meter ≡ true → takesPart purchase meter ≡ true
+  takes-as {purchase} is takes = takes-part purchase meter ∙ ap (λ p. takesUp p meter) is ∙ takes
 
-  first-within : (first : First) (place : Place) → Stands now place at → Within (FirstCommand first) (firstPerformed card-rules state first place)
-  unfolding firstPerformed
-  first-within first place stands = concluded-within first place stands _ _ (firstKind card-rules state place first) refl
+  module _ (first : First) (small : first .amount .0 ≤ max) (day : isDated (first .when) ≡ true) where
+    abbrev begun : State
+    begun = dated card-rules state (first .when)
 
-  unable-within : (second : Second) (pending : Pending) → Stands now (pending .place) at → (b : Bool)
-      → not (eqb (second .requested) 0 || meetsMask (unableBits card-rules state pending) (profileAt card-rules (pending .place) .masks .default)) ≡ b
-      → (history : History) (issuer : Issuer)
-      → Within (SecondCommand second)
-      (closed card-rules (state .atc) pending b (applied card-rules (pending .place) (state .values) (offline b (pending .purchase))) history issuer)
-  unfolding closed profileIn
-  unable-within second pending stands false q history issuer e = absurd (never (both-false (isUnable (second .code)) e))
-  unable-within second pending stands true q history issuer e =
-      let place = pending .place in
-      let mask : profileAt card-rules place .masks .default ≡ numberAt now (at + 9) 4 =
-      ap (λ (p : Profile). p .masks .default) (profile-is now place at stands) in
-      approved-within now place at stands (state .values) (unableIn (pending .history)) (pending .purchase) meter l (guards .active) (guards .included)
-      (profileAt card-rules place .masks .default) (rw mask (guards .default)) (neither (eqb (second .requested) 0) _ q)
-    where
-      neither : (a b : Bool) → not (a || b) ≡ true → b ≡ false
-      neither true b e = absurd (never e)
-      neither false true e = absurd (never e)
-      neither false false e = refl
+    abbrev timing : Timing
+    timing = timingOf (state .last) (first .when)
 
-  second-within : (second : Second) (pending : Pending) → Stands now (pending .place) at
-      → Within (SecondCommand second) (secondPerformed card-rules state second pending)
-  unfolding secondPerformed unablePerformed
-  second-within second pending stands = by (isUnable (second .code)) refl _ where
-    by : (u : Bool) → isUnable (second .code) ≡ u → (rest : Outcome)
-        → Within (SecondCommand second) (cond u (unablePerformed card-rules state (second .requested) pending) rest)
-    by true u rest e = unable-within second pending stands _ refl _ _ e
-    by false u rest e = absurd (never (rw u at e))
+    concluded-within : (place : Place) → Stands now place at → (limits : ℕ) (cvr : Cvr) (kind : Kind)
+        → kind ≡ firstKind card-rules begun place first timing
+        → Within (FirstCommand first) (concluded card-rules begun place (purchaseOf first timing) limits cvr kind)
+    unfolding settled asked concluded dealing profileIn
+    concluded-within place stands limits cvr Tc is e takes =
+        let mask : profileAt card-rules place .masks .decline ≡ numberAt now (at + 5) 4 =
+        ap (λ (p : Profile). p .masks .decline) (profile-is now place at stands) in
+        approved-within now place at stands (begun .values) (begun .history) (purchaseOf first timing) meter l (guards .active) (guards .included)
+        (takes-as (brought-as setup sitting ruled deals first small day) takes)
+        (profileAt card-rules place .masks .decline) (rw mask (guards .decline))
+        (tc-unmet (first .requested) _ (profileAt card-rules place .masks) (first .terminal) is)
+    concluded-within place stands limits cvr Aac is e takes = absurd (never e)
+    concluded-within place stands limits cvr Arqc is e takes = absurd (never e)
+
+    first-within : (place : Place) → Stands now place at → Within (FirstCommand first) (firstPerformed card-rules state first place)
+    unfolding firstPerformed firstAnswered
+    first-within place stands = concluded-within place stands _ _ (firstKind card-rules begun place first timing) refl
+
+  module _ (second : Second) (pending : Pending) (stands : Stands now (pending .place) at) (purchase-is : pending .purchase ≡ bought setup log) where
+    unable-within : (b : Bool)
+        → not (eqb (second .requested) 0 || meetsMask (unableBits card-rules state pending) (profileAt card-rules (pending .place) .masks .default)) ≡ b
+        → (last : Date) (history : History) (issuer : Issuer)
+        → Within (SecondCommand second)
+        (closed card-rules (state .atc) pending b (applied card-rules (pending .place) (state .values) (offline b (pending .purchase))) last history issuer)
+    unfolding closed dealing profileIn
+    unable-within false q last history issuer e takes = absurd (never (both-false (isUnable (second .code)) e))
+    unable-within true q last history issuer e takes =
+        let place = pending .place in
+        let mask : profileAt card-rules place .masks .default ≡ numberAt now (at + 9) 4 =
+        ap (λ (p : Profile). p .masks .default) (profile-is now place at stands) in
+        approved-within now place at stands (state .values) (unableIn (pending .history)) (pending .purchase) meter l (guards .active) (guards .included)
+        (takes-as purchase-is takes)
+        (profileAt card-rules place .masks .default) (rw mask (guards .default)) (neither (eqb (second .requested) 0) _ q)
+      where
+        neither : (a b : Bool) → not (a || b) ≡ true → b ≡ false
+        neither true b e = absurd (never e)
+        neither false true e = absurd (never e)
+        neither false false e = refl
+
+    second-within : Within (SecondCommand second) (secondPerformed card-rules state second pending)
+    unfolding secondPerformed unablePerformed
+    second-within = by (isUnable (second .code)) refl _ where
+      by : (u : Bool) → isUnable (second .code) ≡ u → (rest : Outcome)
+          → Within (SecondCommand second) (cond u (unablePerformed card-rules state (second .requested) pending) rest)
+      by true u rest e = unable-within _ refl _ _ _ e
+      by false u rest e = absurd (never (rw u at e))
 
   did-within : {command : Command} {outcome : Outcome} → Did card-rules state command outcome → Within command outcome
   did-within {command} (refused-it r) = λ e. absurd (never (not-refused command e)) where
@@ -192,17 +219,18 @@ module _ (setup : Setup) (sitting : Sitting) (holding : Holding setup sitting) (
     not-refused (FirstCommand first) e = e
     not-refused (SecondCommand second) e = both-false (isUnable (second .code)) e
   did-within (started-it start place holds) = λ e. absurd (never e)
-  did-within (took-first first place is type small) =
-      first-within first place (subst (Agrees now (named (sitting .log)) (bought (sitting .log))) is (holding .agrees))
+  did-within (took-first first place is type small day) = first-within first small day place (subst (Agrees now (named log)) is (holding .agrees))
   did-within (took-second second pending is type issuer) =
-      second-within second pending (subst (Agrees now (named (sitting .log)) (bought (sitting .log))) is (holding .agrees) .stands)
+      second-within second pending (subst (Agrees now (named log)) is (holding .agrees)) (subst (Remembers (bought setup log)) is (deals .remembers) .0)
 
--- DEMAND 3, THE UPPER LIMIT, which is the one in force
+-- DEMAND 3, THE UPPER LIMIT, which is the one in force: of a cyclic accumulator, for approvals without a date error
 pub limit : (setup : Setup) → AcceptedSetup setup → (commands : List Command) (command : Command) (meter : Meter) → IsMeter meter
     → Guards (inForce setup (sat setup commands .log)) (placeBy setup (sat setup commands .log)) meter
     → approves command (next setup commands command .answer) ≡ true
+    → takesUp (bought setup (told (sat setup commands) command .log)) meter ≡ true
     → valueOf (next setup commands command .state .values) meter
     ≤ upperOf (inForce setup (sat setup commands .log)) (placeBy setup (sat setup commands .log)) meter
 limit setup good commands command meter l guards =
+    let sitting = sat setup commands in
     let ruled = always-ruled setup good commands in
-    did-within setup (sat setup commands) (always setup good commands) meter l guards (did-by setup (sat setup commands) ruled command)
+    did-within setup sitting ruled (always-deals setup good commands) (always setup good commands) meter l guards (did-by setup sitting ruled command)

@@ -1,6 +1,6 @@
--- What approvals, declines and orders do to an accumulator or a counter is what the auditor enters, at most one entry each time.
+-- What approvals, declines and orders do to a meter is what the auditor enters, at most one entry each time.
 -- Assumes nothing.
-use mathlib.Core.Path.{_≡_, refl, ap, _∙_}
+use mathlib.Core.Path.{_≡_, refl, ap, ap₂, _∙_}
 use mathlib.Core.Bool.{Bool, true, false, cond, _&&_}
 use mathlib.Core.List.{List, [], _∷_, _++_}
 use Prim.Native.Nat.{ℕ, zero, suc, _/_, _%_, _≤_, _<_}
@@ -11,8 +11,10 @@ use Rattle.rules.specs.declared.Place.{Place}
 use Rattle.rules.specs.declared.Values.{Values}
 use Rattle.rules.specs.Rules.{Rules}
 use Rattle.purchase.specs.declared.Purchase.{Purchase}
-use Rattle.purchase.specs.Meter.{Meter, accumulator, counter, IsMeter, MeterRule, ruleOf, amountAt, countAt, valueOf, counterCap}
-use Rattle.purchase.specs.Meter.{worthTo as cardWorth}
+use Rattle.purchase.specs.declared.Timing.{Timing}
+use Rattle.purchase.specs.declared.Timing.the-variants.{Undated, InOrder, DateError}
+use Rattle.purchase.specs.Meter.{Meter, accumulator, counter, cyclic, IsMeter, MeterRule, ruleOf, amountAt, countAt, cyclicAt, valueOf, counterCap}
+use Rattle.purchase.specs.Meter.{isInOrder, takesPart, worthTo as cardWorth}
 use Rattle.meters.specs.declared.Change.{Change}
 use Rattle.meters.specs.declared.Change.the-variants.{Approve, Decline, SetToLimits, Clear}
 use Rattle.meters.specs.Meters.{Entry, put, add, moved, addition, applied, entered as entriesOf}
@@ -21,9 +23,19 @@ use Rattle.second.specs.Second.{updateByte, orderedChange, ordered as orderedVa
 use Rattle.demands.specs.Setup.{Setup, AcceptedSetup}
 use Rattle.demands.specs.Conversation.{rulesBy}
 use Rattle.demands.specs.Audit.{isActive, isAllowed, countsDeclines, upperOf, capOf, Conversion, comesTo, over, none, worthTo, adds, counted}
-use Rattle.demands.specs.Audit.{declined, ordered}
+use Rattle.demands.specs.Audit.{isTimely, takesUp, declined, ordered}
 use Rattle.demands.proofs.Owed.{Fair, nothing, putting as fair-put, adding, fair-or}
 use Rattle.demands.proofs.Bytes.{Stands, ruleRead, rule-read, worth-adds}
+
+-- a meter takes part, by the card and by the auditor
+pub takes-part : (purchase : Purchase) (meter : Meter) → takesPart purchase meter ≡ takesUp purchase meter
+takes-part purchase (accumulator i) = refl
+takes-part purchase (counter i) = refl
+takes-part purchase (cyclic i) = by (purchase .timing) where
+  by : (timing : Timing) → isInOrder timing ≡ isTimely timing
+  by Undated = refl
+  by InOrder = refl
+  by (DateError date) = refl
 
 -- what is put where a meter is active
 abbrev pub whereActive : Setup → ℕ → Meter → ℕ → List Entry
@@ -40,6 +52,8 @@ module _ (setup : Setup) (good : AcceptedSetup setup) (place : Place) (at : ℕ)
       applied-moves rules place values change (accumulator i) l ∙ ap (moved max (amountAt values i .0)) e
   change-moves change (counter i) l entries e =
       applied-moves rules place values change (counter i) l ∙ ap (moved counterCap (countAt values i)) e
+  change-moves change (cyclic i) l entries e =
+      applied-moves rules place values change (cyclic i) l ∙ ap (moved max (cyclicAt values i .0)) e
 
   module _ (meter : Meter) (l : IsMeter meter) where
     abbrev read : MeterRule
@@ -57,8 +71,8 @@ module _ (setup : Setup) (good : AcceptedSetup setup) (place : Place) (at : ℕ)
         → valueOf (applied rules place values (Approve purchase)) meter ≡ moved (capOf meter) (valueOf values meter) (counted setup at purchase meter)
     approved-moves purchase small =
         change-moves (Approve purchase) meter l (counted setup at purchase meter)
-        (ap (λ (rule : MeterRule). cond (rule .active && rule .allow) (addition (cardWorth rules purchase meter)) []) is
-        ∙ ap (λ entries. cond (read .active && read .allow) entries []) (worth-adds setup good purchase small meter l))
+        (ap (λ (rule : MeterRule). cond (takesPart purchase meter && (rule .active && rule .allow)) (addition (cardWorth rules purchase meter)) []) is
+        ∙ ap₂ (λ b entries. cond (b && (read .active && read .allow)) entries []) (takes-part purchase meter) (worth-adds setup good purchase small meter l))
 
     pub declined-moves : valueOf (applied rules place values Decline) meter ≡ moved (capOf meter) (valueOf values meter) (declined setup at meter)
     declined-moves =
@@ -104,7 +118,8 @@ module _ (setup : Setup) (profile : ℕ) (purchase : Purchase) (cap : ℕ) where
   adds-fair none = nothing
 
   pub counted-fair : (meter : Meter) → Fair cap (counted setup profile purchase meter)
-  counted-fair meter = fair-or (isActive setup profile meter && isAllowed setup profile meter) (adds-fair (worthTo setup purchase meter)) nothing
+  counted-fair meter =
+      fair-or (takesUp purchase meter && (isActive setup profile meter && isAllowed setup profile meter)) (adds-fair (worthTo setup purchase meter)) nothing
 
   pub declined-fair : (meter : Meter) → Fair cap (declined setup profile meter)
   declined-fair meter = fair-or (isActive setup profile meter && isAllowed setup profile meter && countsDeclines setup profile meter) adding nothing

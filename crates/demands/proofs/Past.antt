@@ -1,10 +1,11 @@
 -- The card's history and its ATC are those that the conversation and the set-up's bytes say. Assumes nothing.
-use mathlib.Core.Path.{_≡_, refl, sym, ap, subst}
+use mathlib.Core.Path.{_≡_, refl, ap, _∙_}
 use mathlib.Core.Bool.{Bool, true, false, cond, _&&_}
-use mathlib.Core.List.{List, [], _∷_}
+use mathlib.Core.List.{List, []}
 use Prim.Native.Nat.{ℕ, _+_, _/_, _%_}
 use native.Mathlib.Omega.{arith}
 use lib.Dec.{eqb}
+use Rattle.calendar.specs.declared.Date.{Date}
 use Rattle.refusal.specs.declared.Refusal.{Refusal}
 use Rattle.iad.specs.declared.Cvr.{Cvr}
 use Rattle.rules.specs.declared.Place.{Place}
@@ -23,7 +24,8 @@ use Rattle.state.specs.declared.Kind.the-variants.{Aac, Tc, Arqc}
 use Rattle.state.specs.declared.Pending.{Pending}
 use Rattle.state.specs.declared.State.{State}
 use Rattle.state.specs.declared.Outcome.{Outcome}
-use Rattle.first.specs.First.{firstKind, firstPerformed, settled, asked, concluded}
+use Rattle.cycles.specs.Cycles.{timingOf, dated}
+use Rattle.first.specs.First.{firstKind, firstPerformed, firstAnswered, settled, asked, concluded}
 use Rattle.state.specs.State.{uncompletedIn, unableIn}
 use Rattle.second.specs.Second.{isUnable, unablePerformed, verifiedPerformed, failedPerformed, absentPerformed, secondPerformed}
 use Rattle.second.specs.Second.{closed, updateByte}
@@ -34,6 +36,8 @@ use Rattle.demands.specs.Audit.{inForce}
 use Rattle.demands.specs.Past.{past, atcBy, Says}
 use Rattle.demands.proofs.Step.{Did, refused-it, started-it, took-first, took-second}
 use Rattle.demands.proofs.Run.{ruled-keeps, always-ruled, did-by}
+use Rattle.demands.proofs.Bytes.{both-fit}
+use Rattle.demands.proofs.Dated.{same-history, same-atc}
 
 pub record Recalls (setup : Setup) (sitting : Sitting) : Type 0 where
   pub history-is : sitting .state .history ≡ past setup (sitting .log)
@@ -57,32 +61,38 @@ module _ (setup : Setup) (sitting : Sitting) (recalls : Recalls setup sitting) w
   refused-keeps (FirstCommand first) r = record { recalls = record { history-is = recalls .history-is; atc-is = recalls .atc-is }; says = tt }
   refused-keeps (SecondCommand second) r = record { recalls = record { history-is = recalls .history-is; atc-is = recalls .atc-is }; says = tt }
 
+  -- a First's date leaves both
   concluded-keeps : (first : First) (place : Place) (purchase : Purchase) (limits : ℕ) (cvr : Cvr) (kind : Kind)
-      → Keeps setup sitting (FirstCommand first) (concluded rules state place purchase limits cvr kind)
+      → Keeps setup sitting (FirstCommand first) (concluded rules (dated rules state (first .when)) place purchase limits cvr kind)
   unfolding settled asked concluded past atcBy
-  concluded-keeps first place purchase limits cvr Tc =
-      record { recalls = record { history-is = recalls .history-is; atc-is = recalls .atc-is }; says = recalls .atc-is }
-  concluded-keeps first place purchase limits cvr Aac =
-      record { recalls = record { history-is = recalls .history-is; atc-is = recalls .atc-is }; says = recalls .atc-is }
-  concluded-keeps first place purchase limits cvr Arqc =
-      record { recalls = record { history-is = ap uncompletedIn (recalls .history-is); atc-is = recalls .atc-is }; says = recalls .atc-is }
+  concluded-keeps first place purchase limits cvr kind = by kind where
+    past-is : dated rules state (first .when) .history ≡ past setup (sitting .log)
+    past-is = same-history rules state (first .when) ∙ recalls .history-is
 
-  closed-keeps : (second : Second) (pending : Pending) (approves : Bool) (values : Values) (history : History) (issuer : Issuer)
-      → history ≡ past setup (after sitting (SecondCommand second) (closed rules (state .atc) pending approves values history issuer) .log)
-      → Keeps setup sitting (SecondCommand second) (closed rules (state .atc) pending approves values history issuer)
+    atc-then : dated rules state (first .when) .atc ≡ atcBy setup (sitting .log)
+    atc-then = same-atc rules state (first .when) ∙ recalls .atc-is
+
+    by : (kind : Kind) → Keeps setup sitting (FirstCommand first) (concluded rules (dated rules state (first .when)) place purchase limits cvr kind)
+    by Tc = record { recalls = record { history-is = past-is; atc-is = atc-then }; says = atc-then }
+    by Aac = record { recalls = record { history-is = past-is; atc-is = atc-then }; says = atc-then }
+    by Arqc = record { recalls = record { history-is = ap uncompletedIn past-is; atc-is = atc-then }; says = atc-then }
+
+  closed-keeps : (second : Second) (pending : Pending) (approves : Bool) (values : Values) (last : Date) (history : History) (issuer : Issuer)
+      → history ≡ past setup (after sitting (SecondCommand second) (closed rules (state .atc) pending approves values last history issuer) .log)
+      → Keeps setup sitting (SecondCommand second) (closed rules (state .atc) pending approves values last history issuer)
   unfolding closed atcBy
-  closed-keeps second pending approves values history issuer is =
+  closed-keeps second pending approves values last history issuer is =
       record { recalls = record { history-is = is; atc-is = recalls .atc-is }; says = recalls .atc-is }
 
-  unable-keeps : (second : Second) (pending : Pending) → isUnable (second .code) ≡ true → (approves : Bool) (values : Values) (issuer : Issuer)
-      → Keeps setup sitting (SecondCommand second) (closed rules (state .atc) pending approves values (unableIn (state .history)) issuer)
+  unable-keeps : (second : Second) (pending : Pending) → isUnable (second .code) ≡ true → (approves : Bool) (values : Values) (last : Date) (issuer : Issuer)
+      → Keeps setup sitting (SecondCommand second) (closed rules (state .atc) pending approves values last (unableIn (state .history)) issuer)
   unfolding past closed
-  unable-keeps second pending u approves values issuer =
-      closed-keeps second pending approves values (unableIn (state .history)) issuer (rw u (ap unableIn (recalls .history-is)))
+  unable-keeps second pending u approves values last issuer =
+      closed-keeps second pending approves values last (unableIn (state .history)) issuer (rw u (ap unableIn (recalls .history-is)))
 
-  module _ (second : Second) (pending : Pending) (u : isUnable (second .code) ≡ false) (approves : Bool) (values : Values) (issuer : Issuer) where
+  module _ (second : Second) (pending : Pending) (u : isUnable (second .code) ≡ false) (approves : Bool) (values : Values) (last : Date) (issuer : Issuer) where
     abbrev closing : History → Outcome
-    closing history = closed rules (state .atc) pending approves values history issuer
+    closing history = closed rules (state .atc) pending approves values last history issuer
 
     abbrev whenVerified : Bool → History
     whenVerified online = record { uncompleted = false; online = online; failed = false; unable = false; missing = false }
@@ -99,19 +109,19 @@ module _ (setup : Setup) (sitting : Sitting) (recalls : Recalls setup sitting) w
     unfolding past closed
     verified-keeps v =
         let b4 : second .csu / 65536 % 256 / 8 % 2 ≡ second .csu / 65536 / 8 % 2 = omega arith in
-        closed-keeps second pending approves values (whenVerified (eqb (updateByte (second .csu) / 8 % 2) 1)) issuer (rw (u, v, b4))
+        closed-keeps second pending approves values last (whenVerified (eqb (updateByte (second .csu) / 8 % 2) 1)) issuer (rw (u, v, b4))
 
     failed-keeps : eqb (second .issuer) 1 ≡ false → eqb (second .issuer) 2 ≡ true
         → Keeps setup sitting (SecondCommand second) (closing (whenFailed (state .history)))
     unfolding past closed
     failed-keeps v f =
-        closed-keeps second pending approves values (whenFailed (state .history)) issuer (rw (u, v, f) (ap whenFailed (recalls .history-is)))
+        closed-keeps second pending approves values last (whenFailed (state .history)) issuer (rw (u, v, f) (ap whenFailed (recalls .history-is)))
 
     absent-keeps : eqb (second .issuer) 1 ≡ false → eqb (second .issuer) 2 ≡ false
         → Keeps setup sitting (SecondCommand second) (closing (whenAbsent (rules .required) (state .history)))
     unfolding past closed rulesIn
     absent-keeps v f =
-        closed-keeps second pending approves values (whenAbsent (rules .required) (state .history)) issuer
+        closed-keeps second pending approves values last (whenAbsent (rules .required) (state .history)) issuer
         (rw (u, v, f) (ap (whenAbsent (rules .required)) (recalls .history-is)))
 
   second-keeps : (second : Second) (pending : Pending) → Keeps setup sitting (SecondCommand second) (secondPerformed rules state second pending)
@@ -121,26 +131,27 @@ module _ (setup : Setup) (sitting : Sitting) (recalls : Recalls setup sitting) w
         → Keeps setup sitting (SecondCommand second) (cond u (unablePerformed rules state (second .requested) pending)
         (cond v (verifiedPerformed rules state second pending)
         (cond f (failedPerformed rules state pending) (absentPerformed rules state (second .requested) pending))))
-    by true u v p f q = unable-keeps second pending u _ _ _
-    by false u true p f q = verified-keeps second pending u _ _ _ p
-    by false u false p true q = failed-keeps second pending u _ _ _ p q
-    by false u false p false q = absent-keeps second pending u _ _ _ p q
+    by true u v p f q = unable-keeps second pending u _ _ _ _
+    by false u true p f q = verified-keeps second pending u _ _ _ _ p
+    by false u false p true q = failed-keeps second pending u _ _ _ _ p q
+    by false u false p false q = absent-keeps second pending u _ _ _ _ p q
 
   pub did-keeps : {command : Command} {outcome : Outcome} → Did rules state command outcome → Keeps setup sitting command outcome
-  unfolding past atcBy firstPerformed
+  unfolding past atcBy firstPerformed firstAnswered
   did-keeps {command} (refused-it r) = refused-keeps command r
   did-keeps (started-it start place holds) =
       record {
         recalls = record { history-is = recalls .history-is; atc-is = ap (λ n. n + 1) (recalls .atc-is) };
         says = ap (λ n. n + 1) (recalls .atc-is);
       }
-  did-keeps (took-first first place is type small) = concluded-keeps first place _ _ _ (firstKind rules state place first)
+  did-keeps (took-first first place is type small day) =
+      concluded-keeps first place _ _ _ (firstKind rules (dated rules state (first .when)) place first (timingOf (state .last) (first .when)))
   did-keeps (took-second second pending is type issuer) = second-keeps second pending
 
 module _ (setup : Setup) where
   pub begin-recalls : AcceptedSetup setup → Recalls setup (sat setup [])
   unfolding run freshState freshIn readSetup past atcBy
-  begin-recalls good = rw (good .taken) (record { history-is = refl; atc-is = refl })
+  begin-recalls good = rw (both-fit good) (record { history-is = refl; atc-is = refl })
 
   module _ (good : AcceptedSetup setup) (commands : List Command) where
     recalled : Recalls setup (sat setup commands)

@@ -1,9 +1,9 @@
 -- Demand 1: every command gets an answer, in its kind; its number is the first that applies; a refusal leaves the card as it was.
 -- Assumes nothing.
 use mathlib.Core.Path.{_≡_, refl, sym, ap, subst, _∙_}
-use mathlib.Core.Bool.{Bool, true, false, cond, _&&_, _||_}
+use mathlib.Core.Bool.{Bool, true, false, cond, _&&_}
 use mathlib.Core.List.{List}
-use Prim.Native.Nat.{ℕ, _+_, _*_, _≤_, _<_}
+use Prim.Native.Nat.{ℕ, _≤_, _<_}
 use native.Mathlib.Nat.{le-antisymm}
 use native.Mathlib.Omega.{arith}
 use borrow.Author.Tests.{ltb-true, ltb-false, leb-true, leb-false, eqb-true, eqb-false}
@@ -12,9 +12,10 @@ use Rattle.wire.specs.Wire.{isCurrency}
 use Rattle.money.specs.Money.{max}
 use Rattle.refusal.specs.declared.Refusal.{Refusal}
 use Rattle.refusal.specs.declared.Refusal.the-variants.{BadSetup, OutOfTurn, UnknownProfile, AtcUsedUp, BadType, OutOfRange, RoomTooSmall, NotAnIad}
-use Rattle.refusal.specs.declared.Refusal.the-variants.{Unreadable, BadRate, BadMta, NotSelected}
+use Rattle.refusal.specs.declared.Refusal.the-variants.{Unreadable, BadRate, BadMta, NotSelected, NotADay}
 use Rattle.refusal.specs.Refusal.{refusalNumber}
-use Rattle.ranges.proofs.Accepted.{currency}
+use Rattle.calendar.proofs.Dates.{calendar-days}
+use Rattle.ranges.proofs.Accepted.{Currency, currency}
 use Rattle.rules.specs.declared.Place.{Place}
 use Rattle.rules.specs.declared.Found.{Found}
 use Rattle.rules.specs.declared.Found.the-variants.{At, Nothing}
@@ -22,6 +23,8 @@ use Rattle.rules.specs.Rules.{Rules, indexOf, findProfile}
 use Rattle.selection.specs.declared.Selection.{Selection}
 use Rattle.selection.specs.declared.Selection.the-variants.{Selected, NotSelected as NoneSelected}
 use Rattle.selection.specs.Selection.{profileOf, visitsOf}
+use Rattle.command.specs.declared.When.{When}
+use Rattle.command.specs.declared.When.the-variants.{Undated, On}
 use Rattle.command.specs.declared.Start.{Start}
 use Rattle.command.specs.declared.First.{First}
 use Rattle.command.specs.declared.Second.{Second}
@@ -36,10 +39,10 @@ use Rattle.state.specs.declared.State.{State}
 use Rattle.state.specs.declared.Outcome.{Outcome}
 use Rattle.first.specs.First.{firstPerformed}
 use Rattle.second.specs.Second.{secondPerformed}
-use Rattle.card.specs.Card.{Ruling, refuse, take, ruleStart, ruleOpening, ruleFirst, ruleSecond, carried, startPerformed, startStep, firstStep}
-use Rattle.card.specs.Card.{secondStep, stepOf, answerNumber}
+use Rattle.card.specs.Card.{Ruling, refuse, take, ruleStart, ruleOpening, isDated, ruleFirst, ruleSecond, carried, startPerformed, startStep}
+use Rattle.card.specs.Card.{firstStep, secondStep, stepOf, answerNumber}
 use Rattle.demands.proofs.Found.{Holds, Known, known, below-four}
-use Rattle.demands.specs.Setup.{Setup, byteAt, AcceptedSetup}
+use Rattle.demands.specs.Setup.{Setup, AcceptedSetup}
 use Rattle.demands.specs.Conversation.{rulesBy, sat, next}
 use Rattle.demands.specs.Audit.{isAccepted, inForce}
 use Rattle.demands.specs.Past.{atcBy}
@@ -49,9 +52,9 @@ use Rattle.demands.proofs.Run.{always-ruled}
 use Rattle.demands.proofs.Bytes.{fits, number-in, number-out}
 use Rattle.demands.proofs.Ends.{accepted-in-kind, first-concludes, second-closes, due-is}
 use Rattle.demands.proofs.Past.{atc}
-use Rattle.demands.specs.Rows.{InSetup, InRules, NoStart, NoArqc, Unselected}
+use Rattle.demands.specs.Rows.{InSetup, InRules, NoStart, NoArqc, Unselected, NoDay}
 use Rattle.demands.specs.Rows.{StartRow, not-selected, not-in-setup, used-up, FirstRow, no-start, type-three}
-use Rattle.demands.specs.Rows.{above-max, not-digits, SecondRow, no-arqc, type-two, issuer-data, Applies, rank, Numbered, done, refused}
+use Rattle.demands.specs.Rows.{above-max, not-digits, not-a-day, SecondRow, no-arqc, type-two, issuer-data, Applies, rank, Numbered, done, refused}
 
 -- what is taken is answered, and no answer to it is a refusal
 record Taken (outcome : Outcome) : Type 0 where
@@ -101,34 +104,68 @@ start-ruled rules atc start = by (start .chosen) refl where
       subst (λ c. Ruled (StartRow (InRules rules) atc start) (ruleOpening atc (findProfile rules (profileOf c)))) is
       (opening-ruled rules atc start (λ h. subst Unselected is h) (findProfile rules (profileOf (start .chosen))) (known rules (profileOf (start .chosen))))
 
--- of First no row is numbered below 2; below 5 none where a Start is open, and below 6 none where its type is in range too
+-- a date is one of the almanac's days or none
+day-there : (when : When) → isDated when ≡ true → NoDay when → ⊥
+day-there Undated e none = none
+day-there (On date) e none = let (n, l, is) = calendar-days date .0 e in none n l is
+
+no-day : (when : When) → isDated when ≡ false → NoDay when
+no-day Undated e = absurd (never (sym e))
+no-day (On date) e = λ n l is. never (sym e ∙ calendar-days date .1 (n, l, is))
+
+-- of First no row is numbered below 2; below 5 none where a Start is open, below 6 none where its type is in range too, and below 13 none
+-- where its fields are
+record Fielded (first : First) : Type 0 where
+  type : first .requested ≤ 2
+  amount : first .amount .0 ≤ max
+  digits : Currency (first .currency)
+
 first-least : {due : Due} {first : First} {m : ℕ} → FirstRow due first m
-    → (2 ≤ rank m) × ((NoStart due → ⊥) → 5 ≤ rank m) × ((NoStart due → ⊥) → first .requested ≤ 2 → 6 ≤ rank m)
-first-least (no-start n h) = (omega (arith, ap rank n), λ begun. absurd (begun h), λ begun t. absurd (begun h))
-first-least (type-three n h) = (omega (arith, ap rank n), λ begun. omega (arith, ap rank n), λ begun t. omega arith)
-first-least (above-max n h) = (omega (arith, ap rank n), λ begun. omega (arith, ap rank n), λ begun t. omega (arith, ap rank n))
-first-least (not-digits n h) = (omega (arith, ap rank n), λ begun. omega (arith, ap rank n), λ begun t. omega (arith, ap rank n))
+    → (2 ≤ rank m) × ((NoStart due → ⊥) → (5 ≤ rank m) × (first .requested ≤ 2 → 6 ≤ rank m) × (Fielded first → 13 ≤ rank m))
+first-least (no-start n h) = (omega (arith, ap rank n), λ begun. absurd (begun h))
+first-least (type-three n h) = (omega (arith, ap rank n), λ begun. (omega (arith, ap rank n), λ t. omega arith, λ f. omega (arith, f .type)))
+first-least (above-max n h) =
+    (omega (arith, ap rank n), λ begun. (omega (arith, ap rank n), λ t. omega (arith, ap rank n), λ f. omega (arith, f .amount)))
+first-least (not-digits n h) =
+    (omega (arith, ap rank n), λ begun. (omega (arith, ap rank n), λ t. omega (arith, ap rank n), λ f. absurd (h (f .digits))))
+first-least (not-a-day n h) =
+    (omega (arith, ap rank n), λ begun. (omega (arith, ap rank n), λ t. omega (arith, ap rank n), λ f. omega (arith, ap rank n)))
 
 first-ruled : (phase : Phase) (first : First) → Ruled (FirstRow (dueIn phase) first) (ruleFirst phase first)
 first-ruled Idle first = (no-start refl tt, λ m l row. omega (arith, first-least row .0))
 first-ruled (Asked pending) first = (no-start refl tt, λ m l row. omega (arith, first-least row .0))
 first-ruled (Opened place) first = by-type (ltb 2 (first .requested)) refl where
+  opened : ⊥ → ⊥
+  opened none = none
+
+  by-day : Fielded first → (d : Bool) → isDated (first .when) ≡ d → Ruled (FirstRow aFirst first) (cond d (take place) (refuse NotADay))
+  by-day f true e =
+      λ m.
+      elim [
+        | no-start n h ↦ h
+        | type-three n h ↦ omega (arith, f .type)
+        | above-max n h ↦ omega (arith, f .amount)
+        | not-digits n h ↦ h (f .digits)
+        | not-a-day n h ↦ day-there (first .when) e h
+      ]
+  by-day f false e = (not-a-day refl (no-day (first .when) e), λ m l row. omega (arith, first-least row .1 opened .2 f))
+
   by-currency : first .requested ≤ 2 → first .amount .0 ≤ max → (c : Bool) → isCurrency (first .currency) ≡ c
-      → Ruled (FirstRow aFirst first) (cond c (take place) (refuse OutOfRange))
-  by-currency t a true e =
-      let digits = currency (first .currency) .0 e in
-      λ m. elim [ no-start n h ↦ h | type-three n h ↦ omega arith | above-max n h ↦ omega arith | not-digits n h ↦ h digits ]
+      → Ruled (FirstRow aFirst first) (cond c (cond (isDated (first .when)) (take place) (refuse NotADay)) (refuse OutOfRange))
+  by-currency t a true e = by-day (record { type = t; amount = a; digits = currency (first .currency) .0 e }) (isDated (first .when)) refl
   by-currency t a false e =
-      (not-digits refl (λ c. never (sym e ∙ currency (first .currency) .1 c)), λ m l row. omega (arith, first-least row .2 (λ none. none) t))
+      (not-digits refl (λ c. never (sym e ∙ currency (first .currency) .1 c)), λ m l row. omega (arith, first-least row .1 opened .1 t))
 
   by-amount : first .requested ≤ 2 → (a : Bool) → leb (first .amount .0) max ≡ a
-      → Ruled (FirstRow aFirst first) (cond (a && isCurrency (first .currency)) (take place) (refuse OutOfRange))
+      → Ruled (FirstRow aFirst first)
+      (cond (a && isCurrency (first .currency)) (cond (isDated (first .when)) (take place) (refuse NotADay)) (refuse OutOfRange))
   by-amount t true e = by-currency t (leb-true _ _ e) (isCurrency (first .currency)) refl
-  by-amount t false e = (above-max refl (leb-false _ _ e), λ m l row. omega (arith, first-least row .2 (λ none. none) t))
+  by-amount t false e = (above-max refl (leb-false _ _ e), λ m l row. omega (arith, first-least row .1 opened .1 t))
 
   by-type : (b : Bool) → ltb 2 (first .requested) ≡ b → Ruled (FirstRow aFirst first)
-      (cond b (refuse BadType) (cond (leb (first .amount .0) max && isCurrency (first .currency)) (take place) (refuse OutOfRange)))
-  by-type true e = (type-three refl (ltb-true _ _ e), λ m l row. omega (arith, first-least row .1 (λ none. none)))
+      (cond b (refuse BadType) (cond (leb (first .amount .0) max && isCurrency (first .currency))
+      (cond (isDated (first .when)) (take place) (refuse NotADay)) (refuse OutOfRange)))
+  by-type true e = (type-three refl (ltb-true _ _ e), λ m l row. omega (arith, first-least row .1 opened .0))
   by-type false e = by-amount (ltb-false _ _ e) (leb (first .amount .0) max) refl
 
 -- of Second likewise
@@ -273,11 +310,12 @@ in-kind rules state command = by (did rules state command) where
   some-refusal BadRate e = omega arith
   some-refusal BadMta e = omega arith
   some-refusal NotSelected e = omega arith
+  some-refusal NotADay e = omega arith
 
   by : {command : Command} {outcome : Outcome} → Did rules state command outcome → answerNumber (outcome .answer) ≡ 0 → InKind command (outcome .answer)
   by (refused-it refusal) e = absurd (some-refusal refusal e)
   by (started-it start place holds) e = tt
-  by (took-first first place is type small) e = first-concludes rules state first place .in-kind
+  by (took-first first place is type small day) e = first-concludes rules state first place .in-kind
   by (took-second second pending is type issuer) e = second-closes rules state second pending .in-kind
 
 -- no row has the number 0, and two others that stand alike in the order are one
@@ -285,7 +323,13 @@ module _ (Known : ℕ → Type 0) (atc : ℕ) (due : Due) where
   some-number : (command : Command) (n : ℕ) → Applies Known atc due command n → 0 < n
   some-number (StartCommand start) n = elim [ not-selected e h ↦ omega arith | not-in-setup e h ↦ omega arith | used-up e h ↦ omega arith ]
   some-number (FirstCommand first) n =
-      elim [ no-start e h ↦ omega arith | type-three e h ↦ omega arith | above-max e h ↦ omega arith | not-digits e h ↦ omega arith ]
+      elim [
+        | no-start e h ↦ omega arith
+        | type-three e h ↦ omega arith
+        | above-max e h ↦ omega arith
+        | not-digits e h ↦ omega arith
+        | not-a-day e h ↦ omega arith
+      ]
   some-number (SecondCommand second) n = elim [ no-arqc e h ↦ omega arith | type-two e h ↦ omega arith | issuer-data e h ↦ omega arith ]
 
 one-rank : (n m : ℕ) → 0 < n → 0 < m → rank n ≡ rank m → n ≡ m

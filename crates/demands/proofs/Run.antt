@@ -14,6 +14,7 @@ use Rattle.demands.specs.Setup.{Setup, byteAt, AcceptedSetup}
 use Rattle.demands.specs.Conversation.{Exchange, Sitting, outcomeOf, told, run, satBy, rulesBy, sat, satOver}
 use Rattle.demands.specs.Audit.{writtenBy, inForce}
 use Rattle.demands.proofs.Step.{Did, did}
+use Rattle.demands.proofs.Bytes.{both-fit}
 
 pub run-keeps : (P : Sitting → Type 0) → ((sitting : Sitting) → P sitting → (command : Command) → P (told sitting command))
     → (sitting : Sitting) → P sitting → (commands : List Command) → P (run sitting commands)
@@ -57,18 +58,31 @@ did-by setup sitting ruled command =
     let rules = rulesBy (inForce setup (sitting .log)) in
     subst (λ these. Did rules (sitting .state) command (stepOf these (sitting .state) command)) (sym (ruled .rules-are)) (did rules (sitting .state) command)
 
--- the PIN's byte is never written
+-- what no command writes stays: the PIN's byte, and the tail with the cyclic accumulators
+module _ {A : Type 0} (part : Setup → A)
+    (unwritten : (command : Command) (answer : Answer) (before : Setup) → part (writtenBy command answer before) ≡ part before) where
+  stays : (setup : Setup) (log : List Exchange) → part (inForce setup log) ≡ part setup
+  unfolding inForce
+  stays setup [] = refl
+  stays setup (exchange ∷ older) = unwritten (exchange .command) (exchange .answer) (inForce setup older) ∙ stays setup older
+
 pub pin-stays : (setup : Setup) (log : List Exchange) → byteAt (inForce setup log) 1 ≡ byteAt setup 1
-unfolding inForce
-pin-stays setup [] = refl
-pin-stays setup (exchange ∷ older) = by (exchange .command) (exchange .answer) ∙ pin-stays setup older where
-  by : (command : Command) (answer : Answer) → byteAt (writtenBy command answer (inForce setup older)) 1 ≡ byteAt (inForce setup older) 1
-  by (StartCommand start) answer = refl
-  by (FirstCommand first) answer = refl
-  by (SecondCommand second) answer = refl
+pin-stays = stays (λ setup. byteAt setup 1) unwritten where
+  unwritten : (command : Command) (answer : Answer) (before : Setup) → byteAt (writtenBy command answer before) 1 ≡ byteAt before 1
+  unwritten (StartCommand start) answer before = refl
+  unwritten (FirstCommand first) answer before = refl
+  unwritten (SecondCommand second) answer before = refl
+
+pub tail-stays : (setup : Setup) (log : List Exchange) → inForce setup log .tail ≡ setup .tail
+tail-stays = stays (λ setup. setup .tail) unwritten where
+  unwritten : (command : Command) (answer : Answer) (before : Setup) → writtenBy command answer before .tail ≡ before .tail
+  unwritten (StartCommand start) answer before = refl
+  unwritten (FirstCommand first) answer before = refl
+  unwritten (SecondCommand second) answer before = refl
 
 -- OVER THE WORDS THAT A CARD WAS LENT, whatever they held, the conversation is the one over the set-up's bytes
 pub heard-over-words : (setup : Setup) → AcceptedSetup setup → (words : List ℕ) → length words ≡ wordCount → (commands : List Command)
     → satOver words setup commands ≡ sat setup commands
 heard-over-words setup good words size commands =
-    ap (λ rules. satBy rules setup commands) (faithful (setup .bytes) (good .bytes) (setup .syllabus) words size (good .taken))
+    ap (λ rules. satBy rules setup commands)
+    (faithful (setup .bytes) (setup .tail) (good .bytes) (good .tail-bytes) (setup .syllabus) (setup .unnamed) words size (both-fit good))

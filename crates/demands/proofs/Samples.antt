@@ -1,132 +1,35 @@
 -- The statements of `demands`, computed for a few sittings: what a card holds and what the auditor finds, value by value. They follow
--- from `total`, `history`, `atc`, `due-is`, `in-kind`, `first-answers`, `gives` and `written-out`; said apart, they show of a wrong card that
+-- from `total`, `history`, `atc`, `last-date`, `due-is`, `in-kind`, `numbered`, `first-answers`, `gives` and `written-out`; said apart, they show of a wrong card that
 -- the statement itself is false of it. Assumes nothing.
 use mathlib.Core.Bool.{Bool, true, false, not, _&&_, _||_}
 use mathlib.Core.List.{List, [], _∷_, _++_}
-use Prim.Native.Nat.{ℕ, _+_, _*_}
+use Prim.Native.Nat.{ℕ, _+_}
 use lib.Dec.{T, eqb}
-use lib.ListN.{replicate}
+use Rattle.calendar.specs.declared.Date.{Date}
 use Rattle.iad.specs.Iad.{isCvr, isWritable}
 use Rattle.ranges.specs.Ranges.{isSetup}
+use Rattle.setup.specs.Setup.{isAccepted}
 use Rattle.state.specs.declared.History.{History}
 use Rattle.state.specs.declared.Answer.{Answer}
 use Rattle.state.specs.declared.Answer.the-variants.{Refused, Started, Given}
 use Rattle.state.specs.declared.Kind.{Kind}
 use Rattle.state.specs.declared.Kind.the-variants.{Aac, Tc, Arqc}
 use Rattle.cryptogram.specs.Cryptogram.{kindCode}
-use Rattle.selection.specs.declared.Selection.the-variants.{Selected}
+use Rattle.command.specs.declared.When.{When}
 use Rattle.command.specs.declared.Command.{Command}
 use Rattle.command.specs.declared.Command.the-variants.{Start as StartCommand, First as FirstCommand, Second as SecondCommand}
+use Rattle.card.specs.Card.{answerNumber}
+use Rattle.purchase.specs.Meter.{Meter, accumulator, counter, cyclic, valueOf}
 use Rattle.demands.specs.Setup.{Setup, byteAt}
-use Rattle.purchase.specs.Meter.{Meter, accumulator, counter, valueOf}
 use Rattle.demands.specs.Conversation.{Exchange, Sitting, sat, next}
-use Rattle.demands.specs.Audit.{named, placeBy, audited}
+use Rattle.demands.specs.Audit.{named, lastDate, placeBy, audited}
 use Rattle.demands.specs.Past.{past, atcBy}
 use Rattle.demands.specs.Due.{Due, nothing, aFirst, aSecond, due, dueIn}
 use Rattle.demands.specs.Verification.{sentOf}
 use Rattle.demands.proofs.Computed.{computed}
-
-abbrev zeros : ℕ → List ℕ
-zeros n = replicate n 0
-
--- ---- set-ups
-
--- of syllabus 0
-abbrev setupOf : List ℕ → Setup
-setupOf body = record { bytes = body; syllabus = 0 }
-
--- p profiles, c conversions, ATC 0; accumulators in 0978 from a number below 65536, in 0840 from 0, in 0978 from 7
-abbrev head : (p c high low : ℕ) → List ℕ
-head p c high low =
-    1 ∷ 3 ∷ 0 ∷ p ∷ c ∷ zeros 3
-    ++ 0x09 ∷ 0x78 ∷ zeros 6
-    ++ high ∷ low ∷ 0x08 ∷ 0x40 ∷ zeros 8
-    ++ 0x09 ∷ 0x78 ∷ zeros 7
-    ++ 7 ∷ zeros 14
-
--- switches, lower and upper, each below 65536
-abbrev rule : (switches high low high' low' : ℕ) → List ℕ
-rule switches high low high' low' = switches ∷ zeros 6 ++ high ∷ low ∷ zeros 6 ++ high' ∷ low' ∷ []
-
--- masks 0, MTA off; accumulator 1 by its switches, 100 and 5000; 2 counts, 100 and 5000; 3 is active and doesn't, 8 and 9; counter 1 counts
-abbrev profile : (n switches : ℕ) → List ℕ
-profile n switches =
-    n ∷ zeros 23 ++ rule switches 0 100 0x13 0x88 ++ rule 3 0 100 0x13 0x88 ++ rule 5 0 8 0 9 ++ zeros 17 ++ 3 ∷ 255 ∷ 255 ∷ zeros 12
-
--- profile 2 leaves accumulator 1 out; 0978 to 0840 by 2
-unfoldable pub counting : Setup
-counting = setupOf (head 2 1 0 0 ++ profile 1 3 ++ profile 2 0 ++ 0x09 ∷ 0x78 ∷ 0x08 ∷ 0x40 ∷ 0 ∷ 2 ∷ 9 ∷ [])
-
--- Online accumulator 1's lower limit, 1000; Decline MTA, 0 in 0978 and off, and accumulator 1's upper limit, 5000; no conversion
-unfoldable pub limiting : (switches high low : ℕ) → Setup
-limiting switches high low =
-    let masks = zeros 3 ++ 0x40 ∷ 0 ∷ 0 ∷ 0x04 ∷ 0x20 ∷ zeros 5 in
-    setupOf (head 1 0 high low ++ 1 ∷ masks ++ 0x09 ∷ 0x78 ∷ zeros 8 ++ rule switches 0x03 0xE8 0x13 0x88 ++ zeros 66)
-
--- Default accumulator 1's lower limit, 1000, and no other mask; from 2000
-unfoldable pub defaulting : Setup
-defaulting = setupOf (head 1 0 0x07 0xD0 ++ 1 ∷ zeros 11 ++ 0x40 ∷ zeros 11 ++ rule 1 0x03 0xE8 0x13 0x88 ++ zeros 66)
-
--- Decline accumulator 1's upper limit, MAX, which the purchase is tested with; from MAX
-abbrev most : List ℕ
-most = 0 ∷ 0 ∷ 0 ∷ 0xE8 ∷ 0xD4 ∷ 0xA5 ∷ 0x0F ∷ 0xFF ∷ []
-
-unfoldable pub full : Setup
-full =
-    let masks = zeros 6 ++ 0x04 ∷ zeros 16 in
-    setupOf (1 ∷ 3 ∷ 0 ∷ 1 ∷ 0 ∷ zeros 3 ++ 0x09 ∷ 0x78 ∷ most ++ zeros 34 ++ 1 ∷ masks ++ 5 ∷ zeros 8 ++ most ++ zeros 66)
-
--- one profile, nothing active; accumulator 1 and counters 2 and 3 sent, 9, 6 and 7
-unfoldable pub sending : (n : ℕ) → Setup
-sending n =
-    let values = 0x09 ∷ 0x78 ∷ zeros 7 ++ 9 ∷ zeros 30 ++ 5 ∷ 6 ∷ 7 ∷ 8 ∷ [] in
-    setupOf (1 ∷ 3 ∷ 0 ∷ 1 ∷ zeros 4 ++ values ++ n ∷ zeros 103 ++ 1 ∷ 2 ∷ 3 ∷ [])
-
--- ---- sittings
-
-abbrev start : ℕ → Command
-start n = StartCommand (record { chosen = Selected n 0 })
-
--- requested 1 TC, 2 ARQC
-abbrev first : (amount currency requested : ℕ) → Command
-first amount currency requested =
-    FirstCommand (record { amount = record { 0 = amount }; currency = currency; requested = requested; terminal = 0x22 })
-
--- TC requested, the issuer's data verified, CSU byte 2
-abbrev second : ℕ → Command
-second update = SecondCommand (record { csu = update * 65536; code = 0x3030; requested = 1; issuer = 1 })
-
--- approvals, in one of them nothing of an ARQC that the issuer approves, and one after a Start that another Start drops
-unfoldable pub approvals : List Command
-approvals =
-    start 1 ∷ first 100 0x0978 1 ∷ start 1 ∷ first 30 0x0978 2 ∷ second 0x80 ∷ start 1 ∷ first 10 0x0978 1
-    ∷ start 2
-    ∷ start 1
-    ∷ first 1 0x0978 1
-    ∷ []
-
--- and then the upper limits from an issuer that declines; and then zero
-unfoldable pub limits : List Command
-limits = approvals ++ start 1 ∷ first 1 0x0978 2 ∷ second 0x01 ∷ []
-
-unfoldable pub resets : List Command
-resets = limits ++ start 1 ∷ first 1 0x0978 2 ∷ second 0x82 ∷ []
-
--- TC requested after Y3; issuer data failed; absent
-abbrev unable : Command
-unable = SecondCommand (record { csu = 0; code = 0x5933; requested = 1; issuer = 0 })
-
-abbrev after : ℕ → Command
-after issuer = SecondCommand (record { csu = 0; code = 0x3030; requested = 1; issuer = issuer })
-
--- one transaction that First answers, and one that it sends online
-unfoldable pub answered : ℕ → List Command
-answered requested = start 1 ∷ first 1 0x0978 requested ∷ []
-
-unfoldable pub online : Command → List Command
-online command = start 1 ∷ first 1 0x0978 2 ∷ command ∷ []
-
--- ---- what is compared
+use Rattle.demands.proofs.Sittings.{counting, limiting, defaulting, full, sending, spending, weekly}
+use Rattle.demands.proofs.Sittings.{start, first, firstOn, second, unable, after, onDay, approvals, limits, resets, answered, online, buy, late}
+use Rattle.demands.proofs.Sittings.{week, weeks, years}
 
 abbrev same : Bool → Bool → Bool
 same true b = b
@@ -141,14 +44,20 @@ sameHistory a b =
 abbrev holds : Setup → Sitting → Meter → Bool
 holds setup sitting meter = eqb (valueOf (sitting .state .values) meter) (audited setup (sitting .log) meter)
 
--- `total`, `history` and `atc` of a card after a list of commands
+abbrev sameDate : Date → Date → Bool
+sameDate a b = eqb (a .year) (b .year) && eqb (a .month) (b .month) && eqb (a .day) (b .day)
+
+-- `total`, `history`, `atc` and `last-date` of a card after a list of commands
 unfoldable pub agrees : Setup → List Command → Bool
 agrees setup commands =
     let sitting = sat setup commands in
     holds setup sitting (accumulator 0) && holds setup sitting (accumulator 1) && holds setup sitting (accumulator 2)
     && holds setup sitting (counter 0)
+    && holds setup sitting (cyclic 0)
+    && holds setup sitting (cyclic 1)
     && sameHistory (sitting .state .history) (past setup (sitting .log))
     && eqb (sitting .state .atc) (atcBy setup (sitting .log))
+    && sameDate (sitting .state .last) (lastDate setup (sitting .log))
 
 -- `due-is`: what the card's phase says is due, and what the conversation says
 abbrev dueCode : Due → ℕ
@@ -191,6 +100,24 @@ answersTo setup currency kind = isOf (next setup (start 1 ∷ []) (first 1 curre
 abbrev answers : (switches high low currency : ℕ) → Kind → Bool
 answers switches high low currency kind = answersTo (limiting switches high low) currency kind
 
+-- what First answers, requested a TC of an amount on a day of July 2000 under a profile
+unfoldable pub answersOn : Setup → (n day amount : ℕ) → Kind → Bool
+answersOn setup n day amount kind = isOf (next setup (start n ∷ []) (firstOn (onDay 0x00 0x07 day) amount 0x0978 1) .answer) kind
+
+-- and CVR byte 3
+abbrev hasLimits : Answer → ℕ → Bool
+hasLimits (Refused refusal) limits = false
+hasLimits (Started atc visits) limits = false
+hasLimits (Given kind atc iad) limits = eqb (iad .cvr .byte3) limits
+
+unfoldable pub showsOn : Setup → (day limits : ℕ) → Bool
+showsOn setup day limits = hasLimits (next setup (start 1 ∷ []) (firstOn (onDay 0x00 0x07 day) 1 0x0978 1) .answer) limits
+
+-- `numbered`: the number of a First's answer
+unfoldable pub numbers : When → (amount requested number : ℕ) → Bool
+numbers when amount requested number =
+    eqb (answerNumber (next (spending 1 7 0 100) (start 1 ∷ []) (firstOn when amount 0x0978 requested) .answer)) number
+
 -- `gives`: what the newest answer sends, and what the auditor finds
 abbrev isSending : Setup → List Exchange → Answer → Bool
 isSending setup log (Refused refusal) = false
@@ -216,11 +143,11 @@ canWrite (Started atc visits) = false
 canWrite (Given kind atc iad) = isWritable iad
 
 unfoldable pub writes : (n : ℕ) → Bool
-writes n = not (isSetup (sending n .bytes)) || canWrite (next (sending n) (start n ∷ []) (first 1 0x0978 0) .answer)
+writes n = not (isSetup (sending n .bytes) (sending n .unnamed)) || canWrite (next (sending n) (start n ∷ []) (first 1 0x0978 0) .answer)
 
 abbrev areSetups : List Setup → Bool
 areSetups [] = true
-areSetups (setup ∷ setups) = isSetup (setup .bytes) && areSetups setups
+areSetups (setup ∷ setups) = isAccepted (setup .bytes) (setup .tail) (setup .unnamed) && areSetups setups
 
 pub record Samples : Type 0 where
   pub accepted : T (areSetups (counting ∷ limiting 1 0x07 0xD0 ∷ limiting 1 0x17 0x70 ∷ limiting 5 0x17 0x70 ∷ defaulting ∷ full ∷ sending 124 ∷ []))
@@ -252,9 +179,47 @@ pub record Samples : Type 0 where
   pub sent-named : T (sends (sending 1) (answered 0))
   -- a profile that a set-up may have is one that an IAD may: 124, and not 125
   pub profile-written : T (writes 124 && writes 125)
+  pub dated-accepted : T (areSetups (spending 1 7 0 100 ∷ spending 1 7 0x03 0xE8 ∷ spending 1 7 0x05 0xDC ∷ spending 3 0 0 100 ∷ weekly ∷ []))
+  -- a new day begins under a profile in which the accumulator isn't active, and whatever First answers, but not where it is refused
+  pub inactive-begins : T (agrees (spending 1 7 0 100) (buy 2 0x16 1 1))
+  pub declined-begins : T (agrees (spending 1 7 0 100) (buy 1 0x16 1 0))
+  pub asked-begins : T (agrees (spending 1 7 0 100) (buy 1 0x16 1 2))
+  pub refused-begins-none : T (agrees (spending 1 7 0 100) (buy 1 0x16 1 3))
+  -- before the tests: 1000 were spent the day before
+  pub begins-before-tests : T (answersOn (spending 1 7 0x03 0xE8) 1 0x16 1000 Tc)
+  -- week by week, from Monday and from Sunday; months of different years
+  pub week-begins : T (agrees weekly week)
+  pub weeks-go-on : T (agrees weekly weeks)
+  pub years-differ : T (agrees (spending 1 7 0 100) years)
+  -- 100 and 900 reach the limit, 901 exceed it and are declined; the other accumulator's goes online, by the limit of the open profile
+  pub limit-reached : T (answersOn (spending 1 7 0 100) 1 0x15 900 Tc)
+  pub limit-exceeded : T (answersOn (spending 1 7 0 100) 1 0x15 901 Aac)
+  pub other-limit : T (answersOn (spending 1 7 0 100) 2 0x15 201 Arqc)
+  pub other-profile : T (answersOn (spending 1 7 0 100) 1 0x15 201 Tc)
+  -- a date error goes online, in the same month and with nothing active too; a value above its limit is then not tested
+  pub error-in-month : T (answersOn (spending 3 0 0 100) 1 0x14 1 Arqc)
+  pub error-unasked : T (answersOn (spending 3 0 0 100) 2 0x14 1 Arqc)
+  pub error-untested : T (answersOn (spending 1 7 0x05 0xDC) 1 0x14 1 Arqc)
+  pub error-shown : T (showsOn (spending 1 7 0 100) 0x14 2 && showsOn (spending 1 7 0x05 0xDC) 0x15 0)
+  -- neither cyclic accumulator counts its approval, or an ordered addition; the other orders reach them
+  pub error-uncounted : T (agrees (spending 1 7 0 100) (late unable))
+  pub error-unordered : T (agrees (spending 1 7 0 100) (late (second 0x83)))
+  pub error-limited : T (agrees (spending 1 7 0 100) (late (second 0x01)))
+  pub error-reset : T (agrees (spending 1 7 0 100) (late (second 0x82)))
+  -- a TC recovers from it, so that the next one on that day counts; an AAC doesn't
+  pub recovered : T (agrees (spending 1 7 0 100) (late (second 0x80) ++ buy 1 0x14 7 1))
+  pub recovered-absent : T (agrees (spending 1 7 0 100) (late (after 0)))
+  pub unrecovered : T (agrees (spending 1 7 0 100) (late (second 0x00)))
+  pub unrecovered-failed : T (agrees (spending 1 7 0 100) (late (after 2)))
+  -- 29 February is a day of 2000 and of 2012, not of 2001 and 2010; and 13 comes last
+  pub leap-day : T (numbers (onDay 0x00 0x02 0x29) 1 1 0 && numbers (onDay 0x12 0x02 0x29) 1 1 0)
+  pub no-leap-day : T (numbers (onDay 0x01 0x02 0x29) 1 1 13 && numbers (onDay 0x10 0x02 0x29) 1 1 13)
+  pub no-digits : T (numbers (onDay 0x0A 0x01 0x01) 1 1 13 && numbers (onDay 0x00 0x01 0x0A) 1 1 13)
+  pub thirteen-last : T (numbers (onDay 0x00 0x02 0x30) 1_000_000_000_000 1 6 && numbers (onDay 0x00 0x02 0x30) 1 3 5)
 
 pub samples : Samples
-unfolding counting limiting defaulting full sending approvals limits resets answered online agrees duly kindly answersTo sends writes isWritable isCvr computed
+unfolding counting limiting defaulting full sending spending weekly approvals limits resets answered online buy late week weeks years agrees duly kindly answersTo
+    answersOn showsOn numbers sends writes isWritable isCvr computed
 samples =
     record {
       accepted = tt;
@@ -279,4 +244,33 @@ samples =
       sum-unstopped = tt;
       sent-named = tt;
       profile-written = tt;
+      dated-accepted = tt;
+      inactive-begins = tt;
+      declined-begins = tt;
+      asked-begins = tt;
+      refused-begins-none = tt;
+      begins-before-tests = tt;
+      week-begins = tt;
+      weeks-go-on = tt;
+      years-differ = tt;
+      limit-reached = tt;
+      limit-exceeded = tt;
+      other-limit = tt;
+      other-profile = tt;
+      error-in-month = tt;
+      error-unasked = tt;
+      error-untested = tt;
+      error-shown = tt;
+      error-uncounted = tt;
+      error-unordered = tt;
+      error-limited = tt;
+      error-reset = tt;
+      recovered = tt;
+      recovered-absent = tt;
+      unrecovered = tt;
+      unrecovered-failed = tt;
+      leap-day = tt;
+      no-leap-day = tt;
+      no-digits = tt;
+      thirteen-last = tt;
     }

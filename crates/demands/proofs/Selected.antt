@@ -1,8 +1,8 @@
 -- The demands where profiles are selected: they read on from the profile that selection over the file's bytes gives. Assumes nothing.
 use mathlib.Core.Path.{_≡_, refl, ap}
-use mathlib.Core.Bool.{Bool, true, false, cond}
+use mathlib.Core.Bool.{Bool, true, false}
 use mathlib.Core.List.{List}
-use Prim.Native.Nat.{ℕ, _+_, _≤_}
+use Prim.Native.Nat.{ℕ, _≤_}
 use native.Mathlib.Omega.{arith}
 use lib.Dec.{eqb}
 use Rattle.rules.specs.declared.Found.{Found}
@@ -11,6 +11,7 @@ use Rattle.rules.specs.Rules.{Rules, findProfile}
 use Rattle.selection.specs.declared.Selection.{Selection}
 use Rattle.selection.specs.declared.Selection.the-variants.{Selected, NotSelected}
 use Rattle.selection.specs.Selection.{selectionOf, profileOf, visitsOf}
+use Rattle.shape.specs.declared.Dating.{Dating}
 use Rattle.command.specs.declared.First.{First}
 use Rattle.command.specs.declared.ReadCommand.the-variants.{Taken}
 use Rattle.command.specs.Command.{selectingOf}
@@ -19,13 +20,13 @@ use Rattle.state.specs.declared.Answer.the-variants.{Refused, Started, Given}
 use Rattle.state.specs.declared.Kind.{Kind}
 use Rattle.state.specs.declared.State.{State}
 use Rattle.iad.specs.declared.Iad.{Iad}
-use Rattle.card.specs.Card.{refuse, take, ruleStart, ruleOpening, carried, startPerformed, startStep, stepOf}
+use Rattle.card.specs.Card.{ruleStart, ruleOpening, carried, startPerformed, startStep, stepOf}
 use Rattle.state.specs.declared.Outcome.{Outcome}
 use Rattle.demands.specs.Setup.{Setup, AcceptedSetup}
 use Rattle.purchase.specs.Meter.{Meter, IsMeter, valueOf}
 use Rattle.demands.specs.Ledger.{owed}
-use Rattle.demands.specs.Conversation.{Sitting, outcomeOf, sat}
-use Rattle.demands.specs.Audit.{capOf, startOf, approves, upperOf, brought, inForce, placeBy, ledger, audited}
+use Rattle.demands.specs.Conversation.{Sitting, outcomeOf, told, sat}
+use Rattle.demands.specs.Audit.{capOf, startOf, approves, upperOf, takesUp, brought, bought, lastDate, inForce, placeBy, ledger, tested}
 use Rattle.demands.specs.Guards.{Guards}
 use Rattle.demands.specs.Past.{past}
 use Rattle.demands.specs.Decision.{flags, FirstAnswers}
@@ -49,9 +50,9 @@ isStart (Given kind atc iad) = 0
 
 module _ (file : List ℕ) (entries : ℕ) where
   -- A START'S RECORD IS HEARD AS SELECTION OVER THE FILE'S BYTES
-  pub heard-as-read : (terminal : List ℕ) → selectingOf file entries 2 terminal ≡ Taken (heard file entries (start terminal))
+  pub heard-as-read : (dating : Dating) (terminal : List ℕ) → selectingOf dating file entries 2 terminal ≡ Taken (heard file entries (start terminal))
   unfolding selectingOf
-  heard-as-read terminal = refl
+  heard-as-read dating terminal = refl
 
   -- AN ACCEPTED START OPENS THE PROFILE SELECTED, AND SAYS HOW MANY ENTRIES WERE VISITED
   pub start-selected : (rules : Rules) (state : State) (terminal : List ℕ) (atc visits : ℕ)
@@ -88,14 +89,15 @@ module _ (file : List ℕ) (entries : ℕ) where
     pub selected-limit : (now : Said) (meter : Meter) → IsMeter meter
         → Guards (inForce setup (sat-so-far .log)) (placeBy setup (sat-so-far .log)) meter
         → approves (heard file entries now) (next-heard now .answer) ≡ true
+        → takesUp (bought setup (told sat-so-far (heard file entries now) .log)) meter ≡ true
         → valueOf (next-heard now .state .values) meter ≤ upperOf (inForce setup (sat-so-far .log)) (placeBy setup (sat-so-far .log)) meter
     selected-limit now = limit setup good (allHeard file entries said) (heard file entries now)
 
     -- DEMAND 2: WHAT FIRST AND SECOND ANSWER
     pub selected-first : (f : First) (kind : Kind) (atc : ℕ) (iad : Iad) → next-heard (first f) .answer ≡ Given kind atc iad
         → FirstAnswers (inForce setup (sat-so-far .log)) (placeBy setup (sat-so-far .log)) f
-        (flags (inForce setup (sat-so-far .log)) (placeBy setup (sat-so-far .log)) (brought f) (audited setup (sat-so-far .log))
-        (past setup (sat-so-far .log))) kind
+        (flags (inForce setup (sat-so-far .log)) (placeBy setup (sat-so-far .log)) (brought (lastDate setup (sat-so-far .log)) f)
+        (tested setup (sat-so-far .log) f) (past setup (sat-so-far .log))) kind
     selected-first = first-answers setup good (allHeard file entries said)
 
     pub selected-gives : (now : Said) → Gives setup (sat-so-far .log) (heard file entries now) (next-heard now)

@@ -7,7 +7,7 @@ use lib.Dec.{leb, ltb, eqb}
 use Rattle.wire.specs.Wire.{isCurrency}
 use Rattle.money.specs.Money.{max}
 use Rattle.refusal.specs.declared.Refusal.{Refusal}
-use Rattle.refusal.specs.declared.Refusal.the-variants.{OutOfTurn, UnknownProfile, AtcUsedUp, BadType, OutOfRange, NotSelected}
+use Rattle.refusal.specs.declared.Refusal.the-variants.{OutOfTurn, UnknownProfile, AtcUsedUp, BadType, OutOfRange, NotSelected, NotADay}
 use Rattle.rules.specs.declared.Place.{Place}
 use Rattle.rules.specs.declared.Found.{Found}
 use Rattle.rules.specs.declared.Found.the-variants.{At, Nothing}
@@ -27,8 +27,8 @@ use Rattle.state.specs.declared.State.{State}
 use Rattle.state.specs.declared.Outcome.{Outcome}
 use Rattle.first.specs.First.{firstPerformed}
 use Rattle.second.specs.Second.{secondPerformed}
-use Rattle.card.specs.Card.{refuse, take, ruleStart, ruleOpening, ruleFirst, ruleSecond, carried, refused, startPerformed, startStep, firstStep}
-use Rattle.card.specs.Card.{secondStep, stepOf}
+use Rattle.card.specs.Card.{refuse, take, ruleStart, ruleOpening, isDated, ruleFirst, ruleSecond, carried, refused, startPerformed, startStep}
+use Rattle.card.specs.Card.{firstStep, secondStep, stepOf}
 use Rattle.demands.proofs.Found.{Holds, Known, known}
 
 pub data Did (rules : Rules) (state : State) : Command → Outcome → Type 0 where
@@ -36,6 +36,7 @@ pub data Did (rules : Rules) (state : State) : Command → Outcome → Type 0 wh
   started-it : (start : Start) (place : Place) → Holds rules (profileOf (start .chosen)) place
       → Did rules state (StartCommand start) (startPerformed state (visitsOf (start .chosen)) place)
   took-first : (first : First) (place : Place) → state .phase ≡ Opened place → first .requested ≤ 2 → first .amount .0 ≤ max
+      → isDated (first .when) ≡ true
       → Did rules state (FirstCommand first) (firstPerformed rules state first place)
   took-second : (second : Second) (pending : Pending) → state .phase ≡ Asked pending → second .requested ≤ 1 → second .issuer ≤ 2
       → Did rules state (SecondCommand second) (secondPerformed rules state second pending)
@@ -62,14 +63,17 @@ module _ (rules : Rules) (state : State) where
       → Did rules state (FirstCommand first) (carried state (firstPerformed rules state first) (ruleFirst phase first))
   first-did first Idle is = refused-it OutOfTurn
   first-did first (Asked pending) is = refused-it OutOfTurn
-  first-did first (Opened place) is = by (ltb 2 (first .requested)) refl (leb (first .amount .0) max) refl (isCurrency (first .currency)) where
-    by : (a : Bool) → ltb 2 (first .requested) ≡ a → (b : Bool) → leb (first .amount .0) max ≡ b → (c : Bool)
-        → Did rules state (FirstCommand first) (carried state (firstPerformed rules state first)
-        (cond a (refuse BadType) (cond (b && c) (take place) (refuse OutOfRange))))
-    by true t b m c = refused-it BadType
-    by false t true m true = took-first first place is (ltb-false 2 (first .requested) t) (leb-true (first .amount .0) max m)
-    by false t true m false = refused-it OutOfRange
-    by false t false m c = refused-it OutOfRange
+  first-did first (Opened place) is =
+      by (ltb 2 (first .requested)) refl (leb (first .amount .0) max) refl (isCurrency (first .currency)) (isDated (first .when)) refl
+    where
+      by : (a : Bool) → ltb 2 (first .requested) ≡ a → (b : Bool) → leb (first .amount .0) max ≡ b → (c d : Bool) → isDated (first .when) ≡ d
+          → Did rules state (FirstCommand first) (carried state (firstPerformed rules state first)
+          (cond a (refuse BadType) (cond (b && c) (cond d (take place) (refuse NotADay)) (refuse OutOfRange))))
+      by true t b m c d w = refused-it BadType
+      by false t true m true true w = took-first first place is (ltb-false 2 (first .requested) t) (leb-true (first .amount .0) max m) w
+      by false t true m true false w = refused-it NotADay
+      by false t true m false d w = refused-it OutOfRange
+      by false t false m c d w = refused-it OutOfRange
 
   second-did : (second : Second) (phase : Phase) → state .phase ≡ phase
       → Did rules state (SecondCommand second) (carried state (secondPerformed rules state second) (ruleSecond phase second))

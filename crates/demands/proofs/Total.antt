@@ -1,11 +1,14 @@
--- Demand 3, the total: over every list of commands each accumulator and each counter holds what the conversation and the set-up's
--- bytes say that it owes. Assumes nothing.
+-- Demand 3, the total: over every list of commands each accumulator, each counter and each cyclic accumulator holds what the conversation
+-- and the set-up's bytes say that it owes. Assumes nothing.
 use mathlib.Core.Path.{_≡_, refl, sym, ap, _∙_, subst}
 use mathlib.Core.Bool.{Bool, true, false, cond, _||_, not}
-use mathlib.Core.List.{List, [], _∷_, _++_}
-use Prim.Native.Nat.{ℕ, _+_, _*_, _≤_}
+use mathlib.Core.List.{List, [], _++_, append-assoc}
+use mathlib.Core.Logic.{inl, inr}
+use Prim.Native.Nat.{ℕ, _+_, _-_, _*_, _/_, _≤_}
 use native.Mathlib.Omega.{arith}
 use lib.Dec.{eqb}
+use Rattle.wire.proofs.Numbers.{past}
+use Rattle.calendar.specs.declared.Date.{Date}
 use Rattle.money.specs.declared.AccumulatorAmount.{AccumulatorAmount}
 use Rattle.money.specs.Money.{max}
 use Rattle.refusal.specs.declared.Refusal.{Refusal}
@@ -13,8 +16,9 @@ use Rattle.iad.specs.declared.Cvr.{Cvr}
 use Rattle.rules.specs.declared.Place.{Place}
 use Rattle.rules.specs.declared.Values.{Values}
 use Rattle.rules.specs.Rules.{Rules, indexOf, profileAt}
-use Rattle.rules.proofs.Places.{four-at}
-use Rattle.setup.specs.Setup.{freshIn, readSetup}
+use Rattle.rules.proofs.Places.{four-at, two-at}
+use Rattle.ranges.proofs.Accepted.{CyclesRanges, CyclesAccepted}
+use Rattle.setup.specs.Setup.{valueIn, amountIn, freshIn, readSetup}
 use Rattle.selection.specs.Selection.{profileOf, visitsOf}
 use Rattle.command.specs.declared.Start.{Start}
 use Rattle.command.specs.declared.First.{First}
@@ -33,52 +37,64 @@ use Rattle.state.specs.declared.Phase.{Phase}
 use Rattle.state.specs.declared.Phase.the-variants.{Idle, Opened, Asked}
 use Rattle.state.specs.declared.State.{State}
 use Rattle.state.specs.declared.Outcome.{Outcome}
-use Rattle.first.specs.First.{purchaseOf, firstKind, firstPerformed, settled, asked, concluded}
+use Rattle.cycles.specs.Cycles.{timingOf, dated}
+use Rattle.first.specs.First.{purchaseOf, firstKind, firstPerformed, firstAnswered, settled, asked, concluded}
 use Rattle.second.specs.Second.{isUnable, unableBits, unablePerformed, verifiedPerformed, failedPerformed, absentPerformed, secondPerformed, closed}
 use Rattle.second.specs.Second.{ordered as orderedValues, updateByte}
-use Rattle.card.specs.Card.{startPerformed, freshState}
+use Rattle.card.specs.Card.{startPerformed, isDated, freshState}
 use Rattle.card.specs.Card.{refused as refusal}
+use Rattle.purchase.specs.declared.Timing.{Timing}
 use Rattle.purchase.specs.declared.Purchase.{Purchase}
-use Rattle.demands.specs.Setup.{Setup, byteAt, numberAt, AcceptedSetup}
-use Rattle.purchase.specs.Meter.{Meter, accumulator, counter, IsMeter, valueOf}
+use Rattle.demands.specs.Setup.{Setup, byteAt, numberAt, tailNumber, AcceptedSetup}
+use Rattle.purchase.specs.Meter.{Meter, accumulator, counter, cyclic, IsMeter, valueOf}
 use Rattle.demands.specs.Ledger.{owed}
 use Rattle.demands.specs.Conversation.{Exchange, Sitting, after, run, rulesBy, sat}
-use Rattle.demands.specs.Audit.{placeOf, upperOf, startOf, capOf, counted, declined, ordered, entered, named, brought, bought, inForce, placeBy}
-use Rattle.demands.specs.Audit.{ledger, audited}
+use Rattle.demands.specs.Audit.{placeOf, upperOf, startOf, capOf, counted, declined, ordered, begun, entered, named, brought, bought, lastDate}
+use Rattle.demands.specs.Audit.{dealing, inForce, placeBy, ledger, audited, tested}
 use Rattle.demands.proofs.Step.{Did, refused-it, started-it, took-first, took-second}
 use Rattle.demands.proofs.Run.{Ruled, ruled-keeps, did-by}
 use Rattle.demands.proofs.Owed.{Fair, nothing, starts, grows}
-use Rattle.demands.proofs.Bytes.{fits, Stands, stands-at}
+use Rattle.demands.proofs.Found.{below-four}
+use Rattle.demands.proofs.Bytes.{fits, fits-tail, both-fit, Stands, stands-at}
+use Rattle.demands.proofs.Dated.{begun-fair}
+use Rattle.demands.proofs.Deals.{Remembers, Deals, brought-as, begun-then, did-deals, begin-deals}
 use Rattle.demands.proofs.Moves.{approved-moves, declined-moves, ordered-moves, counted-fair, declined-fair, ordered-fair}
 
--- what the card remembers of an open ARQC is what the conversation says of it
-pub record Remembers (setup : Setup) (profile : ℕ) (purchase : Purchase) (pending : Pending) : Type 0 where
-  pub stands : Stands setup (pending .place) (placeOf setup profile)
-  pub purchase-is : pending .purchase ≡ purchase
-  pub small : pending .purchase .amount .0 ≤ max
-
-abbrev pub Agrees : Setup → (profile : ℕ) → Purchase → Phase → Type 0
-Agrees setup profile purchase Idle = Unit
-Agrees setup profile purchase (Opened place) = Stands setup place (placeOf setup profile)
-Agrees setup profile purchase (Asked pending) = Remembers setup profile purchase pending
+-- the profile of an open transaction stands where the conversation says
+abbrev pub Agrees : Setup → (profile : ℕ) → Phase → Type 0
+Agrees setup profile Idle = Unit
+Agrees setup profile (Opened place) = Stands setup place (placeOf setup profile)
+Agrees setup profile (Asked pending) = Stands setup (pending .place) (placeOf setup profile)
 
 pub record Holding (setup : Setup) (sitting : Sitting) : Type 0 where
-  pub agrees : Agrees (inForce setup (sitting .log)) (named (sitting .log)) (bought (sitting .log)) (sitting .state .phase)
+  pub agrees : Agrees (inForce setup (sitting .log)) (named (sitting .log)) (sitting .state .phase)
   pub values : (meter : Meter) → IsMeter meter → valueOf (sitting .state .values) meter ≡ audited setup (sitting .log) meter
 
 -- what an accepted set-up's bytes keep below the caps
 module _ (setup : Setup) (good : AcceptedSetup setup) where
+  -- in the tail, which may be empty
+  within : (at : ℕ) → (CyclesRanges (setup .tail) → tailNumber setup at 8 ≤ max) → tailNumber setup at 8 ≤ max
+  within at some = by (fits-tail good) where
+    by : CyclesAccepted (setup .tail) → tailNumber setup at 8 ≤ max
+    by (inl none) = let z = past (setup .tail) at 8 (omega arith) in omega arith
+    by (inr ranges) = some ranges
+
   pub start-within : (meter : Meter) → IsMeter meter → startOf setup meter ≤ capOf meter
   start-within (accumulator i) l = subst (λ at. numberAt setup at 8 ≤ max) (omega arith) (fits good .accumulators i l .value)
   start-within (counter i) l = omega (arith, good .bytes .below (48 + i))
+  start-within (cyclic i) l = within (6 + 12 * i) (λ ranges. subst (λ at. tailNumber setup at 8 ≤ max) (omega arith) (ranges .cycles i l .amount))
 
   pub upper-within : (place : Place) (at : ℕ) → Stands setup place at → (meter : Meter) → IsMeter meter → upperOf setup at meter ≤ capOf meter
   upper-within place at stands (accumulator i) l =
       let ranges = fits good .profiles (indexOf place) (stands .there) in
       subst (λ at. numberAt setup (at + (24 + 17 * i) + 9) 8 ≤ max) (sym (stands .offset)) (ranges .accumulators i l .upper)
   upper-within place at stands (counter i) l = omega (arith, good .bytes .below (at + (92 + 3 * i) + 2))
+  upper-within place at stands (cyclic i) l =
+      let before : indexOf place ≡ (at - 52) / 107 = omega (arith, stands .offset) in
+      within (28 + 18 * ((at - 52) / 107) + 9 * i + 1)
+      (λ ranges. subst (λ j. tailNumber setup (28 + 18 * j + 9 * i + 1) 8 ≤ max) before (ranges .rules (indexOf place) (below-four place) i l .limit))
 
-module _ (setup : Setup) (sitting : Sitting) (ruled : Ruled setup sitting) (holding : Holding setup sitting) where
+module _ (setup : Setup) (sitting : Sitting) (ruled : Ruled setup sitting) (deals : Deals setup sitting) (holding : Holding setup sitting) where
   abbrev state : State
   state = sitting .state
 
@@ -94,111 +110,144 @@ module _ (setup : Setup) (sitting : Sitting) (ruled : Ruled setup sitting) (hold
   abbrev at : ℕ
   at = placeBy setup log
 
+  abbrev last : Date
+  last = lastDate setup log
+
   -- a value after a step, if what the step did is what is entered
-  carry : (values : Values) (meter : Meter) (more : List Entry) → IsMeter meter
-      → valueOf values meter ≡ moved (capOf meter) (valueOf (state .values) meter) more → Fair (capOf meter) more
-      → valueOf values meter ≡ owed (capOf meter) (startOf setup meter) (more ++ ledger setup meter log)
-  carry values meter more l e fair =
-      e ∙ ap (λ v. moved (capOf meter) v more) (holding .values meter l) ∙ grows (capOf meter) (startOf setup meter) (ledger setup meter log) fair
+  carry : (values then : Values) (meter : Meter) (older more : List Entry) → valueOf values meter ≡ owed (capOf meter) (startOf setup meter) older
+      → valueOf then meter ≡ moved (capOf meter) (valueOf values meter) more → Fair (capOf meter) more
+      → valueOf then meter ≡ owed (capOf meter) (startOf setup meter) (more ++ older)
+  carry values then meter older more held e fair =
+      e ∙ ap (λ v. moved (capOf meter) v more) held ∙ grows (capOf meter) (startOf setup meter) older fair
 
   refused-holds : (command : Command) (r : Refusal) → Holding setup (after sitting command (refusal state r))
-  unfolding named bought inForce ledger
+  unfolding named inForce ledger
   refused-holds (StartCommand start) r = record { agrees = holding .agrees; values = holding .values }
   refused-holds (FirstCommand first) r = record { agrees = holding .agrees; values = holding .values }
   refused-holds (SecondCommand second) r = record { agrees = holding .agrees; values = holding .values }
 
   start-taken : (start : Start) (place : Place) → Stands now place (placeOf now (profileOf (start .chosen)))
       → Holding setup (after sitting (StartCommand start) (startPerformed state (visitsOf (start .chosen)) place))
-  unfolding named bought inForce ledger
+  unfolding named inForce ledger
   start-taken start place stands = record { agrees = stands; values = holding .values }
 
-  concluded-holds : (first : First) (place : Place) → Stands now place at → first .amount .0 ≤ max → (limits : ℕ) (cvr : Cvr) (kind : Kind)
-      → Holding setup (after sitting (FirstCommand first) (concluded rules state place (purchaseOf first) limits cvr kind))
-  unfolding settled asked concluded named bought inForce ledger
-  concluded-holds first place stands small limits cvr Tc =
-      record {
-        agrees = tt;
-        values =
-            λ meter l.
-            carry (applied rules place (state .values) (Approve (purchaseOf first))) meter (counted now at (brought first) meter) l
-            (approved-moves now (ruled .good) place at stands (state .values) meter l (purchaseOf first) small)
-            (counted-fair now at (brought first) (capOf meter) meter);
-      }
-  concluded-holds first place stands small limits cvr Aac =
-      record {
-        agrees = tt;
-        values =
-            λ meter l.
-            carry (applied rules place (state .values) Decline) meter (declined now at meter) l
-            (declined-moves now (ruled .good) place at stands (state .values) meter l)
-            (declined-fair now at (brought first) (capOf meter) meter);
-      }
-  concluded-holds first place stands small limits cvr Arqc =
-      record { agrees = record { stands = stands; purchase-is = refl; small = small }; values = holding .values }
+  -- ---- First
 
-  first-taken : (first : First) (place : Place) → Stands now place at → first .amount .0 ≤ max
-      → Holding setup (after sitting (FirstCommand first) (firstPerformed rules state first place))
-  unfolding firstPerformed
-  first-taken first place stands small = concluded-holds first place stands small _ _ (firstKind rules state place first)
+  module _ (first : First) (small : first .amount .0 ≤ max) (day : isDated (first .when) ≡ true) where
+    abbrev begun-state : State
+    begun-state = dated rules state (first .when)
 
-  -- Second, if its answer closes with values that moved by what is entered
-  closed-holds : (second : Second) (pending : Pending) (approves : Bool) (values : Values) (history : History) (issuer : Issuer) (more : Meter → List Entry)
+    abbrev timing : Timing
+    timing = timingOf (state .last) (first .when)
+
+    -- when its tests come, its cycles have begun
+    pub begun-values : (meter : Meter) → IsMeter meter → valueOf (begun-state .values) meter ≡ tested setup log first meter
+    begun-values meter l =
+        carry (state .values) (begun-state .values) meter (ledger setup meter log) (begun now last (first .when) meter) (holding .values meter l)
+        (begun-then setup sitting ruled deals first small day meter l)
+        (begun-fair now (ruled .good) last (first .when) meter)
+
+    -- and then what it answers is entered
+    settled-value : (then : Values) (meter : Meter) → IsMeter meter → (more : List Entry)
+        → valueOf then meter ≡ moved (capOf meter) (valueOf (begun-state .values) meter) more → Fair (capOf meter) more
+        → valueOf then meter
+        ≡ owed (capOf meter) (startOf setup meter) ((more ++ begun now last (first .when) meter) ++ ledger setup meter log)
+    settled-value then meter l more e fair =
+        let begins = begun now last (first .when) meter in
+        carry (begun-state .values) then meter (begins ++ ledger setup meter log) more (begun-values meter l) e fair
+        ∙ ap (owed (capOf meter) (startOf setup meter)) (sym (append-assoc more begins (ledger setup meter log)))
+
+    concluded-holds : (place : Place) → Stands now place at → (limits : ℕ) (cvr : Cvr) (kind : Kind)
+        → Holding setup (after sitting (FirstCommand first) (concluded rules begun-state place (purchaseOf first timing) limits cvr kind))
+    unfolding settled asked concluded named dealing inForce ledger
+    concluded-holds place stands limits cvr Tc =
+        let values = begun-state .values in
+        record {
+          agrees = tt;
+          values =
+              λ meter l.
+              settled-value (applied rules place values (Approve (purchaseOf first timing))) meter l (counted now at (brought last first) meter)
+              (approved-moves now (ruled .good) place at stands values meter l (purchaseOf first timing) small
+              ∙ ap (λ purchase. moved (capOf meter) (valueOf values meter) (counted now at purchase meter)) (brought-as setup sitting ruled deals first small day))
+              (counted-fair now at (brought last first) (capOf meter) meter);
+        }
+    concluded-holds place stands limits cvr Aac =
+        let values = begun-state .values in
+        record {
+          agrees = tt;
+          values =
+              λ meter l.
+              settled-value (applied rules place values Decline) meter l (declined now at meter)
+              (declined-moves now (ruled .good) place at stands values meter l)
+              (declined-fair now at (brought last first) (capOf meter) meter);
+        }
+    concluded-holds place stands limits cvr Arqc = record { agrees = stands; values = begun-values }
+
+    first-taken : (place : Place) → Stands now place at → Holding setup (after sitting (FirstCommand first) (firstPerformed rules state first place))
+    unfolding firstPerformed firstAnswered
+    first-taken place stands = concluded-holds place stands _ _ (firstKind rules begun-state place first timing)
+
+  -- ---- Second, if its answer closes with values that moved by what is entered
+
+  closed-holds : (second : Second) (pending : Pending) (approves : Bool) (values : Values) (then : Date) (history : History) (issuer : Issuer)
+      (more : Meter → List Entry)
       → ((meter : Meter) → IsMeter meter → valueOf values meter ≡ moved (capOf meter) (valueOf (state .values) meter) (more meter))
       → ((meter : Meter) → IsMeter meter → Fair (capOf meter) (more meter))
-      → ((meter : Meter) → more meter ≡ entered now at (bought log) meter (SecondCommand second)
-      (closed rules (state .atc) pending approves values history issuer .answer))
-      → Holding setup (after sitting (SecondCommand second) (closed rules (state .atc) pending approves values history issuer))
-  unfolding closed named bought inForce ledger
-  closed-holds second pending approves values history issuer more moves fair is =
+      → ((meter : Meter) → more meter ≡ entered now at last (bought setup log) meter (SecondCommand second)
+      (closed rules (state .atc) pending approves values then history issuer .answer))
+      → Holding setup (after sitting (SecondCommand second) (closed rules (state .atc) pending approves values then history issuer))
+  unfolding closed named dealing inForce ledger
+  closed-holds second pending approves values then history issuer more moves fair is =
       record {
         agrees = tt;
         values =
             λ meter l.
-            carry values meter (more meter) l (moves meter l) (fair meter l)
+            carry (state .values) values meter (ledger setup meter log) (more meter) (holding .values meter l) (moves meter l) (fair meter l)
             ∙ ap (λ new. owed (capOf meter) (startOf setup meter) (new ++ ledger setup meter log)) (is meter);
       }
 
   -- Second, by what it comes with
-  module _ (second : Second) (pending : Pending) (remembers : Remembers now (named log) (bought log) pending) where
+  module _ (second : Second) (pending : Pending) (stands : Stands now (pending .place) at) (purchase-is : pending .purchase ≡ bought setup log)
+      (small : pending .purchase .amount .0 ≤ max) where
     abbrev place : Place
     place = pending .place
 
     abbrev Closes : Outcome → Type 0
     Closes outcome = Holding setup (after sitting (SecondCommand second) outcome)
 
-    unable-holds : (b : Bool) → isUnable (second .code) ≡ true → (history : History) (issuer : Issuer)
-        → Closes (closed rules (state .atc) pending b (applied rules place (state .values) (offline b (pending .purchase))) history issuer)
+    unable-holds : (b : Bool) → isUnable (second .code) ≡ true → (then : Date) (history : History) (issuer : Issuer)
+        → Closes (closed rules (state .atc) pending b (applied rules place (state .values) (offline b (pending .purchase))) then history issuer)
     unfolding closed
-    unable-holds false e history issuer =
-        closed-holds second pending false (applied rules place (state .values) Decline) history issuer (declined now at)
-        (declined-moves now (ruled .good) place at (remembers .stands) (state .values))
-        (λ meter l. declined-fair now at (bought log) (capOf meter) meter)
+    unable-holds false e then history issuer =
+        closed-holds second pending false (applied rules place (state .values) Decline) then history issuer (declined now at)
+        (declined-moves now (ruled .good) place at stands (state .values))
+        (λ meter l. declined-fair now at (bought setup log) (capOf meter) meter)
         (λ meter. rw e)
-    unable-holds true e history issuer =
-        closed-holds second pending true (applied rules place (state .values) (Approve (pending .purchase))) history issuer
+    unable-holds true e then history issuer =
+        closed-holds second pending true (applied rules place (state .values) (Approve (pending .purchase))) then history issuer
         (counted now at (pending .purchase))
-        (λ meter l. approved-moves now (ruled .good) place at (remembers .stands) (state .values) meter l (pending .purchase) (remembers .small))
+        (λ meter l. approved-moves now (ruled .good) place at stands (state .values) meter l (pending .purchase) small)
         (λ meter l. counted-fair now at (pending .purchase) (capOf meter) meter)
-        (λ meter. rw e (ap (λ purchase. counted now at purchase meter) (remembers .purchase-is)))
+        (λ meter. rw e (ap (λ purchase. counted now at purchase meter) purchase-is))
 
-    verified-holds : (approves : Bool) → isUnable (second .code) ≡ false → eqb (second .issuer) 1 ≡ true → (history : History) (issuer : Issuer)
+    verified-holds : (approves : Bool) → isUnable (second .code) ≡ false → eqb (second .issuer) 1 ≡ true → (then : Date) (history : History) (issuer : Issuer)
         → Closes (closed rules (state .atc) pending approves
-        (orderedValues rules place (state .values) (pending .purchase) (updateByte (second .csu))) history issuer)
+        (orderedValues rules place (state .values) (pending .purchase) (updateByte (second .csu))) then history issuer)
     unfolding closed
-    verified-holds approves u e history issuer =
-        closed-holds second pending approves (orderedValues rules place (state .values) (pending .purchase) (updateByte (second .csu))) history issuer
+    verified-holds approves u e then history issuer =
+        closed-holds second pending approves (orderedValues rules place (state .values) (pending .purchase) (updateByte (second .csu))) then history issuer
         (ordered now at (pending .purchase) (second .csu))
         (λ meter l.
-        ordered-moves now (ruled .good) place at (remembers .stands) (state .values) meter l (pending .purchase) (remembers .small) (second .csu))
+        ordered-moves now (ruled .good) place at stands (state .values) meter l (pending .purchase) small (second .csu))
         (λ meter l.
-        ordered-fair now at (pending .purchase) (capOf meter) meter (second .csu) (upper-within now (ruled .good) place at (remembers .stands) meter l))
-        (λ meter. rw (u, e) (ap (λ purchase. ordered now at purchase (second .csu) meter) (remembers .purchase-is)))
+        ordered-fair now at (pending .purchase) (capOf meter) meter (second .csu) (upper-within now (ruled .good) place at stands meter l))
+        (λ meter. rw (u, e) (ap (λ purchase. ordered now at purchase (second .csu) meter) purchase-is))
 
-    kept-holds : (approves : Bool) → isUnable (second .code) ≡ false → eqb (second .issuer) 1 ≡ false → (history : History) (issuer : Issuer)
-        → Closes (closed rules (state .atc) pending approves (state .values) history issuer)
+    kept-holds : (approves : Bool) → isUnable (second .code) ≡ false → eqb (second .issuer) 1 ≡ false → (then : Date) (history : History) (issuer : Issuer)
+        → Closes (closed rules (state .atc) pending approves (state .values) then history issuer)
     unfolding closed
-    kept-holds approves u e history issuer =
-        closed-holds second pending approves (state .values) history issuer (λ meter. []) (λ meter l. refl) (λ meter l. nothing) (λ meter. rw (u, e))
+    kept-holds approves u e then history issuer =
+        closed-holds second pending approves (state .values) then history issuer (λ meter. []) (λ meter l. refl) (λ meter l. nothing) (λ meter. rw (u, e))
 
     performed-holds : Closes (secondPerformed rules state second pending)
     unfolding secondPerformed unablePerformed verifiedPerformed failedPerformed absentPerformed
@@ -208,36 +257,41 @@ module _ (setup : Setup) (sitting : Sitting) (ruled : Ruled setup sitting) (hold
           (cond v (verifiedPerformed rules state second pending)
           (cond f (failedPerformed rules state pending) (absentPerformed rules state (second .requested) pending))))
       by true u v e f =
-          unable-holds (not (eqb (second .requested) 0 || meetsMask (unableBits rules state pending) (profileAt rules place .masks .default))) u _ _
-      by false u true e f = verified-holds _ u e _ _
-      by false u false e true = kept-holds _ u e _ _
-      by false u false e false = kept-holds _ u e _ _
+          unable-holds (not (eqb (second .requested) 0 || meetsMask (unableBits rules state pending) (profileAt rules place .masks .default))) u _ _ _
+      by false u true e f = verified-holds _ u e _ _ _
+      by false u false e true = kept-holds _ u e _ _ _
+      by false u false e false = kept-holds _ u e _ _ _
 
   pub did-holds : {command : Command} {outcome : Outcome} → Did rules state command outcome → Holding setup (after sitting command outcome)
   did-holds {command} (refused-it r) = refused-holds command r
   did-holds (started-it start place holds) = start-taken start place (stands-at now (ruled .good) place (profileOf (start .chosen)) holds)
-  did-holds (took-first first place is type small) =
-      first-taken first place (subst (Agrees now (named log) (bought log)) is (holding .agrees)) small
+  did-holds (took-first first place is type small day) =
+      first-taken first small day place (subst (Agrees now (named log)) is (holding .agrees))
   did-holds (took-second second pending is type issuer) =
-      performed-holds second pending (subst (Agrees now (named log) (bought log)) is (holding .agrees))
+      let remembers = subst (Remembers (bought setup log)) is (deals .remembers) in
+      performed-holds second pending (subst (Agrees now (named log)) is (holding .agrees)) (remembers .0)
+      (subst (λ (purchase : Purchase). purchase .amount .0 ≤ max) (sym (remembers .0)) (remembers .1))
 
 module _ (setup : Setup) where
-  fresh : (meter : Meter) → IsMeter meter → valueOf (freshIn (setup .bytes) .values) meter ≡ startOf setup meter
+  fresh : (meter : Meter) → IsMeter meter → valueOf (freshIn (setup .bytes) (setup .tail) .values) meter ≡ startOf setup meter
   unfolding freshIn
-  fresh (accumulator i) l =
-      ap (λ (a : AccumulatorAmount). a .0) (four-at (λ j. record { 0 = numberAt setup (10 + 10 * j) 8 }) (record { 0 = 0 }) i l)
+  fresh (accumulator i) l = ap (λ (a : AccumulatorAmount). a .0) (four-at (valueIn (setup .bytes)) (record { 0 = 0 }) i l) ∙ ap (λ at. numberAt setup at 8) (omega arith)
   fresh (counter i) l = four-at (λ j. byteAt setup (48 + j)) 0 i l
+  fresh (cyclic i) l = ap (λ (a : AccumulatorAmount). a .0) (two-at (amountIn (setup .tail)) (record { 0 = 0 }) i l) ∙ ap (λ at. tailNumber setup at 8) (omega arith)
 
   pub begin-holds : AcceptedSetup setup → Holding setup (sat setup [])
   unfolding run freshState readSetup ledger
   begin-holds good =
-      rw (good .taken)
+      rw (both-fit good)
       (record { agrees = tt; values = λ meter l. fresh meter l ∙ starts (capOf meter) (startOf setup meter) (start-within setup good meter l) })
 
   pub always : AcceptedSetup setup → (commands : List Command) → Holding setup (sat setup commands)
   always good commands =
-      ruled-keeps setup good (Holding setup) (λ sitting ruled h command. did-holds setup sitting ruled h (did-by setup sitting ruled command))
-      (begin-holds good) commands
+      ruled-keeps setup good (λ sitting. Deals setup sitting × Holding setup sitting)
+      (λ sitting ruled h command.
+      let step = did-by setup sitting ruled command in
+      (did-deals setup sitting ruled (h .0) step, did-holds setup sitting ruled (h .0) (h .1) step))
+      (begin-deals setup good, begin-holds good) commands .1
 
   -- DEMAND 3, THE TOTAL
   pub total : AcceptedSetup setup → (commands : List Command) (meter : Meter) → IsMeter meter

@@ -1,6 +1,6 @@
 -- The CVR's bits and the IAD's fields are those that document 01 names. Assumes nothing.
 use mathlib.Core.Path.{_≡_, refl, sym, ap, _∙_, subst}
-use mathlib.Core.Bool.{Bool, true, false, and-true, and-false}
+use mathlib.Core.Bool.{Bool, true, false, and-true, and-false, or-false}
 use Prim.Native.Nat.{ℕ, zero, suc, _+_, _*_, _≤_, _<_}
 use native.Mathlib.Omega.{arith}
 use lib.Dec.{eqb}
@@ -13,6 +13,7 @@ use Rattle.setup.specs.Setup.{profileIn, rulesIn}
 use Rattle.purchase.specs.declared.Purchase.{Purchase}
 use Rattle.state.specs.declared.History.{History}
 use Rattle.checks.specs.Checks.{bit, decisionBits, accumulatorsLowerGroup, accumulatorsUpperGroup, countersLowerGroup, countersUpperGroup}
+use Rattle.checks.specs.Checks.{dateError}
 use Rattle.cryptogram.specs.declared.Issuer.{Issuer}
 use Rattle.state.specs.declared.Kind.{Kind}
 use Rattle.state.specs.declared.Kind.the-variants.{Aac, Tc, Arqc}
@@ -22,7 +23,7 @@ use Rattle.cryptogram.specs.Cryptogram.{sentOf as cardSent}
 use Rattle.demands.specs.Setup.{Setup, byteAt, AcceptedSetup}
 use Rattle.purchase.specs.Meter.{Meter, accumulator, counter, IsMeter, valueOf}
 use Rattle.demands.specs.Conversation.{rulesBy}
-use Rattle.demands.specs.Decision.{aboveLower, aboveUpper, flags, meets}
+use Rattle.demands.specs.Decision.{aboveLower, aboveUpper, isError, flags, meets}
 use Rattle.demands.specs.Verification.{anyOf, Verifies, sentOf, Sends}
 use Rattle.demands.specs.Audit.{placeOf}
 use Rattle.demands.proofs.Bytes.{fits, Stands, profile-is, number-there}
@@ -37,9 +38,9 @@ kind-small Aac = omega arith
 kind-small Tc = omega arith
 kind-small Arqc = omega arith
 
--- CVR byte 3, of four causes
-abbrev pub limitsOf : (countersLower countersUpper accumulatorsLower accumulatorsUpper : Bool) → ℕ
-limitsOf a b c d = bit a * 128 + bit b * 64 + bit c * 32 + bit d * 16
+-- CVR byte 3, of five causes
+abbrev pub limitsOf : (countersLower countersUpper accumulatorsLower accumulatorsUpper dateError : Bool) → ℕ
+limitsOf a b c d e = bit a * 128 + bit b * 64 + bit c * 32 + bit d * 16 + bit e * 2
 
 module _ (setup : Setup) (good : AcceptedSetup setup) (place : Place) (at : ℕ) (stands : Stands setup place at) (values : Values) (purchase : Purchase)
     (small : purchase .amount .0 ≤ max) where
@@ -73,15 +74,19 @@ module _ (setup : Setup) (good : AcceptedSetup setup) (place : Place) (at : ℕ)
     unfolding flags
     accumulators-upper = simp (and-true, and-false)
 
+    error-met : met dateError ≡ isError (purchase .timing)
+    unfolding flags
+    error-met = simp (and-true, and-false, or-false)
+
     pub limits-are : limitsByte (decisionBits rules place values purchase history)
-        ≡ limitsOf (anyOf counter lower) (anyOf counter upper) (anyOf accumulator lower) (anyOf accumulator upper)
+        ≡ limitsOf (anyOf counter lower) (anyOf counter upper) (anyOf accumulator lower) (anyOf accumulator upper) (isError (purchase .timing))
     unfolding limitsByte
     limits-are =
         let is = met-is setup good place at stands values purchase small history in
         λ i. limitsOf ((is countersLowerGroup ∙ counters-lower) i) ((is countersUpperGroup ∙ counters-upper) i)
-        ((is accumulatorsLowerGroup ∙ accumulators-lower) i) ((is accumulatorsUpperGroup ∙ accumulators-upper) i)
+        ((is accumulatorsLowerGroup ∙ accumulators-lower) i) ((is accumulatorsUpperGroup ∙ accumulators-upper) i) ((is dateError ∙ error-met) i)
 
--- a CVR whose byte 3 has its four causes
+-- a CVR whose byte 3 has its five causes
 module _ (setup : Setup) (profile : ℕ) (purchase : Purchase) (value : Meter → ℕ) (history : History) where
   abbrev below : Meter → Bool
   below = aboveLower setup profile purchase value
@@ -89,7 +94,8 @@ module _ (setup : Setup) (profile : ℕ) (purchase : Purchase) (value : Meter �
   abbrev over : Meter → Bool
   over = aboveUpper setup profile purchase value
 
-  pub verifies : (limits : ℕ) → limits ≡ limitsOf (anyOf counter below) (anyOf counter over) (anyOf accumulator below) (anyOf accumulator over)
+  pub verifies : (limits : ℕ)
+      → limits ≡ limitsOf (anyOf counter below) (anyOf counter over) (anyOf accumulator below) (anyOf accumulator over) (isError (purchase .timing))
       → (first : Kind) (later : Later) (issuer : Issuer)
       → Verifies setup profile purchase value history (laterCode later) (kindCode first)
       (record { unperformed = issuer .unperformed; failed = issuer .failed; unable = issuer .unable })
@@ -107,6 +113,7 @@ module _ (setup : Setup) (profile : ℕ) (purchase : Purchase) (value : Meter �
       let h = bit-small (anyOf counter over) in
       let i = bit-small (anyOf accumulator below) in
       let j = bit-small (anyOf accumulator over) in
+      let k' = bit-small (isError (purchase .timing)) in
       record {
         byte1-b87 = omega arith;
         byte1-b65 = omega arith;
@@ -121,7 +128,9 @@ module _ (setup : Setup) (profile : ℕ) (purchase : Purchase) (value : Meter �
         byte3-b7 = omega arith;
         byte3-b6 = omega arith;
         byte3-b5 = omega arith;
-        byte3-low = omega arith;
+        byte3-b43 = omega arith;
+        byte3-b2 = omega arith;
+        byte3-b1 = omega arith;
         byte4-high = omega arith;
         byte4-b2 = omega arith;
         byte4-b1 = omega arith;
@@ -189,6 +198,7 @@ limitsBy setup profile purchase value =
     limitsOf (anyOf counter (aboveLower setup profile purchase value)) (anyOf counter (aboveUpper setup profile purchase value))
     (anyOf accumulator (aboveLower setup profile purchase value))
     (anyOf accumulator (aboveUpper setup profile purchase value))
+    (isError (purchase .timing))
 
 pub limits-audited : (setup : Setup) (profile : ℕ) (purchase : Purchase) (f g : Meter → ℕ) → ((meter : Meter) → IsMeter meter → f meter ≡ g meter)
     → limitsBy setup profile purchase f ≡ limitsBy setup profile purchase g

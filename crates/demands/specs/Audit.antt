@@ -1,22 +1,30 @@
--- What an auditor reads off the conversation with the set-up in hand, and no card: the ledger of one accumulator or counter.
--- Each offset and each rule is spelled from document 01 ("The paper", "First: the answer", "Second: the answer", "Numbers"); nothing
--- here knows of a card's state, of its step or of the rules that it decoded.
-use Prim.Native.Nat.{ℕ, zero, suc, _+_, _*_, _/_, _%_, _^_}
-use mathlib.Core.Bool.{Bool, true, false, cond, _&&_, _||_}
+-- What an auditor reads off the conversation with the set-up in hand, and no card: the ledger of one accumulator, counter or cyclic
+-- accumulator. Each offset and each rule is spelled from document 01 ("The paper", "First: the answer", "Second: the answer", "Numbers")
+-- and request Five, dates by the almanac; nothing here knows of a card's state, of its step or of the rules that it decoded.
+use Prim.Native.Nat.{ℕ, zero, suc, _+_, _-_, _*_, _/_, _%_, _^_}
+use mathlib.Core.Bool.{Bool, true, false, cond, not, _&&_, _||_}
 use mathlib.Core.List.{List, [], _∷_, _++_}
 use lib.Dec.{ltb, eqb}
 use lib.ListN.{length}
+use Rattle.calendar.specs.declared.Date.{Date}
+use Rattle.calendar.specs.declared.Period.{Period}
+use Rattle.calendar.specs.declared.Period.the-variants.{Day, Week, Month}
+use Rattle.calendar.specs.Almanac.{civilOf, ordinal, isNew}
 use Rattle.selection.specs.Selection.{profileOf}
+use Rattle.command.specs.declared.When.{When}
+use Rattle.command.specs.declared.When.the-variants.{Undated as NoDate, On}
 use Rattle.command.specs.declared.First.{First}
 use Rattle.command.specs.declared.Command.{Command}
 use Rattle.command.specs.declared.Command.the-variants.{Start as StartCommand, First as FirstCommand, Second as SecondCommand}
 use Rattle.state.specs.declared.Answer.{Answer}
 use Rattle.state.specs.declared.Answer.the-variants.{Refused, Started, Given}
 use Rattle.state.specs.declared.Kind.the-variants.{Aac, Tc, Arqc}
+use Rattle.purchase.specs.declared.Timing.{Timing}
+use Rattle.purchase.specs.declared.Timing.the-variants.{Undated, InOrder, DateError}
 use Rattle.purchase.specs.declared.Purchase.{Purchase}
 use Rattle.meters.specs.Meters.{Entry, put, add}
-use Rattle.demands.specs.Setup.{Setup, byteAt, numberAt}
-use Rattle.purchase.specs.Meter.{Meter, accumulator, counter}
+use Rattle.demands.specs.Setup.{Setup, byteAt, numberAt, tailByte, tailNumber}
+use Rattle.purchase.specs.Meter.{Meter, accumulator, counter, cyclic}
 use Rattle.demands.specs.Ledger.{owed}
 use Rattle.demands.specs.Conversation.{Exchange}
 
@@ -35,28 +43,38 @@ placeFrom setup wanted i (suc n) = cond (eqb (byteAt setup (52 + 107 * i)) wante
 unfoldable pub placeOf : Setup → ℕ → ℕ
 placeOf setup wanted = placeFrom setup wanted 0 (byteAt setup 3)
 
--- a profile's four accumulators, of 17 bytes each, stand at 24, its four counters, of 3 bytes each, at 92
+-- a profile's four accumulators, of 17 bytes each, stand at 24, its four counters, of 3 bytes each, at 92; in the tail of version 04 its
+-- two cyclic accumulators, of 9 bytes each, at 28 and 18 for each profile before it
 abbrev pub ruleAt : ℕ → Meter → ℕ
 ruleAt profile (accumulator i) = profile + (24 + 17 * i)
 ruleAt profile (counter i) = profile + (92 + 3 * i)
+ruleAt profile (cyclic i) = 28 + 18 * ((profile - 52) / 107) + 9 * i
+
+abbrev pub switchesOf : Setup → (profile : ℕ) → Meter → ℕ
+switchesOf setup profile (accumulator i) = byteAt setup (ruleAt profile (accumulator i))
+switchesOf setup profile (counter i) = byteAt setup (ruleAt profile (counter i))
+switchesOf setup profile (cyclic i) = tailByte setup (ruleAt profile (cyclic i))
 
 abbrev pub isActive : Setup → (profile : ℕ) → Meter → Bool
-isActive setup profile meter = isOn (byteAt setup (ruleAt profile meter)) 1
+isActive setup profile meter = isOn (switchesOf setup profile meter) 1
 
 abbrev pub isAllowed : Setup → (profile : ℕ) → Meter → Bool
-isAllowed setup profile meter = isOn (byteAt setup (ruleAt profile meter)) 2
+isAllowed setup profile meter = isOn (switchesOf setup profile meter) 2
 
 abbrev pub isIncluded : Setup → (profile : ℕ) → Meter → Bool
-isIncluded setup profile meter = isOn (byteAt setup (ruleAt profile meter)) 4
+isIncluded setup profile meter = isOn (switchesOf setup profile meter) 4
 
 -- "include offline declines" is a counter's
 abbrev pub countsDeclines : Setup → (profile : ℕ) → Meter → Bool
 countsDeclines setup profile (accumulator i) = false
-countsDeclines setup profile (counter i) = isOn (byteAt setup (ruleAt profile (counter i))) 8
+countsDeclines setup profile (counter i) = isOn (switchesOf setup profile (counter i)) 8
+countsDeclines setup profile (cyclic i) = false
 
+-- a cyclic accumulator has one limit
 abbrev pub upperOf : Setup → (profile : ℕ) → Meter → ℕ
 upperOf setup profile (accumulator i) = numberAt setup (ruleAt profile (accumulator i) + 9) 8
 upperOf setup profile (counter i) = byteAt setup (ruleAt profile (counter i) + 2)
+upperOf setup profile (cyclic i) = tailNumber setup (ruleAt profile (cyclic i) + 1) 8
 
 -- 0 to 999,999,999,999 (called MAX)
 abbrev pub max : ℕ
@@ -66,10 +84,12 @@ max = 999_999_999_999
 abbrev pub startOf : Setup → Meter → ℕ
 startOf setup (accumulator i) = numberAt setup (10 + 10 * i) 8
 startOf setup (counter i) = byteAt setup (48 + i)
+startOf setup (cyclic i) = tailNumber setup (6 + 12 * i) 8
 
 abbrev pub capOf : Meter → ℕ
 capOf (accumulator i) = max
 capOf (counter i) = 255
+capOf (cyclic i) = max
 
 -- what an amount comes to in another currency: so much, over (larger than MAX), or nothing where there is no entry
 pub data Conversion : Type 0 where
@@ -101,6 +121,7 @@ converted setup purchase to = cond (eqb (purchase .currency) to) (comesTo (purch
 abbrev pub worthTo : Setup → Purchase → Meter → Conversion
 worthTo setup purchase (accumulator i) = converted setup purchase (numberAt setup (8 + 10 * i) 2)
 worthTo setup purchase (counter i) = comesTo 1
+worthTo setup purchase (cyclic i) = converted setup purchase (tailNumber setup (4 + 12 * i) 2)
 
 -- what that adds: over reads as MAX, and with no entry the amount doesn't count
 abbrev pub adds : Conversion → List Entry
@@ -125,18 +146,23 @@ unfoldable pub named : List Exchange → ℕ
 named [] = 0
 named (exchange ∷ older) = namedBy (exchange .command) (exchange .answer) (named older)
 
+-- a date earlier than the last one is a date error
+abbrev pub isLate : (last date : Date) → Bool
+isLate last date = ltb (ordinal (civilOf date)) (ordinal (civilOf last))
+
+abbrev pub timed : (last : Date) → When → Timing
+timed last NoDate = Undated
+timed last (On date) = cond (isLate last date) (DateError date) InOrder
+
+-- the purchase that a First brings, after the last date
+abbrev pub brought : (last : Date) → First → Purchase
+brought last first = record { amount = first .amount; currency = first .currency; timing = timed last (first .when) }
+
 -- the purchase that the last accepted First brought
-abbrev pub brought : First → Purchase
-brought first = record { amount = first .amount; currency = first .currency }
-
-abbrev pub boughtBy : Command → Answer → Purchase → Purchase
-boughtBy (StartCommand start) answer before = before
-boughtBy (FirstCommand first) answer before = cond (isAccepted answer) (brought first) before
-boughtBy (SecondCommand second) answer before = before
-
-unfoldable pub bought : List Exchange → Purchase
-bought [] = record { amount = record { 0 = 0 }; currency = 0 }
-bought (exchange ∷ older) = boughtBy (exchange .command) (exchange .answer) (bought older)
+abbrev pub boughtBy : Command → Answer → (last : Date) → Purchase → Purchase
+boughtBy (StartCommand start) answer last before = before
+boughtBy (FirstCommand first) answer last before = cond (isAccepted answer) (brought last first) before
+boughtBy (SecondCommand second) answer last before = before
 
 -- the set-up in force: no command writes it
 abbrev pub writtenBy : Command → Answer → Setup → Setup
@@ -170,16 +196,68 @@ isAac (Given Aac atc iad) = true
 isAac (Given Tc atc iad) = false
 isAac (Given Arqc atc iad) = false
 
+-- the last date: that of an accepted First without a date error; and where there was one, that of its transaction, if a Second answers TC
+-- with another code than Y3 or Z3 (Annex I's recovery)
+abbrev pub latest : (last : Date) → When → Date
+latest last NoDate = last
+latest last (On date) = cond (isLate last date) last date
+
+abbrev pub recovered : Timing → (last : Date) → Date
+recovered Undated last = last
+recovered InOrder last = last
+recovered (DateError date) last = date
+
+abbrev pub lastBy : Command → Answer → Purchase → (last : Date) → Date
+lastBy (StartCommand start) answer purchase last = last
+lastBy (FirstCommand first) answer purchase last = cond (isAccepted answer) (latest last (first .when)) last
+lastBy (SecondCommand second) answer purchase last =
+    cond (isTc answer && not (couldNotGoOnline (second .code))) (recovered (purchase .timing) last) last
+
+-- both over the conversation; a fresh card's last date comes with the set-up, at 1 of the tail
+pub record Dealing : Type 0 where
+  pub purchase : Purchase
+  pub last : Date
+
+unfoldable pub dealing : Setup → List Exchange → Dealing
+dealing setup [] =
+    record {
+      purchase = record { amount = record { 0 = 0 }; currency = 0; timing = Undated };
+      last = record { year = tailByte setup 1; month = tailByte setup 2; day = tailByte setup 3 };
+    }
+dealing setup (exchange ∷ older) =
+    let before = dealing setup older in
+    record {
+      purchase = boughtBy (exchange .command) (exchange .answer) (before .last) (before .purchase);
+      last = lastBy (exchange .command) (exchange .answer) (before .purchase) (before .last);
+    }
+
+abbrev pub bought : Setup → List Exchange → Purchase
+bought setup log = dealing setup log .purchase
+
+abbrev pub lastDate : Setup → List Exchange → Date
+lastDate setup log = dealing setup log .last
+
 -- an offline approval is a TC at First, or at Second after Y3 or Z3, and nothing else
 abbrev pub approves : Command → Answer → Bool
 approves (StartCommand start) answer = false
 approves (FirstCommand first) answer = isTc answer
 approves (SecondCommand second) answer = couldNotGoOnline (second .code) && isTc answer
 
+-- a cyclic accumulator takes up only a purchase whose date is in order
+abbrev pub isTimely : Timing → Bool
+isTimely Undated = false
+isTimely InOrder = true
+isTimely (DateError date) = false
+
+abbrev pub takesUp : Purchase → Meter → Bool
+takesUp purchase (accumulator i) = true
+takesUp purchase (counter i) = true
+takesUp purchase (cyclic i) = isTimely (purchase .timing)
+
 -- each active accumulator with "allow accumulation" grows by the converted amount, each active counter with "allow counting" by 1
 abbrev pub counted : Setup → (profile : ℕ) → Purchase → Meter → List Entry
 counted setup profile purchase meter =
-    cond (isActive setup profile meter && isAllowed setup profile meter) (adds (worthTo setup purchase meter)) []
+    cond (takesUp purchase meter && (isActive setup profile meter && isAllowed setup profile meter)) (adds (worthTo setup purchase meter)) []
 
 -- AAC at First, or at Second after Y3 or Z3: each active counter with both "allow counting" and "include offline declines" grows by 1
 abbrev pub declined : Setup → (profile : ℕ) → Meter → List Entry
@@ -193,12 +271,28 @@ ordered setup profile purchase csu meter =
     (cond (eqb (csu / 65536 % 4) 2) (cond (isActive setup profile meter) (put 0 ∷ []) [])
     (cond (eqb (csu / 65536 % 4) 3) (counted setup profile purchase meter) []))
 
--- what a command and its answer enter, for the profile and the purchase of the transaction
-abbrev pub entered : Setup → (profile : ℕ) → Purchase → Meter → Command → Answer → List Entry
-entered setup profile purchase meter (StartCommand start) answer = []
-entered setup profile purchase meter (FirstCommand first) answer =
+-- cyclic accumulator i + 1 stands at 4 + 12 i: currency (2), amount (8), kind (1 day, 2 week, 3 month), first day
+abbrev pub periodOf : Setup → (i : ℕ) → Period
+periodOf setup i = cond (eqb (tailByte setup (14 + 12 * i)) 1) Day (cond (eqb (tailByte setup (14 + 12 * i)) 2) Week Month)
+
+-- a First's date begins its cycle if that began after the last date; the amount is then zero, active or not
+abbrev pub beginsOn : Setup → (i : ℕ) → (last : Date) → When → Bool
+beginsOn setup i last NoDate = false
+beginsOn setup i last (On date) = isNew (periodOf setup i) (tailByte setup (15 + 12 * i)) (civilOf last) (civilOf date)
+
+abbrev pub begun : Setup → (last : Date) → When → Meter → List Entry
+begun setup last when (accumulator i) = []
+begun setup last when (counter i) = []
+begun setup last when (cyclic i) = cond (beginsOn setup i last when) (put 0 ∷ []) []
+
+-- what a command and its answer enter, for the profile and the purchase of the transaction, the newest first: whatever First answers, a
+-- cycle begins before it counts
+abbrev pub entered : Setup → (profile : ℕ) → (last : Date) → Purchase → Meter → Command → Answer → List Entry
+entered setup profile last purchase meter (StartCommand start) answer = []
+entered setup profile last purchase meter (FirstCommand first) answer =
     cond (isTc answer) (counted setup profile purchase meter) (cond (isAac answer) (declined setup profile meter) [])
-entered setup profile purchase meter (SecondCommand second) answer =
+    ++ cond (isAccepted answer) (begun setup last (first .when) meter) []
+entered setup profile last purchase meter (SecondCommand second) answer =
     cond (isAccepted answer)
     (cond (couldNotGoOnline (second .code))
     (cond (isTc answer) (counted setup profile purchase meter) (declined setup profile meter))
@@ -211,8 +305,15 @@ ledger setup meter [] = []
 ledger setup meter (exchange ∷ older) =
     let command = exchange .command in
     let answer = exchange .answer in
-    entered (inForce setup older) (placeBy setup older) (boughtBy command answer (bought older)) meter command answer ++ ledger setup meter older
+    let last = lastDate setup older in
+    entered (inForce setup older) (placeBy setup older) last (boughtBy command answer last (bought setup older)) meter command answer
+    ++ ledger setup meter older
 
 -- what it then must hold
 abbrev pub audited : Setup → List Exchange → Meter → ℕ
 audited setup log meter = owed (capOf meter) (startOf setup meter) (ledger setup meter log)
+
+-- and what it holds when a First's tests come: its cycle has begun
+abbrev pub tested : Setup → List Exchange → First → Meter → ℕ
+tested setup log first meter =
+    owed (capOf meter) (startOf setup meter) (begun (inForce setup log) (lastDate setup log) (first .when) meter ++ ledger setup meter log)

@@ -7,16 +7,19 @@ use mathlib.Core.List.{List, [], _∷_, _++_}
 use lib.Dec.{ltb, eqb}
 use Rattle.state.specs.declared.History.{History}
 use Rattle.command.specs.declared.First.{First}
+use Rattle.purchase.specs.declared.Timing.{Timing}
+use Rattle.purchase.specs.declared.Timing.the-variants.{Undated, InOrder, DateError}
 use Rattle.purchase.specs.declared.Purchase.{Purchase}
 use Rattle.state.specs.declared.Kind.{Kind}
 use Rattle.state.specs.declared.Kind.the-variants.{Aac, Tc, Arqc}
 use Rattle.demands.specs.Setup.{Setup, byteAt, numberAt}
-use Rattle.purchase.specs.Meter.{Meter, accumulator, counter}
-use Rattle.demands.specs.Audit.{isOn, ruleAt, isActive, isIncluded, upperOf, Conversion, comesTo, over, none, converted, worthTo}
+use Rattle.purchase.specs.Meter.{Meter, accumulator, counter, cyclic}
+use Rattle.demands.specs.Audit.{isOn, ruleAt, isActive, isIncluded, takesUp, upperOf, Conversion, comesTo, over, none, converted, worthTo}
 
 abbrev pub lowerOf : Setup → (profile : ℕ) → Meter → ℕ
 lowerOf setup profile (accumulator i) = numberAt setup (ruleAt profile (accumulator i) + 1) 8
 lowerOf setup profile (counter i) = byteAt setup (ruleAt profile (counter i) + 1)
+lowerOf setup profile (cyclic i) = upperOf setup profile (cyclic i)
 
 -- a value plus a converted amount exceeds a limit; this sum isn't stopped, and over exceeds every limit
 abbrev pub exceedsWith : (limit value : ℕ) → Conversion → Bool
@@ -25,11 +28,12 @@ exceedsWith limit value over = true
 exceedsWith limit value none = false
 
 -- one that is active exceeds a limit if its value does, or, with "include this transaction" and an amount that converts, if value plus
--- converted amount does. A counter likewise, with 1 added.
+-- converted amount does. A counter likewise, with 1 added. A cyclic accumulator likewise, but not in a date error.
 abbrev pub exceeds : Setup → (profile : ℕ) → Purchase → (value limit : ℕ) → Meter → Bool
 exceeds setup profile purchase value limit meter =
-    isActive setup profile meter
-    && (ltb limit value || (isIncluded setup profile meter && exceedsWith limit value (worthTo setup purchase meter)))
+    takesUp purchase meter
+    && (isActive setup profile meter
+    && (ltb limit value || (isIncluded setup profile meter && exceedsWith limit value (worthTo setup purchase meter))))
 
 -- MTA is on (13) and the amount, converted to its currency (14), exceeds it (16); without a conversion it doesn't
 abbrev pub exceedsMta : Setup → (profile : ℕ) → Purchase → Bool
@@ -45,7 +49,12 @@ aboveLower setup profile purchase value meter = exceeds setup profile purchase (
 abbrev pub aboveUpper : Setup → (profile : ℕ) → Purchase → (Meter → ℕ) → Meter → Bool
 aboveUpper setup profile purchase value meter = exceeds setup profile purchase (value meter) (upperOf setup profile meter) meter
 
--- house order, bit 0 upward
+abbrev pub isError : Timing → Bool
+isError Undated = false
+isError InOrder = false
+isError (DateError date) = true
+
+-- house order, bit 0 upward; the cyclic accumulators and the date error at the end
 unfoldable pub flags : Setup → (profile : ℕ) → Purchase → (Meter → ℕ) → History → List Bool
 flags setup profile purchase value history =
     history .uncompleted ∷ history .online ∷ history .failed ∷ history .unable ∷ history .missing ∷ exceedsMta setup profile purchase
@@ -53,6 +62,7 @@ flags setup profile purchase value history =
     ++ eachOf accumulator (aboveUpper setup profile purchase value)
     ++ eachOf counter (aboveLower setup profile purchase value)
     ++ eachOf counter (aboveUpper setup profile purchase value)
+    ++ aboveUpper setup profile purchase value (cyclic 0) ∷ aboveUpper setup profile purchase value (cyclic 1) ∷ isError (purchase .timing) ∷ []
 
 -- some flag that is set has its bit in the mask
 abbrev pub meets : List Bool → ℕ → Bool

@@ -4,6 +4,7 @@ use mathlib.Core.List.{List, [], _∷_, _++_}
 use lib.ListN.{replicate}
 use Rattle.refusal.specs.Refusal.{refusalNumber}
 use Rattle.iad.specs.Iad.{iadBytes}
+use Rattle.command.specs.declared.When.the-variants.{Undated}
 use Rattle.command.specs.declared.Command.{Command}
 use Rattle.command.specs.declared.Command.the-variants.{Start as StartCommand, First as FirstCommand, Second as SecondCommand}
 use Rattle.selection.specs.declared.Selection.the-variants.{Selected}
@@ -39,7 +40,7 @@ start = StartCommand (record { chosen = Selected 1 0 })
 
 -- TC requested, in 0978, terminal 22 hex
 abbrev pub first : ℕ → Command
-first amount = FirstCommand (record { amount = record { 0 = amount }; currency = 0x0978; requested = 1; terminal = 0x22 })
+first amount = FirstCommand (record { amount = record { 0 = amount }; currency = 0x0978; requested = 1; terminal = 0x22; when = Undated })
 
 -- TC requested after Y3, issuer data 0, CSU zeros
 abbrev pub second : Command

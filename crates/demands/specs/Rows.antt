@@ -1,15 +1,18 @@
--- Document 01's table of refusal numbers, with document 02's 12, row by row, for the three commands: when a number applies, by which profiles
+-- Document 01's table of refusal numbers, with document 02's 12 and 13, row by row, for the three commands: when a number applies, by which profiles
 -- are known, the ATC and what is due.
 use mathlib.Core.Path.{_≡_}
 use mathlib.Core.Bool.{cond}
 use Prim.Native.Nat.{ℕ, _+_, _*_, _≤_, _<_}
 use lib.Dec.{eqb}
 use lib.ListN.{getD}
+use Rattle.calendar.specs.Almanac.{dateAfter}
 use Rattle.ranges.proofs.Accepted.{Currency}
 use Rattle.rules.specs.Rules.{Rules, blankProfile}
 use Rattle.selection.specs.declared.Selection.{Selection}
 use Rattle.selection.specs.declared.Selection.the-variants.{Selected, NotSelected}
 use Rattle.selection.specs.Selection.{profileOf}
+use Rattle.command.specs.declared.When.{When}
+use Rattle.command.specs.declared.When.the-variants.{Undated, On}
 use Rattle.command.specs.declared.Start.{Start}
 use Rattle.command.specs.declared.First.{First}
 use Rattle.command.specs.declared.Second.{Second}
@@ -52,11 +55,17 @@ pub data StartRow (Known : ℕ → Type 0) (atc : ℕ) (start : Start) (n : ℕ)
   not-in-setup : n ≡ 3 → (Known (profileOf (start .chosen)) → ⊥) → StartRow Known atc start n
   used-up : n ≡ 4 → atc ≡ 65535 → StartRow Known atc start n
 
+-- a date that is none of the 36,525 days from 1 January 2000 to 31 December 2099
+abbrev pub NoDay : When → Type 0
+NoDay Undated = ⊥
+NoDay (On date) = (n : ℕ) → n < 36525 → date ≡ dateAfter n → ⊥
+
 pub data FirstRow (due : Due) (first : First) (n : ℕ) : Type 0 where
   no-start : n ≡ 2 → NoStart due → FirstRow due first n
   type-three : n ≡ 5 → 3 ≤ first .requested → FirstRow due first n
   above-max : n ≡ 6 → 999_999_999_999 < first .amount .0 → FirstRow due first n
   not-digits : n ≡ 6 → (Currency (first .currency) → ⊥) → FirstRow due first n
+  not-a-day : n ≡ 13 → NoDay (first .when) → FirstRow due first n
 
 pub data SecondRow (due : Due) (second : Second) (n : ℕ) : Type 0 where
   no-arqc : n ≡ 2 → NoArqc due → SecondRow due second n
@@ -69,7 +78,7 @@ Applies Known atc due (StartCommand start) n = StartRow Known atc start n
 Applies Known atc due (FirstCommand first) n = FirstRow due first n
 Applies Known atc due (SecondCommand second) n = SecondRow due second n
 
--- where several apply: Start 12, 3, 4; First and Second 2, 5, 6. So 12 comes first, and otherwise the least
+-- where several apply: Start 12, 3, 4; First 2, 5, 6, 13; Second 2, 5, 6. So 12 comes first, and otherwise the least
 abbrev pub rank : ℕ → ℕ
 rank n = cond (eqb n 12) 0 n
 

@@ -1,15 +1,19 @@
--- What an auditor has in hand of a card: its set-up's body, byte by byte, and the syllabus of its paper.
+-- What an auditor has in hand of a card: its set-up's base and its tail of version 04, byte by byte, and what else its paper decides.
 use mathlib.Core.Path.{_≡_}
 use mathlib.Core.Bool.{true}
 use mathlib.Core.List.{List}
 use Prim.Native.Nat.{ℕ}
 use Rattle.wire.specs.Wire.{byte, number}
-use Rattle.ranges.specs.Ranges.{isSetup}
+use Rattle.ranges.specs.Ranges.{isSetup, areCycles}
 use Rattle.setup.proofs.Faithful.{Bytes}
 
 pub record Setup : Type 0 where
   pub bytes : List ℕ
+  -- version 04's tail from its switch on, with the cyclic accumulators (request Five); no byte where dates are off
+  pub tail : List ℕ
   pub syllabus : ℕ
+  -- masks stay below it: 2^22, and 2^25 from version 04 on
+  pub unnamed : ℕ
 
 abbrev pub byteAt : Setup → ℕ → ℕ
 byteAt setup at = byte (setup .bytes) at
@@ -17,7 +21,15 @@ byteAt setup at = byte (setup .bytes) at
 abbrev pub numberAt : Setup → (at n : ℕ) → ℕ
 numberAt setup at n = number (setup .bytes) at n
 
+abbrev pub tailByte : Setup → ℕ → ℕ
+tailByte setup at = byte (setup .tail) at
+
+abbrev pub tailNumber : Setup → (at n : ℕ) → ℕ
+tailNumber setup at n = number (setup .tail) at n
+
 -- one that is accepted: bytes, each field in its range
 pub record AcceptedSetup (setup : Setup) : Type 0 where
   pub bytes : Bytes (setup .bytes)
-  pub taken : isSetup (setup .bytes) ≡ true
+  pub tail-bytes : Bytes (setup .tail)
+  pub taken : isSetup (setup .bytes) (setup .unnamed) ≡ true
+  pub tail-taken : areCycles (setup .tail) ≡ true

@@ -22,10 +22,10 @@ use Rattle.state.specs.declared.Kind.the-variants.{Aac, Tc, Arqc}
 use Rattle.demands.specs.Setup.{Setup, byteAt, numberAt}
 use Rattle.purchase.specs.Meter.{Meter, accumulator, counter}
 use Rattle.demands.specs.Conversation.{Exchange}
-use Rattle.demands.specs.Audit.{isOn, named, brought, bought, inForce, placeBy, audited}
+use Rattle.demands.specs.Audit.{isOn, named, brought, bought, lastDate, inForce, placeBy, audited, tested}
 use Rattle.demands.specs.Past.{byOutcome, past, atcBy, beforeFirst}
 use Rattle.demands.specs.Rows.{InSetup}
-use Rattle.demands.specs.Decision.{aboveLower, aboveUpper, flags, meets, FirstAnswers}
+use Rattle.demands.specs.Decision.{aboveLower, aboveUpper, isError, flags, meets, FirstAnswers}
 
 -- 00 AAC, 01 TC, 10 ARQC (first type) or not requested (second type)
 abbrev pub typeOf : Kind → ℕ
@@ -67,7 +67,9 @@ pub record Verifies (setup : Setup) (profile : ℕ) (purchase : Purchase) (value
   pub byte3-b7 : cvr .byte3 / 64 % 2 ≡ bit (anyOf counter (aboveUpper setup profile purchase value))
   pub byte3-b6 : cvr .byte3 / 32 % 2 ≡ bit (anyOf accumulator (aboveLower setup profile purchase value))
   pub byte3-b5 : cvr .byte3 / 16 % 2 ≡ bit (anyOf accumulator (aboveUpper setup profile purchase value))
-  pub byte3-low : cvr .byte3 % 16 ≡ 0
+  pub byte3-b43 : cvr .byte3 / 4 % 4 ≡ 0
+  pub byte3-b2 : cvr .byte3 / 2 % 2 ≡ bit (isError (purchase .timing))
+  pub byte3-b1 : cvr .byte3 % 2 ≡ 0
   pub byte4-high : cvr .byte4 / 4 ≡ 0
   pub byte4-b2 : cvr .byte4 / 2 % 2 ≡ bit (history .online)
   pub byte4-b1 : cvr .byte4 % 2 ≡ bit (issuing .unable)
@@ -94,9 +96,10 @@ pub record Sends (setup : Setup) (profile number : ℕ) (value : Meter → ℕ) 
 pub record FirstGives (setup : Setup) (before after : List Exchange) (first : First) (kind : Kind) (iad : Iad) : Type 0 where
   pub known : InSetup (inForce setup before) (named before)
   pub decides : FirstAnswers (inForce setup before) (placeBy setup before) first
-      (flags (inForce setup before) (placeBy setup before) (brought first) (audited setup before) (past setup before)) kind
-  pub verifies : Verifies (inForce setup before) (placeBy setup before) (brought first) (audited setup before) (past setup before)
-      notRequested (typeOf kind) (issuingAtFirst (past setup before)) (iad .cvr)
+      (flags (inForce setup before) (placeBy setup before) (brought (lastDate setup before) first) (tested setup before first) (past setup before))
+      kind
+  pub verifies : Verifies (inForce setup before) (placeBy setup before) (brought (lastDate setup before) first) (tested setup before first)
+      (past setup before) notRequested (typeOf kind) (issuingAtFirst (past setup before)) (iad .cvr)
   pub sends : Sends (inForce setup before) (placeBy setup before) (named before) (audited setup after) iad
 
 -- Second keeps First's b2 and b1; Y3/Z3 and absent set b2; failed sets b1; verified clears both
@@ -126,9 +129,9 @@ pub record SecondGives (setup : Setup) (before after : List Exchange) (second : 
   pub known : InSetup (inForce setup before) (named before)
   pub decides : kind
       ≡ cond (secondApproves (inForce setup before) (placeBy setup before)
-      (flags (inForce setup before) (placeBy setup before) (bought before) (audited setup before) (withUnable (past setup (beforeFirst before)))) second)
+      (flags (inForce setup before) (placeBy setup before) (bought setup before) (audited setup before) (withUnable (past setup (beforeFirst before)))) second)
       Tc Aac
-  pub verifies : Verifies (inForce setup (beforeFirst before)) (placeBy setup before) (bought before) (audited setup (beforeFirst before))
+  pub verifies : Verifies (inForce setup (beforeFirst before)) (placeBy setup before) (bought setup before) (audited setup (beforeFirst before))
       (past setup (beforeFirst before)) (typeOf kind) (typeOf Arqc) (issuingAtSecond second (past setup (beforeFirst before))) (iad .cvr)
   pub sends : Sends (inForce setup before) (placeBy setup before) (named before) (audited setup after) iad
 

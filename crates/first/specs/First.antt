@@ -1,4 +1,4 @@
--- First GENERATE AC (document 01, "First: the answer", with request One: declines at First count).
+-- First GENERATE AC (document 01, "First: the answer", with requests One, declines at First count, and Five, a date comes with it).
 use Prim.Native.Nat.{ℕ}
 use mathlib.Core.Bool.{Bool, true, false, cond, _||_}
 use lib.Dec.{eqb}
@@ -6,12 +6,14 @@ use Rattle.iad.specs.declared.Cvr.{Cvr}
 use Rattle.rules.specs.declared.Masks.{Masks}
 use Rattle.rules.specs.declared.Place.{Place}
 use Rattle.rules.specs.Rules.{Rules, profileAt}
+use Rattle.purchase.specs.declared.Timing.{Timing}
 use Rattle.purchase.specs.declared.Purchase.{Purchase}
 use Rattle.meters.specs.declared.Change.{Change}
 use Rattle.meters.specs.Meters.{offline}
 use Rattle.meters.specs.Meters.{applied}
 use Rattle.checks.specs.Checks.{decisionBits, meetsMask}
 use Rattle.command.specs.declared.First.{First}
+use Rattle.cycles.specs.Cycles.{timingOf, dated}
 use Rattle.state.specs.declared.Answer.the-variants.{Given}
 use Rattle.state.specs.declared.Kind.{Kind}
 use Rattle.state.specs.declared.Kind.the-variants.{Aac, Tc, Arqc}
@@ -42,7 +44,7 @@ unfoldable pub settled : Rules → State → Place → Cvr → Kind → Change �
 settled rules state place cvr kind change =
     let values = applied rules place (state .values) change in
     record {
-      state = record { values = values; phase = Idle; atc = state .atc; history = state .history };
+      state = record { values = values; phase = Idle; atc = state .atc; last = state .last; history = state .history };
       answer = Given kind (state .atc) (sentIad rules place values cvr);
     }
 
@@ -55,6 +57,7 @@ asked rules state place purchase limits cvr =
             values = state .values;
             phase = Asked (record { purchase = purchase; limits = limits; place = place; history = state .history });
             atc = state .atc;
+            last = state .last;
             history = uncompletedIn (state .history);
           };
       answer = Given Arqc (state .atc) (sentIad rules place (state .values) cvr);
@@ -75,20 +78,25 @@ unfoldable pub concluded : Rules → State → Place → Purchase → ℕ → Cv
 concluded rules state place purchase limits cvr kind =
     cond (isArqc kind) (asked rules state place purchase limits cvr) (settled rules state place cvr kind (offline (isTc kind) purchase))
 
-abbrev pub purchaseOf : First → Purchase
-purchaseOf first = record { amount = first .amount; currency = first .currency }
+abbrev pub purchaseOf : First → Timing → Purchase
+purchaseOf first timing = record { amount = first .amount; currency = first .currency; timing = timing }
 
-abbrev pub firstBits : Rules → State → Place → First → ℕ
-firstBits rules state place first = decisionBits rules place (state .values) (purchaseOf first) (state .history)
+abbrev pub firstBits : Rules → State → Place → First → Timing → ℕ
+firstBits rules state place first timing = decisionBits rules place (state .values) (purchaseOf first timing) (state .history)
 
-abbrev pub firstKind : Rules → State → Place → First → Kind
-firstKind rules state place first =
-    decision (first .requested) (firstBits rules state place first) (profileAt rules place .masks) (first .terminal)
+abbrev pub firstKind : Rules → State → Place → First → Timing → Kind
+firstKind rules state place first timing =
+    decision (first .requested) (firstBits rules state place first timing) (profileAt rules place .masks) (first .terminal)
 
 -- the tests, the decision, the CVR, and what follows
+unfoldable pub firstAnswered : Rules → State → First → Place → Timing → Outcome
+firstAnswered rules state first place timing =
+    let limits = limitsByte (firstBits rules state place first timing) in
+    let kind = firstKind rules state place first timing in
+    concluded rules state place (purchaseOf first timing) limits
+    (verification rules (state .history) limits kind NotRequested (issuerBefore (state .history))) kind
+
+-- before the tests, and whatever First answers, the cycles of its date begin
 unfoldable pub firstPerformed : Rules → State → First → Place → Outcome
 firstPerformed rules state first place =
-    let limits = limitsByte (firstBits rules state place first) in
-    let kind = firstKind rules state place first in
-    concluded rules state place (purchaseOf first) limits
-    (verification rules (state .history) limits kind NotRequested (issuerBefore (state .history))) kind
+    firstAnswered rules (dated rules state (first .when)) first place (timingOf (state .last) (first .when))

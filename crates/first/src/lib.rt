@@ -1,13 +1,14 @@
 // First GENERATE AC.
 ghost use mathlib.Core.Path.{_≡_};
 ghost use Rattle.rules.specs.Rules.{rulesOf};
-ghost use Rattle.first.specs.First.{isArqc, isTc, isOfflineOnly, decision, settled, asked, concluded, firstPerformed};
+ghost use Rattle.first.specs.First.{isArqc, isTc, isOfflineOnly, decision, settled, asked, concluded, firstAnswered, firstPerformed};
 use command::First;
 use cryptogram::Issuer;
 use cryptogram::Later;
 use iad::Cvr;
 use meters::Change;
 use purchase::Purchase;
+use purchase::Timing;
 use rules::Masks;
 use rules::Place;
 use rules::Words;
@@ -66,6 +67,7 @@ fn settle(
 {
     let values = state.values;
     let history = state.history;
+    let last = state.last;
     let atc = state.atc;
     let values = meters::apply(words, place, values, change);
     let iad = cryptogram::send(words, place, values, cvr);
@@ -74,6 +76,7 @@ fn settle(
             values,
             phase: Phase::Idle,
             atc,
+            last,
             history,
         },
         answer: Answer::Given { kind, atc, iad },
@@ -93,6 +96,7 @@ fn ask(
 {
     let values = state.values;
     let history = state.history;
+    let last = state.last;
     let atc = state.atc;
     let iad = cryptogram::send(words, place, values, cvr);
     Outcome {
@@ -105,6 +109,7 @@ fn ask(
                 history,
             }),
             atc,
+            last,
             history: history.with_uncompleted(),
         },
         answer: Answer::Given {
@@ -154,8 +159,9 @@ fn conclude(
     settle(words, state, place, cvr, kind, change)
 }
 
-pub fn perform(words: &Words, state: State, place: Place, first: First) -> Outcome
-    ensures { λ r. ⌜ r ≡ firstPerformed (rulesOf (now (words .entry))) state first place ⌝ }
+// The tests, the decision and what follows, with the cycles of its date begun.
+fn answer(words: &Words, state: State, place: Place, first: First, timing: Timing) -> Outcome
+    ensures { λ r. ⌜ r ≡ firstAnswered (rulesOf (now (words .entry))) state first place timing ⌝ }
 {
     let values = state.values;
     let history = state.history;
@@ -163,6 +169,7 @@ pub fn perform(words: &Words, state: State, place: Place, first: First) -> Outco
     let purchase = Purchase {
         amount,
         currency: first.currency,
+        timing,
     };
     let adr = checks::decision_bits(words, place, values, purchase, history);
     let kind = decide(
@@ -179,4 +186,14 @@ pub fn perform(words: &Words, state: State, place: Place, first: First) -> Outco
     };
     let cvr = cryptogram::verify(words, history, limits, kind, Later::NotRequested, issuer);
     conclude(words, state, place, purchase, limits, cvr, kind)
+}
+
+pub fn perform(words: &Words, state: State, place: Place, first: First) -> Outcome
+    ensures { λ r. ⌜ r ≡ firstPerformed (rulesOf (now (words .entry))) state first place ⌝ }
+{
+    let last = state.last;
+    let when = first.when;
+    let timing = cycles::timing_of(last, when);
+    let state = cycles::take_date(words, state, when);
+    answer(words, state, place, first, timing)
 }

@@ -2,7 +2,7 @@
 use mathlib.Core.Path.{_≡_, refl, sym, ap, _∙_}
 use mathlib.Core.Bool.{true, _&&_}
 use mathlib.Core.List.{List, [], _∷_, _++_}
-use Prim.Native.Nat.{ℕ, zero, suc, _+_, _*_, _/_, _^_, _≤_, _<_}
+use Prim.Native.Nat.{ℕ, zero, suc, _+_, _*_, _/_, _%_, _^_, _≤_, _<_}
 use native.Mathlib.Nat.{zero-add, div-div-eq-div-mul, one-le-pow, pow-le-pow-right, suc-mul, pow-suc}
 use native.Mathlib.Numerals.{add-one}
 use native.Mathlib.Omega.{arith}
@@ -30,6 +30,32 @@ pub six-pairs : (n : ℕ)
 unfolding pairsOf
 six-pairs n =
     rw (div-div-eq-div-mul n 100 100, div-div-eq-div-mul n 10_000 100, div-div-eq-div-mul n 1_000_000 100, div-div-eq-div-mul n 100_000_000 100)
+
+-- a pair is that of the last two digits
+same-pair : (m n : ℕ) → m % 100 ≡ n % 100 → pairOf m ≡ pairOf n
+same-pair m n e =
+    let tens : m / 10 % 10 ≡ n / 10 % 10 = omega arith in
+    let ones : m % 10 ≡ n % 10 = omega arith in
+    rw (tens, ones)
+
+-- the same of its two halves of six digits
+pub two-halves : (n : ℕ)
+    → pairsOf n 6
+    ≡ pairOf (n / 1_000_000 % 1_000_000 / 10_000) ∷ pairOf (n / 1_000_000 % 1_000_000 / 100 % 100) ∷ pairOf (n / 1_000_000 % 1_000_000 % 100)
+    ∷ pairOf (n % 1_000_000 / 10_000)
+    ∷ pairOf (n % 1_000_000 / 100 % 100)
+    ∷ pairOf (n % 1_000_000 % 100)
+    ∷ []
+two-halves n =
+    six-pairs n
+    ∙ simp (
+      same-pair (n / 10_000_000_000) (n / 1_000_000 % 1_000_000 / 10_000) (omega arith),
+      same-pair (n / 100_000_000) (n / 1_000_000 % 1_000_000 / 100 % 100) (omega arith),
+      same-pair (n / 1_000_000) (n / 1_000_000 % 1_000_000 % 100) (omega arith),
+      same-pair (n / 10_000) (n % 1_000_000 / 10_000) (omega arith),
+      same-pair (n / 100) (n % 1_000_000 / 100 % 100) (omega arith),
+      same-pair n (n % 1_000_000 % 100) (omega arith),
+    )
 
 -- before the sixth pair an amount is small
 pub small : (i : ℕ) → i < 6 → 100 ^ i ≤ 10_000_000_000

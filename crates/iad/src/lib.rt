@@ -1,5 +1,7 @@
 // The Issuer Application Data: 32 bytes from its fields, and back.
 ghost use mathlib.Core.Path.{_≡_};
+ghost use Prim.Native.Nat.{_<_};
+ghost use Rattle.wire.specs.Wire.{pairOf};
 ghost use Rattle.iad.specs.Iad.{iadBytes, cvrOf, pairsValue, iadOf, areZeros, hasFixedBytes, isCvr, arePairs, isProfile};
 ghost use Rattle.iad.specs.Iad.{isIad, readIad, isWritable, writeIad, written};
 use money::AccumulatorAmount;
@@ -56,11 +58,21 @@ fn is_writable(iad: Iad) -> bool
     (iad.accumulator.0 <= money::MAX) & is_cvr(iad.cvr) & is_profile(iad.profile)
 }
 
-// The bytes of an IAD; the last 14 stay zeros.
+// A number below 100 as two decimal digits, one to a half of a byte.
+fn pair(n: u32) -> u8
+    requires { ⌜ n < 100 ⌝ }
+    ensures { λ r. ⌜ r ≡ pairOf n ⌝ }
+{
+    (n + n / 10 * 6) as u8
+}
+
+// The bytes of an IAD; the last 14 stay zeros. Its 12 digits are two halves of six.
 fn encode(iad: Iad) -> [u8; LENGTH]
     ensures { λ r. ⌜ r ≡ iadBytes iad ⌝ }
 {
     let amount = iad.accumulator.0;
+    let high = (amount / 1_000_000 % 1_000_000) as u32;
+    let low = (amount % 1_000_000) as u32;
     let mut bytes = [0u8; LENGTH];
     bytes[0] = 0x0F;
     bytes[1] = 0xA5;
@@ -70,12 +82,12 @@ fn encode(iad: Iad) -> [u8; LENGTH]
     bytes[5] = iad.cvr.byte3;
     bytes[6] = iad.cvr.byte4;
     bytes[7] = iad.cvr.byte5;
-    bytes[8] = wire::pair_of(amount / 10_000_000_000);
-    bytes[9] = wire::pair_of(amount / 100_000_000);
-    bytes[10] = wire::pair_of(amount / 1_000_000);
-    bytes[11] = wire::pair_of(amount / 10_000);
-    bytes[12] = wire::pair_of(amount / 100);
-    bytes[13] = wire::pair_of(amount);
+    bytes[8] = pair(high / 10_000);
+    bytes[9] = pair(high / 100 % 100);
+    bytes[10] = pair(high % 100);
+    bytes[11] = pair(low / 10_000);
+    bytes[12] = pair(low / 100 % 100);
+    bytes[13] = pair(low % 100);
     bytes[14] = iad.first;
     bytes[15] = iad.second;
     bytes[16] = 0x0F;

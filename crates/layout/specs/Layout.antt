@@ -112,6 +112,40 @@ shift = 6
 abbrev pub conversionLength : ℕ
 conversionLength = 7
 
+-- the tail of version 04 (request Five): dated; last date (3); two cyclic accumulators; for each profile, in the set-up's order, their rules
+abbrev pub lastDate : ℕ
+lastDate = 1
+
+abbrev pub cycles : ℕ
+cycles = 4
+
+abbrev pub cyclicRules : ℕ
+cyclicRules = 28
+
+-- a cyclic accumulator: currency (2), amount (8), kind of cycle, first day of a week
+abbrev pub cycleAmount : ℕ
+cycleAmount = 2
+
+abbrev pub cycleKind : ℕ
+cycleKind = 10
+
+abbrev pub firstDay : ℕ
+firstDay = 11
+
+abbrev pub cycleLength : ℕ
+cycleLength = 12
+
+-- its rule in a profile: switches, limit (8)
+abbrev pub cyclicLimit : ℕ
+cyclicLimit = 1
+
+abbrev pub cyclicRuleLength : ℕ
+cyclicRuleLength = 9
+
+-- those of both
+abbrev pub cyclicRulesLength : ℕ
+cyclicRulesLength = 18
+
 -- accumulator i + 1 of the head
 abbrev pub accumulatorFrom : ℕ → ℕ
 accumulatorFrom i = accumulators + accumulatorLength * i
@@ -122,6 +156,17 @@ accumulatorRuleFrom j = accumulatorRules + ruleLength accumulatorLimit * j
 
 abbrev pub counterRuleFrom : ℕ → ℕ
 counterRuleFrom j = counterRules + ruleLength counterLimit * j
+
+-- cyclic accumulator i + 1, and its rule in profile j + 1, in the tail of version 04
+abbrev pub cycleFrom : ℕ → ℕ
+cycleFrom i = cycles + cycleLength * i
+
+abbrev pub cyclicRuleFrom : (j i : ℕ) → ℕ
+cyclicRuleFrom j i = cyclicRules + cyclicRulesLength * j + cyclicRuleLength * i
+
+-- where dates are on, the tail has 28 + 18p bytes
+abbrev pub cyclesLength : List ℕ → ℕ
+cyclesLength s = cyclicRules + cyclicRulesLength * byte s profiles
 
 -- p profiles stand behind the head, and c conversions behind them: 52 + 107p + 7c bytes
 abbrev pub profileFrom : ℕ → ℕ

@@ -2,7 +2,7 @@
 // its part. What stands first in its part has no name here.
 ghost use mathlib.Core.Path.{_≡_};
 ghost use Prim.Native.Nat.{_<_, _^_};
-ghost use Rattle.layout.specs.Layout.{profileFrom, conversionFrom, baseLength, profilePlace, conversionPlace};
+ghost use Rattle.layout.specs.Layout.{profileFrom, conversionFrom, baseLength, profilePlace, conversionPlace, cyclesLength};
 
 // The head.
 pub const KEY_INDEX: usize = 0;
@@ -77,6 +77,30 @@ pub const SHIFT: usize = 6;
 
 pub const CONVERSION_LENGTH: usize = 7;
 
+// The tail of version 04: dated, last date, cyclic accumulators, and for each profile their rules.
+pub const LAST_DATE: usize = 1;
+
+pub const CYCLES: usize = 4;
+
+pub const CYCLIC_RULES: usize = 28;
+
+// A cyclic accumulator: currency, amount, kind of cycle, first day of a week.
+pub const CYCLE_AMOUNT: usize = 2;
+
+pub const CYCLE_KIND: usize = 10;
+
+pub const FIRST_DAY: usize = 11;
+
+pub const CYCLE_LENGTH: usize = 12;
+
+// Its rule in a profile: switches, limit.
+pub const CYCLIC_LIMIT: usize = 1;
+
+pub const CYCLIC_RULE_LENGTH: usize = 9;
+
+// Those of both.
+pub const CYCLIC_RULES_LENGTH: usize = 18;
+
 // Where profile i + 1 begins, and where i profiles end.
 fn profile_from(i: usize) -> usize
     requires { ⌜ i < 256 ⌝ }
@@ -109,6 +133,13 @@ pub fn profile_place(s: &[u8], i: usize) -> usize
     } else {
         s.len()
     }
+}
+
+// How many bytes the tail of version 04 has where dates are on: 28 + 18p.
+pub fn cycles_length(s: &[u8]) -> usize
+    ensures { λ r. ⌜ (r ≡ cyclesLength (now (s .entry))) × (r < 2 ^ 63) ⌝ }
+{
+    CYCLIC_RULES + CYCLIC_RULES_LENGTH * wire::byte_at(s, PROFILES) as usize
 }
 
 // The place of conversion i + 1.

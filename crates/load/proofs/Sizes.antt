@@ -6,6 +6,7 @@ use lib.ListN.{length}
 use Rattle.rules.specs.Word.{wordCount}
 use Rattle.load.specs.Load.{headWords, rateWords, ratesWords, loaded}
 use Rattle.load.specs.Load.{ruleWords, rulesWords, profileHeadWords, sentWords, profileWords, profilesWords}
+use Rattle.load.specs.Load.{cycleWords, cyclicRuleWords, cyclicRulesWords, cyclesWords}
 
 module _ (s : List ℕ) (at : ℕ) where
   pub rate-size : length (rateWords s at) ≡ 4
@@ -45,6 +46,25 @@ module _ (s : List ℕ) where
   unfolding profilesWords profileWords profileHeadWords rulesWords ruleWords sentWords
   profiles-size = refl
 
-  pub loaded-size : (syllabus : ℕ) → length (loaded s syllabus) ≡ wordCount
-  unfolding loaded headWords ratesWords rateWords profilesWords profileWords profileHeadWords rulesWords ruleWords sentWords
-  loaded-size syllabus = refl
+-- of the tail of version 04
+module _ (t : List ℕ) where
+  pub cycle-size : (at : ℕ) → length (cycleWords t at) ≡ 3
+  unfolding cycleWords
+  cycle-size at = refl
+
+  pub cyclic-rule-size : (at : ℕ) → length (cyclicRuleWords t at) ≡ 2
+  unfolding cyclicRuleWords
+  cyclic-rule-size at = refl
+
+  pub cyclic-rules-size : (j : ℕ) → length (cyclicRulesWords t j) ≡ 4
+  unfolding cyclicRulesWords cyclicRuleWords
+  cyclic-rules-size j = refl
+
+  pub cycles-size : length (cyclesWords t) ≡ 22
+  unfolding cyclesWords cycleWords cyclicRulesWords cyclicRuleWords
+  cycles-size = refl
+
+pub loaded-size : (s t : List ℕ) (syllabus : ℕ) → length (loaded s t syllabus) ≡ wordCount
+unfolding loaded headWords ratesWords rateWords profilesWords profileWords profileHeadWords rulesWords ruleWords sentWords
+    cyclesWords cycleWords cyclicRulesWords cyclicRuleWords
+loaded-size s t syllabus = refl

@@ -28,7 +28,7 @@ behind l a b {w} {v} i j m n r e s p =
 
 -- n rows of m words each, one behind the other from place i on, row by row
 module _ (l : List ℕ) (i m : ℕ) (row : ℕ → List ℕ) (size : (k : ℕ) → length (row k) ≡ m) where
-  rows-size : (n : ℕ) → length (rows n row) ≡ m * n
+  pub rows-size : (n : ℕ) → length (rows n row) ≡ m * n
   rows-size zero = omega arith
   rows-size (suc n) = simp (length-append, rows-size n, size n) (omega arith)
 
@@ -36,11 +36,13 @@ module _ (l : List ℕ) (i m : ℕ) (row : ℕ → List ℕ) (size : (k : ℕ) �
   next n j e f p =
       f ∙ ap (λ (x : List ℕ). sets x j (row n)) e ∙ joined l (rows n row) (row n) i j (omega (arith, rows-size n))
 
+  pub two-rows : (j : ℕ) {a b : List ℕ} → a ≡ sets l i (row 0) → b ≡ sets a j (row 1) → j ≡ i + m → b ≡ sets l i (rows 2 row)
+  two-rows j a b p = next 1 j (next 0 i refl a (omega arith)) b (omega arith)
+
   pub four-rows : {a b c d : List ℕ} → a ≡ sets l i (row 0) → b ≡ sets a (i + m) (row 1) → c ≡ sets b (i + m * 2) (row 2)
       → d ≡ sets c (i + m * 3) (row 3)
       → d ≡ sets l i (rows 4 row)
-  four-rows a b c d =
-      next 3 (i + m * 3) (next 2 (i + m * 2) (next 1 (i + m) (next 0 i refl a (omega arith)) b (omega arith)) c refl) d refl
+  four-rows a b c d = next 3 (i + m * 3) (next 2 (i + m * 2) (two-rows (i + m) a b refl) c refl) d refl
 
   pub five-rows : {a b c d e : List ℕ} → a ≡ sets l i (row 0) → b ≡ sets a (i + m) (row 1) → c ≡ sets b (i + m * 2) (row 2)
       → d ≡ sets c (i + m * 3) (row 3)

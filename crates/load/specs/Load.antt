@@ -64,10 +64,23 @@ profileWords s at =
 unfoldable pub profilesWords : List ℕ → List ℕ
 profilesWords s = rows 4 (λ i. profileWords s (profilePlace s i))
 
--- and last the syllabus
-unfoldable pub loaded : List ℕ → ℕ → List ℕ
-loaded s syllabus = ((headWords s ++ ratesWords s) ++ profilesWords s) ++ syllabus ∷ []
+-- of the tail of version 04: a cyclic accumulator's currency, kind and first day; its rule's switches and limit
+unfoldable pub cycleWords : List ℕ → ℕ → List ℕ
+cycleWords t at = number t at 2 ∷ byte t (at + layout.cycleKind) ∷ byte t (at + layout.firstDay) ∷ []
+
+unfoldable pub cyclicRuleWords : List ℕ → ℕ → List ℕ
+cyclicRuleWords t at = byte t at ∷ number t (at + layout.cyclicLimit) 8 ∷ []
+
+unfoldable pub cyclicRulesWords : List ℕ → (j : ℕ) → List ℕ
+cyclicRulesWords t j = rows 2 (λ i. cyclicRuleWords t (layout.cyclicRuleFrom j i))
+
+unfoldable pub cyclesWords : List ℕ → List ℕ
+cyclesWords t = rows 2 (λ i. cycleWords t (layout.cycleFrom i)) ++ rows 4 (cyclicRulesWords t)
+
+-- the base's, then the syllabus, and last those of the tail of version 04
+unfoldable pub loaded : List ℕ → List ℕ → ℕ → List ℕ
+loaded s t syllabus = (((headWords s ++ ratesWords s) ++ profilesWords s) ++ syllabus ∷ []) ++ cyclesWords t
 
 -- the words after a load: all of them are stored
-abbrev pub stored : List ℕ → List ℕ → ℕ → List ℕ
-stored words s syllabus = sets words 0 (loaded s syllabus)
+abbrev pub stored : (words s t : List ℕ) → ℕ → List ℕ
+stored words s t syllabus = sets words 0 (loaded s t syllabus)

@@ -5,6 +5,9 @@ ghost use lib.Seq.{sets};
 ghost use Rattle.layout.specs.Layout.{profilePlace, conversionPlace, profileLength as profileBytes};
 ghost use Rattle.rules.specs.Word.{wordCount, rates, profiles, rateFrom, profileFrom, profileLength, accumulatorSent, ruleLength};
 ghost use Rattle.load.specs.Load.{headWords, rateWords, ratesWords, stored};
+ghost use Rattle.layout.specs.Layout.{cycleFrom as cycleBytes, cyclicRuleFrom as cyclicRuleBytes};
+ghost use Rattle.rules.specs.Word.{cycles, cycleFrom, cyclicRuleFrom};
+ghost use Rattle.load.specs.Load.{cycleWords, cyclicRuleWords, cyclicRulesWords, cyclesWords};
 ghost use Rattle.load.specs.Load.{limitIn, ruleWords, rulesWords, profileHeadWords, sentWords, profileWords, profilesWords};
 use rules::Words;
 use rules::word;
@@ -143,12 +146,60 @@ fn load_profiles(words: &mut Words, s: &[u8])
     load_profile(words, 3, s);
 }
 
-// Every word, whatever stood there; the last is the syllabus.
-pub fn load(words: &mut Words, s: &[u8], syllabus: u8)
-    ensures { λ _. ⌜ now (words .exit) ≡ stored (now (words .entry)) (now (s .entry)) syllabus ⌝ }
+// Cyclic accumulator i + 1: currency, kind, first day.
+fn load_cycle(words: &mut Words, i: usize, t: &[u8])
+    requires { ⌜ i < 2 ⌝ }
+    ensures { λ _. ⌜ now (words .exit) ≡ sets (now (words .entry)) (cycleFrom i) (cycleWords (now (t .entry)) (cycleBytes i)) ⌝ }
+{
+    let at = layout::CYCLES + layout::CYCLE_LENGTH * i;
+    let to = word::CYCLES + word::CYCLE_LENGTH * i;
+    words[to] = wire::u16_at(t, at) as u64;
+    words[to + word::CYCLE_KIND] = wire::byte_at(t, at + layout::CYCLE_KIND) as u64;
+    words[to + word::FIRST_DAY] = wire::byte_at(t, at + layout::FIRST_DAY) as u64;
+}
+
+// The rule of cyclic accumulator i + 1 in profile j + 1: switches, limit.
+fn load_cyclic_rule(words: &mut Words, j: usize, i: usize, t: &[u8])
+    requires { ⌜ (j < 4) × (i < 2) ⌝ }
+    ensures { λ _. ⌜ now (words .exit)
+        ≡ sets (now (words .entry)) (cyclicRuleFrom j i) (cyclicRuleWords (now (t .entry)) (cyclicRuleBytes j i)) ⌝ }
+{
+    let at = layout::CYCLIC_RULES
+        + layout::CYCLIC_RULES_LENGTH * j
+        + layout::CYCLIC_RULE_LENGTH * i;
+    let to = word::CYCLIC_RULES + word::CYCLIC_RULES_LENGTH * j + word::CYCLIC_RULE_LENGTH * i;
+    words[to] = wire::byte_at(t, at) as u64;
+    words[to + word::CYCLIC_LIMIT] = wire::u64_at(t, at + layout::CYCLIC_LIMIT);
+}
+
+// The rules of both in profile j + 1.
+fn load_cyclic_rules(words: &mut Words, j: usize, t: &[u8])
+    requires { ⌜ j < 4 ⌝ }
+    ensures { λ _. ⌜ now (words .exit) ≡ sets (now (words .entry)) (cyclicRuleFrom j 0) (cyclicRulesWords (now (t .entry)) j) ⌝ }
+{
+    load_cyclic_rule(words, j, 0, t);
+    load_cyclic_rule(words, j, 1, t);
+}
+
+// The cyclic accumulators and their rules; where dates are off there are no bytes, and all is 0.
+fn load_cycles(words: &mut Words, t: &[u8])
+    ensures { λ _. ⌜ now (words .exit) ≡ sets (now (words .entry)) cycles (cyclesWords (now (t .entry))) ⌝ }
+{
+    load_cycle(words, 0, t);
+    load_cycle(words, 1, t);
+    load_cyclic_rules(words, 0, t);
+    load_cyclic_rules(words, 1, t);
+    load_cyclic_rules(words, 2, t);
+    load_cyclic_rules(words, 3, t);
+}
+
+// Every word, whatever stood there: the base's, the syllabus, and those of the cyclic accumulators.
+pub fn load(words: &mut Words, s: &[u8], t: &[u8], syllabus: u8)
+    ensures { λ _. ⌜ now (words .exit) ≡ stored (now (words .entry)) (now (s .entry)) (now (t .entry)) syllabus ⌝ }
 {
     load_head(words, s);
     load_rates(words, s);
     load_profiles(words, s);
     words[word::SYLLABUS] = syllabus as u64;
+    load_cycles(words, t);
 }

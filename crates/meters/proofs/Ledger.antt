@@ -1,6 +1,6 @@
 -- What a change enters into a meter, and what entries do to a value. Assumes nothing.
 use mathlib.Core.Path.{_≡_, refl}
-use mathlib.Core.Bool.{Bool, true, false, cond}
+use mathlib.Core.Bool.{Bool, true, false, cond, _&&_, and-false}
 use mathlib.Core.List.{List, [], _∷_, _++_}
 use Prim.Native.Nat.{ℕ, _+_, _≤_}
 use native.Mathlib.Omega.{arith}
@@ -12,11 +12,11 @@ use Rattle.money.specs.Money.{max}
 use Rattle.rules.specs.declared.Place.{Place}
 use Rattle.rules.specs.declared.Values.{Values}
 use Rattle.rules.specs.Rules.{Rules}
-use Rattle.rules.proofs.Places.{each}
-use Rattle.purchase.specs.Meter.{Meter, accumulator, counter, IsMeter, MeterRule, valueOf, capOf, worthTo}
+use Rattle.rules.proofs.Places.{each, both}
+use Rattle.purchase.specs.Meter.{Meter, accumulator, counter, cyclic, IsMeter, MeterRule, ruleOf, valueOf, capOf, worthTo, takesPart}
 use Rattle.meters.specs.declared.Change.{Change}
 use Rattle.meters.specs.declared.Change.the-variants.{Approve, Decline, SetToLimits, Clear}
-use Rattle.meters.specs.Meters.{Entry, put, add, move, moved, addition, counts, countsDecline, based, added, entered, applied}
+use Rattle.meters.specs.Meters.{Entry, put, add, move, moved, addition, order, counts, countsDecline, based, added, entered, applied}
 
 -- each meter is moved by what is entered
 module _ (rules : Rules) (place : Place) (values : Values) (change : Change) where
@@ -28,14 +28,21 @@ module _ (rules : Rules) (place : Place) (values : Values) (change : Change) whe
   unfolding applied
   applied-moves (accumulator i) l = each (λ i. Moves (accumulator i)) refl refl refl refl i l
   applied-moves (counter i) l = each (λ i. Moves (counter i)) refl refl refl refl i l
+  applied-moves (cyclic i) l = both (λ i. Moves (cyclic i)) refl refl i l
 
 -- nothing is entered into what is not active
 pub inactive-still : (rules : Rules) (meter : Meter) (rule : MeterRule) (change : Change) → rule .active ≡ false
     → (based rule change ++ added rules meter rule change) ≡ []
-inactive-still rules meter rule (Approve purchase) e = simp e
+inactive-still rules meter rule (Approve purchase) e = simp (e, and-false)
 inactive-still rules meter rule Decline e = simp e
 inactive-still rules meter rule SetToLimits e = simp e
 inactive-still rules meter rule Clear e = simp e
+
+-- an order puts its limit or zero into what is active
+pub order-puts : (rules : Rules) (place : Place) (meter : Meter) (cap value : ℕ) (limit : Bool) → ruleOf rules place meter .active ≡ true
+    → moved cap value (entered rules place (order limit) meter) ≡ cond limit (ruleOf rules place meter .upper) 0
+order-puts rules place meter cap value true e = simp e
+order-puts rules place meter cap value false e = simp e
 
 -- entries behind others move what those left
 pub moved-append : (cap value : ℕ) (before behind : List Entry) → moved cap value (before ++ behind) ≡ moved cap (moved cap value before) behind
@@ -91,7 +98,7 @@ module _ (cap : ℕ) where
   -- a change puts nothing above the cap where the upper limit is not above it
   pub entered-puts : (rules : Rules) (meter : Meter) (rule : MeterRule) (change : Change) → rule .upper ≤ cap
       → Puts cap (based rule change ++ added rules meter rule change)
-  entered-puts rules meter rule (Approve purchase) h = unless-off (counts rule) _ (addition-puts (worthTo rules purchase meter))
+  entered-puts rules meter rule (Approve purchase) h = unless-off (takesPart purchase meter && counts rule) _ (addition-puts (worthTo rules purchase meter))
   entered-puts rules meter rule Decline h = unless-off (countsDecline rule) (add 1 ∷ []) tt
   entered-puts rules meter rule SetToLimits h = active-puts (rule .active) (rule .upper) h
   entered-puts rules meter rule Clear h = active-puts (rule .active) 0 (omega arith)

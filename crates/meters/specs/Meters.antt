@@ -9,9 +9,9 @@ use Rattle.money.specs.declared.Converted.the-variants.{Amount, Over, NoEntry}
 use Rattle.money.specs.Money.{max}
 use Rattle.rules.specs.declared.Place.{Place}
 use Rattle.rules.specs.declared.Values.{Values}
-use Rattle.rules.specs.Rules.{Rules, four}
+use Rattle.rules.specs.Rules.{Rules, two, four}
 use Rattle.purchase.specs.declared.Purchase.{Purchase}
-use Rattle.purchase.specs.Meter.{Meter, accumulator, counter, MeterRule, ruleOf, counterCap, amountAt, countAt, worthTo}
+use Rattle.purchase.specs.Meter.{Meter, accumulator, counter, cyclic, MeterRule, ruleOf, counterCap, amountAt, countAt, cyclicAt, worthTo, takesPart}
 use Rattle.meters.specs.declared.Change.{Change}
 use Rattle.meters.specs.declared.Change.the-variants.{Approve, Decline, SetToLimits, Clear}
 
@@ -40,6 +40,11 @@ abbrev pub offline : Bool → Purchase → Change
 offline true purchase = Approve purchase
 offline false purchase = Decline
 
+-- the issuer's order 01 or 10
+abbrev pub order : (toLimits : Bool) → Change
+order true = SetToLimits
+order false = Clear
+
 -- a purchase counts; an offline decline counts
 abbrev pub counts : MeterRule → Bool
 counts rule = rule .active && rule .allow
@@ -54,9 +59,9 @@ based rule Decline = []
 based rule SetToLimits = cond (rule .active) (put (rule .upper) ∷ []) []
 based rule Clear = cond (rule .active) (put 0 ∷ []) []
 
--- an addition or none: at an offline approval, or by CSU order 11, what a purchase is worth; at an offline decline 1
+-- an addition or none: at an offline approval, or by CSU order 11, what a purchase is worth to a meter that takes part; at an offline decline 1
 abbrev pub added : Rules → Meter → MeterRule → Change → List Entry
-added rules meter rule (Approve purchase) = cond (counts rule) (addition (worthTo rules purchase meter)) []
+added rules meter rule (Approve purchase) = cond (takesPart purchase meter && counts rule) (addition (worthTo rules purchase meter)) []
 added rules meter rule Decline = cond (countsDecline rule) (add 1 ∷ []) []
 added rules meter rule SetToLimits = []
 added rules meter rule Clear = []
@@ -73,4 +78,5 @@ applied rules place values change =
     record {
       accumulators = four (λ i. amountMoved (amountAt values i) (entered rules place change (accumulator i)));
       counters = four (λ i. moved counterCap (countAt values i) (entered rules place change (counter i)));
+      cyclic = two (λ i. amountMoved (cyclicAt values i) (entered rules place change (cyclic i)));
     }

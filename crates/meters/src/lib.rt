@@ -1,11 +1,13 @@
 // What approvals, declines and the issuer's orders do to the values.
 ghost use mathlib.Core.Path.{_≡_};
 ghost use Rattle.rules.specs.Rules.{rulesOf};
-ghost use Rattle.purchase.specs.Meter.{accumulator, counter, counterCap, worth};
-ghost use Rattle.meters.specs.Meters.{add, move, moved, amountMoved, addition, offline, entered, applied};
+ghost use Rattle.purchase.specs.Meter.{accumulator, counter, cyclic, counterCap, worth, isInOrder};
+ghost use Rattle.meters.specs.declared.Change.the-variants.{Approve};
+ghost use Rattle.meters.specs.Meters.{add, move, moved, amountMoved, addition, offline, order, entered, applied};
 use money::AccumulatorAmount;
 use money::Converted;
 use purchase::Purchase;
+use purchase::Timing;
 use rules::Place;
 use rules::Values;
 use rules::Words;
@@ -35,12 +37,12 @@ impl Change {
     }
 }
 
-// Accumulator i + 1 with a purchase that counts. An amount that is over fills it; without a
+// An accumulator with what a purchase is worth to it. An amount that is over fills it; without a
 // conversion the purchase doesn't count there.
-fn grow(words: &Words, i: usize, amount: AccumulatorAmount, purchase: Purchase) -> AccumulatorAmount
-    ensures { λ r. ⌜ r ≡ amountMoved amount (addition (worth (rulesOf (now (words .entry))) purchase i)) ⌝ }
+fn grow(amount: AccumulatorAmount, worth: Converted) -> AccumulatorAmount
+    ensures { λ r. ⌜ r ≡ amountMoved amount (addition worth) ⌝ }
 {
-    match purchase::worth(words, purchase, i) {
+    match worth {
         Converted::Amount(more) => money::plus(amount, more),
         Converted::Over => AccumulatorAmount(money::MAX),
         Converted::NoEntry => amount,
@@ -71,7 +73,7 @@ fn change_amount(
     match change {
         Change::Approve(purchase) => {
             if rule.allow {
-                return grow(words, i, amount, purchase);
+                return grow(amount, purchase::worth(words, purchase, i));
             }
             amount
         }
@@ -107,12 +109,84 @@ fn change_count(words: &Words, place: Place, i: usize, value: u8, change: Change
     }
 }
 
+// Whether a purchase's date is in order, so that cyclic accumulators take part.
+fn is_in_order(timing: Timing) -> bool
+    ensures { λ r. ⌜ r ≡ isInOrder timing ⌝ }
+{
+    match timing {
+        Timing::Undated => false,
+        Timing::InOrder => true,
+        Timing::DateError(_) => false,
+    }
+}
+
+// Cyclic accumulator i + 1 after an approval, which it counts if its date is in order.
+fn grow_cyclic(
+    words: &Words,
+    place: Place,
+    i: usize,
+    amount: AccumulatorAmount,
+    purchase: Purchase,
+) -> AccumulatorAmount
+    ensures { λ r. ⌜ r ≡ amountMoved amount (entered (rulesOf (now (words .entry))) place (Approve purchase) (cyclic i)) ⌝ }
+{
+    let timing = purchase.timing;
+    if !is_in_order(timing) {
+        return amount;
+    }
+    let rule = rules::cyclic_rule(words, place, i);
+    if rule.active & rule.allow {
+        return grow(amount, purchase::cyclic_worth(words, purchase, i));
+    }
+    amount
+}
+
+// Cyclic accumulator i + 1 after an order: if it is active, its limit or zero.
+fn put_cyclic(
+    words: &Words,
+    place: Place,
+    i: usize,
+    amount: AccumulatorAmount,
+    limit: bool,
+) -> AccumulatorAmount
+    ensures { λ r. ⌜ r ≡ amountMoved amount (entered (rulesOf (now (words .entry))) place (order limit) (cyclic i)) ⌝ }
+{
+    let rule = rules::cyclic_rule(words, place, i);
+    if !rule.active {
+        return amount;
+    }
+    if limit {
+        rule.limit
+    } else {
+        AccumulatorAmount(0)
+    }
+}
+
+// Cyclic accumulator i + 1 after a change.
+fn change_cyclic(
+    words: &Words,
+    place: Place,
+    i: usize,
+    amount: AccumulatorAmount,
+    change: Change,
+) -> AccumulatorAmount
+    ensures { λ r. ⌜ r ≡ amountMoved amount (entered (rulesOf (now (words .entry))) place change (cyclic i)) ⌝ }
+{
+    match change {
+        Change::Approve(purchase) => grow_cyclic(words, place, i, amount, purchase),
+        Change::Decline => amount,
+        Change::SetToLimits => put_cyclic(words, place, i, amount, true),
+        Change::Clear => put_cyclic(words, place, i, amount, false),
+    }
+}
+
 // The values after a change.
 pub fn apply(words: &Words, place: Place, values: Values, change: Change) -> Values
     ensures { λ r. ⌜ r ≡ applied (rulesOf (now (words .entry))) place values change ⌝ }
 {
     let amounts = values.accumulators;
     let counts = values.counters;
+    let cycles = values.cyclic;
     Values {
         accumulators: [
             change_amount(words, place, 0, amounts[0], change),
@@ -125,6 +199,10 @@ pub fn apply(words: &Words, place: Place, values: Values, change: Change) -> Val
             change_count(words, place, 1, counts[1], change),
             change_count(words, place, 2, counts[2], change),
             change_count(words, place, 3, counts[3], change),
+        ],
+        cyclic: [
+            change_cyclic(words, place, 0, cycles[0], change),
+            change_cyclic(words, place, 1, cycles[1], change),
         ],
     }
 }

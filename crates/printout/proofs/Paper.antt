@@ -129,7 +129,7 @@ module _ (words paper : List ℕ) where
     by false e w = (leb-false (at + (8 * length paper + 82)) (length room) e, refl, refl)
 
   -- EVERY BYTE STRING
-  pub every-text : length words ≡ 164 → Bytes paper → Printed paper (linesRead (transcriptOf words paper))
+  pub every-text : length words ≡ 186 → Bytes paper → Printed paper (linesRead (transcriptOf words paper))
   every-text lent bytes = rw printed-lines (by (every-paper words paper lent bytes)) where
     by : Heard words paper → Printed paper (sittingLines words paper)
     by (Talk.unread fault e) = unread fault (unfold sittingLines linesOf in ap (linesOf 0) e)
@@ -139,5 +139,5 @@ module _ (words paper : List ℕ) where
     by (Talk.heard a e) = heard a (lines-are words paper lent bytes a)
 
 -- AND OF AN ACCEPTED ONE: the set-up's line, one for each command with its answer, and refusal 9 where a fault ends it
-pub accepted-text : (words paper : List ℕ) → length words ≡ 164 → Bytes paper → Accepted paper → linesRead (transcriptOf words paper) ≡ linesBy paper
+pub accepted-text : (words paper : List ℕ) → length words ≡ 186 → Bytes paper → Accepted paper → linesRead (transcriptOf words paper) ≡ linesBy paper
 accepted-text words paper lent bytes a = printed-lines words paper ∙ lines-are words paper lent bytes a

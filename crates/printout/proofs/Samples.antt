@@ -21,7 +21,7 @@ unread = linesRead (transcriptOf [] [])
 
 -- and the printed set-up, a Start and a byte more have three
 abbrev heard : List (List ℕ)
-heard = linesRead (transcriptOf (replicate 164 0) (paperOf 1 body (spell (names 1) ++ 0 ∷ [])))
+heard = linesRead (transcriptOf (replicate 186 0) (paperOf 1 body (spell (names 1) ++ 0 ∷ [])))
 
 -- `stack-lines`, `cut-lines`: two empty papers, and one behind which a byte stands
 abbrev two : List (List ℕ)

@@ -1,6 +1,7 @@
--- A meter: an accumulator or a counter (document 01, "Numbers" and "The paper"). A counter is one that stops at 255 and to which a purchase is worth 1.
+-- A meter: an accumulator, a counter (document 01, "Numbers" and "The paper") or a cyclic accumulator (request Five). A counter is one that
+-- stops at 255 and to which a purchase is worth 1; a cyclic accumulator is one that takes no part in a transaction with a date error.
 use Prim.Native.Nat.{ℕ, _<_}
-use mathlib.Core.Bool.{Bool, false}
+use mathlib.Core.Bool.{Bool, true, false}
 use lib.ListN.{getD}
 use Rattle.money.specs.declared.AccumulatorAmount.{AccumulatorAmount}
 use Rattle.money.specs.declared.Converted.{Converted}
@@ -10,17 +11,22 @@ use Rattle.rules.specs.declared.Place.{Place}
 use Rattle.rules.specs.declared.AccumulatorRule.{AccumulatorRule}
 use Rattle.rules.specs.declared.CounterRule.{CounterRule}
 use Rattle.rules.specs.declared.Values.{Values}
-use Rattle.rules.specs.Rules.{Rules, currencyAt, accumulatorRule, counterRule}
+use Rattle.rules.specs.declared.CyclicRule.{CyclicRule}
+use Rattle.rules.specs.Rules.{Rules, currencyAt, accumulatorRule, counterRule, cycleOf, cyclicRule}
+use Rattle.purchase.specs.declared.Timing.{Timing}
+use Rattle.purchase.specs.declared.Timing.the-variants.{Undated, InOrder, DateError}
 use Rattle.purchase.specs.declared.Purchase.{Purchase}
 
--- accumulator or counter i + 1, of four each
+-- accumulator or counter i + 1, of four each; cyclic accumulator i + 1, of two
 pub data Meter : Type 0 where
   accumulator : ℕ → Meter
   counter : ℕ → Meter
+  cyclic : ℕ → Meter
 
 abbrev pub IsMeter : Meter → Type 0
 IsMeter (accumulator i) = i < 4
 IsMeter (counter i) = i < 4
+IsMeter (cyclic i) = i < 2
 
 -- its rule in a profile; an accumulator never includes offline declines
 pub record MeterRule : Type 0 where
@@ -53,9 +59,22 @@ counting rule =
       upper = rule .upper;
     }
 
+-- a cyclic accumulator has one limit, which is its lower and its upper one
+abbrev pub cycling : CyclicRule → MeterRule
+cycling rule =
+    record {
+      active = rule .active;
+      allow = rule .allow;
+      include = rule .include;
+      declines = false;
+      lower = rule .limit .0;
+      upper = rule .limit .0;
+    }
+
 abbrev pub ruleOf : Rules → Place → Meter → MeterRule
 ruleOf rules place (accumulator i) = accumulating (accumulatorRule rules place i)
 ruleOf rules place (counter i) = counting (counterRule rules place i)
+ruleOf rules place (cyclic i) = cycling (cyclicRule rules place i)
 
 -- its value
 abbrev pub amountAt : Values → ℕ → AccumulatorAmount
@@ -64,9 +83,13 @@ amountAt values i = getD (values .accumulators) i (record { 0 = 0 })
 abbrev pub countAt : Values → ℕ → ℕ
 countAt values i = getD (values .counters) i 0
 
+abbrev pub cyclicAt : Values → ℕ → AccumulatorAmount
+cyclicAt values i = getD (values .cyclic) i (record { 0 = 0 })
+
 abbrev pub valueOf : Values → Meter → ℕ
 valueOf values (accumulator i) = amountAt values i .0
 valueOf values (counter i) = countAt values i
+valueOf values (cyclic i) = cyclicAt values i .0
 
 -- where its sums stop
 abbrev pub counterCap : ℕ
@@ -75,10 +98,14 @@ counterCap = 255
 abbrev pub capOf : Meter → ℕ
 capOf (accumulator i) = max
 capOf (counter i) = counterCap
+capOf (cyclic i) = max
 
--- what a purchase is worth: to accumulator i + 1 the amount in its currency, to a counter 1
+-- what a purchase is worth: to accumulator i + 1, cyclic or not, the amount in its currency, to a counter 1
 unfoldable pub worth : Rules → Purchase → ℕ → Converted
 worth rules purchase i = convertOf (purchase .amount) (purchase .currency) (currencyAt rules i) (rules .rates)
+
+unfoldable pub cyclicWorth : Rules → Purchase → ℕ → Converted
+cyclicWorth rules purchase i = convertOf (purchase .amount) (purchase .currency) (cycleOf rules i .currency) (rules .rates)
 
 abbrev pub once : Converted
 once = Amount (record { 0 = 1 })
@@ -86,3 +113,20 @@ once = Amount (record { 0 = 1 })
 abbrev pub worthTo : Rules → Purchase → Meter → Converted
 worthTo rules purchase (accumulator i) = worth rules purchase i
 worthTo rules purchase (counter i) = once
+worthTo rules purchase (cyclic i) = cyclicWorth rules purchase i
+
+-- the meter takes part in the transaction: a cyclic accumulator where its date is in order
+abbrev pub isInOrder : Timing → Bool
+isInOrder Undated = false
+isInOrder InOrder = true
+isInOrder (DateError date) = false
+
+abbrev pub isDateError : Timing → Bool
+isDateError Undated = false
+isDateError InOrder = false
+isDateError (DateError date) = true
+
+abbrev pub takesPart : Purchase → Meter → Bool
+takesPart purchase (accumulator i) = true
+takesPart purchase (counter i) = true
+takesPart purchase (cyclic i) = isInOrder (purchase .timing)

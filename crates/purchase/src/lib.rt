@@ -2,15 +2,24 @@
 ghost use mathlib.Core.Path.{_≡_};
 ghost use Rattle.money.specs.Money.{convertOf};
 ghost use Rattle.rules.specs.Rules.{rulesOf};
-ghost use Rattle.purchase.specs.Meter.{worth};
+ghost use Rattle.purchase.specs.Meter.{worth, cyclicWorth};
+use calendar::Date;
 use money::AccumulatorAmount;
 use money::Converted;
 use money::TransactionAmount;
 use rules::Words;
 
+// How a purchase's date stands to the card's last one: an earlier one is a date error.
+pub enum Timing {
+    Undated,
+    InOrder,
+    DateError(Date),
+}
+
 pub struct Purchase {
     pub amount: TransactionAmount,
     pub currency: u16,
+    pub timing: Timing,
 }
 
 // The purchase in a currency. The table is read only for another one.
@@ -29,4 +38,12 @@ pub fn worth(words: &Words, purchase: Purchase, i: usize) -> Converted
     ensures { λ r. ⌜ r ≡ worth (rulesOf (now (words .entry))) purchase i ⌝ }
 {
     worth_in(words, purchase, rules::currency(words, i))
+}
+
+// The purchase in the currency of cyclic accumulator i + 1.
+pub fn cyclic_worth(words: &Words, purchase: Purchase, i: usize) -> Converted
+    ensures { λ r. ⌜ r ≡ cyclicWorth (rulesOf (now (words .entry))) purchase i ⌝ }
+{
+    let cycle = rules::cycle_of(words, i);
+    worth_in(words, purchase, cycle.currency)
 }

@@ -1,20 +1,24 @@
--- What is accepted is exactly document 01's list of ranges, field by field over the bytes. Assumes nothing.
+-- What is accepted is exactly document 01's list of ranges, field by field over the bytes, and for the tail of version 04 request Five's.
+-- Assumes nothing.
 use mathlib.Core.Path.{_≡_}
 use mathlib.Core.Bool.{true}
 use mathlib.Core.List.{List}
-use Prim.Native.Nat.{ℕ, _+_, _*_, _/_, _%_, _^_, _≤_, _<_}
+use mathlib.Core.Logic.{_⊎_}
+use Prim.Native.Nat.{ℕ, _+_, _*_, _/_, _%_, _≤_, _<_}
 use native.Mathlib.Omega.{arith}
 use lib.ListN.{length, List·getD-eq-default}
 use Rattle.wire.specs.Wire.{byte, number, isCurrency}
 use Rattle.wire.proofs.Numbers.{past, split}
 use Rattle.money.specs.Money.{max}
+use Rattle.calendar.specs.Calendar.{dateAt, isDay}
 use Rattle.layout.specs.Layout.{profileFrom, conversionFrom, baseLength}
 use Rattle.layout.specs.Layout as layout
 use Rattle.ranges.specs.Ranges.{hasLength, isHead, isAccumulator, areAccumulators, isSetup}
 use Rattle.ranges.specs.Ranges.{areMasks, isMaximumAmount, isAccumulatorRule, areAccumulatorRules, areCounterRules, areSent}
 use Rattle.ranges.specs.Ranges.{isProfile, isProfileOrAbsent, areProfiles, isConversion, isConversionOrAbsent, areConversions}
 use Rattle.ranges.specs.Ranges.{profileNumber, areNumbersApart, conversionPair, arePairsApart}
-use Rattle.ranges.proofs.Decides.{Decides, _and_, _with_, at-most, below, equal, denied, each, itself, stated, if-there, different}
+use Rattle.ranges.specs.Ranges.{isCycle, isCyclicRule, areCyclicRules, areCycles}
+use Rattle.ranges.proofs.Decides.{Decides, _and_, _or_, _with_, at-most, below, equal, denied, each, itself, stated, if-there, different}
 
 -- three decimal digits in two bytes
 pub record Currency (code : ℕ) : Type 0 where
@@ -37,13 +41,13 @@ pub record AccumulatorRuleRanges (s : List ℕ) (at : ℕ) : Type 0 where
   pub lower : number s (at + layout.lower) 8 ≤ max
   pub upper : number s (at + layout.upper layout.accumulatorLimit) 8 ≤ max
 
--- a profile, at its place
-pub record ProfileRanges (s : List ℕ) (at : ℕ) : Type 0 where
+-- a profile, at its place; no mask has a bit from the unnamed one on
+pub record ProfileRanges (s : List ℕ) (unnamed at : ℕ) : Type 0 where
   pub number-least : 1 ≤ byte s at
   pub number-most : byte s at ≤ 124
-  pub online : number s (at + layout.online) 4 < 2 ^ 22
-  pub decline : number s (at + layout.decline) 4 < 2 ^ 22
-  pub default : number s (at + layout.default) 4 < 2 ^ 22
+  pub online : number s (at + layout.online) 4 < unnamed
+  pub decline : number s (at + layout.decline) 4 < unnamed
+  pub default : number s (at + layout.default) 4 < unnamed
   pub maximum-on : byte s (at + layout.maximumOn) ≤ 1
   pub maximum-currency : Currency (number s (at + layout.maximumCurrency) 2)
   pub maximum : number s (at + layout.maximum) 8 ≤ max
@@ -73,7 +77,7 @@ PairsDiffer s =
     → number s (conversionFrom s i + layout.to) 2 ≡ number s (conversionFrom s j + layout.to) 2
     → ⊥
 
-pub record Accepted (s : List ℕ) : Type 0 where
+pub record Accepted (s : List ℕ) (unnamed : ℕ) : Type 0 where
   pub size : length s ≡ baseLength s
   pub pin : byte s layout.pinTries ≤ 15
   pub required : byte s layout.required ≤ 1
@@ -82,10 +86,33 @@ pub record Accepted (s : List ℕ) : Type 0 where
   pub conversions-most : byte s layout.conversions ≤ 5
   pub online : byte s layout.onlineNext ≤ 1
   pub accumulators : (i : ℕ) → i < 4 → AccumulatorRanges s (layout.accumulatorFrom i)
-  pub profiles : (i : ℕ) → i < byte s layout.profiles → ProfileRanges s (profileFrom i)
+  pub profiles : (i : ℕ) → i < byte s layout.profiles → ProfileRanges s unnamed (profileFrom i)
   pub numbers : NumbersDiffer s
   pub conversions : (i : ℕ) → i < byte s layout.conversions → ConversionRanges s (conversionFrom s i)
   pub pairs : PairsDiffer s
+
+-- a cyclic accumulator of the tail of version 04, at its place
+pub record CycleRanges (t : List ℕ) (at : ℕ) : Type 0 where
+  pub currency : Currency (number t at 2)
+  pub amount : number t (at + layout.cycleAmount) 8 ≤ max
+  pub kind-least : 1 ≤ byte t (at + layout.cycleKind)
+  pub kind-most : byte t (at + layout.cycleKind) ≤ 3
+  pub first-day : byte t (at + layout.firstDay) ≤ 6
+
+-- its rule in a profile, at its place
+pub record CyclicRuleRanges (t : List ℕ) (at : ℕ) : Type 0 where
+  pub switches : byte t at ≤ 7
+  pub limit : number t (at + layout.cyclicLimit) 8 ≤ max
+
+-- that tail, where dates are on: of a profile that is not there every byte reads as 0
+pub record CyclesRanges (t : List ℕ) : Type 0 where
+  pub last : isDay (dateAt t layout.lastDate) ≡ true
+  pub cycles : (i : ℕ) → i < 2 → CycleRanges t (layout.cycleFrom i)
+  pub rules : (j : ℕ) → j < 4 → (i : ℕ) → i < 2 → CyclicRuleRanges t (layout.cyclicRuleFrom j i)
+
+-- where they are off it has no byte
+abbrev pub CyclesAccepted : List ℕ → Type 0
+CyclesAccepted t = (length t ≡ 0) ⊎ CyclesRanges t
 
 pub currency : (code : ℕ) → Decides (isCurrency code) (Currency code)
 currency code =
@@ -102,7 +129,7 @@ currency code =
     })
     (λ c. ((omega arith, omega arith), omega arith))
 
-module _ (s : List ℕ) where
+module _ (s : List ℕ) (unnamed : ℕ) where
   accumulator : (at : ℕ) → Decides (isAccumulator s at) (AccumulatorRanges s at)
   unfolding isAccumulator
   accumulator at = stated (currency _ and at-most _ _) (λ (c, v). record { currency = c; value = v }) (λ a. a .currency with a .value)
@@ -113,7 +140,7 @@ module _ (s : List ℕ) where
       stated (at-most _ _ and at-most _ _ and at-most _ _) (λ ((w, l), u). record { switches = w; lower = l; upper = u })
       (λ a. a .switches with a .lower with a .upper)
 
-  profile : (at : ℕ) → Decides (isProfile s at) (ProfileRanges s at)
+  profile : (at : ℕ) → Decides (isProfile s unnamed at) (ProfileRanges s unnamed at)
   unfolding isProfile areMasks isMaximumAmount areAccumulatorRules areCounterRules areSent
   profile at =
       stated
@@ -152,7 +179,7 @@ module _ (s : List ℕ) where
       record { from = from; to = to; other = other; digits-least = least; digits-most = most; shift = shift })
       (λ c. c .from with c .to with c .other with c .digits-least with c .digits-most with c .shift)
 
-  profile-or-absent : (i : ℕ) → Decides (isProfileOrAbsent s i) (i < byte s layout.profiles → ProfileRanges s (profileFrom i))
+  profile-or-absent : (i : ℕ) → Decides (isProfileOrAbsent s unnamed i) (i < byte s layout.profiles → ProfileRanges s unnamed (profileFrom i))
   unfolding isProfileOrAbsent
   profile-or-absent = if-there (byte s layout.profiles) profileFrom (length s) profile
 
@@ -160,7 +187,7 @@ module _ (s : List ℕ) where
   unfolding isConversionOrAbsent
   conversion-or-absent = if-there (byte s layout.conversions) (conversionFrom s) (length s) conversion
 
-  numbers-apart : byte s layout.profiles ≤ 4 → ((i : ℕ) → i < byte s layout.profiles → ProfileRanges s (profileFrom i))
+  numbers-apart : byte s layout.profiles ≤ 4 → ((i : ℕ) → i < byte s layout.profiles → ProfileRanges s unnamed (profileFrom i))
       → Decides (areNumbersApart s) (NumbersDiffer s)
   unfolding areNumbersApart profileNumber
   numbers-apart few profiles =
@@ -189,7 +216,7 @@ module _ (s : List ℕ) where
       let y = conversions j m .to in
       f i j l m (omega arith) (omega arith))
 
-  decided : Decides (isSetup s) (Accepted s)
+  decided : Decides (isSetup s unnamed) (Accepted s unnamed)
   unfolding isSetup hasLength isHead areAccumulators areProfiles areConversions
   decided =
       stated
@@ -200,7 +227,7 @@ module _ (s : List ℕ) where
       and each 5 conversion-or-absent
       and itself (arePairsApart s))
       (λ ((((((size, (((((pin, required), least), most), conversions-most), online)), accumulators), profiles), numbers), conversions), pairs).
-      let there : (i : ℕ) → i < byte s layout.profiles → ProfileRanges s (profileFrom i) = λ i l. profiles i (omega arith) l in
+      let there : (i : ℕ) → i < byte s layout.profiles → ProfileRanges s unnamed (profileFrom i) = λ i l. profiles i (omega arith) l in
       let listed : (i : ℕ) → i < byte s layout.conversions → ConversionRanges s (conversionFrom s i) = λ i l. conversions i (omega arith) l in
       record {
         size = size;
@@ -224,8 +251,38 @@ module _ (s : List ℕ) where
       with (λ i _. a .conversions i)
       with pairs-apart (a .conversions-most) (a .conversions) .1 (a .pairs))
 
-  pub accepted : isSetup s ≡ true → Accepted s
+  pub accepted : isSetup s unnamed ≡ true → Accepted s unnamed
   accepted = decided .0
 
-  pub complete : Accepted s → isSetup s ≡ true
+  pub complete : Accepted s unnamed → isSetup s unnamed ≡ true
   complete = decided .1
+
+module _ (t : List ℕ) where
+  cycle : (at : ℕ) → Decides (isCycle t at) (CycleRanges t at)
+  unfolding isCycle
+  cycle at =
+      stated (currency _ and at-most _ _ and at-most _ _ and at-most _ _ and at-most _ _)
+      (λ ((((c, amount), least), most), first). record { currency = c; amount = amount; kind-least = least; kind-most = most; first-day = first })
+      (λ c. c .currency with c .amount with c .kind-least with c .kind-most with c .first-day)
+
+  cyclic-rule : (at : ℕ) → Decides (isCyclicRule t at) (CyclicRuleRanges t at)
+  unfolding isCyclicRule
+  cyclic-rule at = stated (at-most _ _ and at-most _ _) (λ (w, l). record { switches = w; limit = l }) (λ r. r .switches with r .limit)
+
+  cyclic-rules : (j : ℕ) → Decides (areCyclicRules t j) ((i : ℕ) → i < 2 → CyclicRuleRanges t (layout.cyclicRuleFrom j i))
+  unfolding areCyclicRules
+  cyclic-rules j = each 2 (λ i. cyclic-rule (layout.cyclicRuleFrom j i))
+
+  cycles-decided : Decides (areCycles t) (CyclesAccepted t)
+  unfolding areCycles
+  cycles-decided =
+      equal _ _
+      or stated (itself _ and each 2 (λ i. cycle (layout.cycleFrom i)) and each 4 cyclic-rules)
+      (λ ((last, cycles), rules). record { last = last; cycles = cycles; rules = rules })
+      (λ r. r .last with r .cycles with r .rules)
+
+  pub cycles-accepted : areCycles t ≡ true → CyclesAccepted t
+  cycles-accepted = cycles-decided .0
+
+  pub cycles-complete : CyclesAccepted t → areCycles t ≡ true
+  cycles-complete = cycles-decided .1

@@ -1,14 +1,14 @@
 -- A test and what it decides, both ways, for each form of test. Assumes nothing.
 use mathlib.Core.Path.{_≡_, refl, sym, _∙_}
 use mathlib.Core.Bool.{Bool, true, false, not, cond, _&&_, _||_}
-use mathlib.Core.Logic.{_↔_, Iff·trans}
+use mathlib.Core.Logic.{_↔_, Iff·trans, _⊎_, inl, inr}
 use Prim.Native.Nat.{ℕ, zero, suc, _≤_, _<_}
 use native.Mathlib.Omega.{arith}
 use borrow.Author.Tests.{ltb-true, ltb-false, lt-ltb, leb-true, le-leb, eqb-true, eq-eqb}
 use lib.Dec.{leb, ltb, eqb}
 use Rattle.ranges.specs.Ranges.{all, apart}
 
-infixl 30 _and_ _with_
+infixl 30 _and_ _with_ _or_
 abbrev pub Decides : Bool → Type 0 → Type 0
 Decides test P = (test ≡ true) ↔ P
 
@@ -36,6 +36,13 @@ never e = let z : _≡_ {A = ℕ} 0 1 = cc in absurd (omega arith)
 pub _and_ : {a b : Bool} {P Q : Type 0} → Decides a P → Decides b Q → Decides (a && b) (P × Q)
 _and_ {a = true} d e = (λ h. (d .0 refl, e .0 h), λ p. e .1 (p .1))
 _and_ {a = false} d e = (λ h. never h, λ p. d .1 (p .0))
+
+pub _or_ : {a b : Bool} {P Q : Type 0} → Decides a P → Decides b Q → Decides (a || b) (P ⊎ Q)
+_or_ {a = true} d e = (λ h. inl (d .0 refl), λ s. refl)
+_or_ {a = false} {b} {P} {Q} d e = (λ h. inr (e .0 h), by) where
+  by : P ⊎ Q → b ≡ true
+  by (inl p) = never (d .1 p)
+  by (inr q) = e .1 q
 
 pub implied : {a b : Bool} {P Q : Type 0} → Decides a P → Decides b Q → Decides (not a || b) (P → Q)
 implied {a = true} d e = (λ h x. e .0 h, λ f. e .1 (f (d .0 refl)))

@@ -1,12 +1,13 @@
 -- The bytes of a set-up's body: how many, and the range of each field (document 01, "Numbers" and "The paper"), in document 01's order.
 -- Key index, ATC, and a counter's value and limits may be any. Ranges hold for inactive entries too.
-use Prim.Native.Nat.{ℕ, zero, suc, _+_, _^_}
+use Prim.Native.Nat.{ℕ, zero, suc, _+_}
 use mathlib.Core.Bool.{Bool, true, not, _&&_, _||_}
 use mathlib.Core.List.{List}
 use lib.ListN.{length, getD}
 use lib.Dec.{leb, ltb, eqb}
 use Rattle.wire.specs.Wire.{byte, number, isCurrency}
 use Rattle.money.specs.Money.{max}
+use Rattle.calendar.specs.Calendar.{dateAt, isDay}
 use Rattle.layout.specs.Layout.{baseLength, profilePlace, conversionPlace}
 use Rattle.layout.specs.Layout as layout
 
@@ -33,11 +34,11 @@ isAccumulator s at = isCurrency (number s at 2) && leb (number s (at + layout.va
 unfoldable pub areAccumulators : List ℕ → Bool
 areAccumulators s = all 4 (λ i. isAccumulator s (layout.accumulatorFrom i))
 
--- of the profile at a place: masks Online, Decline, Default (4 each), bits 0 to 21 of which are named
-unfoldable pub areMasks : List ℕ → ℕ → Bool
-areMasks s at =
-    ltb (number s (at + layout.online) 4) (2 ^ 22) && ltb (number s (at + layout.decline) 4) (2 ^ 22)
-    && ltb (number s (at + layout.default) 4) (2 ^ 22)
+-- of the profile at a place: masks Online, Decline, Default (4 each), without a bit from the unnamed one on
+unfoldable pub areMasks : List ℕ → (unnamed at : ℕ) → Bool
+areMasks s unnamed at =
+    ltb (number s (at + layout.online) 4) unnamed && ltb (number s (at + layout.decline) 4) unnamed
+    && ltb (number s (at + layout.default) 4) unnamed
 
 -- MTA on (0/1), its currency (2), MTA (8)
 unfoldable pub isMaximumAmount : List ℕ → ℕ → Bool
@@ -66,17 +67,17 @@ areSent s at =
     leb (byte s (at + layout.accumulatorSent)) 4 && leb (byte s (at + layout.firstSent)) 4 && leb (byte s (at + layout.secondSent)) 4
 
 -- a profile at a place: number (1 to 124), and the parts above
-unfoldable pub isProfile : List ℕ → ℕ → Bool
-isProfile s at =
-    leb 1 (byte s at) && leb (byte s at) 124 && areMasks s at && isMaximumAmount s at && areAccumulatorRules s at && areCounterRules s at
+unfoldable pub isProfile : List ℕ → (unnamed at : ℕ) → Bool
+isProfile s unnamed at =
+    leb 1 (byte s at) && leb (byte s at) 124 && areMasks s unnamed at && isMaximumAmount s at && areAccumulatorRules s at && areCounterRules s at
     && areSent s at
 
 -- profile i + 1, if it is one of the p
-unfoldable pub isProfileOrAbsent : List ℕ → ℕ → Bool
-isProfileOrAbsent s i = not (ltb i (byte s layout.profiles)) || isProfile s (profilePlace s i)
+unfoldable pub isProfileOrAbsent : List ℕ → (unnamed i : ℕ) → Bool
+isProfileOrAbsent s unnamed i = not (ltb i (byte s layout.profiles)) || isProfile s unnamed (profilePlace s i)
 
-unfoldable pub areProfiles : List ℕ → Bool
-areProfiles s = all 4 (isProfileOrAbsent s)
+unfoldable pub areProfiles : List ℕ → (unnamed : ℕ) → Bool
+areProfiles s unnamed = all 4 (isProfileOrAbsent s unnamed)
 
 -- a conversion at a place: from, to (2 each), not equal; d (1 to 9,999); s + 9 (0 to 12)
 unfoldable pub isConversion : List ℕ → ℕ → Bool
@@ -117,6 +118,28 @@ conversionPair s i = number s (conversionPlace s i) 4
 unfoldable pub arePairsApart : List ℕ → Bool
 arePairsApart s = apart 5 (conversionPair s)
 
-unfoldable pub isSetup : List ℕ → Bool
-isSetup s =
-    hasLength s && isHead s && areAccumulators s && areProfiles s && areNumbersApart s && areConversions s && arePairsApart s
+unfoldable pub isSetup : List ℕ → (unnamed : ℕ) → Bool
+isSetup s unnamed =
+    hasLength s && isHead s && areAccumulators s && areProfiles s unnamed && areNumbersApart s && areConversions s && arePairsApart s
+
+-- THE TAIL OF VERSION 04, where dates are on (request Five); none where they are off
+-- a cyclic accumulator at a place: currency (2), amount (8), kind (1 day, 2 week, 3 month), first day (0 Friday to 6 Thursday)
+unfoldable pub isCycle : List ℕ → (at : ℕ) → Bool
+isCycle t at =
+    isCurrency (number t at 2) && leb (number t (at + layout.cycleAmount) 8) max && leb 1 (byte t (at + layout.cycleKind))
+    && leb (byte t (at + layout.cycleKind)) 3
+    && leb (byte t (at + layout.firstDay)) 6
+
+-- its rule at a place: switches (1, 2, 4), limit (8)
+unfoldable pub isCyclicRule : List ℕ → (at : ℕ) → Bool
+isCyclicRule t at = leb (byte t at) 7 && leb (number t (at + layout.cyclicLimit) 8) max
+
+-- of profile j + 1; of one that is not there every byte reads as 0
+unfoldable pub areCyclicRules : List ℕ → (j : ℕ) → Bool
+areCyclicRules t j = all 2 (λ i. isCyclicRule t (layout.cyclicRuleFrom j i))
+
+-- the last date a calendar day, both accumulators, the rules of every profile
+unfoldable pub areCycles : List ℕ → Bool
+areCycles t =
+    eqb (length t) 0
+    || (isDay (dateAt t layout.lastDate) && all 2 (λ i. isCycle t (layout.cycleFrom i)) && all 4 (areCyclicRules t))

@@ -8,10 +8,9 @@ ghost use Rattle.ranges.specs.Ranges.{hasLength, isHead, isAccumulator, 
 ghost use Rattle.ranges.specs.Ranges.{areMasks, isMaximumAmount, isAccumulatorRule, areAccumulatorRules, isCounterRule, areCounterRules, areSent};
 ghost use Rattle.ranges.specs.Ranges.{isProfile, isProfileOrAbsent, areProfiles, isConversion, isConversionOrAbsent, areConversions};
 ghost use Rattle.ranges.specs.Ranges.{apart, listed, profileNumber, areNumbersApart, conversionPair, arePairsApart};
+ghost use Rattle.layout.specs.Layout.{cycleFrom, cyclicRuleFrom};
+ghost use Rattle.ranges.specs.Ranges.{isCycle, isCyclicRule, areCyclicRules, areCycles};
 use money::MAX;
-
-// Bit 22, the first mask bit without a name.
-const UNNAMED: u32 = 4_194_304;
 
 // 52 + 107p + 7c bytes.
 fn has_length(s: &[u8]) -> bool
@@ -48,14 +47,15 @@ fn are_accumulators(s: &[u8]) -> bool
     is_accumulator(s, 0) & is_accumulator(s, 1) & is_accumulator(s, 2) & is_accumulator(s, 3)
 }
 
-// Online, Decline and Default of the profile at a place: unnamed bits are zero.
-fn are_masks(s: &[u8], at: usize) -> bool
+// Online, Decline and Default of the profile at a place: the bits from the one that is unnamed on
+// are zero.
+fn are_masks(s: &[u8], unnamed: u32, at: usize) -> bool
     requires { ⌜ at + profileLength < 2 ^ 64 ⌝ }
-    ensures { λ r. ⌜ r ≡ areMasks (now (s .entry)) at ⌝ }
+    ensures { λ r. ⌜ r ≡ areMasks (now (s .entry)) unnamed at ⌝ }
 {
-    (wire::u32_at(s, at + layout::ONLINE) < UNNAMED)
-        & (wire::u32_at(s, at + layout::DECLINE) < UNNAMED)
-        & (wire::u32_at(s, at + layout::DEFAULT) < UNNAMED)
+    (wire::u32_at(s, at + layout::ONLINE) < unnamed)
+        & (wire::u32_at(s, at + layout::DECLINE) < unnamed)
+        & (wire::u32_at(s, at + layout::DEFAULT) < unnamed)
 }
 
 // MTA on, its currency, and the MTA of the profile at a place.
@@ -119,14 +119,14 @@ fn are_sent(s: &[u8], at: usize) -> bool
 }
 
 // A profile at a place.
-fn is_profile(s: &[u8], at: usize) -> bool
+fn is_profile(s: &[u8], unnamed: u32, at: usize) -> bool
     requires { ⌜ at + profileLength < 2 ^ 64 ⌝ }
-    ensures { λ r. ⌜ r ≡ isProfile (now (s .entry)) at ⌝ }
+    ensures { λ r. ⌜ r ≡ isProfile (now (s .entry)) unnamed at ⌝ }
 {
     let number = wire::byte_at(s, at);
     (1 <= number)
         & (number <= 124)
-        & are_masks(s, at)
+        & are_masks(s, unnamed, at)
         & is_maximum_amount(s, at)
         & are_accumulator_rules(s, at)
         & are_counter_rules(s, at)
@@ -134,22 +134,22 @@ fn is_profile(s: &[u8], at: usize) -> bool
 }
 
 // Profile i + 1, if it is there.
-fn is_profile_or_absent(s: &[u8], i: usize) -> bool
-    ensures { λ r. ⌜ r ≡ isProfileOrAbsent (now (s .entry)) i ⌝ }
+fn is_profile_or_absent(s: &[u8], unnamed: u32, i: usize) -> bool
+    ensures { λ r. ⌜ r ≡ isProfileOrAbsent (now (s .entry)) unnamed i ⌝ }
 {
     if wire::byte_at(s, layout::PROFILES) as usize <= i {
         return true;
     }
-    is_profile(s, layout::profile_place(s, i))
+    is_profile(s, unnamed, layout::profile_place(s, i))
 }
 
-fn are_profiles(s: &[u8]) -> bool
-    ensures { λ r. ⌜ r ≡ areProfiles (now (s .entry)) ⌝ }
+fn are_profiles(s: &[u8], unnamed: u32) -> bool
+    ensures { λ r. ⌜ r ≡ areProfiles (now (s .entry)) unnamed ⌝ }
 {
-    is_profile_or_absent(s, 0)
-        & is_profile_or_absent(s, 1)
-        & is_profile_or_absent(s, 2)
-        & is_profile_or_absent(s, 3)
+    is_profile_or_absent(s, unnamed, 0)
+        & is_profile_or_absent(s, unnamed, 1)
+        & is_profile_or_absent(s, unnamed, 2)
+        & is_profile_or_absent(s, unnamed, 3)
 }
 
 // From, to, d and s + 9 of the conversion at a place. From is not to.
@@ -235,15 +235,63 @@ fn are_pairs_apart(s: &[u8]) -> bool
     are_apart(a, b, c, d) & (((a != e) & (b != e) & (c != e) & (d != e)) | (e == 0))
 }
 
-// Whether the bytes are the body of a set-up.
-pub fn is_setup(s: &[u8]) -> bool
-    ensures { λ r. ⌜ r ≡ isSetup (now (s .entry)) ⌝ }
+// Whether the bytes are the base of a set-up, with masks below the bit that is unnamed.
+pub fn is_setup(s: &[u8], unnamed: u32) -> bool
+    ensures { λ r. ⌜ r ≡ isSetup (now (s .entry)) unnamed ⌝ }
 {
     has_length(s)
         & is_head(s)
         & are_accumulators(s)
-        & are_profiles(s)
+        & are_profiles(s, unnamed)
         & are_numbers_apart(s)
         & are_conversions(s)
         & are_pairs_apart(s)
+}
+
+// Currency, amount, kind and first day of cyclic accumulator i + 1.
+fn is_cycle(t: &[u8], i: usize) -> bool
+    requires { ⌜ i < 2 ⌝ }
+    ensures { λ r. ⌜ r ≡ isCycle (now (t .entry)) (cycleFrom i) ⌝ }
+{
+    let at = layout::CYCLES + layout::CYCLE_LENGTH * i;
+    let kind = wire::byte_at(t, at + layout::CYCLE_KIND);
+    wire::is_currency(wire::u16_at(t, at))
+        & (wire::u64_at(t, at + layout::CYCLE_AMOUNT) <= MAX)
+        & (1 <= kind)
+        & (kind <= 3)
+        & (wire::byte_at(t, at + layout::FIRST_DAY) <= 6)
+}
+
+// Switches and limit of cyclic accumulator i + 1 in profile j + 1. Of a profile that is not there
+// every byte reads as 0.
+fn is_cyclic_rule(t: &[u8], j: usize, i: usize) -> bool
+    requires { ⌜ (j < 4) × (i < 2) ⌝ }
+    ensures { λ r. ⌜ r ≡ isCyclicRule (now (t .entry)) (cyclicRuleFrom j i) ⌝ }
+{
+    let at = layout::CYCLIC_RULES
+        + layout::CYCLIC_RULES_LENGTH * j
+        + layout::CYCLIC_RULE_LENGTH * i;
+    (wire::byte_at(t, at) <= 7) & (wire::u64_at(t, at + layout::CYCLIC_LIMIT) <= MAX)
+}
+
+fn are_cyclic_rules(t: &[u8], j: usize) -> bool
+    requires { ⌜ j < 4 ⌝ }
+    ensures { λ r. ⌜ r ≡ areCyclicRules (now (t .entry)) j ⌝ }
+{
+    is_cyclic_rule(t, j, 0) & is_cyclic_rule(t, j, 1)
+}
+
+// Whether the bytes are the tail of version 04, in range where dates are on; none where they are off.
+pub fn are_cycles(t: &[u8]) -> bool
+    ensures { λ r. ⌜ r ≡ areCycles (now (t .entry)) ⌝ }
+{
+    if t.len() == 0 {
+        return true;
+    }
+    calendar::is_day(calendar::date_at(t, layout::LAST_DATE))
+        & (is_cycle(t, 0) & is_cycle(t, 1))
+        & (are_cyclic_rules(t, 0)
+            & are_cyclic_rules(t, 1)
+            & are_cyclic_rules(t, 2)
+            & are_cyclic_rules(t, 3))
 }

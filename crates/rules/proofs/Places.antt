@@ -1,12 +1,13 @@
--- A profile stands in the words at its base; what is four times there is found by its index. Assumes nothing.
+-- A profile stands in the words at its base; what is four times or twice there is found by its index. Assumes nothing.
 use mathlib.Core.Path.{_≡_, refl, sym, ap, _∙_}
-use mathlib.Core.List.{List}
+use mathlib.Core.List.{List, []}
 use Prim.Native.Nat.{ℕ, zero, suc, _≤_, _<_}
 use native.Mathlib.Omega.{arith}
 use lib.ListN.{getD, List·getD-eq-default}
 use Rattle.rules.specs.declared.Place.{Place}
 use Rattle.rules.specs.declared.Place.the-variants.{One, Two, Three, Four}
-use Rattle.rules.specs.Rules.{Profile, four, profileOf, rulesOf, profileBase, profileAt}
+use Rattle.rules.specs.Rules.{Profile, two, four, profileOf, cyclicRuleAt, rulesOf, indexOf, profileBase, profileAt}
+use Rattle.rules.specs.Word as word
 
 pub profile-at : (w : List ℕ) (place : Place) → profileAt (rulesOf w) place ≡ profileOf w (profileBase place)
 unfolding rulesOf
@@ -20,6 +21,15 @@ pub part-at : {A : Type 0} (part : Profile → A) (w : List ℕ) (place : Place)
     → part (profileOf w at) ≡ part (profileAt (rulesOf w) place)
 part-at part w place at e = ap (λ (k : ℕ). part (profileOf w k)) e ∙ sym (ap part (profile-at w place))
 
+-- the rules of its cyclic accumulators
+pub cyclic-at : (w : List ℕ) (place : Place)
+    → getD (rulesOf w .cyclicRules) (indexOf place) [] ≡ two (λ i. cyclicRuleAt w (word.cyclicRuleFrom (indexOf place) i))
+unfolding rulesOf
+cyclic-at w One = refl
+cyclic-at w Two = refl
+cyclic-at w Three = refl
+cyclic-at w Four = refl
+
 -- what holds at 0 to 3 holds below 4
 pub each : (P : ℕ → Type 0) → P 0 → P 1 → P 2 → P 3 → (i : ℕ) → i < 4 → P i
 each P a b c d zero h = a
@@ -28,9 +38,21 @@ each P a b c d (suc (suc zero)) h = c
 each P a b c d (suc (suc (suc zero))) h = d
 each P a b c d (suc (suc (suc (suc i)))) h = let z : ⊥ = omega arith in absurd z
 
+-- what holds at 0 and 1 holds below 2
+pub both : (P : ℕ → Type 0) → P 0 → P 1 → (i : ℕ) → i < 2 → P i
+both P a b zero h = a
+both P a b (suc zero) h = b
+both P a b (suc (suc i)) h = let z : ⊥ = omega arith in absurd z
+
 module _ {A : Type 0} (f : ℕ → A) (d : A) where
   pub four-at : (i : ℕ) → i < 4 → getD (four f) i d ≡ f i
   four-at = each _ refl refl refl refl
 
   pub four-past : (i : ℕ) → 4 ≤ i → getD (four f) i d ≡ d
   four-past i h = List·getD-eq-default (four f) d h
+
+  pub two-at : (i : ℕ) → i < 2 → getD (two f) i d ≡ f i
+  two-at = both _ refl refl
+
+  pub two-past : (i : ℕ) → 2 ≤ i → getD (two f) i d ≡ d
+  two-past i h = List·getD-eq-default (two f) d h

@@ -6,6 +6,8 @@ use lib.ListN.{getD, replicate}
 use lib.Dec.{eqb}
 use Rattle.money.specs.declared.Rate.{Rate}
 use Rattle.money.specs.declared.Rates.{Rates}
+use Rattle.calendar.specs.declared.Period.{Period}
+use Rattle.calendar.specs.declared.Period.the-variants.{Day, Week, Month}
 use Rattle.rules.specs.declared.Place.{Place}
 use Rattle.rules.specs.declared.Place.the-variants.{One, Two, Three, Four}
 use Rattle.rules.specs.declared.Found.{Found}
@@ -14,6 +16,8 @@ use Rattle.rules.specs.declared.Masks.{Masks}
 use Rattle.rules.specs.declared.MaximumAmount.{MaximumAmount}
 use Rattle.rules.specs.declared.AccumulatorRule.{AccumulatorRule}
 use Rattle.rules.specs.declared.CounterRule.{CounterRule}
+use Rattle.rules.specs.declared.Cycle.{Cycle}
+use Rattle.rules.specs.declared.CyclicRule.{CyclicRule}
 use Rattle.rules.specs.declared.Sent.{Sent}
 use Rattle.rules.specs.Word as word
 
@@ -32,10 +36,16 @@ pub record Rules : Type 0 where
   pub currencies : List ℕ
   pub rates : Rates
   pub profiles : List Profile
+  -- the two cyclic accumulators, and for each of the four profiles their rules (request Five)
+  pub cycles : List Cycle
+  pub cyclicRules : List (List CyclicRule)
 
 -- four of a kind, for places 0 to 3
 abbrev pub four : {A : Type 0} → (ℕ → A) → List A
 four f = f 0 ∷ f 1 ∷ f 2 ∷ f 3 ∷ []
+
+abbrev pub two : {A : Type 0} → (ℕ → A) → List A
+two f = f 0 ∷ f 1 ∷ []
 
 abbrev pub five : {A : Type 0} → (ℕ → A) → List A
 five f = f 0 ∷ f 1 ∷ f 2 ∷ f 3 ∷ f 4 ∷ []
@@ -45,6 +55,12 @@ blankAccumulator = record { lower = record { 0 = 0 }; upper = record { 0 = 0 }; 
 
 abbrev pub blankCounter : CounterRule
 blankCounter = record { lower = 0; upper = 0; active = false; allow = false; include = false; declines = false }
+
+abbrev pub blankCycle : Cycle
+blankCycle = record { currency = 0; period = Month; first = 0 }
+
+abbrev pub blankCyclic : CyclicRule
+blankCyclic = record { limit = record { 0 = 0 }; active = false; allow = false; include = false }
 
 -- the words from a place on; switches: 1 active, 2 allow, 4 include this transaction, 8 include offline declines
 abbrev pub rateAt : List ℕ → ℕ → Rate
@@ -75,6 +91,27 @@ counterAt w at =
       allow = eqb (getD w at 0 / 2 % 2) 1;
       include = eqb (getD w at 0 / 4 % 2) 1;
       declines = eqb (getD w at 0 / 8 % 2) 1;
+    }
+
+-- the kinds of cycle: 1 day, 2 week, 3 month
+abbrev pub periodOf : (kind : ℕ) → Period
+periodOf kind = cond (eqb kind 1) Day (cond (eqb kind 2) Week Month)
+
+abbrev pub cycleAt : List ℕ → ℕ → Cycle
+cycleAt w at =
+    record {
+      currency = getD w at 0 % 65536;
+      period = periodOf (getD w (at + word.cycleKind) 0);
+      first = getD w (at + word.firstDay) 0 % 256;
+    }
+
+abbrev pub cyclicRuleAt : List ℕ → ℕ → CyclicRule
+cyclicRuleAt w at =
+    record {
+      limit = record { 0 = getD w (at + word.cyclicLimit) 0 };
+      active = eqb (getD w at 0 % 2) 1;
+      allow = eqb (getD w at 0 / 2 % 2) 1;
+      include = eqb (getD w at 0 / 4 % 2) 1;
     }
 
 abbrev pub masksAt : List ℕ → ℕ → Masks
@@ -127,6 +164,8 @@ rulesOf w =
       currencies = four (λ i. getD w (word.currencies + i) 0 % 65536);
       rates = record { entries = five (λ i. rateAt w (word.rateFrom i)); up = eqb (getD w word.syllabus 0) 1 };
       profiles = four (λ i. profileOf w (word.profileFrom i));
+      cycles = two (λ i. cycleAt w (word.cycleFrom i));
+      cyclicRules = four (λ j. two (λ i. cyclicRuleAt w (word.cyclicRuleFrom j i)));
     }
 
 abbrev pub blankProfile : Profile
@@ -170,3 +209,10 @@ accumulatorRule rules place i = getD (profileAt rules place .accumulators) i bla
 
 abbrev pub counterRule : Rules → Place → ℕ → CounterRule
 counterRule rules place i = getD (profileAt rules place .counters) i blankCounter
+
+-- cyclic accumulator i + 1, and its rule
+abbrev pub cycleOf : Rules → ℕ → Cycle
+cycleOf rules i = getD (rules .cycles) i blankCycle
+
+abbrev pub cyclicRule : Rules → Place → ℕ → CyclicRule
+cyclicRule rules place i = getD (getD (rules .cyclicRules) (indexOf place) []) i blankCyclic

@@ -2,7 +2,7 @@
 -- a rule's switches.
 use Prim.Native.Nat.{ℕ, _+_, _*_}
 
--- the head, 5 rates, 4 profiles and the syllabus
+-- the head, 5 rates, 4 profiles, the syllabus, 2 cyclic accumulators and their rules
 abbrev pub keyIndex : ℕ
 keyIndex = 0
 
@@ -24,8 +24,14 @@ profiles = 27
 abbrev pub syllabus : ℕ
 syllabus = 163
 
+abbrev pub cycles : ℕ
+cycles = 164
+
+abbrev pub cyclicRules : ℕ
+cyclicRules = 170
+
 abbrev pub wordCount : ℕ
-wordCount = 164
+wordCount = 186
 
 -- a rate: from, to, digits, shift
 abbrev pub to : ℕ
@@ -86,6 +92,33 @@ upper = 2
 
 abbrev pub ruleLength : ℕ
 ruleLength = 3
+
+-- a cyclic accumulator: currency, kind of cycle, first day of a week
+abbrev pub cycleKind : ℕ
+cycleKind = 1
+
+abbrev pub firstDay : ℕ
+firstDay = 2
+
+abbrev pub cycleLength : ℕ
+cycleLength = 3
+
+-- its rule in a profile: switches, limit; each profile has two
+abbrev pub cyclicLimit : ℕ
+cyclicLimit = 1
+
+abbrev pub cyclicRuleLength : ℕ
+cyclicRuleLength = 2
+
+abbrev pub cyclicRulesLength : ℕ
+cyclicRulesLength = 4
+
+-- cyclic accumulator i + 1, and its rule in profile j + 1
+abbrev pub cycleFrom : ℕ → ℕ
+cycleFrom i = cycles + cycleLength * i
+
+abbrev pub cyclicRuleFrom : (j i : ℕ) → ℕ
+cyclicRuleFrom j i = cyclicRules + cyclicRulesLength * j + cyclicRuleLength * i
 
 -- rate and profile i + 1
 abbrev pub rateFrom : ℕ → ℕ

@@ -7,6 +7,8 @@ ghost use Prim.Native.Nat.{_+_, _≤_, _<_};
 ghost use Rattle.rules.specs.Word.{wordCount, syllabus, profileLength, ruleLength, rateFrom};
 ghost use Rattle.rules.specs.Rules.{blankWords, rulesOf, profileBase, placeOr, findProfile, profileAt, currencyAt};
 ghost use Rattle.rules.specs.Rules.{rateAt, accumulatorAt, counterAt, accumulatorRule, counterRule};
+ghost use Rattle.rules.specs.Rules.{indexOf, periodOf, cycleAt, cyclicRuleAt, cycleOf, cyclicRule};
+use calendar::Period;
 use money::AccumulatorAmount;
 use money::Rate;
 use money::Rates;
@@ -56,10 +58,25 @@ pub struct CounterRule {
     pub declines: bool,
 }
 
-// The values of the accumulators and the counters.
+// A cyclic accumulator: its currency, and the cycle whose amount it holds.
+pub struct Cycle {
+    pub currency: u16,
+    pub period: Period,
+    pub first: u8,
+}
+
+pub struct CyclicRule {
+    pub limit: AccumulatorAmount,
+    pub active: bool,
+    pub allow: bool,
+    pub include: bool,
+}
+
+// The values of the accumulators, the counters and the cyclic accumulators.
 pub struct Values {
     pub accumulators: [AccumulatorAmount; 4],
     pub counters: [u8; 4],
+    pub cyclic: [AccumulatorAmount; 2],
 }
 
 // Which accumulator and which two counters the IAD sends: 1 to 4, 0 for none.
@@ -263,6 +280,72 @@ pub fn counter_rule(words: &Words, place: Place, i: usize) -> CounterRule
         allow: false,
         include: false,
         declines: false,
+    }
+}
+
+// The kinds of cycle: 1 day, 2 week, 3 month.
+fn period(kind: u64) -> Period
+    ensures { λ r. ⌜ r ≡ periodOf kind ⌝ }
+{
+    match kind {
+        1 => Period::Day,
+        2 => Period::Week,
+        _ => Period::Month,
+    }
+}
+
+// Cyclic accumulator i + 1.
+pub fn cycle_of(words: &Words, i: usize) -> Cycle
+    ensures { λ r. ⌜ r ≡ cycleOf (rulesOf (now (words .entry))) i ⌝ }
+{
+    if i < 2 {
+        let at = word::CYCLES + word::CYCLE_LENGTH * i;
+        return Cycle {
+            currency: (words[at] % 65_536) as u16,
+            period: period(words[at + word::CYCLE_KIND]),
+            first: (words[at + word::FIRST_DAY] % 256) as u8,
+        };
+    }
+    Cycle {
+        currency: 0,
+        period: Period::Month,
+        first: 0,
+    }
+}
+
+// Which of the four places it is, from 0 on.
+fn index(place: Place) -> usize
+    ensures { λ r. ⌜ (r ≡ indexOf place) × (r < 4) ⌝ }
+{
+    match place {
+        Place::One => 0,
+        Place::Two => 1,
+        Place::Three => 2,
+        Place::Four => 3,
+    }
+}
+
+// The rule of cyclic accumulator i + 1.
+pub fn cyclic_rule(words: &Words, place: Place, i: usize) -> CyclicRule
+    ensures { λ r. ⌜ r ≡ cyclicRule (rulesOf (now (words .entry))) place i ⌝ }
+{
+    if i < 2 {
+        let at = word::CYCLIC_RULES
+            + word::CYCLIC_RULES_LENGTH * index(place)
+            + word::CYCLIC_RULE_LENGTH * i;
+        let switches = words[at];
+        return CyclicRule {
+            limit: AccumulatorAmount(words[at + word::CYCLIC_LIMIT]),
+            active: switches % 2 == 1,
+            allow: switches / 2 % 2 == 1,
+            include: switches / 4 % 2 == 1,
+        };
+    }
+    CyclicRule {
+        limit: AccumulatorAmount(0),
+        active: false,
+        allow: false,
+        include: false,
     }
 }
 

@@ -1,6 +1,6 @@
 // Where the words stand. What stands first in its part has no name here.
 
-// The head, 5 rates, 4 profiles and the syllabus.
+// The head, 5 rates, 4 profiles, the syllabus, 2 cyclic accumulators and their rules.
 pub const KEY_INDEX: usize = 0;
 
 pub const PIN_TRIES: usize = 1;
@@ -15,7 +15,11 @@ pub const PROFILES: usize = 27;
 
 pub const SYLLABUS: usize = 163;
 
-pub const COUNT: usize = 164;
+pub const CYCLES: usize = 164;
+
+pub const CYCLIC_RULES: usize = 170;
+
+pub const COUNT: usize = 186;
 
 // A rate: from, to, digits, shift.
 pub const TO: usize = 1;
@@ -57,3 +61,17 @@ pub const LOWER: usize = 1;
 pub const UPPER: usize = 2;
 
 pub const RULE_LENGTH: usize = 3;
+
+// A cyclic accumulator: currency, kind of cycle, first day of a week.
+pub const CYCLE_KIND: usize = 1;
+
+pub const FIRST_DAY: usize = 2;
+
+pub const CYCLE_LENGTH: usize = 3;
+
+// Its rule in a profile: switches, limit. Each profile has two.
+pub const CYCLIC_LIMIT: usize = 1;
+
+pub const CYCLIC_RULE_LENGTH: usize = 2;
+
+pub const CYCLIC_RULES_LENGTH: usize = 4;

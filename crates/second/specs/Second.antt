@@ -1,10 +1,13 @@
--- Second GENERATE AC (document 01, "Second: the answer").
+-- Second GENERATE AC (document 01, "Second: the answer"; document 02, Five).
 use Prim.Native.Nat.{ℕ, _/_, _%_}
 use mathlib.Core.Bool.{Bool, true, false, cond, not, _||_, _&&_}
 use lib.Dec.{eqb, leb}
+use Rattle.calendar.specs.declared.Date.{Date}
 use Rattle.rules.specs.declared.Place.{Place}
 use Rattle.rules.specs.declared.Values.{Values}
 use Rattle.rules.specs.Rules.{Rules, profileAt}
+use Rattle.purchase.specs.declared.Timing.{Timing}
+use Rattle.purchase.specs.declared.Timing.the-variants.{Undated, InOrder, DateError}
 use Rattle.purchase.specs.declared.Purchase.{Purchase}
 use Rattle.meters.specs.declared.Change.{Change}
 use Rattle.meters.specs.declared.Change.the-variants.{Approve, SetToLimits, Clear}
@@ -34,15 +37,21 @@ laterKind true = LaterTc
 laterKind false = LaterAac
 
 -- closes the transaction; the CVR is First's but for second type, b2 and b1 of byte 1, and b1 of byte 4
-unfoldable pub closed : Rules → ℕ → Pending → Bool → Values → History → Issuer → Outcome
-closed rules atc pending approves values history issuer =
+unfoldable pub closed : Rules → ℕ → Pending → Bool → Values → (last : Date) → History → Issuer → Outcome
+closed rules atc pending approves values last history issuer =
     record {
-      state = record { values = values; phase = Idle; atc = atc; history = history };
+      state = record { values = values; phase = Idle; atc = atc; last = last; history = history };
       answer =
           Given (closingKind approves) atc
           (sentIad rules (pending .place) values
           (verification rules (pending .history) (pending .limits) Arqc (laterKind approves) issuer));
     }
+
+-- Annex I's recovery: in a date error a TC, but for one after Y3 or Z3, makes the transaction's date the last one
+abbrev pub recovered : Timing → (approves : Bool) → (last : Date) → Date
+recovered Undated approves last = last
+recovered InOrder approves last = last
+recovered (DateError date) approves last = cond approves date last
 
 -- Y3 (5933) or Z3 (5A33)
 abbrev pub isUnable : ℕ → Bool
@@ -62,7 +71,7 @@ unablePerformed rules state requested pending =
     let place = pending .place in
     let approves = not (eqb requested 0 || meetsMask (unableBits rules state pending) (profileAt rules place .masks .default)) in
     closed rules (state .atc) pending approves (applied rules place (state .values) (offline approves (pending .purchase)))
-    (unableIn (state .history)) (issuerUnable (pending .history))
+    (state .last) (unableIn (state .history)) (issuerUnable (pending .history))
 
 -- CSU byte 2
 abbrev pub updateByte : ℕ → ℕ
@@ -80,22 +89,24 @@ ordered rules place values purchase update =
 unfoldable pub verifiedPerformed : Rules → State → Second → Pending → Outcome
 verifiedPerformed rules state second pending =
     let update = updateByte (second .csu) in
-    closed rules (state .atc) pending (eqb (second .requested) 1 && leb 128 update)
-    (ordered rules (pending .place) (state .values) (pending .purchase) update)
+    let approves = eqb (second .requested) 1 && leb 128 update in
+    closed rules (state .atc) pending approves (ordered rules (pending .place) (state .values) (pending .purchase) update)
+    (recovered (pending .purchase .timing) approves (state .last))
     (record { uncompleted = false; online = eqb (update / 8 % 2) 1; failed = false; unable = false; missing = false })
     (record { unperformed = false; failed = false; unable = false })
 
 -- failed: history bit 2 is set; AAC
 unfoldable pub failedPerformed : Rules → State → Pending → Outcome
 failedPerformed rules state pending =
-    closed rules (state .atc) pending false (state .values) (failedIn (state .history))
+    closed rules (state .atc) pending false (state .values) (state .last) (failedIn (state .history))
     (record { unperformed = issuerBefore (pending .history) .unperformed; failed = true; unable = false })
 
 -- absent: history bit 4 is set; TC if requested and authentication isn't required; when it isn't required, bit 0 is cleared
 unfoldable pub absentPerformed : Rules → State → ℕ → Pending → Outcome
 absentPerformed rules state requested pending =
     let history = state .history in
-    closed rules (state .atc) pending (eqb requested 1 && not (rules .required)) (state .values)
+    let approves = eqb requested 1 && not (rules .required) in
+    closed rules (state .atc) pending approves (state .values) (recovered (pending .purchase .timing) approves (state .last))
     (record {
       uncompleted = history .uncompleted && rules .required;
       online = history .online;

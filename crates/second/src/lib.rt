@@ -1,13 +1,15 @@
 // Second GENERATE AC.
 ghost use mathlib.Core.Path.{_≡_};
 ghost use Rattle.rules.specs.Rules.{rulesOf};
-ghost use Rattle.second.specs.Second.{isUnable, closingKind, laterKind, closed, orderedChange, ordered};
+ghost use Rattle.second.specs.Second.{isUnable, closingKind, laterKind, closed, orderedChange, ordered, recovered};
 ghost use Rattle.second.specs.Second.{unablePerformed, verifiedPerformed, failedPerformed, absentPerformed, secondPerformed};
+use calendar::Date;
 use command::Second;
 use cryptogram::Issuer;
 use cryptogram::Later;
 use meters::Change;
 use purchase::Purchase;
+use purchase::Timing;
 use rules::Place;
 use rules::Values;
 use rules::Words;
@@ -38,10 +40,11 @@ fn close(
     pending: Pending,
     approves: bool,
     values: Values,
+    last: Date,
     history: History,
     issuer: Issuer,
 ) -> Outcome
-    ensures { λ r. ⌜ r ≡ closed (rulesOf (now (words .entry))) atc pending approves values history issuer ⌝ }
+    ensures { λ r. ⌜ r ≡ closed (rulesOf (now (words .entry))) atc pending approves values last history issuer ⌝ }
 {
     let place = pending.place;
     let before = pending.history;
@@ -60,6 +63,7 @@ fn close(
             values,
             phase: Phase::Idle,
             atc,
+            last,
             history,
         },
         answer: Answer::Given { kind, atc, iad },
@@ -87,6 +91,18 @@ fn order(words: &Words, place: Place, values: Values, purchase: Purchase, update
         return values;
     }
     meters::apply(words, place, values, change_ordered(update % 4, purchase))
+}
+
+// The last date after an answer by the issuer, or without its data: in a date error a TC makes the
+// transaction's date the last one.
+fn recover(timing: Timing, approves: bool, last: Date) -> Date
+    ensures { λ r. ⌜ r ≡ recovered timing approves last ⌝ }
+{
+    match timing {
+        Timing::Undated => last,
+        Timing::InOrder => last,
+        Timing::DateError(date) => { if approves { date } else { last } }
+    }
 }
 
 // Response code Y3 or Z3.
@@ -121,6 +137,7 @@ fn unable(words: &Words, state: State, pending: Pending, requested: u8) -> Outco
         pending,
         approves,
         values,
+        state.last,
         present.with_unable(),
         issuer,
     )
@@ -148,7 +165,18 @@ fn verified(words: &Words, state: State, pending: Pending, second: Second) -> Ou
         unable: false,
     };
     let approved = (second.requested == 1) & (128 <= update);
-    close(words, state.atc, pending, approved, values, history, issuer)
+    let timing = purchase.timing;
+    let last = recover(timing, approved, state.last);
+    close(
+        words,
+        state.atc,
+        pending,
+        approved,
+        values,
+        last,
+        history,
+        issuer,
+    )
 }
 
 // The issuer's data failed.
@@ -169,6 +197,7 @@ fn failed(words: &Words, state: State, pending: Pending) -> Outcome
         pending,
         false,
         values,
+        state.last,
         present.with_failed(),
         issuer,
     )
@@ -190,7 +219,19 @@ fn absent(words: &Words, state: State, pending: Pending, requested: u8) -> Outco
         unable: false,
     };
     let approved = (requested == 1) & !required;
-    close(words, state.atc, pending, approved, values, history, issuer)
+    let purchase = pending.purchase;
+    let timing = purchase.timing;
+    let last = recover(timing, approved, state.last);
+    close(
+        words,
+        state.atc,
+        pending,
+        approved,
+        values,
+        last,
+        history,
+        issuer,
+    )
 }
 
 pub fn perform(words: &Words, state: State, pending: Pending, second: Second) -> Outcome

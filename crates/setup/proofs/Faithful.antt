@@ -9,20 +9,23 @@ use lib.Dec.{ltb, eqb}
 use lib.ListN.{length, List·getD-eq-default}
 use Rattle.wire.specs.Wire.{byte, number}
 use Rattle.wire.proofs.Numbers.{past}
+use Rattle.wire.proofs.Pairs.{both}
 use Rattle.money.specs.Money.{blank}
 use Rattle.layout.specs.Layout.{profileFrom, conversionFrom, profilePlace, conversionPlace}
 use Rattle.layout.specs.Layout as layout
 use Rattle.rules.specs.Word.{wordCount}
-use Rattle.rules.specs.Rules.{Rules, four, five, profileOf, rulesOf, rateAt, blankProfile, blankAccumulator, blankCounter}
+use Rattle.rules.specs.Rules.{Rules, two, four, five, profileOf, rulesOf, rateAt, cycleAt, cyclicRuleAt, blankProfile, blankAccumulator, blankCounter}
 use Rattle.load.specs.Load.{headWords, rateWords, ratesWords, profilesWords, loaded}
 use Rattle.load.specs.Load.{limitIn, ruleWords, rulesWords, profileHeadWords, sentWords, profileWords}
+use Rattle.load.specs.Load.{cycleWords, cyclicRuleWords, cyclicRulesWords, cyclesWords}
 use Rattle.load.proofs.Sizes.{loaded-size}
 use Rattle.load.proofs.Stores.{all}
-use Rattle.ranges.specs.Ranges.{isSetup}
+use Rattle.ranges.specs.Ranges.{isSetup, areCycles}
 use Rattle.ranges.proofs.Accepted.{accepted}
 use Rattle.refusal.specs.declared.Refusal.the-variants.{BadSetup}
 use Rattle.setup.specs.declared.SetupAnswer.the-variants.{Done, Refused}
-use Rattle.setup.specs.Setup.{rateIn, accumulatorIn, counterIn, profileIn, rulesIn, freshIn, noCard, readSetup, wordsAfter}
+use Rattle.setup.specs.Setup.{rateIn, accumulatorIn, counterIn, profileIn, cycleIn, cyclicIn, rulesIn, freshIn, noCard}
+use Rattle.setup.specs.Setup.{isAccepted, readSetup, wordsAfter}
 
 -- what a slice of bytes is
 pub record Bytes (s : List ℕ) : Type 0 where
@@ -53,6 +56,14 @@ module _ (s : List ℕ) (bytes : Bytes s) where
   profile-there : (at : ℕ) → profileOf (profileWords s at) 0 ≡ profileIn s at
   unfolding profileOf profileWords profileHeadWords rulesWords ruleWords limitIn sentWords profileIn accumulatorIn counterIn
   profile-there at = simp (add-assoc, keep1, keep2, keep4)
+
+  cycle-there : (at : ℕ) → cycleAt (cycleWords s at) 0 ≡ cycleIn s at
+  unfolding cycleWords cycleIn
+  cycle-there at = simp (keep1, keep2)
+
+  cyclic-there : (at : ℕ) → cyclicRuleAt (cyclicRuleWords s at) 0 ≡ cyclicIn s at
+  unfolding cyclicRuleWords cyclicIn
+  cyclic-there at = refl
 
   -- past the end all is blank
   module _ (at : ℕ) (h : length s ≤ at) where
@@ -96,6 +107,8 @@ module _ (s : List ℕ) (bytes : Bytes s) where
     by true = refl
     by false = no-rate (length s) (omega arith)
 
+-- the base, and the tail of version 04
+module _ (s t : List ℕ) (base-bytes : Bytes s) (tail-bytes : Bytes t) where
   -- each part of the rules is read from its own words
   parts : ℕ → Rules
   parts syllabus =
@@ -106,47 +119,56 @@ module _ (s : List ℕ) (bytes : Bytes s) where
         currencies = four (λ i. number s (layout.accumulatorFrom i) 2 % 65536);
         rates = record { entries = five (λ i. rateAt (rateWords s (conversionPlace s i)) 0); up = eqb syllabus 1 };
         profiles = four (λ i. profileOf (profileWords s (profilePlace s i)) 0);
+        cycles = two (λ i. cycleAt (cycleWords t (layout.cycleFrom i)) 0);
+        cyclicRules = four (λ j. two (λ i. cyclicRuleAt (cyclicRuleWords t (layout.cyclicRuleFrom j i)) 0));
       }
 
-  apart : (syllabus : ℕ) → rulesOf (loaded s syllabus) ≡ parts syllabus
+  apart : (syllabus : ℕ) → rulesOf (loaded s t syllabus) ≡ parts syllabus
   unfolding parts rulesOf loaded headWords ratesWords rateWords profilesWords profileOf profileWords profileHeadWords rulesWords ruleWords sentWords
+      cyclesWords cycleWords cyclicRulesWords cyclicRuleWords
   apart syllabus = refl
 
-  rules-there : (syllabus : ℕ) → byte s layout.pinTries ≤ 15 → parts syllabus ≡ rulesIn s syllabus
+  rules-there : (syllabus : ℕ) → byte s layout.pinTries ≤ 15 → parts syllabus ≡ rulesIn s t syllabus
   unfolding parts rulesIn
   rules-there syllabus pin =
       let keep : byte s layout.pinTries % 16 ≡ byte s layout.pinTries = mod-eq-of-lt (omega arith) in
+      let profile = profile-or-blank s base-bytes in
+      let rate = rate-or-blank s base-bytes in
       simp (
-        keep1,
-        keep2,
+        keep1 s base-bytes,
+        keep2 s base-bytes,
         keep,
-        rate-there,
-        profile-there,
-        profile-or-blank 0,
-        profile-or-blank 1,
-        profile-or-blank 2,
-        profile-or-blank 3,
-        rate-or-blank 0,
-        rate-or-blank 1,
-        rate-or-blank 2,
-        rate-or-blank 3,
-        rate-or-blank 4,
+        rate-there s base-bytes,
+        profile-there s base-bytes,
+        profile 0,
+        profile 1,
+        profile 2,
+        profile 3,
+        rate 0,
+        rate 1,
+        rate 2,
+        rate 3,
+        rate 4,
+        cycle-there t tail-bytes,
+        cyclic-there t tail-bytes,
       )
 
   -- the words of an accepted set-up, whatever they held before
-  pub faithful : (syllabus : ℕ) (words : List ℕ) → length words ≡ wordCount → isSetup s ≡ true
-      → rulesOf (wordsAfter words s syllabus) ≡ rulesIn s syllabus
+  pub faithful : (syllabus unnamed : ℕ) (words : List ℕ) → length words ≡ wordCount → isAccepted s t unnamed ≡ true
+      → rulesOf (wordsAfter words s t syllabus unnamed) ≡ rulesIn s t syllabus
   unfolding wordsAfter
-  faithful syllabus words size good =
-      rw good (ap rulesOf (all words (loaded s syllabus) (loaded-size s syllabus ∙ sym size)) ∙ apart syllabus ∙ rules-there syllabus (accepted s good .pin))
+  faithful syllabus unnamed words size good =
+      let (base, tail) = both (isSetup s unnamed) (areCycles t) good in
+      rw good (ap rulesOf (all words (loaded s t syllabus) (loaded-size s t syllabus ∙ sym size)) ∙ apart syllabus
+      ∙ rules-there syllabus (accepted s unnamed base .pin))
 
 -- a refused set-up changes nothing lent, and leaves no card
-pub untouched : (words s : List ℕ) (syllabus : ℕ) → isSetup s ≡ false
-    → (wordsAfter words s syllabus ≡ words) × (readSetup s ≡ record { fresh = noCard; answer = Refused BadSetup })
+pub untouched : (words s t : List ℕ) (syllabus unnamed : ℕ) → isAccepted s t unnamed ≡ false
+    → (wordsAfter words s t syllabus unnamed ≡ words) × (readSetup s t unnamed ≡ record { fresh = noCard; answer = Refused BadSetup })
 unfolding wordsAfter readSetup
-untouched words s syllabus bad = (simp bad, simp bad)
+untouched words s t syllabus unnamed bad = (simp bad, simp bad)
 
 -- what an accepted set-up gives the card to start from
-pub started : (s : List ℕ) → isSetup s ≡ true → readSetup s ≡ record { fresh = freshIn s; answer = Done }
+pub started : (s t : List ℕ) (unnamed : ℕ) → isAccepted s t unnamed ≡ true → readSetup s t unnamed ≡ record { fresh = freshIn s t; answer = Done }
 unfolding readSetup
-started s good = simp good
+started s t unnamed good = simp good

@@ -1,9 +1,10 @@
 -- What a set-up's body says, byte by byte at document 01's offsets, and what reading it answers.
 use Prim.Native.Nat.{ℕ, _+_, _/_, _%_}
-use mathlib.Core.Bool.{false, cond}
+use mathlib.Core.Bool.{Bool, false, cond, _&&_}
 use mathlib.Core.List.{List}
 use lib.Dec.{ltb, eqb}
 use Rattle.wire.specs.Wire.{byte, number}
+use Rattle.calendar.specs.Calendar.{dateAt}
 use Rattle.money.specs.declared.AccumulatorAmount.{AccumulatorAmount}
 use Rattle.money.specs.declared.Rate.{Rate}
 use Rattle.money.specs.Money.{blank}
@@ -11,11 +12,13 @@ use Rattle.refusal.specs.declared.Refusal.the-variants.{BadSetup}
 use Rattle.refusal.specs.Refusal.{refusalNumber}
 use Rattle.rules.specs.declared.AccumulatorRule.{AccumulatorRule}
 use Rattle.rules.specs.declared.CounterRule.{CounterRule}
-use Rattle.rules.specs.Rules.{Rules, Profile, four, five, blankProfile}
+use Rattle.rules.specs.declared.Cycle.{Cycle}
+use Rattle.rules.specs.declared.CyclicRule.{CyclicRule}
+use Rattle.rules.specs.Rules.{Rules, Profile, two, four, five, blankProfile, periodOf}
 use Rattle.layout.specs.Layout.{profileFrom, conversionFrom}
 use Rattle.layout.specs.Layout as layout
 use Rattle.load.specs.Load.{stored}
-use Rattle.ranges.specs.Ranges.{isSetup}
+use Rattle.ranges.specs.Ranges.{isSetup, areCycles}
 use Rattle.setup.specs.declared.Fresh.{Fresh}
 use Rattle.setup.specs.declared.SetupAnswer.{SetupAnswer}
 use Rattle.setup.specs.declared.SetupAnswer.the-variants.{Done, Refused}
@@ -82,10 +85,25 @@ profileIn s at =
           };
     }
 
+-- of the tail of version 04, a cyclic accumulator: currency (2), (amount (8),) kind, first day
+unfoldable pub cycleIn : List ℕ → ℕ → Cycle
+cycleIn t at =
+    record { currency = number t at 2; period = periodOf (byte t (at + layout.cycleKind)); first = byte t (at + layout.firstDay) }
+
+-- its switches (1: active, 2: allow accumulation, 4: include this transaction) and limit (8) in a profile
+unfoldable pub cyclicIn : List ℕ → ℕ → CyclicRule
+cyclicIn t at =
+    record {
+      limit = record { 0 = number t (at + layout.cyclicLimit) 8 };
+      active = eqb (byte t at % 2) 1;
+      allow = eqb (byte t at / 2 % 2) 1;
+      include = eqb (byte t at / 4 % 2) 1;
+    }
+
 -- key index; PIN tries; issuer authentication required; p; c; (the fresh card's ATC and go online next;) four accumulators of currency
--- (2) and value (8); (four counter values;) p profiles; c conversions; and the syllabus, which stands beside the body
-unfoldable pub rulesIn : List ℕ → ℕ → Rules
-rulesIn s syllabus =
+-- (2) and value (8); (four counter values;) p profiles; c conversions; and beside this base the tail of version 04 and the syllabus
+unfoldable pub rulesIn : (s t : List ℕ) → ℕ → Rules
+rulesIn s t syllabus =
     record {
       key = byte s layout.keyIndex;
       pin = byte s layout.pinTries;
@@ -97,36 +115,49 @@ rulesIn s syllabus =
             up = eqb syllabus 1;
           };
       profiles = four (λ i. cond (ltb i (byte s layout.profiles)) (profileIn s (profileFrom i)) blankProfile);
+      cycles = two (λ i. cycleIn t (layout.cycleFrom i));
+      cyclicRules = four (λ j. two (λ i. cyclicIn t (layout.cyclicRuleFrom j i)));
     }
 
 -- what accumulator i + 1 of a fresh card holds
 abbrev pub valueIn : List ℕ → ℕ → AccumulatorAmount
 valueIn s i = record { 0 = number s (layout.accumulatorFrom i + layout.value) 8 }
 
+-- what cyclic accumulator i + 1 holds
+abbrev pub amountIn : List ℕ → ℕ → AccumulatorAmount
+amountIn t i = record { 0 = number t (layout.cycleFrom i + layout.cycleAmount) 8 }
+
 -- what a fresh card starts from
-unfoldable pub freshIn : List ℕ → Fresh
-freshIn s =
+unfoldable pub freshIn : (s t : List ℕ) → Fresh
+freshIn s t =
     record {
-      values = record { accumulators = four (valueIn s); counters = four (λ i. byte s (layout.counters + i)) };
+      values = record { accumulators = four (valueIn s); counters = four (λ i. byte s (layout.counters + i)); cyclic = two (amountIn t) };
       atc = number s layout.atc 2;
       online = eqb (byte s layout.onlineNext) 1;
+      last = dateAt t layout.lastDate;
     }
 
 abbrev pub noCard : Fresh
 noCard =
     record {
-      values = record { accumulators = four (λ i. record { 0 = 0 }); counters = four (λ i. 0) };
+      values =
+          record { accumulators = four (λ i. record { 0 = 0 }); counters = four (λ i. 0); cyclic = two (λ i. record { 0 = 0 }) };
       atc = 0;
       online = false;
+      last = record { year = 0; month = 0; day = 0 };
     }
 
--- refusal 1 leaves the lent words as they were
-unfoldable pub readSetup : List ℕ → ReadSetup
-readSetup s =
-    cond (isSetup s) (record { fresh = freshIn s; answer = Done }) (record { fresh = noCard; answer = Refused BadSetup })
+-- base and tail in their ranges
+abbrev pub isAccepted : (s t : List ℕ) (unnamed : ℕ) → Bool
+isAccepted s t unnamed = isSetup s unnamed && areCycles t
 
-unfoldable pub wordsAfter : List ℕ → List ℕ → ℕ → List ℕ
-wordsAfter words s syllabus = cond (isSetup s) (stored words s syllabus) words
+-- refusal 1 leaves the lent words as they were
+unfoldable pub readSetup : (s t : List ℕ) (unnamed : ℕ) → ReadSetup
+readSetup s t unnamed =
+    cond (isAccepted s t unnamed) (record { fresh = freshIn s t; answer = Done }) (record { fresh = noCard; answer = Refused BadSetup })
+
+unfoldable pub wordsAfter : (words s t : List ℕ) (syllabus unnamed : ℕ) → List ℕ
+wordsAfter words s t syllabus unnamed = cond (isAccepted s t unnamed) (stored words s t syllabus) words
 
 abbrev pub setupNumber : SetupAnswer → ℕ
 setupNumber Done = 0

@@ -1,17 +1,19 @@
 // A set-up's body, read into lent rules and what a fresh card starts from, or refused.
 ghost use mathlib.Core.Path.{_≡_};
 ghost use Prim.Native.Nat.{_<_};
-ghost use Rattle.setup.specs.Setup.{valueIn, freshIn, noCard, readSetup, wordsAfter};
+ghost use Rattle.setup.specs.Setup.{valueIn, amountIn, isAccepted, freshIn, noCard, readSetup, wordsAfter};
+use calendar::Date;
 use money::AccumulatorAmount;
 use refusal::Refusal;
 use rules::Values;
 use rules::Words;
 
-// What a fresh card starts from: its values, its ATC and "go online next".
+// What a fresh card starts from: its values, its ATC, "go online next" and the last date.
 pub struct Fresh {
     pub values: Values,
     pub atc: u16,
     pub online: bool,
+    pub last: Date,
 }
 
 pub enum SetupAnswer {
@@ -33,8 +35,17 @@ fn read_value(s: &[u8], i: usize) -> AccumulatorAmount
     AccumulatorAmount(wire::u64_at(s, at + layout::VALUE))
 }
 
-fn read_fresh(s: &[u8]) -> Fresh
-    ensures { λ r. ⌜ r ≡ freshIn (now (s .entry)) ⌝ }
+// The amount of cyclic accumulator i + 1.
+fn read_amount(t: &[u8], i: usize) -> AccumulatorAmount
+    requires { ⌜ i < 2 ⌝ }
+    ensures { λ r. ⌜ r ≡ amountIn (now (t .entry)) i ⌝ }
+{
+    let at = layout::CYCLES + layout::CYCLE_LENGTH * i;
+    AccumulatorAmount(wire::u64_at(t, at + layout::CYCLE_AMOUNT))
+}
+
+fn read_fresh(s: &[u8], t: &[u8]) -> Fresh
+    ensures { λ r. ⌜ r ≡ freshIn (now (s .entry)) (now (t .entry)) ⌝ }
 {
     Fresh {
         values: Values {
@@ -50,9 +61,11 @@ fn read_fresh(s: &[u8]) -> Fresh
                 wire::byte_at(s, layout::COUNTERS + 2),
                 wire::byte_at(s, layout::COUNTERS + 3),
             ],
+            cyclic: [read_amount(t, 0), read_amount(t, 1)],
         },
         atc: wire::u16_at(s, layout::ATC),
         online: wire::byte_at(s, layout::ONLINE_NEXT) == 1,
+        last: calendar::date_at(t, layout::LAST_DATE),
     }
 }
 
@@ -69,19 +82,27 @@ pub fn no_card() -> Fresh
                 AccumulatorAmount(0),
             ],
             counters: [0, 0, 0, 0],
+            cyclic: [AccumulatorAmount(0), AccumulatorAmount(0)],
         },
         atc: 0,
         online: false,
+        last: Date {
+            year: 0,
+            month: 0,
+            day: 0,
+        },
     }
 }
 
-// The body of a set-up and the syllabus that goes with it. Refusal 1 leaves the words as they were.
-pub fn read_setup(s: &[u8], syllabus: u8, words: &mut Words) -> ReadSetup
-    ensures { λ r. ⌜ (r ≡ readSetup (now (s .entry))) × (now (words .exit) ≡ wordsAfter (now (words .entry)) (now (s .entry)) syllabus) ⌝ }
+// The base of a set-up, the tail of version 04 where dates are on, and what the other tails say: the
+// syllabus, and the first mask bit that is unnamed. Refusal 1 leaves the words as they were.
+pub fn read_setup(s: &[u8], t: &[u8], syllabus: u8, unnamed: u32, words: &mut Words) -> ReadSetup
+    ensures { λ r. ⌜ (r ≡ readSetup (now (s .entry)) (now (t .entry)) unnamed)
+        × (now (words .exit) ≡ wordsAfter (now (words .entry)) (now (s .entry)) (now (t .entry)) syllabus unnamed) ⌝ }
 {
-    if ranges::is_setup(s) {
-        load::load(words, s, syllabus);
-        let fresh = read_fresh(s);
+    if ranges::is_setup(s, unnamed) & ranges::are_cycles(t) {
+        load::load(words, s, t, syllabus);
+        let fresh = read_fresh(s, t);
         ReadSetup {
             fresh,
             answer: SetupAnswer::Done,

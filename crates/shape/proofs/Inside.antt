@@ -1,4 +1,4 @@
--- A shape that was read lies in its body: its base, and its file. Assumes nothing.
+-- A shape that was read lies in its body: its base, its file, and its tail with dates. Assumes nothing.
 use mathlib.Core.Path.{_≡_, subst}
 use mathlib.Core.Bool.{Bool, true, false}
 use mathlib.Core.List.{List}
@@ -11,12 +11,13 @@ use Rattle.wire.specs.Wire.{byte}
 use Rattle.refusal.specs.declared.Refusal.the-variants.{BadSetup}
 use Rattle.shape.specs.declared.Selecting.{Selecting}
 use Rattle.shape.specs.declared.Selecting.the-variants.{Off, On}
+use Rattle.shape.specs.declared.Dating.the-variants.{Off as DatesOff, On as DatesOn}
 use Rattle.shape.specs.declared.Shape.{Shape}
 use Rattle.shape.specs.declared.Tails.{Tails}
 use Rattle.shape.specs.declared.Tails.the-variants.{Ended, Wrong}
 use Rattle.shape.specs.declared.ReadShape.{ReadShape}
 use Rattle.shape.specs.declared.ReadShape.the-variants.{Taken, Refused}
-use Rattle.shape.specs.Shape.{Lies, baseLength, based, baseTail, entriesEnd, fileEnd, selects, selectionTail, follows, syllabusTail}
+use Rattle.shape.specs.Shape.{Lies, Spans, baseLength, based, baseTail, entriesEnd, fileEnd, selects, selectionTail, follows, syllabusTail, dates, datesEnd, datingTail}
 use Rattle.shape.specs.Shape.{behind, since, tailsOf, whole, shapeOf}
 use Rattle.shape.proofs.Either.{choose}
 
@@ -29,6 +30,7 @@ not-before body at (suc n) = let before = not-before body at n in omega arith
 pub record Inside (shape : Shape) (bytes : ℕ) : Type 0 where
   pub base : shape .base ≤ bytes
   pub file : Lies (shape .selecting) bytes
+  pub tail : Spans (shape .dating) bytes
 
 abbrev Within : ℕ → Tails → Type 0
 Within bytes Wrong = Unit
@@ -42,7 +44,7 @@ module _ (body : List ℕ) where
   unfolding baseTail
   base-in =
       choose In (ltb (length body) (baseLength body)) Wrong (Ended (based (baseLength body)) (baseLength body)) (λ _. tt)
-      (λ e. record { base = ltb-false _ _ e; file = tt })
+      (λ e. record { base = ltb-false _ _ e; file = tt; tail = tt })
 
   selection-in : (shape : Shape) (at : ℕ) → Inside shape (length body) → In (selectionTail body shape at)
   unfolding selectionTail
@@ -52,14 +54,23 @@ module _ (body : List ℕ) where
       (λ _. choose In (ltb 1 (byte body at)) Wrong _ (λ _. tt)
       (λ _. choose In (ltb (length body) (fileEnd body at)) Wrong
       (Ended (selects shape (at + 2) (fileEnd body at) (byte body (at + 1))) (fileEnd body at)) (λ _. tt)
-      (λ e. record { base = i .base; file = (not-before body (at + 2) (byte body (at + 1)), ltb-false _ _ e) }))))
+      (λ e. record { base = i .base; file = (not-before body (at + 2) (byte body (at + 1)), ltb-false _ _ e); tail = i .tail }))))
 
   syllabus-in : (shape : Shape) (at : ℕ) → Inside shape (length body) → In (syllabusTail body shape at)
   unfolding syllabusTail
   syllabus-in shape at i =
       choose In (leb (length body) at) Wrong _ (λ _. tt)
       (λ _. choose In (ltb 1 (byte body at)) Wrong (Ended (follows shape (byte body at)) (at + 1)) (λ _. tt)
-      (λ _. record { base = i .base; file = i .file }))
+      (λ _. record { base = i .base; file = i .file; tail = i .tail }))
+
+  dating-in : (shape : Shape) (at : ℕ) → Inside shape (length body) → In (datingTail body shape at)
+  unfolding datingTail
+  dating-in shape at i =
+      choose In (leb (length body) at) Wrong _ (λ _. tt)
+      (λ _. choose In (eqb (byte body at) 0) (Ended (dates shape DatesOff) (at + 1)) _ (λ _. record { base = i .base; file = i .file; tail = tt })
+      (λ _. choose In (ltb 1 (byte body at)) Wrong _ (λ _. tt)
+      (λ _. choose In (ltb (length body) (datesEnd body at)) Wrong (Ended (dates shape (DatesOn at (datesEnd body at))) (datesEnd body at)) (λ _. tt)
+      (λ e. record { base = i .base; file = i .file; tail = (omega arith, ltb-false _ _ e) }))))
 
   since-in : (first version : ℕ) (before : Tails) (tail : Shape → ℕ → Tails) → In before
       → ((shape : Shape) (at : ℕ) → Inside shape (length body) → In (tail shape at))
@@ -70,7 +81,8 @@ module _ (body : List ℕ) where
   tails-in : (version : ℕ) → In (tailsOf version body)
   unfolding tailsOf
   tails-in version =
-      since-in 3 version _ (syllabusTail body) (since-in 2 version (baseTail body) (selectionTail body) base-in selection-in) syllabus-in
+      since-in 4 version _ (datingTail body)
+      (since-in 3 version _ (syllabusTail body) (since-in 2 version (baseTail body) (selectionTail body) base-in selection-in) syllabus-in) dating-in
 
   abbrev Read : ReadShape → Type 0
   Read (Taken shape) = Inside shape (length body)

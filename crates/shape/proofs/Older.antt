@@ -1,4 +1,4 @@
--- One law for each tail: the byte 00 behind an older body is the newer one with the addition off. Assumes nothing.
+-- One law for each tail: an older body with the byte 00 behind it is the newer one with the addition off. Assumes nothing.
 use mathlib.Core.Path.{_≡_, refl, sym, ap, subst, _∙_}
 use mathlib.Core.Bool.{Bool, true, false, cond}
 use mathlib.Core.List.{List, [], _∷_, _++_}
@@ -10,12 +10,13 @@ use lib.ListN.{length, length-append, List·getD-eq-default}
 use lib.Seq.{getD-append-seam}
 use Rattle.wire.specs.Wire.{byte}
 use Rattle.refusal.specs.declared.Refusal.the-variants.{BadSetup}
+use Rattle.shape.specs.declared.Dating.the-variants.{Off as DatesOff}
 use Rattle.shape.specs.declared.Shape.{Shape}
 use Rattle.shape.specs.declared.Tails.{Tails}
 use Rattle.shape.specs.declared.Tails.the-variants.{Ended, Wrong}
 use Rattle.shape.specs.declared.ReadShape.the-variants.{Taken, Refused}
 use Rattle.shape.specs.Shape.{baseLength, based, baseTail, entriesEnd, fileEnd, selects, selectionTail, follows, syllabusTail}
-use Rattle.shape.specs.Shape.{behind, tailsOf, whole, shapeOf}
+use Rattle.shape.specs.Shape.{dates, datingTail, behind, tailsOf, whole, shapeOf}
 use Rattle.shape.proofs.Either.{choose}
 
 -- a byte past the end reads as 0
@@ -110,10 +111,16 @@ module _ (body : List ℕ) where
   unfolding selectionTail
   missing-selection shape = rw (longer, le-leb (length body + 1) (length body + 1) (omega arith))
 
-  near-behind : {later older : Tails} → Near later older → Near (behind later (selectionTail newer)) (behind older (selectionTail body))
-  near-behind {older = Wrong} same = same
-  near-behind {older = Ended shape at} same = near-selection shape at
-  near-behind (past shape) = rw (missing-selection shape) same
+  -- a tail that is near by itself, and missing where nothing is left, is near behind what is near
+  near-behind : (tail : List ℕ → Shape → ℕ → Tails) → ((shape : Shape) (at : ℕ) → Near (tail newer shape at) (tail body shape at))
+      → ((shape : Shape) → tail newer shape (length body + 1) ≡ Wrong)
+      → {later older : Tails} → Near later older → Near (behind later (tail newer)) (behind older (tail body))
+  near-behind tail near missing {older = Wrong} same = same
+  near-behind tail near missing {older = Ended shape at} same = near shape at
+  near-behind tail near missing (past shape) = rw (missing shape) same
+
+  near-2 : Near (behind (baseTail newer) (selectionTail newer)) (behind (baseTail body) (selectionTail body))
+  near-2 = near-behind selectionTail near-selection missing-selection near-base
 
   -- and so far the syllabus is 0
   abbrev Zero : Tails → Type 0
@@ -168,4 +175,53 @@ module _ (body : List ℕ) where
   -- SYLLABUS 0
   pub syllabus-off : shapeOf 3 newer ≡ shapeOf 2 body
   unfolding shapeOf tailsOf
-  syllabus-off = last (near-behind near-base) (zero-behind (baseTail body) zero-base)
+  syllabus-off = last near-2 (zero-behind (baseTail body) zero-base)
+
+  -- ---- dates: a body that is taken ends with its syllabus, and behind it stands the switch
+
+  near-syllabus : (shape : Shape) (at : ℕ) → Near (syllabusTail newer shape at) (syllabusTail body shape at)
+  unfolding syllabusTail
+  near-syllabus shape at =
+      rw (same-byte body at, longer) (by (leb (length body) at) (leb (length body + 1) at) refl refl (ltb 1 (byte body at)) refl)
+    where
+      by : (older later : Bool) → leb (length body) at ≡ older → leb (length body + 1) at ≡ later → (above : Bool) → ltb 1 (byte body at) ≡ above
+          → Near (cond later Wrong (cond above Wrong (Ended (follows shape (byte body at)) (at + 1))))
+          (cond older Wrong (cond above Wrong (Ended (follows shape (byte body at)) (at + 1))))
+      by true true h k above l = same
+      by true false h k above l =
+          let here : at ≡ length body = omega (arith, leb-true (length body) at h, leb-false (length body + 1) at k) in
+          let none : byte body at ≡ 0 = List·getD-eq-default body 0 (leb-true (length body) at h) in
+          rw (← l, none, here) (past (follows shape 0))
+      by false true h k above l = absurd (omega (arith, leb-false (length body) at h, leb-true (length body + 1) at k))
+      by false false h k above l = same
+
+  near-3 : Near (tailsOf 3 newer) (tailsOf 3 body)
+  unfolding tailsOf
+  near-3 = near-behind syllabusTail near-syllabus missing-syllabus near-2
+
+  near-ended : {later older : Tails} → Near later older → (shape : Shape) (at : ℕ) → older ≡ Ended shape at → later ≡ Ended shape at
+  near-ended same shape at e = e
+  near-ended (past other) shape at e = cc
+
+  -- what is taken whole ends where the body does
+  taken-ended : (tails : Tails) (shape : Shape) → whole body tails ≡ Taken shape → tails ≡ Ended shape (length body)
+  taken-ended Wrong shape e = cc
+  taken-ended (Ended other at) shape e = by (eqb at (length body)) refl e where
+    by : (b : Bool) → eqb at (length body) ≡ b → cond b (Taken other) (Refused BadSetup) ≡ Taken shape → Ended other at ≡ Ended shape (length body)
+    by true h e = let here = eqb-true at (length body) h in cc
+    by false h e = cc
+
+  dated-off : (shape : Shape) → datingTail newer shape (length body) ≡ Ended (dates shape DatesOff) (length body + 1)
+  unfolding datingTail
+  dated-off shape = rw (longer, lt-leb (length body + 1) (length body) (omega arith), getD-append-seam body 0 [] 0)
+
+  behind-3 : tailsOf 4 newer ≡ behind (tailsOf 3 newer) (datingTail newer)
+  unfolding tailsOf
+  behind-3 = refl
+
+  -- DATES OFF: the older shape, but that mask bits 22 to 24 are named
+  pub dates-off : (shape : Shape) → shapeOf 3 body ≡ Taken shape → shapeOf 4 newer ≡ Taken (dates shape DatesOff)
+  unfolding shapeOf
+  dates-off shape e =
+      let ended = near-ended near-3 shape (length body) (taken-ended (tailsOf 3 body) shape e) in
+      rw (behind-3, ended, dated-off shape, longer, eq-eqb (length body + 1) (length body + 1) refl)

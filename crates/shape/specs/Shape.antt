@@ -1,25 +1,27 @@
--- The shape of a paper: what its version adds to a set-up's body, read front to back (docs/PAPERS.md, "How a version adds"; document 02, Three and
--- Nine). The base of document 01, 52 + 107p + 7c bytes, then a tail for each addition, in the order of the versions, to the body's end.
-use Prim.Native.Nat.{ℕ, zero, suc, _+_, _≤_}
+-- The shape of a paper: what its version adds to a set-up's body, read front to back (docs/PAPERS.md, "How a version adds"; document 02, Three,
+-- Nine and Five). The base of document 01, 52 + 107p + 7c bytes, then a tail for each addition, in the order of the versions, to the body's end.
+use Prim.Native.Nat.{ℕ, zero, suc, _+_, _-_, _^_, _≤_}
 use mathlib.Core.Bool.{cond}
-use mathlib.Core.List.{List}
+use mathlib.Core.List.{List, []}
 use lib.Dec.{eqb, ltb, leb}
-use lib.ListN.{length, take}
+use lib.ListN.{length, take, drop}
 use Rattle.wire.specs.Wire.{byte}
-pub use Rattle.layout.specs.Layout.{baseLength}
+pub use Rattle.layout.specs.Layout.{baseLength, cyclesLength}
 use Rattle.refusal.specs.declared.Refusal.the-variants.{BadSetup}
 use Rattle.refusal.specs.Refusal.{refusalNumber}
 use Rattle.shape.specs.declared.Selecting.{Selecting}
 use Rattle.shape.specs.declared.Selecting.the-variants.{Off, On}
+use Rattle.shape.specs.declared.Dating.{Dating}
+use Rattle.shape.specs.declared.Dating.the-variants.{Off as DatesOff, On as DatesOn}
 use Rattle.shape.specs.declared.Shape.{Shape}
 use Rattle.shape.specs.declared.Tails.{Tails}
 use Rattle.shape.specs.declared.Tails.the-variants.{Ended, Wrong}
 use Rattle.shape.specs.declared.ReadShape.{ReadShape}
 use Rattle.shape.specs.declared.ReadShape.the-variants.{Taken, Refused}
 
--- THE BASE, which is whole; with no tail nothing is selected, and the syllabus is 0
+-- THE BASE, which is whole; with no tail nothing is selected, the syllabus is 0, nothing is dated, and mask bits 0 to 21 are named
 abbrev pub based : (base : ℕ) → Shape
-based base = record { base = base; selecting = Off; syllabus = 0 }
+based base = record { base = base; selecting = Off; syllabus = 0; dating = DatesOff; unnamed = 2 ^ 22 }
 
 unfoldable pub baseTail : List ℕ → Tails
 baseTail body = cond (ltb (length body) (baseLength body)) Wrong (Ended (based (baseLength body)) (baseLength body))
@@ -34,7 +36,14 @@ abbrev pub fileEnd : List ℕ → (at : ℕ) → ℕ
 fileEnd body at = entriesEnd body (at + 2) (byte body (at + 1))
 
 abbrev pub selects : Shape → (start end entries : ℕ) → Shape
-selects shape start end entries = record { base = shape .base; selecting = On start end entries; syllabus = shape .syllabus }
+selects shape start end entries =
+    record {
+      base = shape .base;
+      selecting = On start end entries;
+      syllabus = shape .syllabus;
+      dating = shape .dating;
+      unnamed = shape .unnamed;
+    }
 
 unfoldable pub selectionTail : List ℕ → Shape → (at : ℕ) → Tails
 selectionTail body shape at =
@@ -45,11 +54,34 @@ selectionTail body shape at =
 
 -- VERSION 03, the syllabus: 0 or 1
 abbrev pub follows : Shape → (syllabus : ℕ) → Shape
-follows shape syllabus = record { base = shape .base; selecting = shape .selecting; syllabus = syllabus }
+follows shape syllabus =
+    record {
+      base = shape .base;
+      selecting = shape .selecting;
+      syllabus = syllabus;
+      dating = shape .dating;
+      unnamed = shape .unnamed;
+    }
 
 unfoldable pub syllabusTail : List ℕ → Shape → (at : ℕ) → Tails
 syllabusTail body shape at =
     cond (leb (length body) at) Wrong (cond (ltb 1 (byte body at)) Wrong (Ended (follows shape (byte body at)) (at + 1)))
+
+-- VERSION 04, dates: 0 off; 1 on, and then the last date, the cyclic accumulators and their rules, 28 + 18p bytes in all; on or off, mask
+-- bits 0 to 24 are named
+abbrev pub dates : Shape → Dating → Shape
+dates shape dating =
+    record { base = shape .base; selecting = shape .selecting; syllabus = shape .syllabus; dating = dating; unnamed = 2 ^ 25 }
+
+abbrev pub datesEnd : List ℕ → (at : ℕ) → ℕ
+datesEnd body at = at + cyclesLength body
+
+unfoldable pub datingTail : List ℕ → Shape → (at : ℕ) → Tails
+datingTail body shape at =
+    cond (leb (length body) at) Wrong
+    (cond (eqb (byte body at) 0) (Ended (dates shape DatesOff) (at + 1))
+    (cond (ltb 1 (byte body at)) Wrong
+    (cond (ltb (length body) (datesEnd body at)) Wrong (Ended (dates shape (DatesOn at (datesEnd body at))) (datesEnd body at)))))
 
 -- one tail behind another; above the paper's version it is off and has no bytes
 abbrev pub behind : Tails → (Shape → ℕ → Tails) → Tails
@@ -60,7 +92,8 @@ abbrev pub since : (first version : ℕ) → Tails → (Shape → ℕ → Tails)
 since first version before tail = cond (ltb version first) before (behind before tail)
 
 unfoldable pub tailsOf : (version : ℕ) (body : List ℕ) → Tails
-tailsOf version body = since 3 version (since 2 version (baseTail body) (selectionTail body)) (syllabusTail body)
+tailsOf version body =
+    since 4 version (since 3 version (since 2 version (baseTail body) (selectionTail body)) (syllabusTail body)) (datingTail body)
 
 -- THE SHAPE: the last tail ends where the body does, or refusal 1
 abbrev pub whole : List ℕ → Tails → ReadShape
@@ -73,18 +106,39 @@ shapeOf version body = whole body (tailsOf version body)
 abbrev pub basePart : Shape → (body : List ℕ) → List ℕ
 basePart shape body = take (shape .base) body
 
+-- the tail of version 04 where dates are on, no byte where they are off
+abbrev pub cyclesPart : Dating → (body : List ℕ) → List ℕ
+cyclesPart DatesOff body = []
+cyclesPart (DatesOn start end) body = take (end - start) (drop start body)
+
+-- the tail lies in so many bytes
+abbrev pub Spans : Dating → (bytes : ℕ) → Type 0
+Spans DatesOff bytes = Unit
+Spans (DatesOn start end) bytes = (start ≤ end) × (end ≤ bytes)
+
 -- the file lies in so many bytes
 abbrev pub Lies : Selecting → (bytes : ℕ) → Type 0
 Lies Off bytes = Unit
 Lies (On start end entries) bytes = (start ≤ end) × (end ≤ bytes)
 
--- the same, with the file's places those in the paper, where the body stands at a place of it
+-- the same, with the places those in the paper, where the body stands at a place of it
 abbrev pub selectingAt : (place : ℕ) → Selecting → Selecting
 selectingAt place Off = Off
 selectingAt place (On start end entries) = On (place + start) (place + end) entries
 
+abbrev pub datingAt : (place : ℕ) → Dating → Dating
+datingAt place DatesOff = DatesOff
+datingAt place (DatesOn start end) = DatesOn (place + start) (place + end)
+
 abbrev pub shapeAt : (place : ℕ) → Shape → Shape
-shapeAt place shape = record { base = shape .base; selecting = selectingAt place (shape .selecting); syllabus = shape .syllabus }
+shapeAt place shape =
+    record {
+      base = shape .base;
+      selecting = selectingAt place (shape .selecting);
+      syllabus = shape .syllabus;
+      dating = datingAt place (shape .dating);
+      unnamed = shape .unnamed;
+    }
 
 abbrev pub shapeNumber : ReadShape → ℕ
 shapeNumber (Taken shape) = 0

@@ -4,13 +4,20 @@
 ghost use mathlib.Core.Path.{_≡_};
 ghost use Prim.Native.Nat.{_+_, _≤_};
 ghost use lib.ListN.{length};
-ghost use Rattle.shape.specs.Shape.{baseTail, entriesEnd, selectionTail, syllabusTail, tailsOf, shapeOf};
+ghost use Rattle.shape.specs.Shape.{baseTail, entriesEnd, selectionTail, syllabusTail, dates, datingTail, since, tailsOf, shapeOf};
 use refusal::Refusal;
 
-// The first version with a tail that selects profiles, and the first with a syllabus.
+// The first version with a tail that selects profiles, with a syllabus, and with dates.
 const SELECTION: u8 = 2;
 
 const SYLLABUS: u8 = 3;
+
+const DATES: u8 = 4;
+
+// The first mask bit without a name, 22, and from version 04 on 25.
+const UNNAMED: u32 = 4_194_304;
+
+const UNNAMED_DATED: u32 = 33_554_432;
 
 // Whether profiles are selected. The Profile Selection File stands from start up to end.
 pub enum Selecting {
@@ -22,11 +29,20 @@ pub enum Selecting {
     },
 }
 
-// The base's length, and what the tails say: an older paper's are off.
+// Whether a First carries a date. The tail with the cyclic accumulators stands from start up to end.
+pub enum Dating {
+    Off,
+    On { start: usize, end: usize },
+}
+
+// The base's length, what the tails say, an older paper's being off, and the first mask bit that is
+// unnamed.
 pub struct Shape {
     pub base: usize,
     pub selecting: Selecting,
     pub syllabus: u8,
+    pub dating: Dating,
+    pub unnamed: u32,
 }
 
 // What tails come to, and where the last of them ends.
@@ -53,6 +69,8 @@ fn read_base(body: &[u8]) -> Tails
             base,
             selecting: Selecting::Off,
             syllabus: 0,
+            dating: Dating::Off,
+            unnamed: UNNAMED,
         },
         at: base,
     }
@@ -90,6 +108,7 @@ fn read_selection(body: &[u8], shape: Shape, at: usize) -> Tails
     if body.len() < end {
         return Tails::Wrong;
     }
+    let dating = shape.dating;
     Tails::Ended {
         shape: Shape {
             base: shape.base,
@@ -99,6 +118,8 @@ fn read_selection(body: &[u8], shape: Shape, at: usize) -> Tails
                 entries,
             },
             syllabus: shape.syllabus,
+            dating,
+            unnamed: shape.unnamed,
         },
         at: end,
     }
@@ -116,33 +137,107 @@ fn read_syllabus(body: &[u8], shape: Shape, at: usize) -> Tails
         return Tails::Wrong;
     }
     let selecting = shape.selecting;
+    let dating = shape.dating;
     Tails::Ended {
         shape: Shape {
             base: shape.base,
             selecting,
             syllabus,
+            dating,
+            unnamed: shape.unnamed,
         },
         at: at + 1,
     }
+}
+
+// A shape with its dates: whether they are on or off, the masks then have names for three bits more.
+fn with_dates(shape: Shape, dating: Dating) -> Shape
+    ensures { λ r. ⌜ r ≡ dates shape dating ⌝ }
+{
+    let selecting = shape.selecting;
+    Shape {
+        base: shape.base,
+        selecting,
+        syllabus: shape.syllabus,
+        dating,
+        unnamed: UNNAMED_DATED,
+    }
+}
+
+// Version 04's tail at a place: dated, 0 or 1; where it is on, 28 + 18p bytes in all.
+fn read_dating(body: &[u8], shape: Shape, at: usize) -> Tails
+    ensures { λ r. ⌜ r ≡ datingTail (now (body .entry)) shape at ⌝ }
+{
+    if body.len() <= at {
+        return Tails::Wrong;
+    }
+    let dated = wire::byte_at(body, at);
+    if dated == 0 {
+        return Tails::Ended {
+            shape: with_dates(shape, Dating::Off),
+            at: at + 1,
+        };
+    }
+    if 1 < dated {
+        return Tails::Wrong;
+    }
+    let end = at + layout::cycles_length(body);
+    if body.len() < end {
+        return Tails::Wrong;
+    }
+    Tails::Ended {
+        shape: with_dates(shape, Dating::On { start: at, end }),
+        at: end,
+    }
+}
+
+// Version 02's tail behind the base; above the paper's version it is off and has no bytes.
+fn add_selection(version: u8, body: &[u8], tails: Tails) -> Tails
+    ensures { λ r. ⌜ r ≡ since 2 version tails (selectionTail (now (body .entry))) ⌝ }
+{
+    let Tails::Ended { shape, at } = tails else {
+        return Tails::Wrong;
+    };
+    if version < SELECTION {
+        return tails;
+    }
+    read_selection(body, shape, at)
+}
+
+// Version 03's tail behind that.
+fn add_syllabus(version: u8, body: &[u8], tails: Tails) -> Tails
+    ensures { λ r. ⌜ r ≡ since 3 version tails (syllabusTail (now (body .entry))) ⌝ }
+{
+    let Tails::Ended { shape, at } = tails else {
+        return Tails::Wrong;
+    };
+    if version < SYLLABUS {
+        return tails;
+    }
+    read_syllabus(body, shape, at)
+}
+
+// Version 04's tail behind that.
+fn add_dating(version: u8, body: &[u8], tails: Tails) -> Tails
+    ensures { λ r. ⌜ r ≡ since 4 version tails (datingTail (now (body .entry))) ⌝ }
+{
+    let Tails::Ended { shape, at } = tails else {
+        return Tails::Wrong;
+    };
+    if version < DATES {
+        return tails;
+    }
+    read_dating(body, shape, at)
 }
 
 // The base and the tails of a version, one behind the other.
 fn read_tails(version: u8, body: &[u8]) -> Tails
     ensures { λ r. ⌜ r ≡ tailsOf version (now (body .entry)) ⌝ }
 {
-    let Tails::Ended { shape, at } = read_base(body) else {
-        return Tails::Wrong;
-    };
-    if version < SELECTION {
-        return Tails::Ended { shape, at };
-    }
-    let Tails::Ended { shape, at } = read_selection(body, shape, at) else {
-        return Tails::Wrong;
-    };
-    if version < SYLLABUS {
-        return Tails::Ended { shape, at };
-    }
-    read_syllabus(body, shape, at)
+    let base = read_base(body);
+    let selecting = add_selection(version, body, base);
+    let rounding = add_syllabus(version, body, selecting);
+    add_dating(version, body, rounding)
 }
 
 // The shape of a body, or refusal 1 where bytes are missing or left over, or a tail is out of range.

@@ -1,6 +1,7 @@
 // The card's state, and what a command comes to.
 ghost use mathlib.Core.Path.{_≡_};
 ghost use Rattle.state.specs.State.{cidOf, uncompletedIn, failedIn, unableIn, missingIn};
+use calendar::Date;
 use iad::Iad;
 use purchase::Purchase;
 use refusal::Refusal;
@@ -63,10 +64,12 @@ pub enum Phase {
     Asked(Pending),
 }
 
+// The last date is that of the last First without a date error.
 pub struct State {
     pub values: Values,
     pub phase: Phase,
     pub atc: u16,
+    pub last: Date,
     pub history: History,
 }
 

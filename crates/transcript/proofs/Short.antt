@@ -13,6 +13,8 @@ use Rattle.rules.specs.declared.Place.{Place}
 use Rattle.rules.specs.Rules.{Rules}
 use Rattle.shape.specs.declared.Selecting.{Selecting}
 use Rattle.shape.specs.declared.Selecting.the-variants.{Off, On}
+use Rattle.shape.specs.declared.Dating.{Dating}
+use Rattle.shape.specs.declared.Dating.the-variants.{Off as DatesOff, On as DatesOn}
 use Rattle.shape.specs.declared.Shape.{Shape}
 use Rattle.paper.specs.declared.Next.{Next}
 use Rattle.paper.specs.declared.Next.the-variants.{Record, Fault, End as PaperEnd}
@@ -25,7 +27,7 @@ use Rattle.command.specs.declared.Command.{Command}
 use Rattle.command.specs.declared.Command.the-variants.{Start as StartCommand, First as FirstCommand, Second as SecondCommand}
 use Rattle.command.specs.declared.ReadCommand.{ReadCommand}
 use Rattle.command.specs.declared.ReadCommand.the-variants.{Taken, Refused as NotTaken}
-use Rattle.command.specs.Command.{startOf, firstOf, secondOf, commandOf, selectingOf, fileIn, readBy, commandIn}
+use Rattle.command.specs.Command.{startOf, firstLength, firstOf, secondOf, commandOf, selectingOf, fileIn, readBy, commandIn}
 use Rattle.state.specs.declared.Answer.{Answer}
 use Rattle.state.specs.declared.Answer.the-variants.{Refused as AnswerRefused, Started, Given}
 use Rattle.state.specs.declared.State.{State}
@@ -73,10 +75,10 @@ answer-short number (Given kind atc iad) = cryptogram-line number (cidOf kind) a
 
 -- ---- a command
 
--- Start gives no cryptogram; First has a body of 12 bytes and Second one of 8
+-- Start gives no cryptogram; First has a body of 12 bytes or more and Second one of 8
 abbrev Sized : Command → (bytes : ℕ) → Type 0
 Sized (StartCommand start) bytes = Unit
-Sized (FirstCommand first) bytes = bytes ≡ 12
+Sized (FirstCommand first) bytes = 12 ≤ bytes
 Sized (SecondCommand second) bytes = bytes ≡ 8
 
 abbrev SizedIn : ReadCommand → (bytes : ℕ) → Type 0
@@ -87,27 +89,35 @@ second-of-both : (a b : Bool) → (a && b) ≡ true → b ≡ true
 second-of-both true b e = e
 second-of-both false b e = absurd (let z : _≡_ {A = ℕ} 0 1 = cc in omega arith)
 
-sized-by-kind : (kind : ℕ) (body : List ℕ) → SizedIn (commandOf kind body) (length body)
+-- with or without its date
+first-length : (dating : Dating) → 12 ≤ firstLength dating
+first-length DatesOff = omega arith
+first-length (DatesOn start end) = omega arith
+
+sized-by-kind : (dating : Dating) (kind : ℕ) (body : List ℕ) → SizedIn (commandOf dating kind body) (length body)
 unfolding commandOf
-sized-by-kind kind body =
-    by (eqb kind 2 && eqb (length body) 1) (eqb kind 3 && eqb (length body) 12) (eqb kind 4 && eqb (length body) 8) refl refl where
-      by : (start first second : Bool) → (eqb kind 3 && eqb (length body) 12) ≡ first → (eqb kind 4 && eqb (length body) 8) ≡ second
+sized-by-kind dating kind body =
+    by (eqb kind 2 && eqb (length body) 1) (eqb kind 3 && eqb (length body) (firstLength dating)) (eqb kind 4 && eqb (length body) 8) refl refl where
+      by : (start first second : Bool) → (eqb kind 3 && eqb (length body) (firstLength dating)) ≡ first → (eqb kind 4 && eqb (length body) 8) ≡ second
           → SizedIn
           (cond start (Taken (StartCommand (startOf body)))
-          (cond first (Taken (FirstCommand (firstOf body))) (cond second (Taken (SecondCommand (secondOf body))) (NotTaken Unreadable))))
+          (cond first (Taken (FirstCommand (firstOf dating body))) (cond second (Taken (SecondCommand (secondOf body))) (NotTaken Unreadable))))
           (length body)
       by true first second e f = tt
-      by false true second e f = eqb-true (length body) 12 (second-of-both (eqb kind 3) (eqb (length body) 12) e)
+      by false true second e f =
+          let size = eqb-true (length body) (firstLength dating) (second-of-both (eqb kind 3) (eqb (length body) (firstLength dating)) e) in
+          omega (arith, first-length dating)
       by false false true e f = eqb-true (length body) 8 (second-of-both (eqb kind 4) (eqb (length body) 8) f)
       by false false false e f = tt
 
-sized : (selecting : Selecting) (paper : List ℕ) (kind : ℕ) (body : List ℕ) → SizedIn (readBy selecting paper kind body) (length body)
+sized : (selecting : Selecting) (dating : Dating) (paper : List ℕ) (kind : ℕ) (body : List ℕ)
+    → SizedIn (readBy selecting dating paper kind body) (length body)
 unfolding selectingOf
-sized Off paper kind body = sized-by-kind kind body
-sized (On start end entries) paper kind body = by (eqb kind 2) refl where
-  by : (b : Bool) → eqb kind 2 ≡ b → SizedIn (selectingOf (fileIn paper start end) entries kind body) (length body)
+sized Off dating paper kind body = sized-by-kind dating kind body
+sized (On start end entries) dating paper kind body = by (eqb kind 2) refl where
+  by : (b : Bool) → eqb kind 2 ≡ b → SizedIn (selectingOf dating (fileIn paper start end) entries kind body) (length body)
   by true e = rw e tt
-  by false e = rw e (sized-by-kind kind body)
+  by false e = rw e (sized-by-kind dating kind body)
 
 module _ (rules : Rules) (state : State) where
   start-gives-none : (start : Start) → NotGiven (stepOf rules state (StartCommand start) .answer)
@@ -152,4 +162,4 @@ record-short rules shape state paper at number = by (nextAt paper at) refl where
       let holds = i .holds in
       let begins = i .start-is in
       by-read end (length (part paper start end)) (commandIn shape paper kind (part paper start end))
-      (unfold commandIn in sized (shape .selecting) paper kind (part paper start end)) (omega arith)
+      (unfold commandIn in sized (shape .selecting) (shape .dating) paper kind (part paper start end)) (omega arith)

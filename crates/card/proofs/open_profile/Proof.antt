@@ -20,7 +20,8 @@ returns-2 c =
 returns-3 : tie.Need-returns-3
 unfolding openingStep
 returns-3 c =
-    let tested = c .before .before .before in
+    let told = c .before .before in
+    let tested = told .before .before in
     let found = tested .before .before .before in
     let is = sym (found .before .before .find-profile .ensures) ∙ found .place .given .1 in
     simp (is, ne-eqb _ _ (tested .if1 .left))

@@ -1,16 +1,18 @@
 use borrow.Author.Needs.{needs}
 use native.Mathlib.Omega.{arith}
-use Rattle.checks.specs.Checks.{accumulatorsLower, accumulatorsUpper, countersLower, countersUpper, decisionBits}
+use Rattle.checks.specs.Checks.{accumulatorsLower, accumulatorsUpper, countersLower, countersUpper, datingFlags, decisionBits}
 use Rattle.checks.proofs.decision_bits.Statement.{statement}
 use Rattle.checks.proofs.decision_bits.Tie as tie
 
 returns : tie.Need-returns
-unfolding decisionBits accumulatorsLower accumulatorsUpper countersLower countersUpper
+unfolding decisionBits accumulatorsLower accumulatorsUpper countersLower countersUpper datingFlags
 returns c =
-    let maximum = c .before .before in
+    let accumulators = c .before .before in
+    let maximum = accumulators .before in
     simp (
-      c .test-counters .ensures,
-      c .before .test-accumulators .ensures,
+      c .test-dating .ensures .0,
+      c .before .test-counters .ensures,
+      accumulators .test-accumulators .ensures,
       maximum .bit .ensures .0,
       maximum .before .exceeds-maximum .ensures,
       maximum .before .before .history-bits .ensures .0,
@@ -19,5 +21,6 @@ returns c =
 pub decision-bits-spec : {M : Type 1} → statement M
 decision-bits-spec =
     tie.close
-    (tie.spec (search needs) (search needs) (search needs) (search needs) (search needs) (search needs) (search needs)
-    (search needs) (search needs) (search needs) (search needs) (search needs) (search needs) (search needs) (search needs) returns)
+    (tie.spec (search needs) (search needs) (search needs) (search needs) (search needs) (search needs) (search needs) (search needs)
+    (search needs) (search needs) (search needs) (search needs) (search needs) (search needs) (search needs) (search needs) (search needs)
+    (search needs) (search needs) returns)

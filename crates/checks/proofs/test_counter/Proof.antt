@@ -13,18 +13,23 @@ returns c =
 
 returns-2 : tie.Need-returns-2
 returns-2 c =
-    let more = c .before .before .before in
+    let lower = c .before .before in
+    let more = lower .before .before in
     let active = more .before in
     let rule = active .before .before .counter-rule in (
       simp (
-        c .limits-exceeded .ensures .0,
+        c .bit3 .ensures .0,
+        lower .bit2 .ensures .0,
         more .bit .ensures .0,
         ← rule .ensures,
         not-false (rule .result .active) (active .if1 .left),
         exceeds-once,
       ),
-      c .limits-exceeded .ensures .1,
+      omega (arith, c .bit3 .ensures .1, lower .bit2 .ensures .1),
     )
 
 pub test-counter-spec : {M : Type 1} → statement M
-test-counter-spec = tie.close (tie.spec (search needs) returns (search needs) (search needs) (search needs) (search needs) (search needs) returns-2)
+test-counter-spec =
+    tie.close
+    (tie.spec (search needs) returns (search needs) (search needs) (search needs) (search needs) (search needs) (search needs) (search needs)
+    (search needs) (search needs) returns-2)

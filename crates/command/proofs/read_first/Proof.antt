@@ -6,7 +6,15 @@ use Rattle.command.proofs.read_first.Tie as tie
 
 returns : tie.Need-returns
 unfolding firstOf
-returns c = simp (c .byte-at2 .ensures, c .before .byte-at .ensures, c .before .before .u16-at .ensures, c .before .before .before .u64-at .ensures)
+returns c =
+    let read = c .before .before in
+    simp (
+      c .read-when .ensures,
+      c .before .byte-at2 .ensures,
+      read .byte-at .ensures,
+      read .before .u16-at .ensures,
+      read .before .before .u64-at .ensures,
+    )
 
 pub read-first-spec : {M : Type 1} → statement M
-read-first-spec = tie.close (tie.spec (search needs) (search needs) (search needs) (search needs) returns)
+read-first-spec = tie.close (tie.spec (search needs) (search needs) (search needs) (search needs) (search needs) returns)

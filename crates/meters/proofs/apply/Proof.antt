@@ -7,14 +7,18 @@ use Rattle.meters.proofs.apply.Tie as tie
 returns : tie.Need-returns
 unfolding applied
 returns c =
-    let count = c .before .before .before in
+    let cycle = c .before .before in
+    let counts = cycle .before .before in
+    let count = counts .before .before .before in
     let fourth = count .before in
     let third = fourth .before .before in
     let second = third .before .before in
     simp (
-      c .change-count4 .ensures,
-      c .before .change-count3 .ensures,
-      c .before .before .change-count2 .ensures,
+      c .change-cyclic2 .ensures,
+      cycle .change-cyclic .ensures,
+      counts .change-count4 .ensures,
+      counts .before .change-count3 .ensures,
+      counts .before .before .change-count2 .ensures,
       count .change-count .ensures,
       fourth .change-amount4 .ensures,
       third .change-amount3 .ensures,
@@ -26,4 +30,5 @@ pub apply-spec : {M : Type 1} → statement M
 apply-spec =
     tie.close
     (tie.spec (search needs) (search needs) (search needs) (search needs) (search needs) (search needs) (search needs) (search needs)
-    (search needs) (search needs) (search needs) (search needs) (search needs) (search needs) (search needs) (search needs) returns)
+    (search needs) (search needs) (search needs) (search needs) (search needs) (search needs) (search needs) (search needs)
+    (search needs) (search needs) (search needs) (search needs) returns)

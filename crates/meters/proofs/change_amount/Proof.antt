@@ -24,15 +24,17 @@ returns c =
 
 returns-2 : tie.Need-returns-2
 returns-2 c =
-    let told = c .before .before .before in
+    let counted = c .before .before in
+    let told = counted .before .before in
     let active = told .before .before in
     let rule = active .before .before .accumulator-rule in
     simp (
       ← rule .ensures,
       not-false (rule .result .active) (active .if1 .left),
-      c .before .if2 .taken,
+      counted .if2 .taken,
       told .change .given .1,
       c .grow .ensures,
+      c .before .worth .ensures,
     )
 
 returns-3 : tie.Need-returns-3
@@ -63,5 +65,5 @@ returns-6 c =
 pub change-amount-spec : {M : Type 1} → statement M
 change-amount-spec =
     tie.close
-    (tie.spec (search needs) returns (search needs) (search needs) returns-2
+    (tie.spec (search needs) returns (search needs) (search needs) (search needs) returns-2
     (search needs) (search needs) (search needs) returns-3 returns-4 returns-5 returns-6)

@@ -7,20 +7,17 @@ use Rattle.meters.proofs.Ledger.{over-stores-max}
 use Rattle.meters.proofs.grow.Statement.{statement}
 use Rattle.meters.proofs.grow.Tie as tie
 
+abbrev amount : ℕ → AccumulatorAmount
+amount n = record { 0 = n }
+
 returns : tie.Need-returns
-returns c =
-    let told = c .before .before in
-    let amount : ℕ → AccumulatorAmount = λ n. record { 0 = n } in
-    simp (← told .before .before .worth .ensures, told .more .given .1) (ap amount (c .plus .ensures))
+returns c = simp (c .before .before .worth .given .1) (ap amount (c .plus .ensures))
 
 returns-2 : tie.Need-returns-2
-returns-2 c =
-    let called = c .before .before in
-    let amount : ℕ → AccumulatorAmount = λ n. record { 0 = n } in
-    simp (← called .worth .ensures, c .enum-told .given .1) (ap amount (sym (over-stores-max (called .before .args .amount .0))))
+returns-2 c = simp (c .enum-told .given .1) (ap amount (sym (over-stores-max (c .before .before .args .amount .0))))
 
 returns-3 : tie.Need-returns-3
-returns-3 c = simp (← c .before .before .worth .ensures, c .enum-told2 .given .1)
+returns-3 c = simp (c .enum-told2 .given .1)
 
 pub grow-spec : {M : Type 1} → statement M
-grow-spec = tie.close (tie.spec (search needs) (search needs) (search needs) (search needs) (search needs) returns returns-2 returns-3)
+grow-spec = tie.close (tie.spec (search needs) (search needs) (search needs) (search needs) returns returns-2 returns-3)

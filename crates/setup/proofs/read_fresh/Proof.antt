@@ -6,12 +6,16 @@ use Rattle.setup.proofs.read_fresh.Tie as tie
 returns : tie.Need-returns
 unfolding freshIn
 returns c =
-    let counters = c .before .before in
+    let amounts = c .before .before .before in
+    let counters = amounts .before .before in
     let first = counters .before .before .before in
     let values = first .before in
     simp (
-      c .byte-at5 .ensures,
-      c .before .u16-at .ensures,
+      c .date-at .ensures,
+      c .before .byte-at5 .ensures,
+      c .before .before .u16-at .ensures,
+      amounts .read-amount2 .ensures,
+      amounts .before .read-amount .ensures,
       counters .byte-at4 .ensures,
       counters .before .byte-at3 .ensures,
       counters .before .before .byte-at2 .ensures,
@@ -26,4 +30,4 @@ pub read-fresh-spec : {M : Type 1} → statement M
 read-fresh-spec =
     tie.close
     (tie.spec (search needs) (search needs) (search needs) (search needs) (search needs) (search needs) (search needs) (search needs)
-    (search needs) (search needs) (search needs) (search needs) (search needs) returns)
+    (search needs) (search needs) (search needs) (search needs) (search needs) (search needs) (search needs) (search needs) returns)

@@ -1,9 +1,8 @@
 use borrow.Author.Needs.{needs}
-use mathlib.Core.Path.{_≡_, sym, _∙_}
-use mathlib.Core.Bool.{true, false}
+use mathlib.Core.Path.{_≡_, sym, ap₂, _∙_}
+use mathlib.Core.Bool.{true, false, _&&_}
 use denote.Ref.{now}
-use Rattle.ranges.specs.Ranges.{isSetup}
-use Rattle.setup.specs.Setup.{readSetup, wordsAfter}
+use Rattle.setup.specs.Setup.{isAccepted, readSetup, wordsAfter}
 use Rattle.setup.proofs.read_setup.Statement.{statement}
 use Rattle.setup.proofs.read_setup.Tie as tie
 
@@ -11,16 +10,24 @@ returns : tie.Need-returns
 unfolding readSetup wordsAfter
 returns c =
     let taken = c .before .before .before in
-    let asked = taken .before in
-    let good : isSetup (now (asked .before .before .args .s)) ≡ true = sym (asked .is-setup .ensures) ∙ taken .if1 .taken in
+    let tail = taken .before in
+    let base = tail .before in
+    let known = base .before .before in
+    let a = known .before .args in
+    let good : isAccepted (now (a .s)) (now (a .t)) (a .unnamed) ≡ true =
+    ap₂ _&&_ (sym (base .is-setup .ensures)) (sym (tail .are-cycles .ensures)) ∙ taken .if1 .taken in
     (simp (good, c .read-fresh .ensures), simp good (c .before .load .ensures))
 
 returns-2 : tie.Need-returns-2
 unfolding readSetup wordsAfter
 returns-2 c =
-    let asked = c .before .before in
-    let bad : isSetup (now (asked .before .before .args .s)) ≡ false = sym (asked .is-setup .ensures) ∙ c .before .if1 .left in
+    let tail = c .before .before in
+    let base = tail .before in
+    let known = base .before .before in
+    let a = known .before .args in
+    let bad : isAccepted (now (a .s)) (now (a .t)) (a .unnamed) ≡ false =
+    ap₂ _&&_ (sym (base .is-setup .ensures)) (sym (tail .are-cycles .ensures)) ∙ c .before .if1 .left in
     (simp (bad, c .no-card .ensures), simp bad)
 
 pub read-setup-spec : {M : Type 1} → statement M
-read-setup-spec = tie.close (tie.spec (search needs) (search needs) (search needs) (search needs) returns returns-2)
+read-setup-spec = tie.close (tie.spec (search needs) (search needs) (search needs) (search needs) (search needs) returns returns-2)

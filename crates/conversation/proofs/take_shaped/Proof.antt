@@ -1,0 +1,30 @@
+use borrow.Author.Needs.{needs}
+use mathlib.Core.Path.{sym}
+use denote.Ref.{now}
+use lib.Seq.{length-take-le}
+use Rattle.conversation.proofs.take_shaped.Statement.{statement}
+use Rattle.conversation.proofs.take_shaped.Tie as tie
+
+place-in-requires : tie.Need-place-in-requires
+place-in-requires c κs = search needs
+
+cycles-in-requires : tie.Need-cycles-in-requires
+cycles-in-requires c κs = c .before .before .pre .0 .tail
+
+slice-aggregate-take-base : tie.Need-slice-aggregate-take-base
+slice-aggregate-take-base c =
+    let called = c .before .before in
+    let start = called .before .before in
+    sym (length-take-le _ (now (start .args .body)) (start .pre .0 .base))
+
+returns : tie.Need-returns
+returns c =
+    let tail = c .before .before .before in
+    let begun = c .take-base .ensures in
+    let is = tail .cycles-in .ensures in
+    let placed = tail .before .place-in .ensures in
+    (simp (begun .0, placed, is), simp (begun .1, placed, is))
+
+pub take-shaped-spec : {M : Type 1} → statement M
+take-shaped-spec =
+    tie.close (tie.spec place-in-requires cycles-in-requires slice-aggregate-take-base (search needs) returns)

@@ -1,0 +1,103 @@
+#include "examples.h"
+
+#include "script.h"
+
+/* One profile: accumulator 1 counts and is sent, the cyclic ones have every
+ * switch. */
+static void begin_sitting(uint32_t last, uint8_t kind_1, uint8_t first_day_1,
+                          uint8_t kind_2, uint8_t first_day_2)
+{
+    struct draft_profile *profile = &setup.profile[0];
+
+    draft_printed_setup(&setup);
+    profiles_blank(1);
+    cyclic(last, kind_1, first_day_1, kind_2, first_day_2);
+    profile->accumulator[0].switches = 3;
+    profile->accumulator[0].lower = 1000000;
+    profile->accumulator[0].upper = 1000000;
+    profile->accumulator_sent = 1;
+    for (unsigned i = 0; i < 2; i++)
+        profile->cyclic[i].switches = 7;
+}
+
+static void buy(uint32_t date, uint64_t amount)
+{
+    start(1);
+    first_on(date, TC, amount);
+}
+
+void day_and_month(void)
+{
+    begin_sitting(0x050715, DAYS, FRI, MONTHS, FRI);
+    setup.profile[0].decline = CYCLIC_1 | CYCLIC_2;
+    setup.profile[0].by_default = CYCLIC_1 | CYCLIC_2;
+    setup.profile[0].cyclic[0].limit = 10000;
+    setup.profile[0].cyclic[1].limit = 15000;
+    begin();
+    buy(0x050715, 6000);
+    buy(0x050715, 4001);
+    buy(0x050715, 4000);
+    buy(0x050716, 5001);
+    buy(0x050716, 5000);
+    buy(0x050801, 10000);
+}
+
+void weeks(void)
+{
+    begin_sitting(0x051230, WEEKS, MON, WEEKS, SUN);
+    setup.profile[0].decline = CYCLIC_1;
+    setup.profile[0].online = CYCLIC_2;
+    for (unsigned i = 0; i < 2; i++) {
+        setup.cyclic[i].amount = 100;
+        setup.profile[0].cyclic[i].limit = 100;
+    }
+    begin();
+    buy(0x051231, 1);
+    buy(0x060101, 1);
+    buy(0x060102, 1);
+    buy(0x060108, 100);
+    buy(0x060108, 99);
+    buy(0x060109, 2);
+}
+
+void date_error(void)
+{
+    begin_sitting(0x050725, MONTHS, FRI, DAYS, FRI);
+    setup.profile[0].decline = CYCLIC_1;
+    setup.profile[0].online = PAST_DATE;
+    setup.cyclic[0].amount = 500;
+    setup.profile[0].cyclic[0].limit = 1000;
+    setup.profile[0].cyclic[1].switches = 0;
+    begin();
+    buy(0x050724, 600);
+    second(TC, OTHER, VERIFIED, 0x80);
+    buy(0x050724, 600);
+    buy(0x050725, 400);
+    buy(0x050724, 1);
+    second(TC, Y3, ABSENT, 0);
+    buy(0x050724, 100);
+    second(TC, OTHER, VERIFIED, 0x81);
+    buy(0x050724, 0);
+    buy(0x050724, 1);
+}
+
+void refused_dates(void)
+{
+    begin_sitting(0x050228, DAYS, FRI, DAYS, FRI);
+    setup.profile[0].decline = CYCLIC_1;
+    setup.cyclic[0].amount = 9;
+    setup.cyclic[1].currency = 0;
+    setup.profile[0].cyclic[0].limit = 9;
+    setup.profile[0].cyclic[1].switches = 0;
+    begin();
+    first_on(0x050229, TC, 1);
+    start(1);
+    first(3, MOST + 1);
+    first(TC, MOST + 1);
+    first(TC, 1);
+    first_on(0x050301, 3, 1);
+    first_on(0x050228, TC, 1);
+    buy(0x050301, 9);
+    start(1);
+    draft_first(draft, TC, 1, EUR, ONLINE_TERMINAL);
+}
