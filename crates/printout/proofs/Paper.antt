@@ -6,11 +6,12 @@ use Prim.Native.Nat.{ℕ, zero, suc, _+_, _*_, _≤_, _<_}
 use native.Mathlib.Omega.{arith}
 use borrow.Author.Tests.{leb-true, leb-false, le-leb}
 use lib.Dec.{eqb}
-use lib.ListN.{length}
+use lib.ListN.{length, getD}
 use lib.Seq.{sets}
 use Rattle.refusal.specs.Refusal.{refusalNumber}
 use Rattle.rules.specs.Rules.{Rules, rulesOf}
 use Rattle.shape.specs.declared.Shape.{Shape}
+use Rattle.command.specs.declared.Command.{Command}
 use Rattle.state.specs.declared.Answer.{Answer}
 use Rattle.state.specs.declared.Answer.the-variants.{Refused as AnswerRefused, Started, Given}
 use Rattle.state.specs.declared.State.{State}
@@ -27,12 +28,19 @@ use Rattle.lines.proofs.Laws.{refusal-line, start-line, selected-line, cryptogr
 use Rattle.transcript.specs.declared.Transcript.the-variants.{Whole, NoRoom}
 use Rattle.transcript.specs.Transcript.{transcriptOf, hasRoom, transcribed, roomAfter, wordsAfter}
 use Rattle.transcript.proofs.Long.{long}
+use Rattle.readback.specs.Fields.{fieldsIn}
+use Rattle.demands.specs.Conversation.{Exchange}
 use Rattle.spelling.specs.Spelling.{Bytes}
+use Rattle.spelling.specs.Shown.{shown, Sized}
+use Rattle.spelling.specs.Printed.{printed, printedLines}
+use Rattle.spelling.proofs.Shown.{answer-shown}
+use Rattle.spelling.proofs.Text.{printed-text}
 use Rattle.papers.specs.Papers.{Accepted}
-use Rattle.papers.specs.Talk.{Heard}
+use Rattle.papers.specs.Talk.{Heard, CutBehind}
 use Rattle.papers.specs.Talk as Talk
 use Rattle.papers.specs.Lines.{linesBy}
 use Rattle.papers.proofs.Events.{lines-are, every-paper}
+use Rattle.papers.proofs.Demands.{paper-line}
 use Rattle.printout.specs.Text.{linesRead, Printed, unread, not-set-up, heard, Holds}
 use Rattle.printout.proofs.Text.{only-lines, held}
 
@@ -141,3 +149,18 @@ module _ (words paper : List ℕ) where
 -- AND OF AN ACCEPTED ONE: the set-up's line, one for each command with its answer, and refusal 9 where a fault ends it
 pub accepted-text : (words paper : List ℕ) → length words ≡ 186 → Bytes paper → Accepted paper → linesRead (transcriptOf words paper) ≡ linesBy paper
 accepted-text words paper lent bytes a = printed-lines words paper ∙ lines-are words paper lent bytes a
+
+-- a command's line says its place and the fields of its answer
+pub line-says : (words paper : List ℕ) → length words ≡ 164 → Bytes paper → Accepted paper
+    → (before : List Exchange) (command : Command) (answer : Answer) (behind : List Event)
+    → CutBehind words paper before (Answered command answer ∷ behind) → suc (length before) < 100_000 → Sized answer
+    → fieldsIn (getD (linesRead (transcriptOf words paper)) (suc (length before)) []) ≡ shown (suc (length before)) answer
+line-says words paper lent bytes a before command answer behind e few sized =
+    let n = suc (length before) in
+    ap (λ (lines : List (List ℕ)). fieldsIn (getD lines n [])) (printed-lines words paper)
+    ∙ ap fieldsIn (paper-line words paper lent bytes a before command answer behind e)
+    ∙ answer-shown n few answer sized
+
+-- DOCUMENT 01'S SITTING
+pub printed-sitting : (words : List ℕ) → length words ≡ 164 → linesRead (transcriptOf words printed) ≡ printedLines
+printed-sitting words lent = printed-lines words printed ∙ printed-text words lent

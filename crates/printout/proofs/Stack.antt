@@ -2,11 +2,11 @@
 use mathlib.Core.Path.{_≡_, refl, sym, ap, _∙_}
 use mathlib.Core.Bool.{Bool, true, false}
 use mathlib.Core.List.{List, [], _∷_, _++_, append-assoc, append-nil}
-use Prim.Native.Nat.{ℕ, zero, suc, _+_, _-_, _^_, _≤_, _<_}
+use Prim.Native.Nat.{ℕ, zero, suc, _+_, _^_, _≤_, _<_}
 use native.Mathlib.Omega.{arith}
-use borrow.Author.Tests.{ltb-true, ltb-false, eqb-true, eqb-false}
-use lib.Dec.{eqb, ltb}
-use lib.ListN.{length, take, drop, replicate, getD, length-append, length-drop, length-replicate, take-append-drop}
+use borrow.Author.Tests.{ltb-true, ltb-false}
+use lib.Dec.{ltb}
+use lib.ListN.{length, take, drop, replicate, length-append, length-drop, length-replicate, take-append-drop}
 use lib.Seq.{length-take-le, take-at, drop-at, take-append-seam, take-take, take-add, drop-drop}
 use Rattle.wire.specs.Wire.{byte, number}
 use Rattle.rules.specs.Word.{wordCount}
@@ -15,12 +15,12 @@ use Rattle.lines.specs.Lines.{digit, decimal, refusalLine}
 use Rattle.lines.specs.Sitting.{sittingLines}
 use Rattle.lines.proofs.Each.{Each, none, more}
 use Rattle.transcript.specs.Transcript.{transcriptOf}
-use Rattle.pages.specs.Stack.{pageOf, cutShort, sizeOf, paperOf, behind, stackOf}
+use Rattle.pages.specs.Stack.{pageOf, sizeOf, paperOf, behind, stackOf}
 use Rattle.pages.proofs.Stack as Front
 use Rattle.pages.proofs.Alone.{words-length, apart}
 use Rattle.spelling.specs.Spelling.{Bytes, big}
 use Rattle.spelling.specs.Faults.{over}
-use Rattle.spelling.proofs.Numbers.{big-length, big-read, big-back, number-small, bytes-take, bytes-drop, peel}
+use Rattle.spelling.proofs.Numbers.{big-length, big-read, big-back, number-small, bytes-drop, peel}
 use Rattle.spelling.proofs.Papers.{nine-line}
 use Rattle.printout.specs.Text.{linesRead}
 use Rattle.printout.specs.Stack.{blockOf, stackWith, Fits, pagesOf, cutLine, tooLongLine, Stacked, whole, cut}
