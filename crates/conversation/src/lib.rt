@@ -5,7 +5,7 @@ ghost use Prim.Native.Nat.{_+_, _<_, _^_};
 ghost use lib.ListN.{length};
 ghost use Rattle.rules.specs.Rules.{rulesOf};
 ghost use Rattle.setup.specs.Setup.{wordsAfter};
-ghost use Rattle.shape.specs.Shape.{Lies, Spans, selectingAt, datingAt, shapeAt};
+ghost use Rattle.shape.specs.Shape.{cyclesPart, Lies, Spans, selectingAt, datingAt, shapeAt};
 ghost use Rattle.shape.specs.declared.ReadShape.the-variants.{Taken as ShapeTaken};
 ghost use Rattle.shape.proofs.Inside.{Inside};
 ghost use Rattle.conversation.specs.Conversation.{answeredBy, takenOf, setUpEvent, refusedAt, baseBegun, shapedBegun, shapedWords};
@@ -189,6 +189,17 @@ fn place_in(shape: Shape, place: usize, bytes: usize) -> Shape
     }
 }
 
+// The tail with dates, no byte where they are off.
+fn cycles_in(dating: Dating, body: &[u8]) -> &[u8]
+    requires { ⌜ Spans dating (length (now body)) ⌝ }
+    ensures { λ r. ⌜ now r ≡ cyclesPart dating (now (body .entry)) ⌝ }
+{
+    match dating {
+        Dating::Off => &body[..0],
+        Dating::On { start, end } => &body[start..end],
+    }
+}
+
 // A set-up of this shape: its base, and its tail with dates where there is one.
 fn take_shaped(shape: Shape, body: &[u8], place: usize, end: usize, words: &mut Words) -> Begun
     requires { ⌜ Inside shape (length (now body)) × (place + length (now body) < 2 ^ 63) ⌝ }
@@ -198,12 +209,8 @@ fn take_shaped(shape: Shape, body: &[u8], place: usize, end: usize, words: &mut 
     let placed = place_in(shape, place, body.len());
     let base = shape.base;
     let dating = shape.dating;
-    match dating {
-        Dating::Off => take_base(placed, &body[..base], &body[..0], end, words),
-        Dating::On { start, end: behind } => {
-            take_base(placed, &body[..base], &body[start..behind], end, words)
-        }
-    }
+    let cycles = cycles_in(dating, body);
+    take_base(placed, &body[..base], cycles, end, words)
 }
 
 // The set-up: its shape is read, and then what it says, or refused.

@@ -11,7 +11,6 @@ use Rattle.calendar.specs.declared.Date.{Date}
 use Rattle.money.specs.Money.{max}
 use Rattle.refusal.specs.declared.Refusal.{Refusal}
 use Rattle.iad.specs.declared.Cvr.{Cvr}
-use Rattle.iad.specs.declared.Iad.{Iad}
 use Rattle.rules.specs.declared.Place.{Place}
 use Rattle.rules.specs.declared.Values.{Values}
 use Rattle.rules.specs.Rules.{Rules, Profile, indexOf, profileAt}

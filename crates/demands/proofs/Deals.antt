@@ -9,7 +9,7 @@ use lib.Dec.{eqb}
 use lib.ListN.{length}
 use Rattle.wire.specs.Wire.{byte}
 use Rattle.calendar.specs.declared.Date.{Date}
-use Rattle.calendar.specs.Calendar.{dateAt, isDay}
+use Rattle.calendar.specs.Calendar.{dateAt}
 use Rattle.calendar.specs.Almanac.{dateAfter}
 use Rattle.calendar.proofs.Dates.{calendar-days}
 use Rattle.money.specs.Money.{max}
@@ -20,7 +20,6 @@ use Rattle.rules.specs.declared.Values.{Values}
 use Rattle.rules.specs.Rules.{Rules}
 use Rattle.ranges.proofs.Accepted.{CyclesAccepted}
 use Rattle.setup.specs.Setup.{freshIn, readSetup}
-use Rattle.command.specs.declared.When.{When}
 use Rattle.command.specs.declared.First.{First}
 use Rattle.command.specs.declared.Second.{Second}
 use Rattle.command.specs.declared.Command.{Command}
@@ -232,7 +231,7 @@ module _ (setup : Setup) (good : AcceptedSetup setup) where
         ruled-keeps setup good (Deals setup) (λ sitting ruled h command. did-deals setup sitting ruled h (did-by setup sitting ruled command))
         begin-deals commands
 
-    -- THE LAST DATE
+    -- THE LAST DATE, whichever commands carry one: before the first, on a card without dates, both calendars put 000000 before every day
     pub last-date : sat setup commands .state .last ≡ lastDate setup (sat setup commands .log)
     last-date = always-deals .last-date-is
 

@@ -28,7 +28,7 @@ use Rattle.state.specs.declared.Outcome.{Outcome}
 use Rattle.cycles.specs.Cycles.{timingOf, dated}
 use Rattle.first.specs.First.{firstPerformed, firstAnswered, firstKind, settled, asked, concluded}
 use Rattle.second.specs.Second.{secondPerformed, isUnable, unablePerformed, verifiedPerformed, failedPerformed, absentPerformed, closed}
-use Rattle.card.specs.Card.{refused, freshState}
+use Rattle.card.specs.Card.{freshState}
 use Rattle.demands.specs.Audit.{isAccepted}
 use Rattle.demands.specs.Setup.{Setup}
 use Rattle.demands.specs.Conversation.{Sitting, told, satBy}

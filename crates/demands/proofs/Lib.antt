@@ -12,6 +12,7 @@ pub mod Past
 pub mod Refusal
 pub mod Limit
 pub mod Computed
+pub mod Sittings
 pub mod Witness
 pub mod Only
 pub mod Decision
@@ -21,6 +22,5 @@ pub mod Answers
 pub mod Sendable
 pub mod Edges
 pub mod Selected
-pub mod Sittings
 pub mod Samples
 pub mod Declines

@@ -1,9 +1,9 @@
 -- Demand 1: every command gets an answer, in its kind; its number is the first that applies; a refusal leaves the card as it was.
 -- Assumes nothing.
 use mathlib.Core.Path.{_≡_, refl, sym, ap, subst, _∙_}
-use mathlib.Core.Bool.{Bool, true, false, cond, _&&_, _||_}
+use mathlib.Core.Bool.{Bool, true, false, cond, _&&_}
 use mathlib.Core.List.{List}
-use Prim.Native.Nat.{ℕ, _+_, _*_, _≤_, _<_}
+use Prim.Native.Nat.{ℕ, _≤_, _<_}
 use native.Mathlib.Nat.{le-antisymm}
 use native.Mathlib.Omega.{arith}
 use borrow.Author.Tests.{ltb-true, ltb-false, leb-true, leb-false, eqb-true, eqb-false}
@@ -42,7 +42,7 @@ use Rattle.second.specs.Second.{secondPerformed}
 use Rattle.card.specs.Card.{Ruling, refuse, take, ruleStart, ruleOpening, isDated, ruleFirst, ruleSecond, carried, startPerformed, startStep}
 use Rattle.card.specs.Card.{firstStep, secondStep, stepOf, answerNumber}
 use Rattle.demands.proofs.Found.{Holds, Known, known, below-four}
-use Rattle.demands.specs.Setup.{Setup, byteAt, AcceptedSetup}
+use Rattle.demands.specs.Setup.{Setup, AcceptedSetup}
 use Rattle.demands.specs.Conversation.{rulesBy, sat, next}
 use Rattle.demands.specs.Audit.{isAccepted, inForce}
 use Rattle.demands.specs.Past.{atcBy}
@@ -141,8 +141,13 @@ first-ruled (Opened place) first = by-type (ltb 2 (first .requested)) refl where
   by-day : Fielded first → (d : Bool) → isDated (first .when) ≡ d → Ruled (FirstRow aFirst first) (cond d (take place) (refuse NotADay))
   by-day f true e =
       λ m.
-      elim [ no-start n h ↦ h | type-three n h ↦ omega (arith, f .type) | above-max n h ↦ omega (arith, f .amount) | not-digits n h ↦ h (f .digits)
-      | not-a-day n h ↦ day-there (first .when) e h ]
+      elim [
+        | no-start n h ↦ h
+        | type-three n h ↦ omega (arith, f .type)
+        | above-max n h ↦ omega (arith, f .amount)
+        | not-digits n h ↦ h (f .digits)
+        | not-a-day n h ↦ day-there (first .when) e h
+      ]
   by-day f false e = (not-a-day refl (no-day (first .when) e), λ m l row. omega (arith, first-least row .1 opened .2 f))
 
   by-currency : first .requested ≤ 2 → first .amount .0 ≤ max → (c : Bool) → isCurrency (first .currency) ≡ c
@@ -318,8 +323,13 @@ module _ (Known : ℕ → Type 0) (atc : ℕ) (due : Due) where
   some-number : (command : Command) (n : ℕ) → Applies Known atc due command n → 0 < n
   some-number (StartCommand start) n = elim [ not-selected e h ↦ omega arith | not-in-setup e h ↦ omega arith | used-up e h ↦ omega arith ]
   some-number (FirstCommand first) n =
-      elim [ no-start e h ↦ omega arith | type-three e h ↦ omega arith | above-max e h ↦ omega arith | not-digits e h ↦ omega arith
-      | not-a-day e h ↦ omega arith ]
+      elim [
+        | no-start e h ↦ omega arith
+        | type-three e h ↦ omega arith
+        | above-max e h ↦ omega arith
+        | not-digits e h ↦ omega arith
+        | not-a-day e h ↦ omega arith
+      ]
   some-number (SecondCommand second) n = elim [ no-arqc e h ↦ omega arith | type-two e h ↦ omega arith | issuer-data e h ↦ omega arith ]
 
 one-rank : (n m : ℕ) → 0 < n → 0 < m → rank n ≡ rank m → n ≡ m

@@ -1,8 +1,8 @@
 -- The demands where profiles are selected: they read on from the profile that selection over the file's bytes gives. Assumes nothing.
 use mathlib.Core.Path.{_≡_, refl, ap}
-use mathlib.Core.Bool.{Bool, true, false, cond}
+use mathlib.Core.Bool.{Bool, true, false}
 use mathlib.Core.List.{List}
-use Prim.Native.Nat.{ℕ, _+_, _≤_}
+use Prim.Native.Nat.{ℕ, _≤_}
 use native.Mathlib.Omega.{arith}
 use lib.Dec.{eqb}
 use Rattle.rules.specs.declared.Found.{Found}
@@ -20,7 +20,7 @@ use Rattle.state.specs.declared.Answer.the-variants.{Refused, Started, Given}
 use Rattle.state.specs.declared.Kind.{Kind}
 use Rattle.state.specs.declared.State.{State}
 use Rattle.iad.specs.declared.Iad.{Iad}
-use Rattle.card.specs.Card.{refuse, take, ruleStart, ruleOpening, carried, startPerformed, startStep, stepOf}
+use Rattle.card.specs.Card.{ruleStart, ruleOpening, carried, startPerformed, startStep, stepOf}
 use Rattle.state.specs.declared.Outcome.{Outcome}
 use Rattle.demands.specs.Setup.{Setup, AcceptedSetup}
 use Rattle.purchase.specs.Meter.{Meter, IsMeter, valueOf}

@@ -64,15 +64,16 @@ module _ (rules : Rules) (state : State) where
   first-did first Idle is = refused-it OutOfTurn
   first-did first (Asked pending) is = refused-it OutOfTurn
   first-did first (Opened place) is =
-      by (ltb 2 (first .requested)) refl (leb (first .amount .0) max) refl (isCurrency (first .currency)) (isDated (first .when)) refl where
-    by : (a : Bool) → ltb 2 (first .requested) ≡ a → (b : Bool) → leb (first .amount .0) max ≡ b → (c d : Bool) → isDated (first .when) ≡ d
-        → Did rules state (FirstCommand first) (carried state (firstPerformed rules state first)
-        (cond a (refuse BadType) (cond (b && c) (cond d (take place) (refuse NotADay)) (refuse OutOfRange))))
-    by true t b m c d w = refused-it BadType
-    by false t true m true true w = took-first first place is (ltb-false 2 (first .requested) t) (leb-true (first .amount .0) max m) w
-    by false t true m true false w = refused-it NotADay
-    by false t true m false d w = refused-it OutOfRange
-    by false t false m c d w = refused-it OutOfRange
+      by (ltb 2 (first .requested)) refl (leb (first .amount .0) max) refl (isCurrency (first .currency)) (isDated (first .when)) refl
+    where
+      by : (a : Bool) → ltb 2 (first .requested) ≡ a → (b : Bool) → leb (first .amount .0) max ≡ b → (c d : Bool) → isDated (first .when) ≡ d
+          → Did rules state (FirstCommand first) (carried state (firstPerformed rules state first)
+          (cond a (refuse BadType) (cond (b && c) (cond d (take place) (refuse NotADay)) (refuse OutOfRange))))
+      by true t b m c d w = refused-it BadType
+      by false t true m true true w = took-first first place is (ltb-false 2 (first .requested) t) (leb-true (first .amount .0) max m) w
+      by false t true m true false w = refused-it NotADay
+      by false t true m false d w = refused-it OutOfRange
+      by false t false m c d w = refused-it OutOfRange
 
   second-did : (second : Second) (phase : Phase) → state .phase ≡ phase
       → Did rules state (SecondCommand second) (carried state (secondPerformed rules state second) (ruleSecond phase second))

@@ -1,5 +1,5 @@
--- The premises of demand 3's theorems are met: by the set-up of the printed sitting, in which a guarding profile approves; and the
--- sitting's lines are those that document 01 prints. Assumes nothing.
+-- The premises of demand 3's theorems are met: by the set-up of the printed sitting, in which a guarding profile approves, and by one with
+-- dates; and the sitting's lines are those that document 01 prints. Assumes nothing.
 use mathlib.Core.Path.{_≡_, refl}
 use mathlib.Core.Bool.{Bool, true, false, _&&_}
 use mathlib.Core.List.{List, [], _∷_}
@@ -10,12 +10,13 @@ use lib.Dec.{ltb}
 use Rattle.wire.specs.Wire.{byte}
 use Rattle.command.specs.declared.Command.{Command}
 use Rattle.demands.specs.Setup.{Setup, AcceptedSetup}
-use Rattle.purchase.specs.Meter.{accumulator, valueOf}
-use Rattle.demands.specs.Conversation.{sat, next}
-use Rattle.demands.specs.Audit.{upperOf, inForce, placeBy, approves}
+use Rattle.purchase.specs.Meter.{Meter, accumulator, cyclic, valueOf}
+use Rattle.demands.specs.Conversation.{told, sat, next}
+use Rattle.demands.specs.Audit.{upperOf, takesUp, bought, inForce, placeBy, approves}
 use Rattle.demands.specs.Guards.{Guards}
 use Rattle.demands.specs.Printed.{body, start, first, second, commands, linesOf, lines}
 use Rattle.demands.proofs.Computed.{computed}
+use Rattle.demands.proofs.Sittings.{spending, firstOn, onDay}
 
 abbrev areBytes : List ℕ → Bool
 areBytes [] = true
@@ -45,18 +46,59 @@ pub printed : linesOf (sat setup commands .log) ≡ lines
 unfolding body commands lines computed
 printed = refl
 
--- an approval happens: the answer approves, the value is what it is after it, and the profile guards accumulator 1 against 10000
-pub record Approval (before : List Command) (command : Command) (value : ℕ) : Type 0 where
-  pub guards : Guards (inForce setup (sat setup before .log)) (placeBy setup (sat setup before .log)) (accumulator 0)
+-- an approval happens: the answer approves a purchase that the meter takes up, the value is what it is after it, and the profile guards the
+-- meter against its upper limit
+pub record Approval (setup : Setup) (meter : Meter) (before : List Command) (command : Command) (value upper : ℕ) : Type 0 where
+  pub guards : Guards (inForce setup (sat setup before .log)) (placeBy setup (sat setup before .log)) meter
   pub approves-it : approves command (next setup before command .answer) ≡ true
-  pub value-is : valueOf (next setup before command .state .values) (accumulator 0) ≡ value
-  pub upper-is : upperOf (inForce setup (sat setup before .log)) (placeBy setup (sat setup before .log)) (accumulator 0) ≡ 10000
+  pub takes-it-up : takesUp (bought setup (told (sat setup before) command .log)) meter ≡ true
+  pub value-is : valueOf (next setup before command .state .values) meter ≡ value
+  pub upper-is : upperOf (inForce setup (sat setup before .log)) (placeBy setup (sat setup before .log)) meter ≡ upper
 
 -- APPROVALS UNDER A GUARDING PROFILE, at First and at Second after Y3
-pub at-first : Approval (start ∷ []) (first 5000) 5000
+pub at-first : Approval setup (accumulator 0) (start ∷ []) (first 5000) 5000 10000
 unfolding body computed
-at-first = record { guards = record { active = refl; included = refl; decline = refl; default = refl }; approves-it = refl; value-is = refl; upper-is = refl }
+at-first =
+    record {
+      guards = record { active = refl; included = refl; decline = refl; default = refl };
+      approves-it = refl;
+      takes-it-up = refl;
+      value-is = refl;
+      upper-is = refl;
+    }
 
-pub at-second : Approval (start ∷ first 5000 ∷ start ∷ first 1 ∷ []) second 5001
+pub at-second : Approval setup (accumulator 0) (start ∷ first 5000 ∷ start ∷ first 1 ∷ []) second 5001 10000
 unfolding body computed
-at-second = record { guards = record { active = refl; included = refl; decline = refl; default = refl }; approves-it = refl; value-is = refl; upper-is = refl }
+at-second =
+    record {
+      guards = record { active = refl; included = refl; decline = refl; default = refl };
+      approves-it = refl;
+      takes-it-up = refl;
+      value-is = refl;
+      upper-is = refl;
+    }
+
+-- and of a cyclic accumulator, whose day begins at First: 1000 were spent the day before
+abbrev pub dated-setup : Setup
+dated-setup = spending 1 7 0x03 0xE8
+
+pub dated-good : AcceptedSetup dated-setup
+unfolding spending computed
+dated-good =
+    record {
+      bytes = record { below = bytes-of (dated-setup .bytes) refl };
+      tail-bytes = record { below = bytes-of (dated-setup .tail) refl };
+      taken = refl;
+      tail-taken = refl;
+    }
+
+pub in-a-cycle : Approval dated-setup (cyclic 0) (start ∷ []) (firstOn (onDay 0x00 0x07 0x16) 900 0x0978 1) 900 1000
+unfolding spending computed
+in-a-cycle =
+    record {
+      guards = record { active = refl; included = refl; decline = refl; default = refl };
+      approves-it = refl;
+      takes-it-up = refl;
+      value-is = refl;
+      upper-is = refl;
+    }

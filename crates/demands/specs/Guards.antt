@@ -1,4 +1,4 @@
--- When a profile guards an accumulator or a counter (demand 3): read in the set-up's bytes.
+-- When a profile guards an accumulator, a counter or a cyclic accumulator (demand 3): read in the set-up's bytes.
 use mathlib.Core.Path.{_≡_}
 use mathlib.Core.Bool.{true}
 use Prim.Native.Nat.{ℕ, _+_, _^_}

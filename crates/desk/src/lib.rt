@@ -5,78 +5,13 @@ ghost use lib.ListN.{length};
 use pages::Turned;
 use pages::Wants;
 use rules::Words;
+use streams::Ending;
+use streams::Read;
 use transcript::Transcript;
-
-enum Ending {
-    // Everything was read, answered and written.
-    Done,
-    CutShort,
-    NotRead,
-    NotWritten,
-}
-
-// The bytes that are there after a read, or that it failed.
-struct Read {
-    pub filled: usize,
-    pub failed: bool,
-}
-
-// Reads once, behind the bytes that are there. No more of them is the input's end.
-fn read_on(buffer: &mut [u8], filled: usize) -> Read
-    requires { ⌜ filled ≤ length (now buffer) ⌝ }
-    ensures { λ r. ⌜ (filled ≤ r .filled) × (r .filled ≤ length (now (buffer .entry))) ⌝ }
-{
-    let got = libc::read(0, &mut buffer[filled..]);
-    let more = io::count(got, &buffer[filled..]);
-    Read {
-        filled: filled + more,
-        failed: got < 0,
-    }
-}
-
-// Writes what stands before a place of the room.
-fn write_out(room: &[u8], to: usize) -> bool {
-    if room.len() < to {
-        return false;
-    }
-    io::write_all(1, &room[..to])
-}
-
-// Says on descriptor 3 how it ended. Whoever started the program believes nothing else.
-fn acknowledge(ending: Ending) {
-    match ending {
-        Ending::Done => io::write_all(3, b"done\n"),
-        Ending::CutShort => io::write_all(3, b"cut short\n"),
-        Ending::NotRead => io::write_all(3, b"not read\n"),
-        Ending::NotWritten => io::write_all(3, b"not written\n"),
-    }
-    ;
-}
-
-// Reads until the input ends, the buffer is full or a read fails.
-fn read_all(buffer: &mut [u8]) -> Read
-    ensures { λ r. ⌜ r .filled ≤ length (now (buffer .entry)) ⌝ }
-{
-    let mut filled: usize = 0;
-    while filled < buffer.len() {
-        let read = read_on(buffer, filled);
-        if read.failed {
-            return read;
-        }
-        if read.filled == filled {
-            return read;
-        }
-        filled = read.filled;
-    }
-    Read {
-        filled,
-        failed: false,
-    }
-}
 
 // One paper, read into a buffer of a byte more than the longest.
 fn sit(buffer: &mut [u8], words: &mut Words, room: &mut [u8]) -> Ending {
-    let read = read_all(buffer);
+    let read = streams::read_all(buffer);
     if read.failed {
         return Ending::NotRead;
     }
@@ -84,7 +19,7 @@ fn sit(buffer: &mut [u8], words: &mut Words, room: &mut [u8]) -> Ending {
     let Transcript::Whole { end } = transcript::transcribe(&buffer[..filled], words, room, 0) else {
         return Ending::NotWritten;
     };
-    if write_out(room, end) {
+    if streams::write_out(room, end) {
         return Ending::Done;
     }
     Ending::NotWritten
@@ -106,7 +41,7 @@ fn read_more(buffer: &mut [u8], at: usize, filled: usize) -> Read
     ensures { λ r. ⌜ r .filled ≤ length (now (buffer .entry)) ⌝ }
 {
     move_up(buffer, at, filled);
-    read_on(buffer, filled - at)
+    streams::read_on(buffer, filled - at)
 }
 
 // The block at the front of the bytes at hand.
@@ -130,7 +65,7 @@ fn close(left: usize, skip: usize, room: &mut [u8], to: usize) -> Ending {
     let Transcript::Whole { end } = pages::finish(left, skip, room, to) else {
         return Ending::NotWritten;
     };
-    if !write_out(room, end) {
+    if !streams::write_out(room, end) {
         return Ending::NotWritten;
     }
     if (left == 0) & (skip == 0) {
@@ -156,7 +91,7 @@ fn turn_pages(buffer: &mut [u8], words: &mut Words, room: &mut [u8]) -> Ending {
         match wants {
             Wants::Turn => {}
             Wants::Room => {
-                if !write_out(room, to) {
+                if !streams::write_out(room, to) {
                     return Ending::NotWritten;
                 }
                 to = 0;
@@ -165,7 +100,7 @@ fn turn_pages(buffer: &mut [u8], words: &mut Words, room: &mut [u8]) -> Ending {
                 let left = filled - at;
                 let read = read_more(buffer, at, filled);
                 if read.failed {
-                    write_out(room, to);
+                    streams::write_out(room, to);
                     return Ending::NotRead;
                 }
                 if read.filled == left {
@@ -183,12 +118,12 @@ pub fn run_sitting() {
     let mut buffer = [0u8; 65_537];
     let mut room = [0u8; 524_378];
     let mut words = rules::blank();
-    acknowledge(sit(&mut buffer, &mut words, &mut room));
+    streams::acknowledge(sit(&mut buffer, &mut words, &mut room));
 }
 
 pub fn run_stack() {
     let mut buffer = [0u8; 65_540];
     let mut room = [0u8; 524_378];
     let mut words = rules::blank();
-    acknowledge(turn_pages(&mut buffer, &mut words, &mut room));
+    streams::acknowledge(turn_pages(&mut buffer, &mut words, &mut room));
 }

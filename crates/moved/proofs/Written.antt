@@ -27,12 +27,12 @@ use Rattle.moved.specs.Moved.{Moved, Read}
 use Rattle.moved.proofs.Kept.{kept}
 
 -- ---- digits and shift of a rate that is taken are in a set-up's ranges
-record InRange (digits shift : ℕ) : Type 0 where
-  least : 1 ≤ digits
-  most : digits ≤ 9999
-  bound : shift ≤ 12
+pub record InRange (digits shift : ℕ) : Type 0 where
+  pub least : 1 ≤ digits
+  pub most : digits ≤ 9999
+  pub bound : shift ≤ 12
 
-in-range : {rate : Float} {digits shift : ℕ} → Taken rate digits shift → InRange digits shift
+pub in-range : {rate : Float} {digits shift : ℕ} → Taken rate digits shift → InRange digits shift
 in-range (divided e is q least) = let bound = q .bound in record { least = q .least; most = q .most; bound = omega arith }
 in-range (multiplied k is p none least) = let bound = p .bound in record { least = p .least; most = p .most; bound = omega arith }
 

@@ -2,12 +2,14 @@
 use mathlib.Core.Path.{_≡_, sym, ap, subst, subst₂, subst₃, _∙_}
 use mathlib.Core.Bool.{true}
 use mathlib.Core.List.{List, [], _∷_, _++_, append-assoc}
-use Prim.Native.Nat.{ℕ, suc, _+_, _≤_}
+use Prim.Native.Nat.{ℕ, suc, _+_, _≤_, _<_}
 use native.Mathlib.Omega.{arith}
 use lib.ListN.{length, replicate, getD, length-append}
 use Rattle.refusal.specs.declared.Refusal.{Refusal}
+use Rattle.calendar.specs.Almanac.{dateAfter}
 use Rattle.iad.specs.declared.Iad.{Iad}
 use Rattle.iad.specs.Iad.{written}
+use Rattle.rules.specs.Word.{wordCount}
 use Rattle.purchase.specs.Meter.{Meter, IsMeter, valueOf}
 use Rattle.command.specs.declared.Start.{Start}
 use Rattle.command.specs.declared.First.{First}
@@ -26,7 +28,7 @@ use Rattle.lines.specs.Sitting.{answerLine, linesOf, sittingLines}
 use Rattle.demands.specs.Setup.{Setup, AcceptedSetup}
 use Rattle.demands.specs.Conversation.{Exchange, Sitting, rulesBy, sat, next}
 use Rattle.demands.specs.Ledger.{owed}
-use Rattle.demands.specs.Audit.{capOf, startOf, approves, upperOf, brought, inForce, placeBy, ledger, audited}
+use Rattle.demands.specs.Audit.{capOf, startOf, approves, upperOf, brought, bought, lastDate, inForce, placeBy, takesUp, ledger, tested}
 use Rattle.demands.specs.Guards.{Guards}
 use Rattle.demands.specs.Past.{past, atcBy, Says}
 use Rattle.demands.specs.Due.{due, dueIn, InKind}
@@ -36,18 +38,19 @@ use Rattle.demands.specs.Verification.{Gives}
 use Rattle.demands.proofs.Total.{total}
 use Rattle.demands.proofs.Limit.{limit}
 use Rattle.demands.proofs.Past.{history, atc, said}
+use Rattle.demands.proofs.Deals.{last-date, last-day}
 use Rattle.demands.proofs.Ends.{due-is}
 use Rattle.demands.proofs.Refusal.{numbered, in-kind, refusal-keeps}
 use Rattle.demands.proofs.First.{first-answers}
 use Rattle.demands.proofs.Answers.{gives}
 use Rattle.demands.proofs.Sendable.{written-out}
 use Rattle.spelling.specs.Spelling.{Bytes}
-use Rattle.papers.specs.Papers.{restIn, setupOf, choiceOf, Accepted, walked, commandsOf, faulty, Chosen}
+use Rattle.papers.specs.Papers.{restIn, setupOf, mannerOf, choiceOf, datesOf, Accepted, walked, commandsOf, faulty, Chosen, Timed}
 use Rattle.papers.specs.Talk.{allAnswered, CutBehind, newest, cardAfter}
-use Rattle.papers.proofs.Setups.{good, begins}
+use Rattle.papers.proofs.Setups.{good-setup, begins}
 use Rattle.papers.proofs.Walk.{walk-cards}
 use Rattle.papers.proofs.Talk.{fresh, run-one, Cut, cut, NextSaid, next-said}
-use Rattle.papers.proofs.Starts.{Met, all-met, met-start}
+use Rattle.papers.proofs.Starts.{Met, all-met, met-right}
 use Rattle.papers.proofs.Events.{happened-there}
 
 line-at : (n : ℕ) (before : List Exchange) (command : Command) (answer : Answer) (more : List Event)
@@ -56,12 +59,12 @@ unfolding linesOf
 line-at n [] command answer more = ap (λ (k : ℕ). answerLine k answer) (omega arith)
 line-at n (x ∷ before) command answer more = line-at (n + 1) before command answer more ∙ ap (λ (k : ℕ). answerLine k answer) (omega arith)
 
-module _ (words paper : List ℕ) (lent : length words ≡ 164) (bytes : Bytes paper) (a : Accepted paper) where
+module _ (words paper : List ℕ) (lent : length words ≡ wordCount) (bytes : Bytes paper) (a : Accepted paper) where
   abbrev setup : Setup
   setup = setupOf paper
 
   accepted : AcceptedSetup setup
-  accepted = good paper a bytes
+  accepted = good-setup paper a bytes
 
   -- the conversation's card after some of the commands is the one that heard them
   card-is : (heard left : List Command) → commandsOf paper ≡ heard ++ left → cardAfter words paper (length heard) ≡ sat setup heard .state
@@ -69,7 +72,7 @@ module _ (words paper : List ℕ) (lent : length words ≡ 164) (bytes : Bytes p
   card-is heard left e =
       let b = begins words paper lent bytes a in
       rw (b .begun-is, b .rules)
-      (walk-cards (rulesBy setup) (b .shape) paper (b .lies) (length paper) heard (fresh setup .state) [] (b .at) left (rw (b .chosen, b .rest) e))
+      (walk-cards (rulesBy setup) (b .shape) paper (b .lies) (length paper) heard (fresh setup .state) [] (b .at) left (rw (b .manner, b .rest) e))
 
   module _ (before : List Exchange) (more : List Event) (e : CutBehind words paper before more) where
     place : Cut (fresh setup) (commandsOf paper) (faulty paper) before more
@@ -99,6 +102,14 @@ module _ (words paper : List ℕ) (lent : length words ≡ 164) (bytes : Bytes p
 
     pub paper-atc : cardAfter words paper (length before) .atc ≡ atcBy setup (newest before)
     paper-atc = at-cut (λ log card. card .atc ≡ atcBy setup log) (atc setup accepted)
+
+    -- THE LAST DATE, which is a calendar day where the paper is dated
+    pub paper-last-date : cardAfter words paper (length before) .last ≡ lastDate setup (newest before)
+    paper-last-date = at-cut (λ log card. card .last ≡ lastDate setup log) (last-date setup accepted)
+
+    pub paper-last-day : 0 < length (setup .tail) → (n : ℕ) × (n < 36525) × (lastDate setup (newest before) ≡ dateAfter n)
+    paper-last-day on =
+        at-cut (λ log card. (n : ℕ) × (n < 36525) × (lastDate setup log ≡ dateAfter n)) (λ commands. last-day setup accepted commands on)
 
   module _ (before : List Exchange) (command : Command) (answer : Answer) (more : List Event)
       (e : CutBehind words paper before (Answered command answer ∷ more)) where
@@ -146,10 +157,13 @@ module _ (words paper : List ℕ) (lent : length words ≡ 164) (bytes : Bytes p
         ∙ ap (λ (k : ℕ). answerLine k answer) (omega arith)
 
     -- DEMAND 3, THE UPPER LIMIT: no offline approval under a guarding profile leaves the value above it
+    -- (of a cyclic accumulator, no approval without a date error)
     pub paper-limit : (meter : Meter) → IsMeter meter → Guards (inForce setup log) (placeBy setup log) meter → approves command answer ≡ true
+        → takesUp (bought setup (record { command = command; answer = answer } ∷ log)) meter ≡ true
         → valueOf (then .values) meter ≤ upperOf (inForce setup log) (placeBy setup log) meter
     paper-limit meter is =
         at-turn (λ log card outcome. Guards (inForce setup log) (placeBy setup log) meter → approves command (outcome .answer) ≡ true
+        → takesUp (bought setup (record { command = command; answer = outcome .answer } ∷ log)) meter ≡ true
         → valueOf (outcome .state .values) meter ≤ upperOf (inForce setup log) (placeBy setup log) meter)
         (λ commands. limit setup accepted commands command meter is)
 
@@ -173,21 +187,27 @@ module _ (words paper : List ℕ) (lent : length words ≡ 164) (bytes : Bytes p
     pub paper-gives : Gives setup log command (record { state = then; answer = answer })
     paper-gives = at-turn (λ log card outcome. Gives setup log command outcome) (λ commands. gives setup accepted commands command)
 
-    -- a Start's profile is the one that its record names, or the one that the paper's file gives for the terminal's data in it
-    pub paper-chosen : (start : Start) → command ≡ StartCommand start → Chosen (choiceOf paper) start
+    -- a Start's profile is the one that its record names, or the one that the paper's file gives for the terminal's data in it; and a First has its
+    -- date in a dated paper
+    met : Met (mannerOf paper) command
     unfolding walked
-    paper-chosen start is =
+    met =
         let whole = here .whole ∙ ap (λ (l : List Command). here .heard ++ l) (its .left-is) in
-        let met = all-met (choiceOf paper) (length paper) (restIn paper) (here .heard) command (its .behind) whole in
-        met-start (choiceOf paper) start (subst (Met (choiceOf paper)) is met)
+        all-met (mannerOf paper) (length paper) (restIn paper) (here .heard) command (its .behind) whole
+
+    pub paper-chosen : (start : Start) → command ≡ StartCommand start → Chosen (choiceOf paper) start
+    paper-chosen start is = met-right (mannerOf paper) (StartCommand start) (subst (Met (mannerOf paper)) is met)
+
+    pub paper-timed : (first : First) → command ≡ FirstCommand first → Timed (datesOf paper) first
+    paper-timed first is = met-right (mannerOf paper) (FirstCommand first) (subst (Met (mannerOf paper)) is met)
 
     pub paper-first-answers : (first : First) (kind : Kind) (number : ℕ) (iad : Iad) → command ≡ FirstCommand first → answer ≡ Given kind number iad
         → FirstAnswers (inForce setup log) (placeBy setup log) first
-        (flags (inForce setup log) (placeBy setup log) (brought first) (audited setup log) (past setup log)) kind
+        (flags (inForce setup log) (placeBy setup log) (brought (lastDate setup log) first) (tested setup log first) (past setup log)) kind
     paper-first-answers first kind number iad is =
         at-turn (λ log card outcome. outcome .answer ≡ Given kind number iad
         → FirstAnswers (inForce setup log) (placeBy setup log) first
-        (flags (inForce setup log) (placeBy setup log) (brought first) (audited setup log) (past setup log)) kind)
+        (flags (inForce setup log) (placeBy setup log) (brought (lastDate setup log) first) (tested setup log first) (past setup log)) kind)
         (λ commands g. first-answers setup accepted commands first kind number iad (ap (λ (c : Command). next setup commands c .answer) (sym is) ∙ g))
 
     pub paper-said : Says answer (atcBy setup (record { command = command; answer = answer } ∷ log))

@@ -8,9 +8,10 @@ use native.Mathlib.Omega.{arith}
 use lib.ListN.{length, replicate}
 use Rattle.refusal.specs.declared.Refusal.{Refusal}
 use Rattle.refusal.specs.declared.Refusal.the-variants.{Unreadable}
+use Rattle.rules.specs.Word.{wordCount}
 use Rattle.setup.specs.Setup.{setupNumber}
 use Rattle.shape.specs.declared.Shape.{Shape}
-use Rattle.shape.specs.Shape.{basePart, shapeOf, shapeAt}
+use Rattle.shape.specs.Shape.{basePart, cyclesPart, shapeOf, shapeAt}
 use Rattle.conversation.specs.declared.Begun.{Begun}
 use Rattle.conversation.specs.declared.Event.{Event}
 use Rattle.conversation.specs.declared.Event.the-variants.{SetUp, Refused}
@@ -35,7 +36,7 @@ use Rattle.papers.proofs.Setups.{opened-bytes, shape, set-up, begins}
 use Rattle.papers.proofs.Walk.{walk-events}
 use Rattle.papers.proofs.Talk.{fresh, talk-is, talk-length}
 
-module _ (words paper : List ℕ) (lent : length words ≡ 164) (bytes : Bytes paper) (a : Accepted paper) where
+module _ (words paper : List ℕ) (lent : length words ≡ wordCount) (bytes : Bytes paper) (a : Accepted paper) where
   -- THE EVENTS OF AN ACCEPTED PAPER ARE THOSE OF ITS COMMANDS OVER ITS SET-UP
   pub happened-there : eventsOf words paper
       ≡ SetUp ∷ (happened (rulesBy (setupOf paper)) (fresh (setupOf paper) .state) (commandsOf paper) ++ ending (faulty paper))
@@ -43,7 +44,7 @@ module _ (words paper : List ℕ) (lent : length words ≡ 164) (bytes : Bytes p
   happened-there =
       let b = begins words paper lent bytes a in
       let walks = walk-events (rulesBy (setupOf paper)) (b .shape) paper (b .lies) (length paper) (fresh (setupOf paper) .state) (b .at) in
-      rw (b .begun-is, b .rules) (ap (λ (l : List Event). SetUp ∷ l) (walks ∙ rw (b .chosen, b .rest)))
+      rw (b .begun-is, b .rules) (ap (λ (l : List Event). SetUp ∷ l) (walks ∙ rw (b .manner, b .rest)))
 
   pub events-are : eventsOf words paper ≡ eventsBy paper
   events-are = happened-there ∙ ap (λ (l : List Event). SetUp ∷ (l ++ ending (faulty paper))) (sym (talk-is (setupOf paper) (commandsOf paper)))
@@ -88,10 +89,10 @@ unfolding begunOf setupBegun
 one-event paper version body rest o n = let r = opens paper version body rest o in rw (r .0, r .1) (by n) where
   by : NotSetUp version body → One (shapedBegun body 4 (4 + length body) (shapeOf version body) .event)
   by (no-shape e) = refused-shape body 4 (4 + length body) (shapeOf version body) e
-  by (no-base shape t e) = rw t (refused-base (shapeAt 4 shape) (basePart shape body) (4 + length body) e)
+  by (no-base shape t e) = rw t (refused-base (shapeAt 4 shape) (basePart shape body) (cyclesPart (shape .dating) body) (4 + length body) e)
 
 -- EVERY BYTE STRING: it does not open, its set-up is not one, or it is heard
-pub every-paper : (words paper : List ℕ) → length words ≡ 164 → Bytes paper → Heard words paper
+pub every-paper : (words paper : List ℕ) → length words ≡ wordCount → Bytes paper → Heard words paper
 unfolding begunOf
 every-paper words paper lent bytes = by (opens-or-faults paper bytes) where
   by-set-up : (o : Opening paper) → ((shape : Shape) × Sp.SetUp (o .version) (o .body) shape) ⊎ NotSetUp (o .version) (o .body) → Heard words paper
@@ -113,7 +114,7 @@ pub accepted-exactly : (paper : List ℕ) → Bytes paper → (begunOf paper .ev
 unfolding begunOf
 accepted-exactly paper bytes = (λ e. by e (opens-or-faults paper bytes), begun) where
   begun : Accepted paper → begunOf paper .event ≡ SetUp
-  begun a = ap (λ (b : Begun). b .event) (begins (replicate 164 0) paper refl bytes a .begun-is)
+  begun a = ap (λ (b : Begun). b .event) (begins (replicate wordCount 0) paper refl bytes a .begun-is)
 
   by-set-up : begunOf paper .event ≡ SetUp → (o : Opening paper)
       → ((shape : Shape) × Sp.SetUp (o .version) (o .body) shape) ⊎ NotSetUp (o .version) (o .body) → Accepted paper

@@ -1,3 +1,4 @@
+pub mod Tails
 pub mod Setups
 pub mod Walk
 pub mod Talk
@@ -5,4 +6,5 @@ pub mod Starts
 pub mod Events
 pub mod Demands
 pub mod Witness
+pub mod Late
 pub mod Samples

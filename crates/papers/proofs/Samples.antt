@@ -1,16 +1,26 @@
 -- What the statements say at chosen inputs, worked out. Assumes nothing.
-use mathlib.Core.Bool.{not}
 use mathlib.Core.List.{List, [], _∷_, _++_}
 use Prim.Native.Nat.{ℕ}
 use lib.Dec.{T, eqb}
 use lib.ListN.{length, replicate, getD}
-use Rattle.wire.specs.Wire.{byte}
+use Rattle.wire.specs.Wire.{byte, number}
+use Rattle.calendar.specs.Calendar.{dateAt}
+use Rattle.selection.specs.declared.Selection.{Selection}
+use Rattle.selection.specs.declared.Selection.the-variants.{Selected, NotSelected}
 use Rattle.setup.specs.Setup.{rulesIn, freshIn}
 use Rattle.shape.specs.declared.ReadShape.{ReadShape}
 use Rattle.shape.specs.declared.ReadShape.the-variants.{Taken, Refused as ShapeRefused}
-use Rattle.shape.specs.Shape.{based, baseTail, selectionTail, syllabusTail, tailsOf, shapeOf}
+use Rattle.shape.specs.declared.Dating.the-variants.{On as DatesOn}
+use Rattle.shape.specs.Shape.{based, baseTail, selectionTail, syllabusTail, datingTail, tailsOf, shapeOf, cyclesPart}
 use Rattle.paper.specs.Paper.{nextAt, openPaper}
-use Rattle.command.specs.Command.{startOf, commandOf, commandIn}
+use Rattle.command.specs.declared.Command.the-variants.{Start as StartCommand, First as FirstCommand, Second as SecondCommand}
+use Rattle.command.specs.declared.When.{When}
+use Rattle.command.specs.declared.When.the-variants.{Undated, On}
+use Rattle.command.specs.declared.Command.{Command}
+use Rattle.command.specs.declared.Command.the-variants.{Start as StartCommand, First as FirstCommand, Second as SecondCommand}
+use Rattle.command.specs.declared.ReadCommand.{ReadCommand}
+use Rattle.command.specs.declared.ReadCommand.the-variants.{Taken as CommandTaken, Refused as CommandRefused}
+use Rattle.command.specs.Command.{startOf, firstOf, commandOf, commandIn}
 use Rattle.state.specs.declared.Answer.the-variants.{Refused as AnswerRefused, Started, Given}
 use Rattle.card.specs.Card.{freshState}
 use Rattle.conversation.specs.declared.Event.{Event}
@@ -20,16 +30,21 @@ use Rattle.conversation.specs.Events.{eventsFrom, eventsOf}
 use Rattle.lines.specs.Lines.{digit, decimal, refusalLine}
 use Rattle.lines.specs.Sitting.{linesOf, sittingLines}
 use Rattle.demands.proofs.Computed.{computed}
-use Rattle.spelling.specs.Spelling.{big, recordOf, byName, names, kindOf, bodyOf, spell}
+use Rattle.spelling.specs.Spelling.{big, recordOf, byName, undated, dated, names, kindOf, bodyOf, spell}
+use Rattle.spelling.proofs.Commands.{of}
 use Rattle.spelling.specs.Printed.{printed, body}
-use Rattle.papers.specs.Papers.{syllabusIn, frontOf, meant, walk}
+use Rattle.papers.specs.Papers.{tailsIn, entriesLong, syllabusIn, cyclesIn, frontOf, Meaning, none, means, meant, walk}
 
 -- `events-are`: the events of two Starts, over the printed set-up, and the ATC that the last of them says
 abbrev twoStarts : List ℕ
 twoStarts = spell (names 1) ++ spell (names 1)
 
 abbrev events : List Event
-events = eventsFrom 9 (rulesIn body 0) (based 159) (freshState (freshIn body)) twoStarts 0
+events = eventsFrom 9 (rulesIn body [] 0) (based 159) (freshState (freshIn body [])) twoStarts 0
+
+abbrev chosenIn : Selection → ℕ
+chosenIn (Selected profile visits) = profile
+chosenIn NotSelected = 0
 
 abbrev atcIn : Event → ℕ
 atcIn SetUp = 0
@@ -39,6 +54,15 @@ atcIn (Answered command (AnswerRefused refusal)) = 0
 atcIn (Answered command (Started atc visits)) = atc
 atcIn (Answered command (Given kind atc iad)) = atc
 
+-- and the profile that the command of an event names
+abbrev profileIn : Event → ℕ
+profileIn SetUp = 0
+profileIn End = 0
+profileIn (Refused refusal) = 0
+profileIn (Answered (StartCommand start) answer) = chosenIn (start .chosen)
+profileIn (Answered (FirstCommand first) answer) = 0
+profileIn (Answered (SecondCommand second) answer) = 0
+
 -- `setup-is`: the syllabus that is read of a version 03 set-up without a profile, selection off
 abbrev latest : List ℕ
 latest = replicate 52 0 ++ 0 ∷ 1 ∷ []
@@ -47,25 +71,64 @@ abbrev syllabusRead : ReadShape → ℕ
 syllabusRead (Taken shape) = shape .syllabus
 syllabusRead (ShapeRefused refusal) = 9
 
+-- `setup-is`: the day of the last date, read of a version 04 set-up without a profile, selection off, syllabus 0, dates on
+abbrev dating : List ℕ
+dating = replicate 52 0 ++ 0 ∷ 0 ∷ 1 ∷ 5 ∷ 7 ∷ 21 ∷ replicate 24 0
+
+abbrev lastDay : (cycles : List ℕ) → ℕ
+lastDay cycles = byte cycles 3
+
+abbrev lastRead : ReadShape → ℕ
+lastRead (Taken shape) = lastDay (cyclesPart (shape .dating) dating)
+lastRead (ShapeRefused refusal) = 9
+
+-- `events-are`: the day of a First's date
+abbrev first : List ℕ
+first = 1 ∷ replicate 11 0 ++ 5 ∷ 7 ∷ 21 ∷ []
+
+abbrev dayOn : When → ℕ
+dayOn Undated = 0
+dayOn (On date) = date .day
+
+abbrev dayOf : Command → ℕ
+dayOf (StartCommand start) = 0
+dayOf (FirstCommand first) = dayOn (first .when)
+dayOf (SecondCommand second) = 0
+
+abbrev dayRead : ReadCommand → ℕ
+dayRead (CommandTaken command) = dayOf command
+dayRead (CommandRefused refusal) = 98
+
+abbrev dayMeant : Meaning → ℕ
+dayMeant none = 99
+dayMeant (means command) = dayOf command
+
 -- `lines-are`: the number that a line begins with, where it has one digit
 abbrev numberOf : List (List ℕ) → (place : ℕ) → ℕ
 numberOf lines place = byte (getD lines place []) 0
 
 pub record Samples : Type 0 where
-  pub each-record : T (eqb (length events) (length (walk 9 byName twoStarts .commands)))
+  pub each-record : T (eqb (length events) (length (walk 9 (of byName undated) twoStarts .commands)))
   pub latest-card : T (eqb (atcIn (getD events 1 End)) 2)
+  pub its-command : T (eqb (profileIn (getD events 1 End)) 1)
   pub numbered-from-0 : T (eqb (numberOf (sittingLines [] []) 0) 0x30)
   pub rising-by-1 : T (eqb (numberOf (linesOf 0 (SetUp ∷ SetUp ∷ [])) 1) 0x31)
-  pub syllabus-1 : T (eqb (syllabusRead (shapeOf 3 latest)) (syllabusIn 3 latest))
+  pub syllabus-1 : T (eqb (syllabusRead (shapeOf 3 latest)) (syllabusIn (tailsIn latest)))
+  pub last-day : T (eqb (lastRead (shapeOf 4 dating)) (lastDay (cyclesIn (tailsIn dating))))
+  pub first-day : T (eqb (dayRead (commandOf (DatesOn 0 0) 3 first)) (dayMeant (meant (of byName dated) 3 first)))
 
 pub samples : Samples
 unfolding computed printed openPaper nextAt commandIn commandOf startOf kindOf bodyOf recordOf big eventsFrom eventsOf takenOf answeredBy begunOf
-    sittingLines linesOf refusalLine decimal digit shapeOf tailsOf baseTail selectionTail syllabusTail walk frontOf meant
+    sittingLines linesOf refusalLine decimal digit shapeOf tailsOf baseTail selectionTail syllabusTail datingTail walk frontOf meant entriesLong
+    firstOf dateAt number
 samples =
     record {
       each-record = tt;
       latest-card = tt;
+      its-command = tt;
       numbered-from-0 = tt;
       rising-by-1 = tt;
       syllabus-1 = tt;
+      last-day = tt;
+      first-day = tt;
     }

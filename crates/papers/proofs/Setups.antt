@@ -1,40 +1,45 @@
 -- The set-up of an accepted paper: what its bytes say is what was spelled, and the conversation begins by it. Assumes nothing.
 use mathlib.Core.Path.{_≡_, refl, sym, ap, ap₂, subst, _∙_}
 use mathlib.Core.Bool.{true}
-use mathlib.Core.List.{List, [], _∷_, _++_}
-use Prim.Native.Nat.{ℕ, suc, _+_, _-_}
+use mathlib.Core.List.{List, _++_}
+use Prim.Native.Nat.{ℕ, _+_, _-_}
 use native.Mathlib.Omega.{arith}
 use lib.ListN.{length, drop, length-append}
-use lib.Seq.{take-all, take-at, drop-append-seam}
+use lib.Seq.{take-at, drop-append-seam}
 use Rattle.wire.specs.Wire.{number}
+use Rattle.rules.specs.Word.{wordCount}
 use Rattle.rules.specs.Rules.{rulesOf}
-use Rattle.ranges.specs.Ranges.{isSetup}
-use Rattle.setup.specs.Setup.{readSetup, rulesIn}
+use Rattle.ranges.specs.Ranges.{isSetup, areCycles}
+use Rattle.setup.specs.Setup.{isAccepted, readSetup, rulesIn}
 use Rattle.setup.proofs.Faithful.{started}
+use Rattle.wire.proofs.Pairs.{both}
 use Rattle.shape.specs.declared.Shape.{Shape}
-use Rattle.shape.specs.Shape.{basePart, shapeAt}
+use Rattle.shape.specs.Shape.{basePart, cyclesPart, shapeAt}
 use Rattle.card.specs.Card.{freshState}
 use Rattle.conversation.specs.declared.Event.the-variants.{SetUp}
 use Rattle.conversation.specs.Conversation.{begunOf, baseBegun, setupBegun, setupWords, wordsBegun}
-use Rattle.demands.specs.Setup.{AcceptedSetup}
+use Rattle.demands.specs.Setup.{Setup, AcceptedSetup}
 use Rattle.demands.specs.Conversation.{rulesBy}
-use Rattle.rows.specs.Rows.{body as spelledBase}
-use Rattle.rows.specs.Tails as R
-use Rattle.rows.specs.Tails.{Choosing, off, on, fileBytes, Tail, first, second, third, versionOf, tailBytes, choosingOf, syllabusOf, Base}
-use Rattle.rows.specs.Tails.{selecting, fileOf, shapeSaid, TailSays}
+use Rattle.rows.specs.Rows.{body as spelledBase, cyclesBytes}
+use Rattle.rows.specs.Rows as R
+use Rattle.rows.specs.Tails as T
+use Rattle.rows.specs.Tails.{Choosing, off, on, Tail, tailBytes, choosingOf, syllabusOf, unnamedOf, Base}
+use Rattle.rows.specs.Tails.{selecting, fileOf, dating, shapeSaid, TailSays}
 use Rattle.rows.specs.Whole.{IsSetup}
-use Rattle.rows.proofs.Behind.{length-kept, third-last}
-use Rattle.rows.proofs.Ranges.{accepted-in-range}
-use Rattle.rows.proofs.Whole.{is-base, reads-whole}
-use Rattle.spelling.specs.Spelling.{Bytes, Choice, byName, byFile, choiceIn}
+use Rattle.rows.proofs.Behind.{length-kept}
+use Rattle.rows.proofs.Whole.{is-base, reads-whole, both-in-range}
+use Rattle.spelling.specs.Spelling.{Bytes, byFile, choiceIn, Dates, datesIn, mannerIn}
 use Rattle.spelling.specs.Faults.{Opens}
 use Rattle.spelling.specs.Sitting.{Lies}
 use Rattle.spelling.specs.Sitting as Sp
-use Rattle.spelling.proofs.Numbers.{byte-small, bytes-drop, bytes-front}
+use Rattle.spelling.proofs.Numbers.{byte-small, bytes-take, bytes-drop, bytes-front}
 use Rattle.spelling.proofs.Shapes.{record-is}
+use Rattle.spelling.proofs.Commands.{of}
 use Rattle.spelling.proofs.Opening as O
-use Rattle.spelling.proofs.Papers.{lies-there, chooses, rules-are}
-use Rattle.papers.specs.Papers.{versionIn, bodyIn, restIn, baseIn, tailIn, syllabusIn, fileIn, choiceBy, setupIn, setupOf, choiceOf, Accepted}
+use Rattle.spelling.proofs.Papers.{bytes-cycles, lies-there, chooses, rules-are}
+use Rattle.papers.specs.Papers.{versionIn, bodyIn, restIn, baseIn, tailsIn, setupIn, setupOf, mannerOf, Accepted}
+use Rattle.papers.specs.Papers as P
+use Rattle.papers.proofs.Tails.{choiceSaid, datesSaid, mannerSaid, reads-as}
 
 -- ---- a paper that opens
 
@@ -63,25 +68,7 @@ module _ (paper : List ℕ) (version : ℕ) (body rest : List ℕ) (o : Opens pa
   pub rest-is : restIn paper ≡ rest
   rest-is = let end : 3 + (1 + length body) ≡ 4 + length body = omega arith in rw (size-is, end) (O.opens paper version body rest o .2)
 
--- ---- a base and its tail
-
--- how a Start chooses where this is spelled
-abbrev pub choiceSaid : Choosing → Choice
-choiceSaid off = byName
-choiceSaid (on entries) = byFile (fileBytes entries) (length entries)
-
-said-by-tail : (tail : Tail) → choiceBy (versionOf tail) (tailBytes tail) ≡ choiceSaid (choosingOf tail)
-said-by-tail first = refl
-said-by-tail (second off) = refl
-said-by-tail (third off syllabus) = refl
-said-by-tail (second (on entries)) =
-    let file = fileBytes entries in
-    ap (λ (f : List ℕ). byFile f (length entries))
-    (take-all (suc (suc (length file)) - 2) file (omega arith))
-said-by-tail (third (on entries) syllabus) =
-    let file = fileBytes entries in
-    ap (λ (f : List ℕ). byFile f (length entries))
-    (take-at file (syllabus ∷ []) (suc (suc (length (file ++ syllabus ∷ []))) - 3) (omega (arith, length-append file (syllabus ∷ []))))
+-- ---- a base and its tails
 
 module _ (base : List ℕ) (sized : Base base) (tail : Tail) where
   abbrev whole : List ℕ
@@ -90,17 +77,23 @@ module _ (base : List ℕ) (sized : Base base) (tail : Tail) where
   base-there : baseIn whole ≡ base
   base-there = rw (length-kept base sized (tailBytes tail)) (take-at base (tailBytes tail) (length base) refl)
 
-  tail-there : tailIn whole ≡ tailBytes tail
-  tail-there = rw (length-kept base sized (tailBytes tail)) (drop-append-seam base (tailBytes tail))
+  tails-there : tailsIn whole ≡ tailBytes tail
+  tails-there = rw (length-kept base sized (tailBytes tail)) (drop-append-seam base (tailBytes tail))
 
-syllabus-there : (base : List ℕ) → Base base → (tail : Tail) → syllabusIn (versionOf tail) (base ++ tailBytes tail) ≡ syllabusOf tail
-syllabus-there base sized first = refl
-syllabus-there base sized (second choosing) = refl
-syllabus-there base sized (third choosing syllabus) = third-last base choosing syllabus sized
+-- the set-up of a base and its tail
+abbrev pub setupSaid : (base : List ℕ) → Tail → Setup
+setupSaid base tail = record { bytes = base; tail = cyclesBytes (T.datesOf tail); syllabus = syllabusOf tail; unnamed = unnamedOf tail }
+
+-- with its parts
+abbrev made : (bytes tail : List ℕ) (syllabus unnamed : ℕ) → Setup
+made bytes tail syllabus unnamed = record { bytes = bytes; tail = tail; syllabus = syllabus; unnamed = unnamed }
 
 module _ (version : ℕ) (body : List ℕ) (i : IsSetup version body) where
   abbrev base : List ℕ
   base = spelledBase (i .setup)
+
+  abbrev cycles : List ℕ
+  cycles = cyclesBytes (T.datesOf (i .tail))
 
   abbrev pub shape : Shape
   shape = shapeSaid base (i .tail)
@@ -111,26 +104,48 @@ module _ (version : ℕ) (body : List ℕ) (i : IsSetup version body) where
   base-is : basePart shape body ≡ base
   base-is = rw (← i .spelled) (says .base-is)
 
-  good-base : isSetup base ≡ true
-  good-base = accepted-in-range (i .setup) (i .fits) .1 (i .in-range)
+  cycles-are : cyclesPart (shape .dating) body ≡ cycles
+  cycles-are = rw (← i .spelled) (says .cycles)
+
+  good : isAccepted base cycles (shape .unnamed) ≡ true
+  good = both-in-range (i .setup) (i .tail) (i .fits) (i .fine) .1 (i .in-range, i .dates-in-range)
 
   pub set-up : Sp.SetUp version body shape
-  set-up = record { shape-is = rw (← i .version-is, ← i .spelled) (says .read); base = rw (base-is, started base good-base) }
+  set-up =
+      record {
+        shape-is = rw (← i .version-is, ← i .spelled) (says .read);
+        base = rw (base-is, cycles-are, started base cycles (shape .unnamed) good);
+      }
 
-  choice-there : choiceBy version (tailIn body) ≡ choiceSaid (choosingOf (i .tail))
-  choice-there = rw (← i .version-is, ← i .spelled, tail-there base (is-base (i .setup) (i .fits)) (i .tail)) (said-by-tail (i .tail))
+  -- what is read behind the base
+  there : tailsIn body ≡ tailBytes (i .tail)
+  there = rw (← i .spelled) (tails-there base (is-base (i .setup) (i .fits)) (i .tail))
 
-  choice-read : choiceIn (shape .selecting) body ≡ choiceSaid (choosingOf (i .tail))
-  choice-read = rw (← i .spelled) (by (choosingOf (i .tail)) (says .file)) where
-    by : (c : Choosing) → R.fileIn (selecting c (length base)) (base ++ tailBytes (i .tail)) ≡ fileOf c
+  setup-there : setupIn version body ≡ setupSaid base (i .tail)
+  setup-there =
+      let r = reads-as (i .tail) in
+      let from : baseIn body ≡ base = rw (← i .spelled) (base-there base (is-base (i .setup) (i .fits)) (i .tail)) in
+      let unnamed : P.unnamedIn version ≡ unnamedOf (i .tail) = ap P.unnamedIn (sym (i .version-is)) ∙ r .unnamed-is in
+      let tail : P.cyclesIn (tailsIn body) ≡ cycles = ap P.cyclesIn there ∙ r .cycles-are in
+      let syllabus : P.syllabusIn (tailsIn body) ≡ syllabusOf (i .tail) = ap P.syllabusIn there ∙ r .syllabus-is in
+      λ j. made (from j) (tail j) (syllabus j) (unnamed j)
+
+  manner-there : P.mannerIn body ≡ mannerSaid (i .tail)
+  manner-there =
+      let r = reads-as (i .tail) in
+      ap₂ of (ap P.choiceIn there ∙ r .choice-is) (ap P.datesIn there ∙ r .dates-are)
+
+  -- and what the readers make of it
+  manner-read : mannerIn shape body ≡ mannerSaid (i .tail)
+  manner-read = ap₂ of (rw (← i .spelled) (by (choosingOf (i .tail)) (says .file))) (by-dates (T.datesOf (i .tail))) where
+    by : (c : Choosing) → T.fileIn (selecting c (length base)) (base ++ tailBytes (i .tail)) ≡ fileOf c
         → choiceIn (selecting c (length base)) (base ++ tailBytes (i .tail)) ≡ choiceSaid c
     by off e = refl
     by (on entries) e = ap (λ (f : List ℕ). byFile f (length entries)) e
 
-  setup-there : setupIn version body ≡ record { bytes = base; syllabus = syllabusOf (i .tail) }
-  setup-there =
-      let sized = is-base (i .setup) (i .fits) in
-      rw (← i .version-is, ← i .spelled, base-there base sized (i .tail), syllabus-there base sized (i .tail))
+    by-dates : (d : R.Dates) → datesIn (dating d (T.datesAt base (choosingOf (i .tail)))) ≡ datesSaid d
+    by-dates R.undated = refl
+    by-dates (R.dated d) = refl
 
 -- ---- an accepted paper
 
@@ -139,34 +154,52 @@ module _ (paper : List ℕ) (a : Accepted paper) where
   as-spelled : {A : Type 0} (f : (version : ℕ) (body : List ℕ) → A) → f (versionIn paper) (bodyIn paper) ≡ f (a .version) (a .body)
   as-spelled f = ap₂ f (version-is paper (a .version) (a .body) (a .rest) (a .opens)) (body-is paper (a .version) (a .body) (a .rest) (a .opens))
 
-  -- THE SET-UP AND THE CHOICE THAT ITS BYTES SAY ARE THOSE THAT ARE SPELLED THERE
-  pub setup-is : setupOf paper ≡ record { bytes = spelledBase (a .set-up .setup); syllabus = syllabusOf (a .set-up .tail) }
+  -- THE SET-UP AND THE MANNER THAT ITS BYTES SAY ARE THOSE THAT ARE SPELLED THERE
+  pub setup-is : setupOf paper ≡ setupSaid (spelledBase (a .set-up .setup)) (a .set-up .tail)
   unfolding setupOf
   setup-is = as-spelled setupIn ∙ setup-there (a .version) (a .body) (a .set-up)
 
-  pub choice-is : choiceOf paper ≡ choiceSaid (choosingOf (a .set-up .tail))
-  unfolding choiceOf
-  choice-is = as-spelled (λ version body. choiceBy version (tailIn body)) ∙ choice-there (a .version) (a .body) (a .set-up)
+  pub manner-is : mannerOf paper ≡ mannerSaid (a .set-up .tail)
+  unfolding mannerOf
+  manner-is = as-spelled (λ version body. P.mannerIn body) ∙ manner-there (a .version) (a .body) (a .set-up)
 
   -- it is one of those that the demands speak of
-  pub good : Bytes paper → AcceptedSetup (setupOf paper)
-  good bytes =
-      let base = spelledBase (a .set-up .setup) in
-      let body-bytes = opened-bytes paper (a .version) (a .body) (a .rest) (a .opens) bytes in
-      let base-bytes : Bytes base = bytes-front base (tailBytes (a .set-up .tail)) (subst Bytes (sym (a .set-up .spelled)) body-bytes) in
-      rw setup-is (record { bytes = record { below = byte-small base base-bytes }; taken = good-base (a .version) (a .body) (a .set-up) })
+  pub good-setup : Bytes paper → AcceptedSetup (setupOf paper)
+  good-setup bytes =
+      let v = a .version in
+      let b = a .body in
+      let body-bytes = opened-bytes paper v b (a .rest) (a .opens) bytes in
+      let form = shape v b (a .set-up) in
+      let s = base v b (a .set-up) in
+      let t = cycles v b (a .set-up) in
+      let base-bytes : Bytes s = subst Bytes (base-is v b (a .set-up)) (bytes-take (form .base) b body-bytes) in
+      let tail-bytes : Bytes t = subst Bytes (cycles-are v b (a .set-up)) (bytes-cycles (form .dating) b body-bytes) in
+      let (base-taken, tail-taken) = both (isSetup s (form .unnamed)) (areCycles t) (good v b (a .set-up)) in
+      rw setup-is
+      (record {
+        bytes = record { below = byte-small s base-bytes };
+        tail-bytes = record { below = byte-small t tail-bytes };
+        taken = base-taken;
+        tail-taken = tail-taken;
+      })
 
--- where the conversation begins: the card, the rules, the file and the place behind the set-up
+-- where the conversation begins: the card, the rules, the manner of its commands and the place behind the set-up
 pub record Begins (words paper : List ℕ) : Type 0 where
   pub shape : Shape
   pub at : ℕ
-  pub begun-is : begunOf paper ≡ record { shape = shape; state = freshState (readSetup (setupOf paper .bytes) .fresh); at = at; event = SetUp }
+  pub begun-is : begunOf paper
+      ≡ record {
+        shape = shape;
+        state = freshState (readSetup (setupOf paper .bytes) (setupOf paper .tail) (setupOf paper .unnamed) .fresh);
+        at = at;
+        event = SetUp;
+      }
   pub rules : rulesOf (wordsBegun words paper) ≡ rulesBy (setupOf paper)
   pub lies : Lies (shape .selecting) paper
-  pub chosen : choiceIn (shape .selecting) paper ≡ choiceOf paper
+  pub manner : mannerIn shape paper ≡ mannerOf paper
   pub rest : drop at paper ≡ restIn paper
 
-pub begins : (words paper : List ℕ) → length words ≡ 164 → Bytes paper → Accepted paper → Begins words paper
+pub begins : (words paper : List ℕ) → length words ≡ wordCount → Bytes paper → Accepted paper → Begins words paper
 unfolding begunOf setupBegun baseBegun wordsBegun setupWords
 begins words paper lent bytes a =
     let v = a .version in
@@ -175,14 +208,15 @@ begins words paper lent bytes a =
     let t = set-up v b (a .set-up) in
     let r = O.opens paper v b (a .rest) (a .opens) in
     let base = base-is v b (a .set-up) in
+    let cycles = cycles-are v b (a .set-up) in
     record {
       shape = shapeAt 4 form;
       at = 4 + length b;
-      begun-is = rw (setup-is paper a, r .0, r .1, t .shape-is, base, started _ (good-base v b (a .set-up)));
+      begun-is = rw (setup-is paper a, r .0, r .1, t .shape-is, base, cycles, started _ _ _ (good v b (a .set-up)));
       rules =
           rw (setup-is paper a, r .0, r .1, t .shape-is)
-          (rules-are words paper v b (a .rest) (a .opens) form t bytes lent ∙ ap (λ (s : List ℕ). rulesIn s (form .syllabus)) base);
+          (rules-are words paper v b (a .rest) (a .opens) form t bytes lent ∙ ap₂ (λ (s c : List ℕ). rulesIn s c (form .syllabus)) base cycles);
       lies = lies-there words paper v b (a .rest) (a .opens) form t;
-      chosen = chooses words paper v b (a .rest) (a .opens) form t ∙ choice-read v b (a .set-up) ∙ sym (choice-is paper a);
+      manner = chooses words paper v b (a .rest) (a .opens) form t ∙ manner-read v b (a .set-up) ∙ sym (manner-is paper a);
       rest = r .2 ∙ sym (rest-is paper v b (a .rest) (a .opens));
     }

@@ -9,6 +9,7 @@ use lib.Dec.{eqb, ltb}
 use lib.ListN.{length, take, drop, length-drop}
 use lib.Seq.{drop-drop}
 use Rattle.wire.specs.Wire.{number}
+use Rattle.calendar.specs.Calendar.{dateAt}
 use Rattle.refusal.specs.declared.Refusal.the-variants.{Unreadable}
 use Rattle.rules.specs.Rules.{Rules}
 use Rattle.shape.specs.declared.Shape.{Shape}
@@ -28,11 +29,11 @@ use Rattle.conversation.specs.declared.Event.the-variants.{End, Refused, Answer
 use Rattle.conversation.specs.Conversation.{answeredBy, takenOf}
 use Rattle.conversation.specs.Events.{eventsFrom}
 use Rattle.demands.specs.Conversation.{Exchange, Sitting, told as heard, run}
-use Rattle.spelling.specs.Spelling.{Choice, byName, byFile, choiceIn}
+use Rattle.spelling.specs.Spelling.{Choice, byName, byFile, Dates, undated, dated, Manner, mannerIn}
 use Rattle.spelling.specs.Faults.{cut-in-length, cut-short, no-kind}
 use Rattle.spelling.specs.Sitting.{Lies, happened}
 use Rattle.spelling.proofs.Shapes.{shift, next-drop, part-drop, next-broken}
-use Rattle.spelling.proofs.Commands.{readBy}
+use Rattle.spelling.proofs.Commands.{of, readBy}
 use Rattle.spelling.proofs.Records.{commands-same}
 use Rattle.papers.specs.Papers.{Front, nothing, broken, one, frontBy, frontOf, Meaning, none, means, meant}
 use Rattle.papers.specs.Papers.{Walked, stopped, goingOn, walkBy, walk}
@@ -99,37 +100,39 @@ abbrev asRead : Meaning → ReadCommand
 asRead none = CommandRefused Unreadable
 asRead (means command) = CommandTaken command
 
-meant-read : (choice : Choice) (kind : ℕ) (body : List ℕ) → readBy choice kind body ≡ asRead (meant choice kind body)
-unfolding meant commandOf selectingOf startOf firstOf secondOf
-meant-read choice kind body = by choice (eqb kind 2) (eqb kind 3) (eqb kind 4) refl refl refl where
+meant-read : (manner : Manner) (kind : ℕ) (body : List ℕ) → readBy manner kind body ≡ asRead (meant manner kind body)
+unfolding meant commandOf selectingOf startOf firstOf secondOf dateAt
+meant-read manner kind body = by (manner .choice) (manner .dates) (eqb kind 2) (eqb kind 3) (eqb kind 4) refl refl refl where
   if-so : (b : Bool) (m : Meaning) → cond b (asRead m) (CommandRefused Unreadable) ≡ asRead (cond b m none)
   if-so true m = refl
   if-so false m = refl
 
-  by : (choice : Choice) (two three four : Bool) → eqb kind 2 ≡ two → eqb kind 3 ≡ three → eqb kind 4 ≡ four
-      → readBy choice kind body ≡ asRead (meant choice kind body)
-  by byName true three four e f g = rw (eqb-true kind 2 e) (if-so (eqb (length body) 1) _)
-  by (byFile file entries) true three four e f g = rw (eqb-true kind 2 e)
-  by byName false true four e f g = rw (eqb-true kind 3 f) (if-so (eqb (length body) 12) _)
-  by (byFile file entries) false true four e f g = rw (eqb-true kind 3 f) (if-so (eqb (length body) 12) _)
-  by byName false false true e f g = rw (eqb-true kind 4 g) (if-so (eqb (length body) 8) _)
-  by (byFile file entries) false false true e f g = rw (eqb-true kind 4 g) (if-so (eqb (length body) 8) _)
-  by byName false false false e f g = rw (e, f, g)
-  by (byFile file entries) false false false e f g = rw (e, f, g)
+  by : (choice : Choice) (dates : Dates) (two three four : Bool) → eqb kind 2 ≡ two → eqb kind 3 ≡ three → eqb kind 4 ≡ four
+      → readBy (of choice dates) kind body ≡ asRead (meant (of choice dates) kind body)
+  by byName dates true three four e f g = rw (eqb-true kind 2 e) (if-so (eqb (length body) 1) _)
+  by (byFile file entries) dates true three four e f g = rw (eqb-true kind 2 e)
+  by byName undated false true four e f g = rw (eqb-true kind 3 f) (if-so (eqb (length body) 12) _)
+  by byName dated false true four e f g = rw (eqb-true kind 3 f) (if-so (eqb (length body) 15) _)
+  by (byFile file entries) undated false true four e f g = rw (eqb-true kind 3 f) (if-so (eqb (length body) 12) _)
+  by (byFile file entries) dated false true four e f g = rw (eqb-true kind 3 f) (if-so (eqb (length body) 15) _)
+  by byName dates false false true e f g = rw (eqb-true kind 4 g) (if-so (eqb (length body) 8) _)
+  by (byFile file entries) dates false false true e f g = rw (eqb-true kind 4 g) (if-so (eqb (length body) 8) _)
+  by byName dates false false false e f g = rw (e, f, g)
+  by (byFile file entries) dates false false false e f g = rw (e, f, g)
 
 -- ---- one turn, and all of them
 
 module _ (rules : Rules) (form : Shape) (s : List ℕ) (lies : Lies (form .selecting) s) where
-  abbrev choice : Choice
-  choice = choiceIn (form .selecting) s
+  abbrev manner : Manner
+  manner = mannerIn form s
 
   -- what the walk meets at a place, and what the conversation takes there
   data Turn (state : State) (at : ℕ) : Type 0 where
-    over : ((more : List ℕ → Walked) → walkBy choice (frontOf (drop at s)) more ≡ stopped false)
+    over : ((more : List ℕ → Walked) → walkBy manner (frontOf (drop at s)) more ≡ stopped false)
         → takenOf rules form state s at .event ≡ End → Turn state at
-    fault : ((more : List ℕ → Walked) → walkBy choice (frontOf (drop at s)) more ≡ stopped true)
+    fault : ((more : List ℕ → Walked) → walkBy manner (frontOf (drop at s)) more ≡ stopped true)
         → takenOf rules form state s at .event ≡ Refused Unreadable → Turn state at
-    command : (c : Command) (end : ℕ) → ((more : List ℕ → Walked) → walkBy choice (frontOf (drop at s)) more ≡ goingOn (means c) (more (drop end s)))
+    command : (c : Command) (end : ℕ) → ((more : List ℕ → Walked) → walkBy manner (frontOf (drop at s)) more ≡ goingOn (means c) (more (drop end s)))
         → takenOf rules form state s at ≡ record { state = stepOf rules state c .state; at = end; event = Answered c (stepOf rules state c .answer) }
         → Turn state at
 
@@ -144,12 +147,12 @@ module _ (rules : Rules) (form : Shape) (s : List ℕ) (lies : Lies (form .selec
     place next e = next-drop s at ∙ ap (shift at) e
 
     -- what the reader makes of a record
-    read : (kind start end : ℕ) (m : Meaning) → meant choice kind (part rest start end) ≡ m → commandIn form s kind (part s (at + start) (at + end)) ≡ asRead m
+    read : (kind start end : ℕ) (m : Meaning) → meant manner kind (part rest start end) ≡ m → commandIn form s kind (part s (at + start) (at + end)) ≡ asRead m
     read kind start end m f =
         commands-same form s lies kind (part s (at + start) (at + end))
-        ∙ ap (readBy choice kind) (part-drop s at start end) ∙ meant-read choice kind (part rest start end) ∙ ap asRead f
+        ∙ ap (readBy manner kind) (part-drop s at start end) ∙ meant-read manner kind (part rest start end) ∙ ap asRead f
 
-    by-meaning : (kind start end : ℕ) → nextAt rest 0 ≡ Record kind start end → (m : Meaning) → meant choice kind (part rest start end) ≡ m → Turn state at
+    by-meaning : (kind start end : ℕ) → nextAt rest 0 ≡ Record kind start end → (m : Meaning) → meant manner kind (part rest start end) ≡ m → Turn state at
     unfolding takenOf answeredBy
     by-meaning kind start end e none f =
         fault (λ more. rw (front (Record kind start end) e, f)) (rw (place (Record kind start end) e, read kind start end none f))
@@ -161,7 +164,7 @@ module _ (rules : Rules) (form : Shape) (s : List ℕ) (lies : Lies (form .selec
     unfolding takenOf
     by-next PaperEnd e = over (λ more. rw (front PaperEnd e)) (rw (place PaperEnd e))
     by-next Fault e = fault (λ more. rw (front Fault e)) (rw (place Fault e))
-    by-next (Record kind start end) e = by-meaning kind start end e (meant choice kind (part rest start end)) refl
+    by-next (Record kind start end) e = by-meaning kind start end e (meant manner kind (part rest start end)) refl
 
     turn : Turn state at
     turn = by-next (nextAt rest 0) refl
@@ -171,15 +174,15 @@ module _ (rules : Rules) (form : Shape) (s : List ℕ) (lies : Lies (form .selec
   told walked state = happened rules state (walked .commands) ++ ending (walked .fault)
 
   one-more : (n : ℕ) (state : State) (at : ℕ) → Turn state at
-      → ((state : State) (at : ℕ) → eventsFrom n rules form state s at ≡ told (walk n choice (drop at s)) state)
-      → eventsFrom (suc n) rules form state s at ≡ told (walk (suc n) choice (drop at s)) state
+      → ((state : State) (at : ℕ) → eventsFrom n rules form state s at ≡ told (walk n manner (drop at s)) state)
+      → eventsFrom (suc n) rules form state s at ≡ told (walk (suc n) manner (drop at s)) state
   unfolding eventsFrom walk happened
-  one-more n state at (over w t) then = rw (w (walk n choice), t)
-  one-more n state at (fault w t) then = rw (w (walk n choice), t)
+  one-more n state at (over w t) then = rw (w (walk n manner), t)
+  one-more n state at (fault w t) then = rw (w (walk n manner), t)
   one-more n state at (command c end w t) then =
-      rw (w (walk n choice), t) (ap (λ (more : List Event). Answered c (stepOf rules state c .answer) ∷ more) (then (stepOf rules state c .state) end))
+      rw (w (walk n manner), t) (ap (λ (more : List Event). Answered c (stepOf rules state c .answer) ∷ more) (then (stepOf rules state c .state) end))
 
-  pub walk-events : (n : ℕ) (state : State) (at : ℕ) → eventsFrom n rules form state s at ≡ told (walk n choice (drop at s)) state
+  pub walk-events : (n : ℕ) (state : State) (at : ℕ) → eventsFrom n rules form state s at ≡ told (walk n manner (drop at s)) state
   unfolding eventsFrom walk happened
   walk-events zero state at = refl
   walk-events (suc n) state at = one-more n state at (turn state at) (walk-events n)
@@ -190,22 +193,22 @@ module _ (rules : Rules) (form : Shape) (s : List ℕ) (lies : Lies (form .selec
 
   abbrev Card : ℕ → List Command → Type 0
   Card n before =
-      (state : State) (log : List Exchange) (at : ℕ) (after : List Command) → walk n choice (drop at s) .commands ≡ before ++ after
+      (state : State) (log : List Exchange) (at : ℕ) (after : List Command) → walk n manner (drop at s) .commands ≡ before ++ after
       → turns (length before) rules form state s at ≡ run (sitting state log) before .state
 
   not-met : {A : Type 0} (c : Command) (cs : List Command) → [] ≡ c ∷ cs → A
   not-met c cs e = let z : _≡_ {A = ℕ} 0 1 = cc in absurd (omega arith)
 
   card-on : (n : ℕ) (c : Command) (before : List Command) → Card n before
-      → (state : State) (log : List Exchange) (at : ℕ) (after : List Command) → walk (suc n) choice (drop at s) .commands ≡ c ∷ (before ++ after)
+      → (state : State) (log : List Exchange) (at : ℕ) (after : List Command) → walk (suc n) manner (drop at s) .commands ≡ c ∷ (before ++ after)
       → Turn state at → turns (suc (length before)) rules form state s at ≡ run (sitting state log) (c ∷ before) .state
   unfolding turns run walk
-  card-on n c before then state log at after e (over w t) = not-met c (before ++ after) (ap (λ (x : Walked). x .commands) (sym (w (walk n choice))) ∙ e)
-  card-on n c before then state log at after e (fault w t) = not-met c (before ++ after) (ap (λ (x : Walked). x .commands) (sym (w (walk n choice))) ∙ e)
+  card-on n c before then state log at after e (over w t) = not-met c (before ++ after) (ap (λ (x : Walked). x .commands) (sym (w (walk n manner))) ∙ e)
+  card-on n c before then state log at after e (fault w t) = not-met c (before ++ after) (ap (λ (x : Walked). x .commands) (sym (w (walk n manner))) ∙ e)
   card-on n c before then state log at after e (command d end w t) =
-      let met : d ∷ walk n choice (drop end s) .commands ≡ c ∷ (before ++ after) = ap (λ (x : Walked). x .commands) (sym (w (walk n choice))) ∙ e in
+      let met : d ∷ walk n manner (drop end s) .commands ≡ c ∷ (before ++ after) = ap (λ (x : Walked). x .commands) (sym (w (walk n manner))) ∙ e in
       let same : d ≡ c = cc in
-      let behind : walk n choice (drop end s) .commands ≡ before ++ after = cc in
+      let behind : walk n manner (drop end s) .commands ≡ before ++ after = cc in
       let said : Exchange = record { command = d; answer = stepOf rules state d .answer } in
       ap (λ (taken : Taken). turns (length before) rules form (taken .state) s (taken .at)) t
       ∙ then (stepOf rules state d .state) (said ∷ log) end after behind
@@ -236,17 +239,17 @@ shorter (high ∷ low ∷ k ∷ more) kind body behind e = by (high * 256 + low)
   by zero e = no-front kind body behind e
   by (suc n) e = let l = by-room n (ltb (length more) n) e in omega arith
 
-module _ (choice : Choice) where
+module _ (manner : Manner) where
   settled-by : (n m : ℕ) (s : List ℕ) → length s ≤ suc n → (front : Front) → frontOf s ≡ front
-      → ((behind : List ℕ) → length behind ≤ n → walk m choice behind ≡ walk n choice behind)
-      → walkBy choice front (walk m choice) ≡ walkBy choice front (walk n choice)
+      → ((behind : List ℕ) → length behind ≤ n → walk m manner behind ≡ walk n manner behind)
+      → walkBy manner front (walk m manner) ≡ walkBy manner front (walk n manner)
   settled-by n m s l nothing e then = refl
   settled-by n m s l broken e then = refl
   settled-by n m s l (one kind body behind) e then =
       let less = shorter s kind body behind e in
-      ap (goingOn (meant choice kind body)) (then behind (omega arith))
+      ap (goingOn (meant manner kind body)) (then behind (omega arith))
 
-  pub walk-settled : (n m : ℕ) (s : List ℕ) → length s ≤ n → n ≤ m → walk m choice s ≡ walk n choice s
+  pub walk-settled : (n m : ℕ) (s : List ℕ) → length s ≤ n → n ≤ m → walk m manner s ≡ walk n manner s
   unfolding walk frontOf
   walk-settled zero zero s l k = refl
   walk-settled zero (suc m) [] l k = refl

@@ -1,23 +1,27 @@
--- The premises are met: by the printed sitting, its 242 bytes and the 322 bytes of its lines; by a paper whose Starts bring the terminal's data;
--- and by one of version 03. Assumes nothing.
+-- The premises are met: by the printed sitting, its 242 bytes and the 322 bytes of its lines; by a paper whose Starts bring the terminal's data; by
+-- one of version 03; and by one whose Firsts have their dates. Assumes nothing.
 use mathlib.Core.Path.{_≡_, refl, sym, ap, _∙_}
 use mathlib.Core.Bool.{true, false}
-use mathlib.Core.List.{List, [], _∷_, _++_, append-nil}
-use Prim.Native.Nat.{ℕ}
+use mathlib.Core.List.{List, [], _∷_, append-nil}
+use Prim.Native.Nat.{ℕ, _^_}
 use lib.Dec.{lit≤}
 use lib.ListN.{length, take, drop, take-append-drop}
 use Rattle.wire.specs.Wire.{number}
 use Rattle.refusal.specs.declared.Refusal.the-variants.{OutOfTurn}
-use Rattle.purchase.specs.Meter.{accumulator}
-use Rattle.shape.specs.Shape.{based, selects}
+use Rattle.rules.specs.Word.{wordCount}
+use Rattle.purchase.specs.Meter.{Meter, accumulator, cyclic}
+use Rattle.shape.specs.declared.Dating.the-variants.{On as DatesOn}
+use Rattle.shape.specs.Shape.{based, selects, dates}
+use Rattle.command.specs.declared.When.the-variants.{On}
 use Rattle.command.specs.declared.Command.{Command}
+use Rattle.command.specs.declared.Command.the-variants.{First as FirstCommand}
 use Rattle.state.specs.declared.Answer.{Answer}
 use Rattle.state.specs.declared.Answer.the-variants.{Refused}
 use Rattle.conversation.specs.declared.Event.{Event}
 use Rattle.conversation.specs.declared.Event.the-variants.{SetUp, Answered}
 use Rattle.lines.specs.Sitting.{sittingLines}
 use Rattle.demands.specs.Conversation.{Exchange}
-use Rattle.demands.specs.Audit.{inForce, placeBy, approves}
+use Rattle.demands.specs.Audit.{inForce, placeBy, approves, bought, takesUp}
 use Rattle.demands.specs.Guards.{Guards}
 use Rattle.demands.specs.Printed.{first, second, commands}
 use Rattle.demands.specs.Printed as D
@@ -26,11 +30,11 @@ use Rattle.rows.specs.Rows.{setupRow, headRow, profileRow, spelled, written}
 use Rattle.rows.specs.Tails.{off, third}
 use Rattle.rows.specs.Whole.{wholeBody}
 use Rattle.rows.proofs.Witness as R
-use Rattle.spelling.specs.Spelling.{big, recordOf, spellAll, paperOf, byFile, standsFor, allStandFor}
-use Rattle.spelling.specs.Printed.{printed, body, sent, printedLines, selection, selectionBody, file, brought}
+use Rattle.spelling.specs.Spelling.{Bytes, big, recordOf, spellAll, paperOf, byName, byFile, undated, dated, Manner, standsFor, allStandFor}
+use Rattle.spelling.specs.Printed.{printed, body, sent, printedLines, selection, selectionBody, file, brought, calendar, calendarBody, datedSent}
 use Rattle.spelling.proofs.Witness as W
 use Rattle.spelling.proofs.Text.{printed-text}
-use Rattle.papers.specs.Papers.{setupOf, choiceOf, Accepted, frontOf, meant, walk, walked, commandsOf, faulty}
+use Rattle.papers.specs.Papers.{entriesLong, setupOf, mannerOf, choiceOf, Accepted, frontOf, meant, walk, walked, commandsOf, faulty}
 use Rattle.papers.specs.Talk.{allAnswered, talk, CutBehind, newest}
 use Rattle.papers.specs.Lines.{text}
 use Rattle.papers.proofs.Talk.{answered-both}
@@ -43,52 +47,62 @@ pub accepted : Accepted printed
 accepted = accepted-if-taken printed W.bytes 1 body (spellAll sent) W.opens (based 159) W.set-up
 
 -- ITS SET-UP AND ITS COMMANDS, from its bytes; it ends without a fault
-pub its-setup : setupOf printed ≡ record { bytes = D.body; syllabus = 0 }
-unfolding printed D.body setupOf number
+pub its-setup : setupOf printed ≡ record { bytes = D.body; tail = []; syllabus = 0; unnamed = 2 ^ 22 }
+unfolding printed D.body setupOf entriesLong number
 its-setup = refl
 
 pub its-commands : commandsOf printed ≡ commands
-unfolding printed commands choiceOf number frontOf meant walk walked
+unfolding printed commands mannerOf entriesLong number frontOf meant walk walked
 its-commands = refl
 
 pub no-fault : faulty printed ≡ false
-unfolding printed choiceOf number frontOf meant walk walked
+unfolding printed mannerOf entriesLong number frontOf meant walk walked
 no-fault = refl
 
 -- 242 BYTES, AND 322 OF LINES
 pub its-size : length printed ≡ 242
 its-size = W.long
 
-pub its-text : (words : List ℕ) → length words ≡ 164 → length (text (sittingLines words printed)) ≡ 322
+pub its-text : (words : List ℕ) → length words ≡ wordCount → length (text (sittingLines words printed)) ≡ 322
 unfolding printedLines
 its-text words lent = ap (λ (l : List (List ℕ)). length (text l)) (printed-text words lent)
 
 -- ---- its events, cut behind so many answers
 
-abbrev said : List Exchange
-said = talk (setupOf printed) (commandsOf printed)
+-- all that is said in a paper's sitting
+abbrev pub saidIn : (paper : List ℕ) → List Exchange
+saidIn paper = talk (setupOf paper) (commandsOf paper)
 
-pub cut-behind : (words : List ℕ) → length words ≡ 164 → (n : ℕ) → CutBehind words printed (take n said) (allAnswered (drop n said))
-cut-behind words lent n =
-    events-are words printed lent W.bytes accepted
+abbrev said : List Exchange
+said = saidIn printed
+
+cut-in : (words paper : List ℕ) → length words ≡ wordCount → Bytes paper → Accepted paper → faulty paper ≡ false → (n : ℕ)
+    → CutBehind words paper (take n (saidIn paper)) (allAnswered (drop n (saidIn paper)))
+cut-in words paper lent bytes a none n =
+    let all = saidIn paper in
+    events-are words paper lent bytes a
     ∙ ap (λ (l : List Event). SetUp ∷ l)
-    (rw no-fault (append-nil (allAnswered said)) ∙ ap allAnswered (sym (take-append-drop n said)) ∙ answered-both (take n said) (drop n said))
+    (rw none (append-nil (allAnswered all)) ∙ ap allAnswered (sym (take-append-drop n all)) ∙ answered-both (take n all) (drop n all))
+
+pub cut-behind : (words : List ℕ) → length words ≡ wordCount → (n : ℕ) → CutBehind words printed (take n said) (allAnswered (drop n said))
+cut-behind words lent n = cut-in words printed lent W.bytes accepted no-fault n
 
 -- an offline approval under a guarding profile stands behind so many answers
-pub record Approval (words : List ℕ) (n : ℕ) (command : Command) : Type 0 where
+pub record Approval (words paper : List ℕ) (meter : Meter) (n : ℕ) (command : Command) : Type 0 where
   pub answer : Answer
   pub more : List Event
-  pub cut : CutBehind words printed (take n said) (Answered command answer ∷ more)
-  pub guards : Guards (inForce (setupOf printed) (newest (take n said))) (placeBy (setupOf printed) (newest (take n said))) (accumulator 0)
+  pub cut : CutBehind words paper (take n (saidIn paper)) (Answered command answer ∷ more)
+  pub guards : Guards (inForce (setupOf paper) (newest (take n (saidIn paper)))) (placeBy (setupOf paper) (newest (take n (saidIn paper)))) meter
   pub approves-it : approves command answer ≡ true
+  pub takes-it-up : takesUp (bought (setupOf paper) (record { command = command; answer = answer } ∷ newest (take n (saidIn paper)))) meter ≡ true
 
 abbrev answerOf : List Exchange → Answer
 answerOf [] = Refused OutOfTurn
 answerOf (x ∷ more) = x .answer
 
 -- AT FIRST, AND AT SECOND AFTER Y3
-pub at-first : (words : List ℕ) → length words ≡ 164 → Approval words 1 (first 5000)
-unfolding printed setupOf choiceOf number frontOf meant walk walked talk computed
+pub at-first : (words : List ℕ) → length words ≡ wordCount → Approval words printed (accumulator 0) 1 (first 5000)
+unfolding printed setupOf mannerOf entriesLong number frontOf meant walk walked talk computed
 at-first words lent =
     record {
       answer = answerOf (drop 1 said);
@@ -96,10 +110,11 @@ at-first words lent =
       cut = cut-behind words lent 1;
       guards = record { active = refl; included = refl; decline = refl; default = refl };
       approves-it = refl;
+      takes-it-up = refl;
     }
 
-pub at-second : (words : List ℕ) → length words ≡ 164 → Approval words 4 second
-unfolding printed setupOf choiceOf number frontOf meant walk walked talk computed
+pub at-second : (words : List ℕ) → length words ≡ wordCount → Approval words printed (accumulator 0) 4 second
+unfolding printed setupOf mannerOf entriesLong number frontOf meant walk walked talk computed
 at-second words lent =
     record {
       answer = answerOf (drop 4 said);
@@ -107,11 +122,12 @@ at-second words lent =
       cut = cut-behind words lent 4;
       guards = record { active = refl; included = refl; decline = refl; default = refl };
       approves-it = refl;
+      takes-it-up = refl;
     }
 
 -- AND THE LAST SECOND IS REFUSED
-pub refused-there : (words : List ℕ) → length words ≡ 164 → CutBehind words printed (take 7 said) (Answered second (Refused OutOfTurn) ∷ [])
-unfolding printed setupOf choiceOf number frontOf meant walk walked talk computed
+pub refused-there : (words : List ℕ) → length words ≡ wordCount → CutBehind words printed (take 7 said) (Answered second (Refused OutOfTurn) ∷ [])
+unfolding printed setupOf mannerOf entriesLong number frontOf meant walk walked talk computed
 refused-there words lent = cut-behind words lent 7
 
 -- ---- the paper whose Starts bring the terminal's data
@@ -121,11 +137,11 @@ brought-accepted =
     accepted-if-taken selection W.brought-bytes 2 selectionBody (spellAll brought) W.brought-opens (selects (based 266) 268 279 1) W.brought-set-up
 
 pub brought-choice : choiceOf selection ≡ byFile file 1
-unfolding selection choiceOf number
+unfolding selection mannerOf entriesLong number
 brought-choice = refl
 
-pub brought-commands : commandsOf selection ≡ allStandFor (byFile file 1) brought
-unfolding selection brought choiceOf number frontOf meant walk walked standsFor allStandFor
+pub brought-commands : commandsOf selection ≡ allStandFor (record { choice = byFile file 1; dates = undated }) brought
+unfolding selection brought mannerOf entriesLong number frontOf meant walk walked standsFor allStandFor
 brought-commands = refl
 
 -- ---- a paper of version 03: the printed set-up, selection off, syllabus 1
@@ -149,10 +165,73 @@ latest-accepted =
             fits = R.printed-fits;
             in-range = R.printed-in-range;
             fine = (tt, lit≤ tt);
+            dates-in-range = tt;
             spelled = refl;
           };
     }
 
-pub latest-setup : setupOf latest ≡ record { bytes = D.body; syllabus = 1 }
-unfolding latest R.printed recordOf big setupRow headRow profileRow spelled written D.body setupOf number
+pub latest-setup : setupOf latest ≡ record { bytes = D.body; tail = []; syllabus = 1; unnamed = 2 ^ 22 }
+unfolding latest R.printed recordOf big setupRow headRow profileRow spelled written D.body setupOf entriesLong number
 latest-setup = refl
+
+-- ---- the paper whose Firsts have their dates
+
+pub dated-accepted : Accepted calendar
+dated-accepted =
+    accepted-if-taken calendar W.dated-bytes 4 calendarBody (spellAll datedSent) W.dated-opens (dates (based 159) (DatesOn 161 207)) W.dated-set-up
+
+-- its base has 159 bytes, and its tail of version 04, behind one byte for selection and one for the syllabus, 46
+pub dated-setup : setupOf calendar
+    ≡ record { bytes = take 159 (drop 4 calendar); tail = take 46 (drop 165 calendar); syllabus = 0; unnamed = 2 ^ 25 }
+unfolding calendar setupOf entriesLong number
+dated-setup = refl
+
+abbrev onDays : Manner
+onDays = record { choice = byName; dates = dated }
+
+pub dated-manner : mannerOf calendar ≡ onDays
+unfolding calendar mannerOf entriesLong number
+dated-manner = refl
+
+pub dated-commands : commandsOf calendar ≡ allStandFor onDays datedSent
+unfolding calendar datedSent mannerOf entriesLong number frontOf meant walk walked standsFor allStandFor
+dated-commands = refl
+
+pub dated-no-fault : faulty calendar ≡ false
+unfolding calendar mannerOf entriesLong number frontOf meant walk walked
+dated-no-fault = refl
+
+-- an approval of the day and of the month, and the one that begins a month
+abbrev bought-on : (month day amount : ℕ) → Command
+bought-on month day amount =
+    FirstCommand (record {
+      requested = 1;
+      amount = record { 0 = amount };
+      currency = 0x0978;
+      terminal = 0x22;
+      when = On (record { year = 0x05; month = month; day = day });
+    })
+
+pub in-a-day : (words : List ℕ) → length words ≡ wordCount → Approval words calendar (cyclic 0) 1 (bought-on 0x07 0x15 6000)
+unfolding calendar setupOf mannerOf entriesLong number frontOf meant walk walked talk computed
+in-a-day words lent =
+    record {
+      answer = answerOf (drop 1 (saidIn calendar));
+      more = allAnswered (drop 2 (saidIn calendar));
+      cut = cut-in words calendar lent W.dated-bytes dated-accepted dated-no-fault 1;
+      guards = record { active = refl; included = refl; decline = refl; default = refl };
+      approves-it = refl;
+      takes-it-up = refl;
+    }
+
+pub in-a-month : (words : List ℕ) → length words ≡ wordCount → Approval words calendar (cyclic 1) 11 (bought-on 0x08 0x01 10000)
+unfolding calendar setupOf mannerOf entriesLong number frontOf meant walk walked talk computed
+in-a-month words lent =
+    record {
+      answer = answerOf (drop 11 (saidIn calendar));
+      more = allAnswered (drop 12 (saidIn calendar));
+      cut = cut-in words calendar lent W.dated-bytes dated-accepted dated-no-fault 11;
+      guards = record { active = refl; included = refl; decline = refl; default = refl };
+      approves-it = refl;
+      takes-it-up = refl;
+    }

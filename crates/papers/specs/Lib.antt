@@ -1,3 +1,4 @@
 pub mod Papers
 pub mod Talk
 pub mod Lines
+pub mod Late

@@ -2,18 +2,21 @@
 use mathlib.Core.Path.{_≡_}
 use mathlib.Core.Bool.{Bool, true, false, cond}
 use mathlib.Core.List.{List, [], _∷_}
-use Prim.Native.Nat.{ℕ, zero, suc, _+_, _-_, _*_}
+use Prim.Native.Nat.{ℕ, zero, suc, _+_, _-_, _*_, _^_}
 use lib.Dec.{eqb, ltb}
 use lib.ListN.{length, take, drop}
 use Rattle.wire.specs.Wire.{byte, number}
+use Rattle.calendar.specs.declared.Date.{Date}
 use Rattle.selection.specs.declared.Selection.the-variants.{Selected}
 use Rattle.selection.specs.Selection.{selectionOf}
+use Rattle.command.specs.declared.When.the-variants.{Undated, On}
 use Rattle.command.specs.declared.Start.{Start}
+use Rattle.command.specs.declared.First.{First}
 use Rattle.command.specs.declared.Command.{Command}
 use Rattle.command.specs.declared.Command.the-variants.{Start as StartCommand, First as FirstCommand, Second as SecondCommand}
 use Rattle.demands.specs.Setup.{Setup}
 use Rattle.rows.specs.Tails.{baseLength}
-use Rattle.spelling.specs.Spelling.{Choice, byName, byFile}
+use Rattle.spelling.specs.Spelling.{Choice, byName, byFile, Dates, undated, dated, Manner}
 use Rattle.spelling.specs.Faults.{Opens}
 use Rattle.rows.specs.Whole.{IsSetup}
 
@@ -28,36 +31,75 @@ bodyIn paper = take (number paper 1 2 - 1) (drop 4 paper)
 abbrev pub restIn : List ℕ → List ℕ
 restIn paper = drop (3 + number paper 1 2) paper
 
--- a body is a base, as long as its p and c say, and the tail of its version
+-- a body is a base, as long as its p and c say, and the tails of its version, one behind the other; an older paper has no byte of a newer one,
+-- and what has no byte reads as 0
 abbrev pub baseIn : (body : List ℕ) → List ℕ
 baseIn body = take (baseLength body) body
 
-abbrev pub tailIn : (body : List ℕ) → List ℕ
-tailIn body = drop (baseLength body) body
+abbrev pub tailsIn : (body : List ℕ) → List ℕ
+tailsIn body = drop (baseLength body) body
 
--- the syllabus is the last byte of version 03; older papers follow 0
-abbrev pub syllabusIn : (version : ℕ) (body : List ℕ) → ℕ
-syllabusIn version body = cond (eqb version 3) (byte body (length body - 1)) 0
+-- VERSION 02, the selection: 0 off; 1 on, the number of entries, and the entries, each its length and as many bytes
+unfoldable pub entriesLong : (n : ℕ) → List ℕ → ℕ
+entriesLong zero s = 0
+entriesLong (suc n) s = suc (byte s 0) + entriesLong n (drop (suc (byte s 0)) s)
+
+abbrev pub fileLong : (tails : List ℕ) → ℕ
+fileLong tails = entriesLong (byte tails 1) (drop 2 tails)
+
+abbrev pub fileIn : (tails : List ℕ) → List ℕ
+fileIn tails = take (fileLong tails) (drop 2 tails)
+
+abbrev pub choiceIn : (tails : List ℕ) → Choice
+choiceIn tails = cond (eqb (byte tails 0) 0) byName (byFile (fileIn tails) (byte tails 1))
+
+-- VERSION 03, the syllabus, behind it
+abbrev pub behindSelection : (tails : List ℕ) → List ℕ
+behindSelection tails = drop (cond (eqb (byte tails 0) 0) 1 (2 + fileLong tails)) tails
+
+abbrev pub syllabusIn : (tails : List ℕ) → ℕ
+syllabusIn tails = byte (behindSelection tails) 0
+
+-- VERSION 04, dates, behind that: 0 off; 1 on, and all that follows
+abbrev pub datingIn : (tails : List ℕ) → List ℕ
+datingIn tails = drop 1 (behindSelection tails)
+
+abbrev pub datesIn : (tails : List ℕ) → Dates
+datesIn tails = cond (eqb (byte (datingIn tails) 0) 0) undated dated
+
+abbrev pub cyclesIn : (tails : List ℕ) → List ℕ
+cyclesIn tails = cond (eqb (byte (datingIn tails) 0) 0) [] (datingIn tails)
+
+-- mask bits 0 to 21 are named, and in version 04 0 to 24
+abbrev pub unnamedIn : (version : ℕ) → ℕ
+unnamedIn version = cond (ltb version 4) (2 ^ 22) (2 ^ 25)
 
 abbrev pub setupIn : (version : ℕ) (body : List ℕ) → Setup
-setupIn version body = record { bytes = baseIn body; syllabus = syllabusIn version body }
+setupIn version body =
+    record {
+      bytes = baseIn body;
+      tail = cyclesIn (tailsIn body);
+      syllabus = syllabusIn (tailsIn body);
+      unnamed = unnamedIn version;
+    }
 
--- selection is off where there is no tail and where it begins with 0; else 1, the number of entries, and the entries, in version 03 up to the
--- syllabus
-abbrev pub fileIn : (version : ℕ) (tail : List ℕ) → List ℕ
-fileIn version tail = take (length tail - cond (eqb version 3) 3 2) (drop 2 tail)
+abbrev pub mannerIn : (body : List ℕ) → Manner
+mannerIn body = record { choice = choiceIn (tailsIn body); dates = datesIn (tailsIn body) }
 
-abbrev pub choiceBy : (version : ℕ) (tail : List ℕ) → Choice
-choiceBy version tail = cond (eqb (byte tail 0) 0) byName (byFile (fileIn version tail) (byte tail 1))
-
--- THE SET-UP OF A PAPER, and how its Starts choose a profile
+-- THE SET-UP OF A PAPER; how its Starts choose a profile, and whether its Firsts have dates
 unfoldable pub setupOf : (paper : List ℕ) → Setup
 setupOf paper = setupIn (versionIn paper) (bodyIn paper)
 
-unfoldable pub choiceOf : (paper : List ℕ) → Choice
-choiceOf paper = choiceBy (versionIn paper) (tailIn (bodyIn paper))
+unfoldable pub mannerOf : (paper : List ℕ) → Manner
+mannerOf paper = mannerIn (bodyIn paper)
 
--- it is accepted: the paper opens, and its set-up is spelled from fields in their ranges and a tail of its version
+abbrev pub choiceOf : (paper : List ℕ) → Choice
+choiceOf paper = mannerOf paper .choice
+
+abbrev pub datesOf : (paper : List ℕ) → Dates
+datesOf paper = mannerOf paper .dates
+
+-- it is accepted: the paper opens, and its set-up is spelled from fields in their ranges and the tails of its version
 pub record Accepted (paper : List ℕ) : Type 0 where
   pub version : ℕ
   pub body : List ℕ
@@ -92,11 +134,27 @@ abbrev pub startMeant : Choice → (body : List ℕ) → Meaning
 startMeant byName body = cond (eqb (length body) 1) (means (StartCommand (record { chosen = Selected (byte body 0) 0 }))) none
 startMeant (byFile file entries) body = means (StartCommand (record { chosen = selectionOf file entries body }))
 
--- First: type (1), amount (8), currency (2), terminal type (1)
-abbrev pub firstMeant : (body : List ℕ) → Meaning
-firstMeant body =
+-- First: type (1), amount (8), currency (2), terminal type (1), and in a dated paper the date, YY, MM and DD (1 each)
+abbrev pub firstMeant : Dates → (body : List ℕ) → Meaning
+firstMeant undated body =
     cond (eqb (length body) 12)
-    (means (FirstCommand (record { requested = byte body 0; amount = record { 0 = number body 1 8 }; currency = number body 9 2; terminal = byte body 11 })))
+    (means (FirstCommand (record {
+      requested = byte body 0;
+      amount = record { 0 = number body 1 8 };
+      currency = number body 9 2;
+      terminal = byte body 11;
+      when = Undated;
+    })))
+    none
+firstMeant dated body =
+    cond (eqb (length body) 15)
+    (means (FirstCommand (record {
+      requested = byte body 0;
+      amount = record { 0 = number body 1 8 };
+      currency = number body 9 2;
+      terminal = byte body 11;
+      when = On (record { year = byte body 12; month = byte body 13; day = byte body 14 });
+    })))
     none
 
 -- Second: type (1), response code (2), issuer data (1), CSU (4)
@@ -107,9 +165,10 @@ secondMeant body =
     none
 
 -- kind 2 is a Start, 3 a First, 4 a Second
-unfoldable pub meant : Choice → (kind : ℕ) (body : List ℕ) → Meaning
-meant choice kind body =
-    cond (eqb kind 2) (startMeant choice body) (cond (eqb kind 3) (firstMeant body) (cond (eqb kind 4) (secondMeant body) none))
+unfoldable pub meant : Manner → (kind : ℕ) (body : List ℕ) → Meaning
+meant manner kind body =
+    cond (eqb kind 2) (startMeant (manner .choice) body)
+    (cond (eqb kind 3) (firstMeant (manner .dates) body) (cond (eqb kind 4) (secondMeant body) none))
 
 -- ---- all of them, one behind the other: the commands, up to the end or to a fault, which is a record that is none
 pub record Walked : Type 0 where
@@ -123,18 +182,18 @@ abbrev pub goingOn : Meaning → Walked → Walked
 goingOn none more = stopped true
 goingOn (means command) more = record { commands = command ∷ more .commands; fault = more .fault }
 
-abbrev pub walkBy : Choice → Front → (List ℕ → Walked) → Walked
-walkBy choice nothing more = stopped false
-walkBy choice broken more = stopped true
-walkBy choice (one kind body behind) more = goingOn (meant choice kind body) (more behind)
+abbrev pub walkBy : Manner → Front → (List ℕ → Walked) → Walked
+walkBy manner nothing more = stopped false
+walkBy manner broken more = stopped true
+walkBy manner (one kind body behind) more = goingOn (meant manner kind body) (more behind)
 
-unfoldable pub walk : (n : ℕ) → Choice → List ℕ → Walked
-walk zero choice s = stopped false
-walk (suc n) choice s = walkBy choice (frontOf s) (walk n choice)
+unfoldable pub walk : (n : ℕ) → Manner → List ℕ → Walked
+walk zero manner s = stopped false
+walk (suc n) manner s = walkBy manner (frontOf s) (walk n manner)
 
 -- no paper has more records than bytes
 unfoldable pub walked : (paper : List ℕ) → Walked
-walked paper = walk (length paper) (choiceOf paper) (restIn paper)
+walked paper = walk (length paper) (mannerOf paper) (restIn paper)
 
 -- THE COMMANDS OF A PAPER, and whether it ends by a fault
 abbrev pub commandsOf : (paper : List ℕ) → List Command
@@ -147,3 +206,8 @@ faulty paper = walked paper .fault
 abbrev pub Chosen : Choice → Start → Type 0
 Chosen byName start = (profile : ℕ) × (start .chosen ≡ Selected profile 0)
 Chosen (byFile file entries) start = (terminal : List ℕ) × (start .chosen ≡ selectionOf file entries terminal)
+
+-- and whether a First has its date
+abbrev pub Timed : Dates → First → Type 0
+Timed undated first = first .when ≡ Undated
+Timed dated first = (date : Date) × (first .when ≡ On date)

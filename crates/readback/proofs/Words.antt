@@ -32,13 +32,13 @@ reads-words f (g ∷ fs) (more p r) =
 
 -- ---- numbers
 
-are-digits : {w : List ℕ} → Each IsDigit w → areDigits w ≡ true
+pub are-digits : {w : List ℕ} → Each IsDigit w → areDigits w ≡ true
 unfolding areDigits
 are-digits none = refl
 are-digits (more {a = d} h p) = rw (le-leb 48 d (h .0), le-leb d 57 (h .1), are-digits p)
 
 -- one more digit at the end
-one-more : (w : List ℕ) (d : ℕ) → valueIn (w ++ (48 + d) ∷ []) ≡ valueIn w * 10 + d
+pub one-more : (w : List ℕ) (d : ℕ) → valueIn (w ++ (48 + d) ∷ []) ≡ valueIn w * 10 + d
 unfolding valueIn
 one-more [] d = omega arith
 one-more (c ∷ w) d =
@@ -57,7 +57,7 @@ behind n unit w v = by (ltb n unit) refl where
   by false e = rw e (one-more w (n / unit % 10) ∙ omega arith)
 
 -- the digit of a unit in front: none, or no zero
-other : (d : ℕ) (w : List ℕ) → (d ≡ 48 → ⊥) → isUnpadded (d ∷ w) ≡ true
+pub other : (d : ℕ) (w : List ℕ) → (d ≡ 48 → ⊥) → isUnpadded (d ∷ w) ≡ true
 other d [] h = refl
 other d (e ∷ w) h = rw (ne-eqb d 48 h)
 

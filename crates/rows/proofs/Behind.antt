@@ -1,20 +1,25 @@
 -- What follows the base, read as it was spelled. Assumes nothing.
 use mathlib.Core.Path.{_≡_, refl, sym, ap, subst, _∙_}
 use mathlib.Core.List.{List, [], _∷_, _++_, append-assoc, append-nil}
-use Prim.Native.Nat.{ℕ, _+_, _-_, _*_, _≤_, _<_}
+use Prim.Native.Nat.{ℕ, _+_, _-_, _*_, _^_, _≤_, _<_}
+use native.Mathlib.Nat.{add-zero}
 use native.Mathlib.Omega.{arith}
 use borrow.Author.Tests.{lt-leb, le-ltb, eq-eqb, eqb-true}
 use lib.ListN.{length, take, drop, length-append, List·getD-append}
-use lib.Seq.{take-at, getD-at, getD-append-seam, getD-append-add, drop-append-add}
+use lib.Seq.{length-take-le, getD-take, getD-drop, take-at, take-all, drop-at, getD-at, getD-append-seam, getD-append-add, drop-append-add}
 use Rattle.wire.specs.Wire.{byte}
 use Rattle.selection.specs.Selection.{isFile}
+use Rattle.shape.specs.declared.Dating.the-variants.{Off as DatesOff}
 use Rattle.shape.specs.declared.Shape.{Shape}
+use Rattle.shape.specs.declared.Tails.{Tails}
 use Rattle.shape.specs.declared.Tails.the-variants.{Ended}
 use Rattle.shape.specs.declared.ReadShape.the-variants.{Taken}
-use Rattle.shape.specs.Shape.{based, baseTail, entriesEnd, selectionTail, follows, syllabusTail, tailsOf, shapeOf}
+use Rattle.shape.specs.Shape.{based, baseTail, entriesEnd, selectionTail, follows, syllabusTail, dates, datingTail, cyclesPart, behind, tailsOf, whole, shapeOf}
 use Rattle.shape.proofs.Files.{file-ends}
-use Rattle.rows.specs.Tails.{Choosing, off, on, fileBytes, choosingBytes, Tail, first, second, third, versionOf, tailBytes, choosingOf, syllabusOf}
-use Rattle.rows.specs.Tails.{Fine, baseLength, Base, selecting, fileIn, fileOf, shapeSaid, TailSays}
+use Rattle.rows.specs.Rows.{Dates, undated, dated, cyclesBytes}
+use Rattle.rows.specs.Tails.{Choosing, off, on, fileBytes, choosingBytes, datesBytes, Tail, first, second, third, fourth, tailBytes}
+use Rattle.rows.specs.Tails.{FineDates, Fine, baseLength, Base, selecting, fileIn, fileOf, dating, datesAt, TailSays}
+use Rattle.rows.proofs.Dated.{cycles-size, cycles-in-place}
 use Rattle.rows.proofs.Entries.{file-read}
 
 file-there : (base : List ℕ) (c : Choosing) (rest : List ℕ) → fileIn (selecting c (length base)) (base ++ (choosingBytes c ++ rest)) ≡ fileOf c
@@ -26,27 +31,41 @@ file-there base (on es) rest =
     rw (size, there) (take-at (fileBytes es) rest (length (fileBytes es)) refl)
 
 module _ (base : List ℕ) (sized : length base ≡ baseLength base) (tail : List ℕ) where
-  byte-kept : (k : ℕ) → k < 52 → byte (base ++ tail) k ≡ byte base k
+  pub byte-kept : (k : ℕ) → k < 52 → byte (base ++ tail) k ≡ byte base k
   byte-kept k h = List·getD-append base tail 0 k (omega arith)
 
   pub length-kept : baseLength (base ++ tail) ≡ length base
   length-kept = rw (byte-kept 3 (omega arith), byte-kept 4 (omega arith)) (sym sized)
 
-  base-read : baseTail (base ++ tail) ≡ Ended (based (length base)) (length base)
+  pub base-read : baseTail (base ++ tail) ≡ Ended (based (length base)) (length base)
   unfolding baseTail
   base-read = rw (length-kept, le-ltb (length (base ++ tail)) (length base) (omega (arith, length-append base tail)))
 
   base-there : take (length base) (base ++ tail) ≡ base
   base-there = take-at base tail (length base) refl
 
+-- a body that is long enough begins with a base
+pub base-sized : (body : List ℕ) → baseLength body ≤ length body → Base (take (baseLength body) body)
+base-sized body more =
+    let base = take (baseLength body) body in
+    let size = length-take-le (baseLength body) body (omega arith) in
+    let p : byte base 3 ≡ byte body 3 = getD-take (baseLength body) body 3 0 (omega arith) in
+    let c : byte base 4 ≡ byte body 4 = getD-take (baseLength body) body 4 0 (omega arith) in
+    omega arith
+
+pub some-bytes : (c : Choosing) → 1 ≤ length (choosingBytes c)
+some-bytes off = omega arith
+some-bytes (on es) = omega arith
+
 -- where the selection's tail ends
-abbrev choosingEnd : List ℕ → Choosing → ℕ
+abbrev pub choosingEnd : List ℕ → Choosing → ℕ
 choosingEnd base c = length base + length (choosingBytes c)
 
-abbrev chosen : List ℕ → Choosing → Shape
-chosen base c = record { base = length base; selecting = selecting c (length base); syllabus = 0 }
+abbrev pub chosen : List ℕ → Choosing → Shape
+chosen base c =
+    record { base = length base; selecting = selecting c (length base); syllabus = 0; dating = DatesOff; unnamed = 2 ^ 22 }
 
-choosing-read : (base : List ℕ) (c : Choosing) (rest : List ℕ)
+pub choosing-read : (base : List ℕ) (c : Choosing) (rest : List ℕ)
     → selectionTail (base ++ (choosingBytes c ++ rest)) (based (length base)) (length base) ≡ Ended (chosen base c) (choosingEnd base c)
 unfolding selectionTail
 choosing-read base off rest =
@@ -67,6 +86,13 @@ choosing-read base (on es) rest =
     let same : end ≡ choosingEnd base (on es) = omega arith in
     rw (switch, count, ends, lt-leb (length body) (length base) (omega arith), le-ltb (length body) end (omega arith)) (ap (Ended (chosen base (on es))) same)
 
+-- behind the base
+pub selection-read : (base : List ℕ) → length base ≡ baseLength base → (c : Choosing) (rest : List ℕ)
+    → behind (baseTail (base ++ (choosingBytes c ++ rest))) (selectionTail (base ++ (choosingBytes c ++ rest))) ≡ Ended (chosen base c) (choosingEnd base c)
+selection-read base sized c rest =
+    ap (λ (t : Tails). behind t (selectionTail (base ++ (choosingBytes c ++ rest)))) (base-read base sized (choosingBytes c ++ rest))
+    ∙ choosing-read base c rest
+
 first-says : (base : List ℕ) → length base ≡ baseLength base → TailSays base first base
 unfolding shapeOf tailsOf
 first-says base sized =
@@ -75,6 +101,7 @@ first-says base sized =
       read = rw (rw nothing at (base-read base sized []), eq-eqb (length base) (length base) refl);
       base-is = rw nothing at (base-there base sized []);
       file = refl;
+      cycles = refl;
     }
 
 second-says : (base : List ℕ) (c : Choosing) → length base ≡ baseLength base → TailSays base (second c) (base ++ choosingBytes c)
@@ -91,7 +118,37 @@ second-says base c sized =
           );
       base-is = base-there base sized (choosingBytes c);
       file = rw nothing at (file-there base c []);
+      cycles = refl;
     }
+
+-- the syllabus behind it, whatever follows
+module _ (base : List ℕ) (c : Choosing) (y : ℕ) (rest : List ℕ) where
+  abbrev with-rest : List ℕ
+  with-rest = base ++ (choosingBytes c ++ y ∷ rest)
+
+  pub syllabus-byte : byte with-rest (choosingEnd base c) ≡ y
+  syllabus-byte =
+      getD-append-add base (choosingBytes c ++ y ∷ rest) (length (choosingBytes c)) 0 ∙ getD-append-seam (choosingBytes c) y rest 0
+
+  pub rest-size : length with-rest ≡ choosingEnd base c + 1 + length rest
+  rest-size = omega (arith, length-append base (choosingBytes c ++ y ∷ rest), length-append (choosingBytes c) (y ∷ rest))
+
+  pub syllabus-read : y ≤ 1 → (shape : Shape) → syllabusTail with-rest shape (choosingEnd base c) ≡ Ended (follows shape y) (choosingEnd base c + 1)
+  unfolding syllabusTail
+  syllabus-read low shape =
+      rw (syllabus-byte, lt-leb (length with-rest) (choosingEnd base c) (omega (arith, rest-size)), le-ltb 1 y low)
+
+  -- what follows
+  pub rest-there : drop (datesAt base c) with-rest ≡ rest
+  rest-there =
+      let front = base ++ (choosingBytes c ++ y ∷ []) in
+      let size : length front ≡ datesAt base c =
+      omega (arith, length-append base (choosingBytes c ++ y ∷ []), length-append (choosingBytes c) (y ∷ [])) in
+      let same : with-rest ≡ front ++ rest = simp append-assoc in
+      rw same (drop-at front rest (datesAt base c) size)
+
+  pub rest-byte : (k : ℕ) → byte with-rest (datesAt base c + k) ≡ byte rest k
+  rest-byte k = sym (getD-drop (datesAt base c) with-rest k 0) ∙ ap (λ (t : List ℕ). byte t k) rest-there
 
 module _ (base : List ℕ) (c : Choosing) (y : ℕ) (sized : length base ≡ baseLength base) where
   abbrev tail : List ℕ
@@ -106,13 +163,6 @@ module _ (base : List ℕ) (c : Choosing) (y : ℕ) (sized : length base ≡ bas
       ap (λ (t : List ℕ). byte t (length (base ++ tail) - 1)) (sym (append-assoc base (choosingBytes c) (y ∷ [])))
       ∙ getD-at (base ++ choosingBytes c) y [] 0 (length (base ++ tail) - 1) place
 
-  syllabus-read : y ≤ 1 → (shape : Shape) → syllabusTail (base ++ tail) shape (choosingEnd base c) ≡ Ended (follows shape y) (choosingEnd base c + 1)
-  unfolding syllabusTail
-  syllabus-read low shape =
-      let here : byte (base ++ tail) (choosingEnd base c) ≡ y =
-      getD-append-add base tail (length (choosingBytes c)) 0 ∙ getD-append-seam (choosingBytes c) y [] 0 in
-      rw (here, lt-leb (length (base ++ tail)) (choosingEnd base c) (omega (arith, third-size)), le-ltb 1 y low)
-
   third-says : y ≤ 1 → TailSays base (third c y) (base ++ tail)
   unfolding shapeOf tailsOf
   third-says low =
@@ -122,15 +172,81 @@ module _ (base : List ℕ) (c : Choosing) (y : ℕ) (sized : length base ≡ bas
             rw (
               base-read base sized tail,
               choosing-read base c (y ∷ []),
-              syllabus-read low (chosen base c),
+              syllabus-read base c y [] low (chosen base c),
               eq-eqb (choosingEnd base c + 1) (length (base ++ tail)) ends,
             );
         base-is = base-there base sized tail;
         file = file-there base c (y ∷ []);
+        cycles = refl;
+      }
+
+-- ---- dates
+
+dates-size : (d : Dates) → 1 ≤ length (datesBytes d)
+dates-size undated = omega arith
+dates-size (dated d) = let size = cycles-size d in omega arith
+
+dating-read : (base : List ℕ) (c : Choosing) (y : ℕ) (d : Dates) → length base ≡ baseLength base → FineDates (byte base 3) d → (shape : Shape)
+    → datingTail (base ++ tailBytes (fourth c y d)) shape (datesAt base c)
+    ≡ Ended (dates shape (dating d (datesAt base c))) (datesAt base c + length (datesBytes d))
+unfolding datingTail
+dating-read base c y undated sized fine shape =
+    let body = base ++ tailBytes (fourth c y undated) in
+    let at = datesAt base c in
+    let switch : byte body at ≡ 0 = ap (byte body) (sym (add-zero at)) ∙ rest-byte base c y (0 ∷ []) 0 in
+    rw (switch, lt-leb (length body) at (omega (arith, rest-size base c y (0 ∷ []))))
+dating-read base c y (dated d) sized fine shape =
+    let t = cyclesBytes (dated d) in
+    let body = base ++ tailBytes (fourth c y (dated d)) in
+    let at = datesAt base c in
+    let switch : byte body at ≡ 1 = ap (byte body) (sym (add-zero at)) ∙ rest-byte base c y t 0 ∙ cycles-in-place d (fine .0) .dated in
+    let p : byte body 3 ≡ byte base 3 = byte-kept base sized (tailBytes (fourth c y (dated d))) 3 (omega arith) in
+    let rules = fine .1 in
+    let size = cycles-size d in
+    let long = rest-size base c y t in
+    let end : at + (28 + 18 * byte body 3) ≡ at + length t = omega arith in
+    rw (switch, end, lt-leb (length body) at (omega arith), le-ltb (length body) (at + length t) (omega arith))
+
+cycles-there : (base : List ℕ) (c : Choosing) (y : ℕ) (d : Dates) → cyclesPart (dating d (datesAt base c)) (base ++ tailBytes (fourth c y d)) ≡ cyclesBytes d
+cycles-there base c y undated = refl
+cycles-there base c y (dated d) =
+    let t = cyclesBytes (dated d) in
+    let size : datesAt base c + length t - datesAt base c ≡ length t = omega arith in
+    rw (size, rest-there base c y t) (take-all (length t) t (omega arith))
+
+module _ (base : List ℕ) (c : Choosing) (y : ℕ) (d : Dates) (sized : length base ≡ baseLength base) (low : y ≤ 1) (fine : FineDates (byte base 3) d) where
+  abbrev dated-body : List ℕ
+  dated-body = base ++ tailBytes (fourth c y d)
+
+  syllabus-4 : behind (behind (baseTail dated-body) (selectionTail dated-body)) (syllabusTail dated-body)
+      ≡ Ended (follows (chosen base c) y) (datesAt base c)
+  syllabus-4 =
+      ap (λ (t : Tails). behind t (syllabusTail dated-body)) (selection-read base sized c (y ∷ datesBytes d))
+      ∙ syllabus-read base c y (datesBytes d) low (chosen base c)
+
+  abbrev shape-4 : Shape
+  shape-4 = dates (follows (chosen base c) y) (dating d (datesAt base c))
+
+  tails-4 : tailsOf 4 dated-body ≡ Ended shape-4 (datesAt base c + length (datesBytes d))
+  unfolding tailsOf
+  tails-4 = ap (λ (t : Tails). behind t (datingTail dated-body)) syllabus-4 ∙ dating-read base c y d sized fine (follows (chosen base c) y)
+
+  shape-read : shapeOf 4 dated-body ≡ Taken shape-4
+  unfolding shapeOf
+  shape-read = ap (whole dated-body) tails-4 ∙ rw (eq-eqb _ _ (sym (rest-size base c y (datesBytes d))))
+
+  fourth-says : TailSays base (fourth c y d) dated-body
+  fourth-says =
+      record {
+        read = shape-read;
+        base-is = base-there base sized (tailBytes (fourth c y d));
+        file = file-there base c (y ∷ datesBytes d);
+        cycles = cycles-there base c y d;
       }
 
 -- THE STATEMENT: a base and the tail of a version are read as they were spelled
-pub reads-tails : (base : List ℕ) (tail : Tail) → Base base → Fine tail → TailSays base tail (base ++ tailBytes tail)
+pub reads-tails : (base : List ℕ) (tail : Tail) → Base base → Fine (byte base 3) tail → TailSays base tail (base ++ tailBytes tail)
 reads-tails base first sized fine = subst (λ (t : List ℕ). TailSays base first t) (sym (append-nil base)) (first-says base sized)
 reads-tails base (second c) sized fine = second-says base c sized
 reads-tails base (third c y) sized fine = third-says base c y sized (fine .1)
+reads-tails base (fourth c y d) sized fine = fourth-says base c y d sized (fine .1) (fine .2)

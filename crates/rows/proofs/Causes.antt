@@ -3,13 +3,13 @@ use mathlib.Core.Path.{_≡_, refl, sym, ap, ap₂, subst, _∙_}
 use mathlib.Core.Bool.{Bool, true, false, cond}
 use mathlib.Core.List.{List, [], _∷_, _++_, append-assoc, append-nil}
 use mathlib.Core.Logic.{_⊎_, inl, inr, _↔_}
-use Prim.Native.Nat.{ℕ, zero, suc, _+_, _-_, _*_, _≤_, _<_}
+use Prim.Native.Nat.{ℕ, zero, suc, _+_, _-_, _≤_, _<_}
 use native.Mathlib.Numerals.{add-one}
 use native.Mathlib.Omega.{arith}
-use borrow.Author.Tests.{lt-ltb, le-ltb, ltb-true, ltb-false, lt-leb, le-leb, leb-true, leb-false, eqb-true, eqb-false, eq-eqb, ne-eqb}
+use borrow.Author.Tests.{ltb-true, ltb-false, leb-true, leb-false, eqb-true, eqb-false, eq-eqb}
 use lib.Dec.{leb, ltb, eqb}
-use lib.ListN.{length, getD, take, drop, length-append, length-take, length-drop, take-append-drop}
-use lib.Seq.{drop-at, take-at, take-all, take-suc, take-add, take-length, drop-cons, length-take-le, getD-take, getD-drop}
+use lib.ListN.{length, getD, take, drop, length-append, length-drop, take-append-drop}
+use lib.Seq.{drop-at, take-at, take-all, take-suc, take-add, take-length, drop-cons, getD-drop}
 use Rattle.wire.specs.Wire.{byte}
 use Rattle.refusal.specs.declared.Refusal.the-variants.{BadSetup}
 use Rattle.selection.specs.Selection.{isFile}
@@ -23,11 +23,13 @@ use Rattle.shape.specs.Shape.{based, baseTail, fileEnd, selects, selectionTail,
 use Rattle.shape.specs.Shape as Sh
 use Rattle.shape.proofs.Files.{file-ends}
 use Rattle.shape.proofs.Inside.{not-before}
-use Rattle.rows.specs.Tails.{Choosing, off, on, fileBytes, choosingBytes, Tail, first, second, third, versionOf, tailBytes, FineChoosing, Fine}
+use Rattle.rows.specs.Tails.{Choosing, off, on, choosingBytes, Tail, first, second, third, fourth, versionOf, tailBytes, FineChoosing, Fine}
 use Rattle.rows.specs.Tails.{baseLength, Base, IsSpelled, BadChoosing, missing, above, behind-off, no-number, entries, butLast}
-use Rattle.rows.specs.Tails.{BadTail, other-length, choosing, no-syllabus, syllabus-above, between}
-use Rattle.rows.proofs.Entries.{file-read, Small, small-drop, small-take, Entries, file-spelled, file-bad, bad-file}
-use Rattle.rows.proofs.Behind.{length-kept, third-size, third-last, reads-tails}
+use Rattle.rows.specs.Tails.{BadTail, other-length, choosing, no-syllabus, syllabus-above, between, no-choosing, behind-choosing}
+use Rattle.rows.proofs.Entries.{file-read, Small, small-drop, small-take, more-than-one, file-spelled, file-bad, bad-file}
+use Rattle.rows.proofs.Fourth.{fourth-settled}
+use Rattle.rows.proofs.FourthRefused.{fourth-refused}
+use Rattle.rows.proofs.Behind.{base-sized, some-bytes, length-kept, third-size, third-last, reads-tails}
 
 never : {P : Type 0} → _≡_ {A = ℕ} 0 1 → P
 never z = absurd (omega arith)
@@ -38,11 +40,6 @@ record Chosen (tail : List ℕ) : Type 0 where
   choice : Choosing
   fine : FineChoosing choice
   bytes : choosingBytes choice ≡ tail
-
-more-than-one : (x : ℕ) → eqb x 0 ≡ false → eqb x 1 ≡ false → 1 < x
-more-than-one zero e f = absurd (eqb-false 0 0 e refl)
-more-than-one (suc zero) e f = absurd (eqb-false 1 1 f refl)
-more-than-one (suc (suc x)) e f = omega arith
 
 one-byte : (x : ℕ) (none some : Bool) → eqb x 0 ≡ none → eqb x 1 ≡ some → Chosen (x ∷ []) ⊎ BadChoosing (x ∷ [])
 one-byte x true some e f = inl (record { choice = off; fine = tt; bytes = ap (λ n. n ∷ []) (sym (eqb-true x 0 e)) })
@@ -80,10 +77,6 @@ no-cause (on es) (entries h l b) =
     let bad = bad-file b in
     let z : _≡_ {A = ℕ} 0 1 = cc in
     omega arith
-
-some-bytes : (c : Choosing) → 1 ≤ length (choosingBytes c)
-some-bytes off = omega arith
-some-bytes (on es) = omega arith
 
 -- ---- what a tail's reader has passed is spelled
 
@@ -186,13 +179,6 @@ module _ (body : List ℕ) (small : Small body) where
   abbrev behind : List ℕ
   behind = drop (baseLength body) body
 
-  base-sized : baseLength body ≤ length body → length base ≡ baseLength base
-  base-sized more =
-      let size = length-take-le (baseLength body) body (omega arith) in
-      let p : byte base 3 ≡ byte body 3 = getD-take (baseLength body) body 3 0 (omega arith) in
-      let c : byte base 4 ≡ byte body 4 = getD-take (baseLength body) body 4 0 (omega arith) in
-      omega arith
-
   all : take (length body) body ≡ body
   all = take-length body
 
@@ -227,7 +213,7 @@ module _ (body : List ℕ) (small : Small body) where
   second-spelled shape e =
       let (more, t) = based-on (selectionTail body) shape (ended (Sh.behind (baseTail body) (selectionTail body)) shape e) in
       let p = selection-passed (based (baseLength body)) shape (baseLength body) (length body) t in
-      record { base = base; tail = second (p .choice); version-is = refl; sized = base-sized more; fine = p .fine; joined = sym (p .joined) ∙ all }
+      record { base = base; tail = second (p .choice); version-is = refl; sized = base-sized body more; fine = p .fine; joined = sym (p .joined) ∙ all }
 
   third-spelled : (shape : Shape) → shapeOf 3 body ≡ Taken shape → IsSpelled 3 body
   unfolding shapeOf tailsOf baseTail
@@ -241,7 +227,7 @@ module _ (body : List ℕ) (small : Small body) where
             base = base;
             tail = third (p .choice) (f .syllabus);
             version-is = refl;
-            sized = base-sized more;
+            sized = base-sized body more;
             fine = (p .fine, f .low);
             joined =
                 sym (append-assoc base (choosingBytes (p .choice)) (f .syllabus ∷ [])) ∙ ap (λ (t : List ℕ). t ++ f .syllabus ∷ []) (sym (p .joined))
@@ -262,12 +248,19 @@ module _ (body : List ℕ) (small : Small body) where
       by false a e =
           by-selection (ltb-false (length body) (baseLength body) a) (selectionTail body (based (baseLength body)) (baseLength body)) refl e
 
-  spelled-if-taken : (version : ℕ) → 1 ≤ version → version ≤ 3 → (shape : Shape) → shapeOf version body ≡ Taken shape → IsSpelled version body
+  fourth-spelled : (shape : Shape) → shapeOf 4 body ≡ Taken shape → IsSpelled 4 body
+  fourth-spelled shape e = by (fourth-settled body small) where
+    by : IsSpelled 4 body ⊎ BadTail 4 body → IsSpelled 4 body
+    by (inl s) = s
+    by (inr b) = let n = ap shapeNumber e in absurd (omega (arith, fourth-refused body b))
+
+  spelled-if-taken : (version : ℕ) → 1 ≤ version → version ≤ 4 → (shape : Shape) → shapeOf version body ≡ Taken shape → IsSpelled version body
   spelled-if-taken zero l m = absurd (omega arith)
   spelled-if-taken (suc zero) l m = first-spelled
   spelled-if-taken (suc (suc zero)) l m = second-spelled
   spelled-if-taken (suc (suc (suc zero))) l m = third-spelled
-  spelled-if-taken (suc (suc (suc (suc n)))) l m = absurd (omega arith)
+  spelled-if-taken (suc (suc (suc (suc zero)))) l m = fourth-spelled
+  spelled-if-taken (suc (suc (suc (suc (suc n))))) l m = absurd (omega arith)
 
   -- ---- spelled, or with a cause
 
@@ -280,7 +273,7 @@ module _ (body : List ℕ) (small : Small body) where
           base = base;
           tail = second (c .choice);
           version-is = refl;
-          sized = base-sized more;
+          sized = base-sized body more;
           fine = c .fine;
           joined = ap (λ (t : List ℕ). base ++ t) (c .bytes) ∙ take-append-drop (baseLength body) body;
         })
@@ -305,7 +298,7 @@ module _ (body : List ℕ) (small : Small body) where
           base = base;
           tail = third (c .choice) last;
           version-is = refl;
-          sized = base-sized (omega arith);
+          sized = base-sized body (omega arith);
           fine = (c .fine, ltb-false 1 last low);
           joined =
               ap (λ (t : List ℕ). base ++ (t ++ last ∷ [])) (c .bytes) ∙ ap (λ (t : List ℕ). base ++ t) (last-joins more)
@@ -327,20 +320,23 @@ module _ (body : List ℕ) (small : Small body) where
         inl (record { base = body; tail = first; version-is = refl; sized = eqb-true (length body) (baseLength body) e; fine = tt; joined = append-nil body })
     by false e = inr (other-length refl (eqb-false (length body) (baseLength body) e))
 
-  tail-settled : (version : ℕ) → 1 ≤ version → version ≤ 3 → IsSpelled version body ⊎ BadTail version body
+  tail-settled : (version : ℕ) → 1 ≤ version → version ≤ 4 → IsSpelled version body ⊎ BadTail version body
   tail-settled zero l m = absurd (omega arith)
   tail-settled (suc zero) l m = first-settled
   tail-settled (suc (suc zero)) l m = second-settled
   tail-settled (suc (suc (suc zero))) l m = third-settled
-  tail-settled (suc (suc (suc (suc n)))) l m = absurd (omega arith)
+  tail-settled (suc (suc (suc (suc zero)))) l m = fourth-settled body small
+  tail-settled (suc (suc (suc (suc (suc n))))) l m = absurd (omega arith)
 
 -- no body is spelled and has a cause
-excluded : (base : List ℕ) (tail : Tail) → Base base → Fine tail → BadTail (versionOf tail) (base ++ tailBytes tail) → ⊥
+excluded : (base : List ℕ) (tail : Tail) → Base base → Fine (byte base 3) tail → BadTail (versionOf tail) (base ++ tailBytes tail) → ⊥
 excluded base first sized fine (other-length v n) = n (rw (append-nil base) sized)
 excluded base first sized fine (choosing v b) = omega arith
 excluded base first sized fine (no-syllabus v l) = omega arith
 excluded base first sized fine (syllabus-above v l) = omega arith
 excluded base first sized fine (between v b) = omega arith
+excluded base first sized fine (no-choosing v b) = omega arith
+excluded base first sized fine (behind-choosing v c t e b) = omega arith
 excluded base (second c) sized fine (other-length v n) = omega arith
 excluded base (second c) sized fine (choosing v b) =
     let there = drop-at base (choosingBytes c) (baseLength (base ++ choosingBytes c)) (sym (length-kept base sized (choosingBytes c))) in
@@ -348,6 +344,8 @@ excluded base (second c) sized fine (choosing v b) =
 excluded base (second c) sized fine (no-syllabus v l) = omega arith
 excluded base (second c) sized fine (syllabus-above v l) = omega arith
 excluded base (second c) sized fine (between v b) = omega arith
+excluded base (second c) sized fine (no-choosing v b) = omega arith
+excluded base (second c) sized fine (behind-choosing v d t e b) = omega arith
 excluded base (third c y) sized fine (other-length v n) = omega arith
 excluded base (third c y) sized fine (choosing v b) = omega arith
 excluded base (third c y) sized fine (no-syllabus v l) =
@@ -359,6 +357,11 @@ excluded base (third c y) sized fine (between v b) =
     let behind : drop (baseLength (base ++ tail)) (base ++ tail) ≡ tail = drop-at base tail (baseLength (base ++ tail)) (sym (length-kept base sized tail)) in
     let size : length (choosingBytes c) ≡ length tail - 1 = omega (arith, length-append (choosingBytes c) (y ∷ [])) in
     no-cause c (subst (λ (t : List ℕ). BadChoosing t) (ap butLast behind ∙ take-at (choosingBytes c) (y ∷ []) (length tail - 1) size) b)
+excluded base (third c y) sized fine (no-choosing v b) = omega arith
+excluded base (third c y) sized fine (behind-choosing v d t e b) = omega arith
+excluded base (fourth c y d) sized fine b =
+    let taken = ap shapeNumber (reads-tails base (fourth c y d) sized fine .read) in
+    omega (arith, fourth-refused (base ++ tailBytes (fourth c y d)) b)
 
 -- a shape is taken, or its number is 1
 data Ways (read : ReadShape) : Type 0 where
@@ -377,7 +380,7 @@ ways version body = by (tailsOf version body) where
   by (Ended shape at) = by-end shape (eqb at (length body))
 
 -- THE STATEMENTS: a tail is taken exactly if the body is spelled, and refusal 1 exactly if it has one of the causes
-module _ (version : ℕ) (body : List ℕ) (bytes : Bytes body) (least : 1 ≤ version) (most : version ≤ 3) where
+module _ (version : ℕ) (body : List ℕ) (bytes : Bytes body) (least : 1 ≤ version) (most : version ≤ 4) where
   pub tails-if-read : shapeNumber (shapeOf version body) ≡ 0 → IsSpelled version body
   tails-if-read z = by (ways version body) where
     by : Ways (shapeOf version body) → IsSpelled version body

@@ -5,8 +5,8 @@ use mathlib.Core.List.{List, [], _∷_, _++_}
 use Prim.Native.Nat.{ℕ, zero, suc, _+_, _≤_, _<_}
 use native.Mathlib.Numerals.{add-one}
 use native.Mathlib.Omega.{arith}
-use borrow.Author.Tests.{lt-ltb, le-ltb, ltb-true, ltb-false, eqb-true, ne-eqb}
-use lib.Dec.{ltb}
+use borrow.Author.Tests.{lt-ltb, le-ltb, ltb-true, ltb-false, eqb-true, eqb-false, ne-eqb}
+use lib.Dec.{eqb, ltb}
 use lib.ListN.{List·getD-eq-default, length, take, drop, length-append, length-take, take-append-drop}
 use lib.Seq.{take-at, drop-at, length-take-le, getD-drop, getD-take}
 use Rattle.wire.specs.Wire.{byte}
@@ -63,6 +63,11 @@ pub record Entries (n : ℕ) (file : List ℕ) : Type 0 where
 
 never : {P : Type 0} → false ≡ true → P
 never e = let z : _≡_ {A = ℕ} 0 1 = cc in absurd (omega arith)
+
+pub more-than-one : (x : ℕ) → eqb x 0 ≡ false → eqb x 1 ≡ false → 1 < x
+more-than-one zero e f = absurd (eqb-false 0 0 e refl)
+more-than-one (suc zero) e f = absurd (eqb-false 1 1 f refl)
+more-than-one (suc (suc x)) e f = omega arith
 
 pub file-spelled : (n : ℕ) (file : List ℕ) → Small file → isFile file n ≡ true → Entries n file
 unfolding isFile

@@ -1,23 +1,124 @@
 -- What is read of a spelled set-up is what its fields say. Assumes nothing.
-use mathlib.Core.Path.{_≡_, ap, _∙_}
-use mathlib.Core.Bool.{cond}
-use mathlib.Core.List.{List}
-use Prim.Native.Nat.{ℕ, _+_, _*_, _/_}
+use mathlib.Core.Path.{_≡_, refl, ap, ap₂, _∙_}
+use mathlib.Core.Bool.{Bool, true, false, cond}
+use mathlib.Core.List.{List, [], _∷_}
+use Prim.Native.Nat.{ℕ, zero, suc, _+_, _*_, _/_, _≤_}
 use native.Mathlib.Omega.{arith}
+use borrow.Author.Tests.{ltb-false, ne-eqb}
 use lib.Dec.{ltb}
-use lib.ListN.{length, getD}
+use lib.ListN.{length, getD, List·getD-eq-default}
+use Rattle.wire.specs.Wire.{byte, number}
+use Rattle.wire.proofs.Numbers.{past}
 use Rattle.money.specs.Money.{blank}
-use Rattle.rules.specs.Rules.{blankProfile}
+use Rattle.calendar.specs.Calendar.{dateAt}
+use Rattle.rules.specs.declared.CyclicRule.{CyclicRule}
+use Rattle.rules.specs.Rules.{two, blankProfile, blankCyclic, periodOf}
 use Rattle.setup.specs.declared.Fresh.{Fresh}
 use Rattle.setup.specs.declared.SetupAnswer.the-variants.{Done}
-use Rattle.setup.specs.Setup.{rateIn, accumulatorIn, counterIn, profileIn, rulesIn, freshIn}
-use Rattle.setup.proofs.Faithful.{faithful, started}
+use Rattle.setup.specs.Setup.{rateIn, accumulatorIn, counterIn, profileIn, cycleIn, cyclicIn, amountIn, rulesIn, freshIn}
+use Rattle.setup.proofs.Faithful.{Bytes, faithful, started}
 use Rattle.rows.specs.Rows.{Fits, Limits, Profile, Conversion, Setup, setupRow, body}
+use Rattle.rows.specs.Rows.{spelled, Cyclic, CyclicLimit, Cycles, Dates, undated, dated, cyclesRow, cyclesBytes}
 use Rattle.rows.specs.Said.{accumulatorSaid, counterSaid, profileSaid, conversionSaid, profileAt, conversionAt, rulesSaid, freshSaid, Says}
+use Rattle.rows.specs.Said.{periodSaid, cyclicSaid, cyclicLimitSaid, cyclicLimitsSaid, cyclesSaid, cyclicRulesAt, amountsSaid, lastSaid}
+use Rattle.rows.specs.Tails.{FineDates}
 use Rattle.rows.specs.Offsets.{AccumulatorOffsets, CounterOffsets, ProfileOffsets, ConversionOffsets, Offsets}
+use Rattle.rows.specs.Offsets.{CyclicOffsets, CyclicLimitOffsets, CyclesOffsets}
 use Rattle.rows.proofs.Spelling.{spelled-bytes}
 use Rattle.rows.proofs.Places.{said-there}
 use Rattle.rows.proofs.Placed.{body-size, in-place}
+use Rattle.rows.proofs.Dated.{cycles-size, cycles-in-place}
+
+-- ---- the tail of version 04
+
+-- what is read of one that says d
+record TailRead (t : List ℕ) (d : Dates) : Type 0 where
+  cycles : two (λ i. cycleIn t (4 + 12 * i)) ≡ cyclesSaid d
+  rules : (j : ℕ) → two (λ i. cyclicIn t (28 + 18 * j + 9 * i)) ≡ cyclicRulesAt d j
+  amounts : two (amountIn t) ≡ amountsSaid d
+  last : dateAt t 1 ≡ lastSaid d
+
+period-read : (kind : ℕ) → periodOf kind ≡ periodSaid kind
+period-read zero = refl
+period-read (suc zero) = refl
+period-read (suc (suc zero)) = refl
+period-read (suc (suc (suc kind))) =
+    let n = suc (suc (suc kind)) in
+    rw (ne-eqb n 1 (λ e. omega arith), ne-eqb n 2 (λ e. omega arith))
+
+module _ (t : List ℕ) where
+  cyclic-read : (at : ℕ) (c : Cyclic) → CyclicOffsets t at c → cycleIn t at ≡ cyclicSaid c
+  unfolding cycleIn
+  cyclic-read at c o = simp (o .currency, o .kind, o .first, period-read)
+
+  limit-read : (at : ℕ) (l : CyclicLimit) → CyclicLimitOffsets t at l → cyclicIn t at ≡ cyclicLimitSaid l
+  unfolding cyclicIn
+  limit-read at l o =
+      let whole : l .switches / 1 ≡ l .switches = omega arith in
+      simp (o .switches, o .limit, whole)
+
+  no-limit : (at : ℕ) → length t ≤ at → cyclicIn t at ≡ blankCyclic
+  unfolding cyclicIn
+  no-limit at h =
+      let none : byte t at ≡ 0 = List·getD-eq-default t 0 h in
+      simp (none, past t (at + 1) 8 (omega arith))
+
+module _ (d : Cycles) (fits : Fits (cyclesRow d)) where
+  abbrev tail : List ℕ
+  tail = spelled (cyclesRow d)
+
+  abbrev limits : ℕ → List CyclicRule
+  limits j = two (λ i. cyclicIn tail (28 + 18 * j + 9 * i))
+
+  abbrev blanks : List CyclicRule
+  blanks = blankCyclic ∷ blankCyclic ∷ []
+
+  offsets : CyclesOffsets tail d
+  offsets = cycles-in-place d fits
+
+  -- of a profile that is not there every byte reads as 0
+  limits-or-blank : (j : ℕ) → limits j ≡ cond (ltb j (length (d .rules))) (limits j) blanks
+  limits-or-blank j = by (ltb j (length (d .rules))) refl where
+    by : (there : Bool) → ltb j (length (d .rules)) ≡ there → limits j ≡ cond there (limits j) blanks
+    by true e = refl
+    by false e =
+        let size = cycles-size d in
+        let past = ltb-false j (length (d .rules)) e in
+        ap₂ (λ (x y : CyclicRule). x ∷ y ∷ [])
+        (no-limit tail (28 + 18 * j + 9 * 0) (omega arith)) (no-limit tail (28 + 18 * j + 9 * 1) (omega arith))
+
+  limits-read : (j : ℕ) → limits j ≡ cyclicRulesAt (dated d) j
+  limits-read j =
+      limits-or-blank j
+      ∙ said-there cyclicLimitsSaid blanks (limits j) (d .rules) j
+      (λ l r.
+      let o = offsets .rules j l r in
+      ap₂ (λ (x y : CyclicRule). x ∷ y ∷ [])
+      (limit-read tail (28 + 18 * j + 9 * 0) (getD (d .rules) j r .one) (o 0 (omega arith)))
+      (limit-read tail (28 + 18 * j + 9 * 1) (getD (d .rules) j r .two) (o 1 (omega arith))))
+
+  dated-read : TailRead tail (dated d)
+  unfolding dateAt
+  dated-read =
+      let a0 = offsets .accumulators 0 (omega arith) in
+      let a1 = offsets .accumulators 1 (omega arith) in
+      record {
+        cycles = simp (cyclic-read tail 4 (d .accumulators .one) a0, cyclic-read tail 16 (d .accumulators .two) a1);
+        rules = limits-read;
+        amounts = simp (a0 .amount, a1 .amount);
+        last = simp (offsets .year, offsets .month, offsets .day);
+      }
+
+tail-read : (p : ℕ) (d : Dates) → FineDates p d → TailRead (cyclesBytes d) d
+unfolding dateAt cycleIn cyclicIn number
+tail-read p undated fine = record { cycles = refl; rules = λ j. refl; amounts = refl; last = refl }
+tail-read p (dated d) fine = dated-read d (fine .0)
+
+tail-bytes : (d : Dates) → Bytes (cyclesBytes d)
+tail-bytes undated = record { below = λ i. omega arith }
+tail-bytes (dated d) = spelled-bytes (cyclesRow d)
+
+-- ---- the base
 
 module _ (s : List ℕ) where
   accumulator-read : (at : ℕ) (l : Limits) → AccumulatorOffsets s at l → accumulatorIn s at ≡ accumulatorSaid l
@@ -79,55 +180,69 @@ module _ (s : List ℕ) where
         said-there conversionSaid blank (rateIn s (52 + 107 * length (x .profiles) + 7 * i)) (x .conversions) i
         (λ l d. conversion-read (52 + 107 * length (x .profiles) + 7 * i) (getD (x .conversions) i d) (o .conversions i l d))
 
-    rules-said : (syllabus : ℕ) → rulesIn s syllabus ≡ rulesSaid x syllabus
-    unfolding rulesIn rulesSaid
-    rules-said syllabus =
-        simp (
-          o .key,
-          o .pin,
-          o .required,
-          o .p,
-          o .c,
-          o .currencies 0 (omega arith),
-          o .currencies 1 (omega arith),
-          o .currencies 2 (omega arith),
-          o .currencies 3 (omega arith),
-          profile-is 0,
-          profile-is 1,
-          profile-is 2,
-          profile-is 3,
-          conversion-is 0,
-          conversion-is 1,
-          conversion-is 2,
-          conversion-is 3,
-          conversion-is 4,
-        )
+    module _ (t : List ℕ) (d : Dates) (r : TailRead t d) where
+      rules-said : (syllabus : ℕ) → rulesIn s t syllabus ≡ rulesSaid x d syllabus
+      unfolding rulesIn rulesSaid
+      rules-said syllabus =
+          simp (
+            o .key,
+            o .pin,
+            o .required,
+            o .p,
+            o .c,
+            o .currencies 0 (omega arith),
+            o .currencies 1 (omega arith),
+            o .currencies 2 (omega arith),
+            o .currencies 3 (omega arith),
+            profile-is 0,
+            profile-is 1,
+            profile-is 2,
+            profile-is 3,
+            conversion-is 0,
+            conversion-is 1,
+            conversion-is 2,
+            conversion-is 3,
+            conversion-is 4,
+            r .cycles,
+            r .rules 0,
+            r .rules 1,
+            r .rules 2,
+            r .rules 3,
+          )
 
-    fresh-said : freshIn s ≡ freshSaid x
-    unfolding freshIn freshSaid
-    fresh-said =
-        simp (
-          o .atc,
-          o .online,
-          o .values 0 (omega arith),
-          o .values 1 (omega arith),
-          o .values 2 (omega arith),
-          o .values 3 (omega arith),
-          o .counters 0 (omega arith),
-          o .counters 1 (omega arith),
-          o .counters 2 (omega arith),
-          o .counters 3 (omega arith),
-        )
+      fresh-said : freshIn s t ≡ freshSaid x d
+      unfolding freshIn freshSaid
+      fresh-said =
+          simp (
+            o .atc,
+            o .online,
+            o .values 0 (omega arith),
+            o .values 1 (omega arith),
+            o .values 2 (omega arith),
+            o .values 3 (omega arith),
+            o .counters 0 (omega arith),
+            o .counters 1 (omega arith),
+            o .counters 2 (omega arith),
+            o .counters 3 (omega arith),
+            r .amounts,
+            r .last,
+          )
 
 -- THE STATEMENT: every reader finds each field where the widths before it end
-pub reads-fields : (x : Setup) → Fits (setupRow x) → Says x (body x)
-reads-fields x fits =
+pub reads-fields : (x : Setup) (d : Dates) → Fits (setupRow x) → FineDates (length (x .profiles)) d → Says x d (body x) (cyclesBytes d)
+reads-fields x d fits fine =
     let s = body x in
+    let t = cyclesBytes d in
     let o = in-place x fits in
+    let r = tail-read (length (x .profiles)) d fine in
+    let rules = rules-said s x o t d r in
+    let fresh = fresh-said s x o t d r in
     record {
       size = body-size x;
-      rules = rules-said s x o;
-      fresh = fresh-said s x o;
-      read = λ good. started s good ∙ ap (λ (fresh : Fresh). record { fresh = fresh; answer = Done }) (fresh-said s x o);
-      loaded = λ syllabus words size good. faithful s (spelled-bytes (setupRow x)) syllabus words size good ∙ rules-said s x o syllabus;
+      rules = rules;
+      fresh = fresh;
+      read = λ unnamed good. started s t unnamed good ∙ ap (λ (fresh : Fresh). record { fresh = fresh; answer = Done }) fresh;
+      loaded =
+          λ syllabus unnamed words size good.
+          faithful s t (spelled-bytes (setupRow x)) (tail-bytes d) syllabus unnamed words size good ∙ rules syllabus;
     }

@@ -3,9 +3,13 @@ pub mod Places
 pub mod Placed
 pub mod Fields
 pub mod Unspelled
+pub mod Dated
 pub mod Ranges
+pub mod DatedRanges
 pub mod Entries
 pub mod Behind
+pub mod Fourth
+pub mod FourthRefused
 pub mod Causes
 pub mod Whole
 pub mod Witness

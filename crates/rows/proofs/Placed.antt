@@ -22,7 +22,7 @@ conversion-width c = refl
 
 module _ (s : List ℕ) where
   -- a byte is a number of width 1
-  at-byte : (at v : ℕ) → number s at 1 ≡ v → byte s at ≡ v
+  pub at-byte : (at v : ℕ) → number s at 1 ≡ v → byte s at ≡ v
   at-byte at v h = sym (one s at) ∙ h
 
   accumulator-offsets : (at : ℕ) (l : Limits) → Stands s at (limitsRow 8 l) → AccumulatorOffsets s at l

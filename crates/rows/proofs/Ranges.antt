@@ -7,9 +7,11 @@ use Prim.Native.Nat.{ℕ, _+_, _*_, _<_}
 use native.Mathlib.Omega.{arith}
 use lib.ListN.{length, getD}
 use Rattle.wire.specs.Wire.{byte, number}
-use Rattle.ranges.specs.Ranges.{isSetup}
+use Rattle.wire.proofs.Pairs.{both}
+use Rattle.ranges.specs.Ranges.{isSetup, areCycles}
 use Rattle.ranges.proofs.Accepted.{Currency, AccumulatorRanges, AccumulatorRuleRanges, ProfileRanges, ConversionRanges, Accepted, accepted, complete}
-use Rattle.setup.specs.Setup.{readSetup, setupNumber}
+use Rattle.ranges.proofs.Accepted.{CyclesAccepted, cycles-accepted, cycles-complete}
+use Rattle.setup.specs.Setup.{isAccepted, readSetup, setupNumber}
 use Rattle.rows.specs.Rows.{Fits, Four, Limits, Profile, Conversion, Setup, listed, setupRow, body}
 use Rattle.rows.specs.InRange.{ThreeDigits, AccumulatorRange, AccumulatorLimits, CounterLimits, ProfileRange, ConversionRange, SameNumber, SamePair}
 use Rattle.rows.specs.InRange.{InRange}
@@ -18,7 +20,7 @@ use Rattle.rows.proofs.Places.{at-each, each-at, at-no-two, no-two-at}
 use Rattle.rows.proofs.Placed.{body-size, in-place}
 
 -- the same three digits
-digits-there : {code there : ℕ} → there ≡ code → ThreeDigits code → Currency there
+pub digits-there : {code there : ℕ} → there ≡ code → ThreeDigits code → Currency there
 digits-there e d =
     record {
       hundreds = d .hundreds;
@@ -30,7 +32,7 @@ digits-there e d =
       digits = e ∙ d .digits;
     }
 
-digits-back : {code there : ℕ} → there ≡ code → Currency there → ThreeDigits code
+pub digits-back : {code there : ℕ} → there ≡ code → Currency there → ThreeDigits code
 digits-back e d =
     record {
       hundreds = d .hundreds;
@@ -98,8 +100,8 @@ module _ (s : List ℕ) where
         },
   )
 
-  profile-range : (at : ℕ) (p : Profile) → ProfileOffsets s at p → ProfileRange p ↔ ProfileRanges s at
-  profile-range at p o =
+  profile-range : (unnamed at : ℕ) (p : Profile) → ProfileOffsets s at p → ProfileRange unnamed p ↔ ProfileRanges s unnamed at
+  profile-range unnamed at p o =
       let rule : (j : ℕ) → j < 4 → AccumulatorLimits (nth (p .accumulators) j) ↔ AccumulatorRuleRanges s (at + (24 + 17 * j)) =
       λ j l. limits-range (at + (24 + 17 * j)) (nth (p .accumulators) j) (o .accumulators j l) in
       let rs = listed (p .accumulators) in
@@ -138,7 +140,7 @@ module _ (s : List ℕ) where
             },
       )
 
-  module _ (x : Setup) (o : Offsets s x) where
+  module _ (x : Setup) (unnamed : ℕ) (o : Offsets s x) where
     abbrev profile : ℕ → Profile
     profile i = getD (x .profiles) i noProfile
 
@@ -178,9 +180,9 @@ module _ (s : List ℕ) where
         (λ (f, t). (a .from ∙ f ∙ sym (b .from), a .to ∙ t ∙ sym (b .to)), λ (f, t). (sym (a .from) ∙ f ∙ b .from, sym (a .to) ∙ t ∙ b .to))
 
     -- fields in range, seen in the bytes
-    there : length s ≡ after + 7 * length (x .conversions) → InRange x → Accepted s
+    there : length s ≡ after + 7 * length (x .conversions) → InRange x unnamed → Accepted s unnamed
     there size r =
-        let profiles = at-each noProfile ProfileRange (x .profiles) (r .profiles) in
+        let profiles = at-each noProfile (ProfileRange unnamed) (x .profiles) (r .profiles) in
         let numbers = at-no-two noProfile SameNumber (x .profiles) (r .numbers) in
         let conversions = at-each noConversion ConversionRange (x .conversions) (r .conversions) in
         let pairs = at-no-two noConversion SamePair (x .conversions) (r .pairs) in
@@ -194,7 +196,7 @@ module _ (s : List ℕ) where
           online = rw (o .online) (r .online);
           accumulators =
               λ i l. accumulator-range i l .0 (at-each (x .accumulators .one) AccumulatorRange (listed (x .accumulators)) (r .accumulators) i l);
-          profiles = λ i l. let m = rw (o .p) at l in profile-range (52 + 107 * i) (profile i) (profile-there i m) .0 (profiles i m);
+          profiles = λ i l. let m = rw (o .p) at l in profile-range unnamed (52 + 107 * i) (profile i) (profile-there i m) .0 (profiles i m);
           numbers =
               λ i j l m e.
               let n = rw (o .p) at m in
@@ -210,7 +212,7 @@ module _ (s : List ℕ) where
         }
 
     -- and back
-    back : Accepted s → InRange x
+    back : Accepted s unnamed → InRange x unnamed
     back a =
         record {
           pin = rw (o .pin) at (a .pin);
@@ -222,8 +224,8 @@ module _ (s : List ℕ) where
           accumulators =
               each-at (x .accumulators .one) AccumulatorRange (listed (x .accumulators)) (λ i l. accumulator-range i l .1 (a .accumulators i l));
           profiles =
-              each-at noProfile ProfileRange (x .profiles)
-              (λ i l. profile-range (52 + 107 * i) (profile i) (profile-there i l) .1 (a .profiles i (rw (o .p) l)));
+              each-at noProfile (ProfileRange unnamed) (x .profiles)
+              (λ i l. profile-range unnamed (52 + 107 * i) (profile i) (profile-there i l) .1 (a .profiles i (rw (o .p) l)));
           numbers =
               no-two-at noProfile SameNumber (x .profiles)
               (λ i j l m e. a .numbers i j l (rw (o .p) m) (number-alike i j (omega arith) m .0 e));
@@ -238,30 +240,41 @@ module _ (s : List ℕ) where
         }
 
 -- THE STATEMENT: accepted exactly if every field is in its range
-pub accepted-in-range : (x : Setup) → Fits (setupRow x) → (isSetup (body x) ≡ true) ↔ InRange x
-accepted-in-range x fits =
+pub accepted-in-range : (x : Setup) → Fits (setupRow x) → (unnamed : ℕ) → (isSetup (body x) unnamed ≡ true) ↔ InRange x unnamed
+accepted-in-range x fits unnamed =
     let s = body x in
     let o = in-place x fits in
-    (λ good. back s x o (accepted s good), λ r. complete s (there s x o (body-size x) r))
+    (λ good. back s x unnamed o (accepted s unnamed good), λ r. complete s unnamed (there s x unnamed o (body-size x) r))
 
 -- ---- the number of the answer
 
-number-by : (s : List ℕ) (good : Bool) → isSetup s ≡ good → setupNumber (readSetup s .answer) ≡ cond good 0 1
-unfolding readSetup
-number-by s true e = rw e refl
-number-by s false e = rw e refl
+module _ (s t : List ℕ) (unnamed : ℕ) where
+  -- base and tail in their ranges
+  abbrev pub BothAccepted : Type 0
+  BothAccepted = Accepted s unnamed × CyclesAccepted t
 
-never : {P : Type 0} → false ≡ true → P
-never e = let z : _≡_ {A = ℕ} 0 1 = cc in absurd (omega arith)
+  pub both-accepted : (isAccepted s t unnamed ≡ true) ↔ BothAccepted
+  both-accepted = (
+    λ e. let (base, tail) = both (isSetup s unnamed) (areCycles t) e in (accepted s unnamed base, cycles-accepted t tail),
+    λ (base, tail). rw (complete s unnamed base, cycles-complete t tail),
+  )
 
-pub setup-taken : (s : List ℕ) → (setupNumber (readSetup s .answer) ≡ 0) ↔ Accepted s
-setup-taken s = (λ z. accepted s (by (isSetup s) refl z), λ a. number-by s true (complete s a)) where
-  by : (good : Bool) → isSetup s ≡ good → setupNumber (readSetup s .answer) ≡ 0 → isSetup s ≡ true
-  by true e z = e
-  by false e z = let n = number-by s false e in absurd (omega arith)
+  abbrev numbered : ℕ
+  numbered = setupNumber (readSetup s t unnamed .answer)
 
-pub setup-refused : (s : List ℕ) → (setupNumber (readSetup s .answer) ≡ 1) ↔ (Accepted s → ⊥)
-setup-refused s = (λ z a. let n = number-by s true (complete s a) in omega arith, λ f. by (isSetup s) refl f) where
-  by : (good : Bool) → isSetup s ≡ good → (Accepted s → ⊥) → setupNumber (readSetup s .answer) ≡ 1
-  by true e f = absurd (f (accepted s e))
-  by false e f = number-by s false e
+  number-by : (good : Bool) → isAccepted s t unnamed ≡ good → numbered ≡ cond good 0 1
+  unfolding readSetup
+  number-by true e = rw e refl
+  number-by false e = rw e refl
+
+  pub setup-taken : (numbered ≡ 0) ↔ BothAccepted
+  setup-taken = (λ z. both-accepted .0 (by (isAccepted s t unnamed) refl z), λ a. number-by true (both-accepted .1 a)) where
+    by : (good : Bool) → isAccepted s t unnamed ≡ good → numbered ≡ 0 → isAccepted s t unnamed ≡ true
+    by true e z = e
+    by false e z = let n = number-by false e in absurd (omega arith)
+
+  pub setup-refused : (numbered ≡ 1) ↔ (BothAccepted → ⊥)
+  setup-refused = (λ z a. let n = number-by true (both-accepted .1 a) in omega arith, λ f. by (isAccepted s t unnamed) refl f) where
+    by : (good : Bool) → isAccepted s t unnamed ≡ good → (BothAccepted → ⊥) → numbered ≡ 1
+    by true e f = absurd (f (both-accepted .0 e))
+    by false e f = number-by false e

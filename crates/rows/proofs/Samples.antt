@@ -3,21 +3,24 @@ use mathlib.Core.Path.{_≡_, refl}
 use mathlib.Core.Bool.{Bool, true, false, not, _&&_}
 use lib.Dec.{T, eqb}
 use mathlib.Core.List.{List, [], _∷_, _++_}
-use Prim.Native.Nat.{ℕ, _+_}
-use lib.ListN.{length, getD}
-use Rattle.rules.specs.Rules.{blankProfile, blankCounter}
-use Rattle.wire.specs.Wire.{byte, number}
+use Prim.Native.Nat.{ℕ, _+_, _^_}
+use lib.ListN.{getD, take}
+use Rattle.calendar.specs.Calendar.{dateAt, isDay, hasDay}
+use Rattle.rules.specs.Rules.{blankProfile, blankCounter, blankCyclic}
+use Rattle.wire.specs.Wire.{number}
 use Rattle.ranges.specs.Ranges.{isSetup, hasLength, isHead, areAccumulators, isAccumulator, areProfiles, isProfileOrAbsent, isProfile}
 use Rattle.ranges.specs.Ranges.{areMasks, isMaximumAmount, areAccumulatorRules, isAccumulatorRule, areCounterRules, areSent}
 use Rattle.ranges.specs.Ranges.{areNumbersApart, profileNumber, areConversions, isConversionOrAbsent, isConversion, conversionPair, arePairsApart}
-use Rattle.setup.specs.Setup.{rateIn, accumulatorIn, counterIn, profileIn, rulesIn, freshIn, readSetup, setupNumber}
+use Rattle.ranges.specs.Ranges.{areCycles, isCycle, areCyclicRules, isCyclicRule}
+use Rattle.setup.specs.Setup.{rateIn, accumulatorIn, counterIn, profileIn, cycleIn, cyclicIn, rulesIn, freshIn, readSetup, setupNumber}
 use Rattle.shape.specs.declared.ReadShape.{ReadShape}
 use Rattle.shape.specs.declared.ReadShape.the-variants.{Taken, Refused}
-use Rattle.shape.specs.Shape.{baseTail, entriesEnd, selectionTail, syllabusTail, tailsOf, shapeOf, shapeNumber}
+use Rattle.shape.specs.Shape.{baseTail, entriesEnd, selectionTail, syllabusTail, datingTail, tailsOf, shapeOf, shapeNumber}
 use Rattle.rows.specs.Rows.{Four, Accumulator, Limits, Profile, Conversion, Setup, written, spelled, headRow, profileRow, conversionRow, setupRow, body}
+use Rattle.rows.specs.Rows.{Two, Cyclic, CyclicLimit, Dates, undated, dated, cyclicLimitsRow, cyclesRow, cyclesBytes}
 use Rattle.rows.specs.Said.{profileSaid, conversionSaid, rulesSaid, freshSaid}
-use Rattle.rows.specs.Tails.{off, first, second, third, tailBytes}
-use Rattle.rows.proofs.Witness.{printed, printedBytes}
+use Rattle.rows.specs.Tails.{off, first, third, tailBytes}
+use Rattle.rows.proofs.Witness.{profile as printedProfile, printed, printedBytes, daily}
 
 -- ---- a set-up in which each field has a value of its own
 
@@ -64,14 +67,27 @@ counted =
       conversions = conversion 110 ∷ conversion 114 ∷ conversion 118 ∷ [];
     }
 
+abbrev cyclic : ℕ → Cyclic
+cyclic n = record { currency = n; amount = n + 1; kind = 2; first = n + 3 }
+
+abbrev limit : ℕ → CyclicLimit
+limit n = record { switches = n; limit = n + 1 }
+
+abbrev twos : {A : Type 0} → (ℕ → A) → (from step : ℕ) → Two A
+twos f n k = record { one = f n; two = f (n + k) }
+
+unfoldable pub countedDates : Dates
+countedDates =
+    dated (record { year = 122; month = 123; day = 124; accumulators = twos cyclic 125 4; rules = twos limit 133 2 ∷ twos limit 137 2 ∷ [] })
+
 -- what is read of it
-pub rules-read : rulesIn (body counted) 1 ≡ rulesSaid counted 1
-unfolding counted setupRow headRow profileRow conversionRow spelled written rulesIn rateIn profileIn accumulatorIn counterIn number
-    rulesSaid profileSaid conversionSaid
+pub rules-read : rulesIn (body counted) (cyclesBytes countedDates) 1 ≡ rulesSaid counted countedDates 1
+unfolding counted countedDates setupRow headRow profileRow conversionRow cyclesRow cyclicLimitsRow spelled written rulesIn rateIn profileIn
+    accumulatorIn counterIn cycleIn cyclicIn number rulesSaid profileSaid conversionSaid
 rules-read = refl
 
-pub fresh-read : freshIn (body counted) ≡ freshSaid counted
-unfolding counted setupRow headRow profileRow conversionRow spelled written freshIn number freshSaid
+pub fresh-read : freshIn (body counted) (cyclesBytes countedDates) ≡ freshSaid counted countedDates
+unfolding counted countedDates setupRow headRow profileRow conversionRow cyclesRow cyclicLimitsRow spelled written freshIn dateAt number freshSaid
 fresh-read = refl
 
 -- ---- ranges: issuer authentication required is 2
@@ -90,13 +106,81 @@ twice =
       conversions = printed .conversions;
     }
 
+-- ---- a mask with a bit above 21, in the printed set-up's one profile
+
+abbrev masked : (bit : ℕ) → Setup
+masked bit =
+    let p = printedProfile in
+    record {
+      key = printed .key;
+      pin = printed .pin;
+      required = printed .required;
+      atc = printed .atc;
+      online = printed .online;
+      accumulators = printed .accumulators;
+      counters = printed .counters;
+      profiles =
+          record {
+            number = p .number;
+            online = p .online;
+            decline = 2 ^ bit;
+            default = p .default;
+            maximum-on = p .maximum-on;
+            maximum-currency = p .maximum-currency;
+            maximum = p .maximum;
+            accumulators = p .accumulators;
+            counters = p .counters;
+            accumulator-sent = p .accumulator-sent;
+            first-sent = p .first-sent;
+            second-sent = p .second-sent;
+          }
+          ∷ [];
+      conversions = printed .conversions;
+    }
+
+-- ---- dates: another last date, first day or kind than those of the witness
+
+abbrev dates : (day start kind : ℕ) → Dates
+dates day start kind =
+    dated (record {
+      year = 0x05;
+      month = 0x04;
+      day = day;
+      accumulators =
+          record {
+            one = record { currency = 0x0978; amount = 0; kind = kind; first = start };
+            two = record { currency = 0x0978; amount = 0; kind = 1; first = 0 };
+          };
+      rules = record { one = record { switches = 7; limit = 1 }; two = record { switches = 7; limit = 2 } } ∷ [];
+    })
+
+abbrev limitDates : Dates
+limitDates =
+    dated (record {
+      year = 0x05;
+      month = 0x04;
+      day = 0x30;
+      accumulators = twos cyclic 0 0;
+      rules =
+          record { one = record { switches = 7; limit = 1 }; two = record { switches = 7; limit = 2 } }
+          ∷ record { one = record { switches = 7; limit = 3 }; two = record { switches = 7; limit = 4 } }
+          ∷ [];
+    })
+
 -- ---- what is compared
+
+abbrev number-of : Setup → Dates → (unnamed : ℕ) → ℕ
+number-of x d unnamed = setupNumber (readSetup (body x) (cyclesBytes d) unnamed .answer)
 
 -- the limits of counter 1 in profile 1, as the rules have them, and as they were spelled
 abbrev limitsRead : Setup → Limits → Bool
 limitsRead x spelledAs =
-    let rule = getD (getD (rulesIn (body x) 1 .profiles) 0 blankProfile .counters) 0 blankCounter in
+    let rule = getD (getD (rulesIn (body x) [] 1 .profiles) 0 blankProfile .counters) 0 blankCounter in
     eqb (rule .lower) (spelledAs .lower) && eqb (rule .upper) (spelledAs .upper)
+
+-- the limit of a cyclic accumulator in a profile, in a tail for two profiles whose limits are 1 to 4 in their order
+abbrev limitRead : (profile accumulator : ℕ) → ℕ
+limitRead j i = getD (getD (rulesIn [] (cyclesBytes limitDates) 0 .cyclicRules) j []) i blankCyclic .limit .0
 
 -- the syllabus that was read, 9 where none was
 abbrev followed : ReadShape → ℕ
@@ -109,7 +193,7 @@ isRefused version tail = eqb (shapeNumber (shapeOf version (printedBytes ++ tail
 -- `reads-fields`, `setup-refused`, `reads-tails` and `refused-by-cause` at single inputs
 pub record Samples : Type 0 where
   pub counter-limits : T (limitsRead counted (limits 49))
-  pub required-above : T (eqb (setupNumber (readSetup (body twice) .answer)) 1)
+  pub required-above : T (eqb (number-of twice undated (2 ^ 22)) 1)
   pub syllabus-read : T (eqb (followed (shapeOf 3 (printedBytes ++ tailBytes (third off 1)))) 1)
   pub switch-above : T (isRefused 2 (2 ∷ []))
   pub switch-two : T (isRefused 2 (2 ∷ 0 ∷ []))
@@ -117,12 +201,25 @@ pub record Samples : Type 0 where
   pub cut-short : T (isRefused 2 (1 ∷ 1 ∷ 2 ∷ 0 ∷ []))
   pub left-over : T (isRefused 3 (1 ∷ 1 ∷ 0 ∷ 0 ∷ 0 ∷ []))
   pub syllabus-above : T (isRefused 3 (0 ∷ 2 ∷ []))
+  pub bit-22 : T (eqb (number-of (masked 22) undated (2 ^ 22)) 1 && eqb (number-of (masked 22) undated (2 ^ 25)) 0)
+  pub bit-25 : T (eqb (number-of (masked 25) undated (2 ^ 25)) 1)
+  pub thirtieth : T (eqb (number-of printed (dates 0x30 6 3) (2 ^ 25)) 0)
+  pub thirty-first : T (eqb (number-of printed (dates 0x31 6 3) (2 ^ 25)) 1)
+  pub first-day-7 : T (eqb (number-of printed (dates 0x30 7 3) (2 ^ 25)) 1)
+  pub kind-0 : T (eqb (number-of printed (dates 0x30 6 0) (2 ^ 25)) 1)
+  pub second-limit : T (eqb (limitRead 0 1) 2 && eqb (limitRead 1 0) 3)
+  pub dated-read : T (eqb (shapeNumber (shapeOf 4 (printedBytes ++ tailBytes daily))) 0)
+  pub dated-2 : T (isRefused 4 (0 ∷ 0 ∷ 2 ∷ []))
+  pub behind-undated : T (isRefused 4 (0 ∷ 0 ∷ 0 ∷ 0 ∷ []))
+  pub one-short : T (isRefused 4 (take 47 (tailBytes daily)))
+  pub one-more : T (isRefused 4 (tailBytes daily ++ 0 ∷ []))
 
 pub samples : Samples
 unfolding counted printed printedBytes setupRow headRow profileRow conversionRow spelled written rulesIn rateIn profileIn accumulatorIn
     counterIn number readSetup isSetup hasLength isHead areAccumulators isAccumulator areProfiles isProfileOrAbsent isProfile areMasks
     isMaximumAmount areAccumulatorRules isAccumulatorRule areCounterRules areSent areNumbersApart profileNumber areConversions
-    isConversionOrAbsent isConversion conversionPair arePairsApart shapeOf tailsOf baseTail selectionTail entriesEnd syllabusTail
+    isConversionOrAbsent isConversion conversionPair arePairsApart shapeOf tailsOf baseTail selectionTail entriesEnd syllabusTail datingTail
+    cyclesRow cyclicLimitsRow cycleIn cyclicIn areCycles isCycle areCyclicRules isCyclicRule dateAt isDay hasDay
 samples =
     record {
       counter-limits = tt;
@@ -134,4 +231,16 @@ samples =
       cut-short = tt;
       left-over = tt;
       syllabus-above = tt;
+      bit-22 = tt;
+      bit-25 = tt;
+      thirtieth = tt;
+      thirty-first = tt;
+      first-day-7 = tt;
+      kind-0 = tt;
+      second-limit = tt;
+      dated-read = tt;
+      dated-2 = tt;
+      behind-undated = tt;
+      one-short = tt;
+      one-more = tt;
     }

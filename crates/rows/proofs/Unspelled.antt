@@ -16,11 +16,11 @@ use Rattle.rows.proofs.Placed.{profile-width, conversion-width}
 use Rattle.rows.proofs.Spelling.{Stands, joins, widths-append, widths-each, stands-fit, whole-spelled}
 
 -- so many of a width, one after the other
-made : {A : Type 0} → (ℕ → A) → (w at n : ℕ) → List A
+unfoldable pub made : {A : Type 0} → (ℕ → A) → (w at n : ℕ) → List A
 made f w at zero = []
 made f w at (suc n) = f at ∷ made f w (at + w) n
 
-made-size : {A : Type 0} (f : ℕ → A) (w at n : ℕ) → length (made f w at n) ≡ n
+pub made-size : {A : Type 0} (f : ℕ → A) (w at n : ℕ) → length (made f w at n) ≡ n
 unfolding made
 made-size f w at zero = refl
 made-size f w at (suc n) = ap suc (made-size f w (at + w) n)
@@ -29,7 +29,7 @@ inFour : {A : Type 0} → (ℕ → A) → (w at : ℕ) → Four A
 inFour f w at = record { one = f at; two = f (at + w); three = f (at + w + w); four = f (at + w + w + w) }
 
 module _ (s : List ℕ) where
-  made-stands : {A : Type 0} (row : A → List Field) (w : ℕ) → ((x : A) → widths (row x) ≡ w)
+  pub made-stands : {A : Type 0} (row : A → List Field) (w : ℕ) → ((x : A) → widths (row x) ≡ w)
       → (f : ℕ → A) → ((at : ℕ) → Stands s at (row (f at)))
       → (n at : ℕ) → Stands s at (each row (made f w at n))
   unfolding made Stands
@@ -172,5 +172,5 @@ module _ (s : List ℕ) where
         (setupFrom, stands-fit s bytes (setupRow setupFrom) 0 setup-stands, whole-spelled s bytes (setupRow setupFrom) (setup-width ∙ sym e) setup-stands)
 
     -- THE STATEMENT: an accepted body is the spelling of some set-up whose fields fit
-    pub spelled-if-accepted : isSetup s ≡ true → (x : Setup) × Fits (setupRow x) × (body x ≡ s)
-    spelled-if-accepted good = spelled-if-sized (accepted s good .size)
+    pub spelled-if-accepted : (unnamed : ℕ) → isSetup s unnamed ≡ true → (x : Setup) × Fits (setupRow x) × (body x ≡ s)
+    spelled-if-accepted unnamed good = spelled-if-sized (accepted s unnamed good .size)

@@ -1,26 +1,30 @@
 -- What is taken as a set-up, base and tail, is exactly what is spelled from fields in their ranges. Assumes nothing.
-use mathlib.Core.Path.{_≡_, sym, ap, _∙_}
+use mathlib.Core.Path.{_≡_, sym, ap, ap₂, subst, _∙_}
 use mathlib.Core.Bool.{true}
 use mathlib.Core.List.{List, _++_}
 use mathlib.Core.Logic.{_↔_}
-use Prim.Native.Nat.{ℕ, _≤_}
+use Prim.Native.Nat.{ℕ, _≤_, _<_}
 use lib.ListN.{length}
-use Rattle.ranges.specs.Ranges.{isSetup}
-use Rattle.ranges.proofs.Accepted.{accepted, complete}
+use Rattle.wire.specs.Wire.{byte}
+use Rattle.wire.proofs.Pairs.{both}
+use Rattle.ranges.specs.Ranges.{isSetup, areCycles}
 use Rattle.rules.specs.Rules.{rulesOf}
-use Rattle.setup.specs.Setup.{readSetup, wordsAfter, setupNumber}
+use Rattle.setup.specs.declared.ReadSetup.{ReadSetup}
+use Rattle.setup.specs.Setup.{isAccepted, readSetup, wordsAfter, setupNumber}
 use Rattle.setup.proofs.Faithful.{Bytes}
 use Rattle.shape.specs.declared.Shape.{Shape}
 use Rattle.shape.specs.declared.ReadShape.the-variants.{Taken as ShapeTaken}
-use Rattle.shape.specs.Shape.{basePart, shapeOf, shapeNumber}
-use Rattle.rows.specs.Rows.{Setup, Fits, setupRow, body}
-use Rattle.rows.specs.InRange.{InRange}
-use Rattle.rows.specs.Tails.{Tail, syllabusOf, versionOf, tailBytes, Base, Fine, shapeSaid, TailSays, IsSpelled}
-use Rattle.rows.specs.Whole.{wholeBody, IsSetup, IsTaken, WholeSays}
+use Rattle.shape.specs.Shape.{basePart, cyclesPart, shapeOf, shapeNumber}
+use Rattle.rows.specs.Rows.{Setup, Fits, setupRow, body, cyclesBytes}
+use Rattle.rows.specs.InRange.{InRange, DatesRange}
+use Rattle.rows.specs.Tails.{Tail, first, second, third, fourth, syllabusOf, datesOf, unnamedOf, versionOf, tailBytes, Base, FineDates, Fine}
+use Rattle.rows.specs.Tails.{shapeSaid, TailSays, IsSpelled}
+use Rattle.rows.specs.Whole.{wholeBody, IsSetup, readWhole, IsTaken, WholeSays}
 use Rattle.rows.proofs.Placed.{body-size, in-place}
 use Rattle.rows.proofs.Fields.{reads-fields}
 use Rattle.rows.proofs.Unspelled.{spelled-if-accepted}
-use Rattle.rows.proofs.Ranges.{accepted-in-range, setup-taken}
+use Rattle.rows.proofs.Ranges.{accepted-in-range, both-accepted, setup-taken}
+use Rattle.rows.proofs.DatedRanges.{dates-in-range}
 use Rattle.rows.proofs.Entries.{small-take}
 use Rattle.rows.proofs.Behind.{reads-tails}
 use Rattle.rows.proofs.Causes.{tails-if-read}
@@ -29,60 +33,101 @@ use Rattle.rows.proofs.Causes.{tails-if-read}
 pub is-base : (x : Setup) → Fits (setupRow x) → Base (body x)
 is-base x fits = let o = in-place x fits in rw (o .p, o .c) (body-size x)
 
-pub reads-whole : (x : Setup) (tail : Tail) → Fits (setupRow x) → Fine tail → TailSays (body x) tail (wholeBody x tail)
-reads-whole x tail fits fine = reads-tails (body x) tail (is-base x fits) fine
+-- where there are dates, there is a row of rules for each profile
+fine-dates : (p : ℕ) (tail : Tail) → Fine p tail → FineDates p (datesOf tail)
+fine-dates p first fine = tt
+fine-dates p (second choosing) fine = tt
+fine-dates p (third choosing syllabus) fine = tt
+fine-dates p (fourth choosing syllabus dates) fine = fine .2
 
--- THE STATEMENT: a whole body spelled from fields in their ranges is taken, and says what was spelled
-pub whole-says : (x : Setup) (tail : Tail) → Fits (setupRow x) → InRange x → Fine tail → WholeSays x tail (versionOf tail) (wholeBody x tail)
-whole-says x tail fits range fine =
-    let tails = reads-whole x tail fits fine in
-    let says = reads-fields x fits in
-    let good = accepted-in-range x fits .1 range in
-    record {
-      shape-is = tails .read;
-      answered = ap readSetup (tails .base-is) ∙ says .read good;
-      loaded =
-          λ words size.
-          ap (λ (b : List ℕ). rulesOf (wordsAfter words b (syllabusOf tail))) (tails .base-is) ∙ says .loaded (syllabusOf tail) words size good;
-    }
+module _ (x : Setup) (tail : Tail) (fits : Fits (setupRow x)) (fine : Fine (length (x .profiles)) tail) where
+  pub reads-whole : TailSays (body x) tail (wholeBody x tail)
+  reads-whole = reads-tails (body x) tail (is-base x fits) (rw (in-place x fits .p) fine)
 
-module _ (version : ℕ) (s : List ℕ) (bytes : Bytes s) (least : 1 ≤ version) (most : version ≤ 3) where
+  -- base and tail are accepted exactly if their fields are in their ranges
+  pub both-in-range : (isAccepted (body x) (cyclesBytes (datesOf tail)) (unnamedOf tail) ≡ true) ↔ (InRange x (unnamedOf tail) × DatesRange (datesOf tail))
+  both-in-range =
+      let unnamed = unnamedOf tail in
+      let days = datesOf tail in
+      let base = accepted-in-range x fits unnamed in
+      let dates : InRange x unnamed → (areCycles (cyclesBytes days) ≡ true) ↔ DatesRange days =
+      λ r. dates-in-range (length (x .profiles)) days (fine-dates (length (x .profiles)) tail fine) (r .profiles-most) in (
+        λ e.
+            let (b, t) = both (isSetup (body x) unnamed) (areCycles (cyclesBytes days)) e in
+            let r = base .0 b in
+            (r, dates r .0 t),
+        λ (r, d). rw (base .1 r, dates r .1 d),
+      )
+
+  -- THE STATEMENT: a whole body spelled from fields in their ranges is taken, and says what was spelled
+  pub whole-says : InRange x (unnamedOf tail) → DatesRange (datesOf tail) → WholeSays x tail (versionOf tail) (wholeBody x tail)
+  whole-says range days =
+      let tails = reads-whole in
+      let says = reads-fields x (datesOf tail) fits (fine-dates (length (x .profiles)) tail fine) in
+      let good = both-in-range .1 (range, days) in
+      let unnamed = unnamedOf tail in
+      record {
+        shape-is = tails .read;
+        answered = ap₂ (λ (b t : List ℕ). readSetup b t unnamed) (tails .base-is) (tails .cycles) ∙ says .read unnamed good;
+        loaded =
+            λ words size.
+            ap₂ (λ (b t : List ℕ). rulesOf (wordsAfter words b t (syllabusOf tail) unnamed)) (tails .base-is) (tails .cycles)
+            ∙ says .loaded (syllabusOf tail) unnamed words size good;
+      }
+
+module _ (version : ℕ) (s : List ℕ) (bytes : Bytes s) (least : 1 ≤ version) (most : version ≤ 4) where
   -- a shape that was taken is the one that was spelled
-  base-kept : (t : IsSpelled version s) (shape : Shape) → shapeOf version s ≡ ShapeTaken shape → basePart shape s ≡ t .base
-  base-kept t shape e =
+  record Kept (t : IsSpelled version s) (shape : Shape) : Type 0 where
+    shape-is : shapeSaid (t .base) (t .tail) ≡ shape
+    base-is : basePart shape s ≡ t .base
+    cycles-is : cyclesPart (shape .dating) s ≡ cyclesBytes (datesOf (t .tail))
+
+  kept : (t : IsSpelled version s) (shape : Shape) → shapeOf version s ≡ ShapeTaken shape → Kept t shape
+  kept t shape e =
       let says = reads-tails (t .base) (t .tail) (t .sized) (t .fine) in
       let read : shapeOf version s ≡ ShapeTaken (shapeSaid (t .base) (t .tail)) = rw (← t .version-is, ← t .joined) (says .read) in
       let same : shapeSaid (t .base) (t .tail) ≡ shape = cc in
-      rw (← same, ← t .joined) (says .base-is)
+      record {
+        shape-is = same;
+        base-is = rw (← same, ← t .joined) (says .base-is);
+        cycles-is = rw (← same, ← t .joined) (says .cycles);
+      }
 
   there : IsTaken version s → IsSetup version s
   there taken =
       let shape = taken .shape in
-      let base = basePart shape s in
-      let good : isSetup base ≡ true = complete base (setup-taken base .0 (taken .base)) in
       let t = tails-if-read version s bytes least most (ap shapeNumber (taken .shape-is)) in
-      let small : Bytes base = record { below = small-take s (bytes .below) (shape .base) } in
-      let (x, fits, is) = spelled-if-accepted base small good in
+      let k = kept t shape (taken .shape-is) in
+      let unnamed = unnamedOf (t .tail) in
+      let days = cyclesBytes (datesOf (t .tail)) in
+      let named : shape .unnamed ≡ unnamed = ap (λ (sh : Shape). sh .unnamed) (sym (k .shape-is)) in
+      let number : setupNumber (readSetup (t .base) days unnamed .answer) ≡ 0 =
+      ap₂ (λ (b c : List ℕ). setupNumber (readSetup b c unnamed .answer)) (sym (k .base-is)) (sym (k .cycles-is))
+      ∙ ap (λ n. setupNumber (readSetup (basePart shape s) (cyclesPart (shape .dating) s) n .answer)) (sym named) ∙ taken .base in
+      let good = both-accepted (t .base) days unnamed .1 (setup-taken (t .base) days unnamed .0 number) in
+      let small : Bytes (t .base) = record { below = subst (λ (b : List ℕ). (i : ℕ) → byte b i < 256) (k .base-is) (small-take s (bytes .below) (shape .base)) } in
+      let (x, fits, is) = spelled-if-accepted (t .base) small unnamed (both (isSetup (t .base) unnamed) (areCycles days) good .0) in
+      let fine : Fine (length (x .profiles)) (t .tail) = subst (λ n. Fine n (t .tail)) (ap (λ (b : List ℕ). byte b 3) (sym is) ∙ in-place x fits .p) (t .fine) in
+      let (range, dates) = both-in-range x (t .tail) fits fine .0 (ap (λ (b : List ℕ). isAccepted b days unnamed) is ∙ good) in
       record {
         setup = x;
         tail = t .tail;
         version-is = t .version-is;
         fits = fits;
-        in-range = accepted-in-range x fits .0 (ap isSetup is ∙ good);
-        fine = t .fine;
-        spelled = ap (λ (b : List ℕ). b ++ tailBytes (t .tail)) (is ∙ base-kept t shape (taken .shape-is)) ∙ t .joined;
+        in-range = range;
+        fine = fine;
+        dates-in-range = dates;
+        spelled = ap (λ (b : List ℕ). b ++ tailBytes (t .tail)) is ∙ t .joined;
       }
 
   back : IsSetup version s → IsTaken version s
   back i =
-      let says = reads-whole (i .setup) (i .tail) (i .fits) (i .fine) in
       let shape = shapeSaid (body (i .setup)) (i .tail) in
-      let base : basePart shape s ≡ body (i .setup) = rw (← i .spelled) (says .base-is) in
-      let good = accepted-in-range (i .setup) (i .fits) .1 (i .in-range) in
+      let says = whole-says (i .setup) (i .tail) (i .fits) (i .fine) (i .in-range) (i .dates-in-range) in
       record {
         shape = shape;
-        shape-is = rw (← i .version-is, ← i .spelled) (says .read);
-        base = setup-taken (basePart shape s) .1 (accepted (basePart shape s) (ap isSetup base ∙ good));
+        shape-is = rw (← i .version-is, ← i .spelled) (says .shape-is);
+        base = ap (λ (t : List ℕ). setupNumber (readWhole shape t .answer)) (sym (i .spelled)) ∙ ap (λ (r : ReadSetup). setupNumber (r .answer)) (says .answered);
       }
 
   -- THE STATEMENT

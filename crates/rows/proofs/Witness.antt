@@ -1,23 +1,28 @@
--- The set-up of the sitting that document 01 prints ("A sitting in full"), from its fields: its bytes, and that the premises of the statements are met.
--- Assumes nothing.
+-- The set-up of the sitting that document 01 prints ("A sitting in full"), from its fields: its bytes, and that the premises of the statements are met;
+-- also with dates. Assumes nothing.
 use mathlib.Core.Path.{_≡_, refl}
 use mathlib.Core.Bool.{Bool, true, _&&_}
 use mathlib.Core.List.{List, [], _∷_, _++_}
-use Prim.Native.Nat.{ℕ, _^_}
+use Prim.Native.Nat.{ℕ, _^_, _≤_, _<_}
 use native.Mathlib.Omega.{arith}
 use borrow.Author.Tests.{ltb-true}
 use lib.Dec.{ltb}
 use lib.ListN.{replicate}
 use Rattle.wire.specs.Wire.{byte, number}
 use Rattle.wire.proofs.Pairs.{both}
+use Rattle.calendar.specs.Calendar.{isDay, hasDay}
+use Rattle.calendar.proofs.Dates.{calendar-days}
 use Rattle.ranges.specs.Ranges.{isSetup}
 use Rattle.rows.specs.Rows.{Field, written, spelled, Fits, Four, Accumulator, Limits, Profile, Setup, headRow, profileRow, setupRow, body}
+use Rattle.rows.specs.Rows.{Cyclic, Cycles, undated, dated, cyclicLimitsRow, cyclesRow}
 use Rattle.rows.specs.Said.{Says}
-use Rattle.rows.specs.InRange.{ThreeDigits, AccumulatorRange, AccumulatorLimits, InRange}
-use Rattle.rows.specs.Tails.{on, third, Tail, tailBytes, TailSays}
+use Rattle.rows.specs.InRange.{ThreeDigits, AccumulatorRange, AccumulatorLimits, InRange, CyclicRange, DatesRange}
+use Rattle.rows.specs.Tails.{off, on, third, fourth, Tail, tailBytes, Fine, TailSays}
+use Rattle.rows.specs.Whole.{wholeBody, WholeSays}
 use Rattle.rows.proofs.Fields.{reads-fields}
 use Rattle.rows.proofs.Ranges.{accepted-in-range}
 use Rattle.rows.proofs.Behind.{reads-tails}
+use Rattle.rows.proofs.Whole.{whole-says}
 
 -- all else zero
 abbrev same : {A : Type 0} → A → Four A
@@ -31,7 +36,7 @@ empty = record { currency = 0; value = 0 }
 
 -- profile 1 with Online 64, Decline 1024, Default 1024; accumulator 1 switches 7, lower 5000, upper 10000; counter 1 switches 3, limits 255;
 -- accumulator 1 sent, counters 1 and 0 sent
-abbrev profile : Profile
+abbrev pub profile : Profile
 profile =
     record {
       number = 1;
@@ -96,21 +101,22 @@ pub printed-fits : Fits (setupRow printed)
 unfolding printed setupRow headRow profileRow
 printed-fits = fit (setupRow printed) refl
 
-pub printed-says : Says printed (body printed)
-printed-says = reads-fields printed printed-fits
+pub printed-says : Says printed undated (body printed) []
+printed-says = reads-fields printed undated printed-fits tt
 
 -- ---- and are in their ranges
 
 abbrev digits0 : ThreeDigits 0
 digits0 = record { hundreds = 0; tens = 0; ones = 0; hundreds-digit = omega arith; tens-digit = omega arith; ones-digit = omega arith; digits = refl }
 
-pub printed-in-range : InRange printed
+abbrev pub euro : ThreeDigits 0x0978
+euro = record { hundreds = 9; tens = 7; ones = 8; hundreds-digit = omega arith; tens-digit = omega arith; ones-digit = omega arith; digits = refl }
+
+in-range-below : (unnamed : ℕ) → 1024 < unnamed → InRange printed unnamed
 unfolding printed
-printed-in-range =
+in-range-below unnamed named =
     let none-fine : AccumulatorLimits none = record { switches = omega arith; lower = omega arith; upper = omega arith } in
     let empty-fine : AccumulatorRange empty = record { currency = digits0; value = omega arith } in
-    let euro : ThreeDigits 0x0978 =
-    record { hundreds = 9; tens = 7; ones = 8; hundreds-digit = omega arith; tens-digit = omega arith; ones-digit = omega arith; digits = refl } in
     record {
       pin = omega arith;
       required = omega arith;
@@ -142,8 +148,15 @@ printed-in-range =
       pairs = tt;
     }
 
-pub printed-accepted : isSetup (body printed) ≡ true
-printed-accepted = accepted-in-range printed printed-fits .1 printed-in-range
+-- in versions 01 to 03, and from version 04 on
+pub printed-in-range : InRange printed (2 ^ 22)
+printed-in-range = in-range-below (2 ^ 22) (omega arith)
+
+pub printed-in-range-4 : InRange printed (2 ^ 25)
+printed-in-range-4 = in-range-below (2 ^ 25) (omega arith)
+
+pub printed-accepted : isSetup (body printed) (2 ^ 22) ≡ true
+printed-accepted = accepted-in-range printed printed-fits (2 ^ 22) .1 printed-in-range
 
 -- ---- with tails: two entries, one of them empty, and syllabus 1
 
@@ -156,3 +169,55 @@ selective-bytes = refl
 pub selective-says : TailSays printedBytes selective (printedBytes ++ tailBytes selective)
 unfolding printedBytes
 selective-says = reads-tails printedBytes selective refl ((omega arith, (omega arith, (omega arith, tt))), omega arith)
+
+-- ---- with dates: the first cyclic accumulator by days up to 10000, the second by months up to 15000, the last date 15 July 2005
+
+abbrev counting : (kind : ℕ) → Cyclic
+counting kind = record { currency = 0x0978; amount = 0; kind = kind; first = 0 }
+
+abbrev pub spending : Cycles
+spending =
+    record {
+      year = 0x05;
+      month = 0x07;
+      day = 0x15;
+      accumulators = record { one = counting 1; two = counting 3 };
+      rules = record { one = record { switches = 7; limit = 10000 }; two = record { switches = 7; limit = 15000 } } ∷ [];
+    }
+
+abbrev pub daily : Tail
+daily = fourth off 0 (dated spending)
+
+pub daily-bytes : tailBytes daily
+    ≡ 0x00 ∷ 0x00 ∷ 0x01 ∷ 0x05 ∷ 0x07 ∷ 0x15 ∷ 0x09 ∷ 0x78 ∷ zeros 8
+    ++ (0x01 ∷ 0x00 ∷ 0x09 ∷ 0x78 ∷ zeros 8 ++ 0x03 ∷ 0x00 ∷ 0x07 ∷ zeros 6)
+    ++ (0x27 ∷ 0x10 ∷ 0x07 ∷ zeros 6 ++ 0x3A ∷ 0x98 ∷ [])
+unfolding cyclesRow cyclicLimitsRow spelled written
+daily-bytes = refl
+
+pub daily-fine : Fine 1 daily
+unfolding cyclesRow cyclicLimitsRow
+daily-fine = (tt, omega arith, (fit (cyclesRow spending) refl, refl))
+
+july : isDay (record { year = 0x05; month = 0x07; day = 0x15 }) ≡ true
+unfolding isDay hasDay
+july = refl
+
+pub daily-in-range : DatesRange (dated spending)
+daily-in-range =
+    let (n, few, is) = calendar-days (record { year = 0x05; month = 0x07; day = 0x15 }) .0 july in
+    let fine : (kind : ℕ) → 1 ≤ kind → kind ≤ 3 → CyclicRange (counting kind) =
+    λ kind least most. record { currency = euro; amount = omega arith; kind-least = least; kind-most = most; first = omega arith } in
+    record {
+      last = record { after = n; few = few; is = is };
+      accumulators = (fine 1 (omega arith) (omega arith), (fine 3 (omega arith) (omega arith), tt));
+      rules = (
+        (record { switches = omega arith; limit = omega arith }, (record { switches = omega arith; limit = omega arith }, tt)),
+        tt,
+      );
+    }
+
+-- THE WITNESS: it is taken, and says what was spelled
+pub daily-says : WholeSays printed daily 4 (wholeBody printed daily)
+unfolding printed
+daily-says = whole-says printed daily printed-fits daily-fine printed-in-range-4 daily-in-range

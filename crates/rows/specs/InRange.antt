@@ -1,9 +1,11 @@
--- The ranges of a set-up's fields (document 01, "Numbers" and "The paper"). Key index, ATC, and a counter's value and limits may be any.
+-- The ranges of a set-up's fields (document 01, "Numbers" and "The paper"; document 02, request Five). Key index, ATC, and a counter's value and limits
+-- may be any.
 use mathlib.Core.Path.{_≡_}
 use mathlib.Core.List.{List, [], _∷_}
-use Prim.Native.Nat.{ℕ, _+_, _*_, _^_, _≤_, _<_}
+use Prim.Native.Nat.{ℕ, _+_, _*_, _≤_, _<_}
 use lib.ListN.{length}
-use Rattle.rows.specs.Rows.{Accumulator, Limits, Profile, Conversion, Setup, listed}
+use Rattle.calendar.specs.Almanac.{dateAfter}
+use Rattle.rows.specs.Rows.{Accumulator, Limits, Profile, Conversion, Setup, listed, Two, Cyclic, CyclicLimit, Cycles, Dates, undated, dated, paired}
 
 -- of each in a list
 abbrev pub Each : {A : Type 0} → (A → Type 0) → List A → Type 0
@@ -42,13 +44,13 @@ pub record AccumulatorLimits (l : Limits) : Type 0 where
 abbrev pub CounterLimits : Limits → Type 0
 CounterLimits l = l .switches ≤ 15
 
--- numbered 1 to 124; a mask has bits 0 to 21
-pub record ProfileRange (p : Profile) : Type 0 where
+-- numbered 1 to 124; a mask has no bit from the unnamed one on
+pub record ProfileRange (unnamed : ℕ) (p : Profile) : Type 0 where
   pub number-least : 1 ≤ p .number
   pub number-most : p .number ≤ 124
-  pub online : p .online < 2 ^ 22
-  pub decline : p .decline < 2 ^ 22
-  pub default : p .default < 2 ^ 22
+  pub online : p .online < unnamed
+  pub decline : p .decline < unnamed
+  pub default : p .default < unnamed
   pub maximum-on : p .maximum-on ≤ 1
   pub maximum-currency : ThreeDigits (p .maximum-currency)
   pub maximum : Amount (p .maximum)
@@ -74,7 +76,7 @@ abbrev pub SamePair : Conversion → Conversion → Type 0
 SamePair c d = (c .from ≡ d .from) × (c .to ≡ d .to)
 
 -- one to 4 profiles, numbered all different; up to 5 conversions, no pair twice
-pub record InRange (x : Setup) : Type 0 where
+pub record InRange (x : Setup) (unnamed : ℕ) : Type 0 where
   pub pin : x .pin ≤ 15
   pub required : x .required ≤ 1
   pub profiles-least : 1 ≤ length (x .profiles)
@@ -82,7 +84,38 @@ pub record InRange (x : Setup) : Type 0 where
   pub conversions-most : length (x .conversions) ≤ 5
   pub online : x .online ≤ 1
   pub accumulators : Each AccumulatorRange (listed (x .accumulators))
-  pub profiles : Each ProfileRange (x .profiles)
+  pub profiles : Each (ProfileRange unnamed) (x .profiles)
   pub numbers : NoTwo SameNumber (x .profiles)
   pub conversions : Each ConversionRange (x .conversions)
   pub pairs : NoTwo SamePair (x .conversions)
+
+-- ---- the tail of version 04
+
+-- one of the 36,525 days from 1 January 2000 on, two decimal digits to a byte
+pub record CalendarDay (year month day : ℕ) : Type 0 where
+  pub after : ℕ
+  pub few : after < 36525
+  pub is : record { year = year; month = month; day = day } ≡ dateAfter after
+
+pub record CyclicRange (c : Cyclic) : Type 0 where
+  pub currency : ThreeDigits (c .currency)
+  pub amount : Amount (c .amount)
+  pub kind-least : 1 ≤ c .kind
+  pub kind-most : c .kind ≤ 3
+  pub first : c .first ≤ 6
+
+pub record CyclicLimitRange (l : CyclicLimit) : Type 0 where
+  pub switches : l .switches ≤ 7
+  pub limit : Amount (l .limit)
+
+abbrev pub CyclicLimitsRange : Two CyclicLimit → Type 0
+CyclicLimitsRange r = Each CyclicLimitRange (paired r)
+
+pub record CyclesRange (d : Cycles) : Type 0 where
+  pub last : CalendarDay (d .year) (d .month) (d .day)
+  pub accumulators : Each CyclicRange (paired (d .accumulators))
+  pub rules : Each CyclicLimitsRange (d .rules)
+
+abbrev pub DatesRange : Dates → Type 0
+DatesRange undated = Unit
+DatesRange (dated d) = CyclesRange d

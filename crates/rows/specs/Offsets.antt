@@ -1,10 +1,10 @@
--- Where the fields of a set-up stand, in numbers: the offsets of docs/PAPERS.md, "Set-up, kind 1".
+-- Where the fields of a set-up stand, in numbers: the offsets of docs/PAPERS.md, "Set-up, kind 1" and "Tail of version 04".
 use mathlib.Core.Path.{_≡_}
 use mathlib.Core.List.{List}
 use Prim.Native.Nat.{ℕ, _+_, _*_, _<_}
 use lib.ListN.{length, getD}
 use Rattle.wire.specs.Wire.{byte, number}
-use Rattle.rows.specs.Rows.{Four, Limits, Profile, Conversion, Setup, listed}
+use Rattle.rows.specs.Rows.{Four, Limits, Profile, Conversion, Setup, listed, Two, Cyclic, CyclicLimit, Cycles, paired}
 
 -- number i + 1 of the four
 abbrev pub nth : {A : Type 0} → Four A → ℕ → A
@@ -56,3 +56,28 @@ pub record Offsets (s : List ℕ) (x : Setup) : Type 0 where
   pub profiles : (i : ℕ) → i < length (x .profiles) → (d : Profile) → ProfileOffsets s (52 + 107 * i) (getD (x .profiles) i d)
   pub conversions : (i : ℕ) → i < length (x .conversions) → (d : Conversion)
       → ConversionOffsets s (52 + 107 * length (x .profiles) + 7 * i) (getD (x .conversions) i d)
+
+-- ---- the tail of version 04, from its own start
+
+-- number i + 1 of the two
+abbrev pub ofTwo : {A : Type 0} → Two A → ℕ → A
+ofTwo x i = getD (paired x) i (x .one)
+
+pub record CyclicOffsets (t : List ℕ) (at : ℕ) (c : Cyclic) : Type 0 where
+  pub currency : number t at 2 ≡ c .currency
+  pub amount : number t (at + 2) 8 ≡ c .amount
+  pub kind : byte t (at + 10) ≡ c .kind
+  pub first : byte t (at + 11) ≡ c .first
+
+pub record CyclicLimitOffsets (t : List ℕ) (at : ℕ) (l : CyclicLimit) : Type 0 where
+  pub switches : byte t at ≡ l .switches
+  pub limit : number t (at + 1) 8 ≡ l .limit
+
+pub record CyclesOffsets (t : List ℕ) (d : Cycles) : Type 0 where
+  pub dated : byte t 0 ≡ 1
+  pub year : byte t 1 ≡ d .year
+  pub month : byte t 2 ≡ d .month
+  pub day : byte t 3 ≡ d .day
+  pub accumulators : (i : ℕ) → i < 2 → CyclicOffsets t (4 + 12 * i) (ofTwo (d .accumulators) i)
+  pub rules : (j : ℕ) → j < length (d .rules) → (r : Two CyclicLimit) (i : ℕ) → i < 2
+      → CyclicLimitOffsets t (28 + 18 * j + 9 * i) (ofTwo (getD (d .rules) j r) i)

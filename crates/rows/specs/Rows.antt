@@ -1,5 +1,5 @@
--- A set-up's body spelled from its fields (document 01, "The paper"; docs/PAPERS.md, "Set-up, kind 1"). Rows of fields in the paper's order, each field
--- with its width in bytes. There is no offset here: a field stands where the widths before it end.
+-- A set-up's body spelled from its fields (document 01, "The paper"; docs/PAPERS.md, "Set-up, kind 1" and "Tail of version 04"). Rows of fields in the
+-- paper's order, each field with its width in bytes. There is no offset here: a field stands where the widths before it end.
 use Prim.Native.Nat.{ℕ, zero, suc, _+_, _/_, _%_, _^_, _<_}
 use mathlib.Core.List.{List, [], _∷_, _++_}
 use lib.ListN.{length, getD}
@@ -93,6 +93,38 @@ pub record Setup : Type 0 where
   pub profiles : List Profile
   pub conversions : List Conversion
 
+-- ---- what the tail of version 04 says (document 02, request Five)
+
+-- numbered 1 and 2
+pub record Two (A : Type 0) : Type 0 where
+  pub one : A
+  pub two : A
+
+-- kind: 1 day, 2 week, 3 month; first: the day on which a week begins, 0 Friday to 6 Thursday
+pub record Cyclic : Type 0 where
+  pub currency : ℕ
+  pub amount : ℕ
+  pub kind : ℕ
+  pub first : ℕ
+
+-- of a cyclic accumulator in a profile
+pub record CyclicLimit : Type 0 where
+  pub switches : ℕ
+  pub limit : ℕ
+
+-- the last date, two decimal digits to a byte; the cyclic accumulators; and for each profile, in the set-up's order, their rules
+pub record Cycles : Type 0 where
+  pub year : ℕ
+  pub month : ℕ
+  pub day : ℕ
+  pub accumulators : Two Cyclic
+  pub rules : List (Two CyclicLimit)
+
+-- dates are off, or on
+pub data Dates : Type 0 where
+  undated : Dates
+  dated : Cycles → Dates
+
 -- ---- its rows
 
 abbrev pub listed : {A : Type 0} → Four A → List A
@@ -147,3 +179,32 @@ setupRow x = headRow x ++ (each profileRow (x .profiles) ++ each conversionRow (
 
 abbrev pub body : Setup → List ℕ
 body x = spelled (setupRow x)
+
+-- ---- the rows of the tail of version 04, where dates are on
+
+abbrev pub paired : {A : Type 0} → Two A → List A
+paired x = x .one ∷ x .two ∷ []
+
+-- dated, which is 1; the last date (3)
+abbrev pub datedRow : Cycles → List Field
+datedRow d = 1 of 1 ∷ 1 of d .year ∷ 1 of d .month ∷ 1 of d .day ∷ []
+
+-- currency (2), amount (8), kind (1), first day (1)
+abbrev pub cyclicRow : Cyclic → List Field
+cyclicRow c = 2 of c .currency ∷ 8 of c .amount ∷ 1 of c .kind ∷ 1 of c .first ∷ []
+
+-- switches (1), limit (8)
+abbrev pub cyclicLimitRow : CyclicLimit → List Field
+cyclicLimitRow l = 1 of l .switches ∷ 8 of l .limit ∷ []
+
+-- of both accumulators, in a profile
+unfoldable pub cyclicLimitsRow : Two CyclicLimit → List Field
+cyclicLimitsRow r = each cyclicLimitRow (paired r)
+
+unfoldable pub cyclesRow : Cycles → List Field
+cyclesRow d = datedRow d ++ (each cyclicRow (paired (d .accumulators)) ++ each cyclicLimitsRow (d .rules))
+
+-- no byte where dates are off
+abbrev pub cyclesBytes : Dates → List ℕ
+cyclesBytes undated = []
+cyclesBytes (dated d) = spelled (cyclesRow d)

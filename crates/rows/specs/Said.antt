@@ -1,21 +1,26 @@
--- What the fields of a set-up come to: the rules that they are, and what a fresh card starts from (document 01, "The paper").
+-- What the fields of a set-up come to: the rules that they are, and what a fresh card starts from (document 01, "The paper"; document 02, request Five).
 use Prim.Native.Nat.{ℕ, zero, suc, _+_, _*_, _/_, _%_}
 use mathlib.Core.Path.{_≡_}
 use mathlib.Core.Bool.{Bool, true}
 use mathlib.Core.List.{List, [], _∷_}
 use lib.Dec.{eqb}
 use lib.ListN.{length}
+use Rattle.money.specs.declared.AccumulatorAmount.{AccumulatorAmount}
 use Rattle.money.specs.declared.Rate.{Rate}
 use Rattle.money.specs.Money.{blank}
+use Rattle.calendar.specs.declared.Period.{Period}
+use Rattle.calendar.specs.declared.Period.the-variants.{Day, Week, Month}
+use Rattle.calendar.specs.declared.Date.{Date}
 use Rattle.rules.specs.declared.AccumulatorRule.{AccumulatorRule}
 use Rattle.rules.specs.declared.CounterRule.{CounterRule}
-use Rattle.rules.specs.Rules.{Rules, Profile as ProfileRules, blankProfile, rulesOf}
+use Rattle.rules.specs.declared.Cycle.{Cycle}
+use Rattle.rules.specs.declared.CyclicRule.{CyclicRule}
+use Rattle.rules.specs.Rules.{Rules, Profile as ProfileRules, blankProfile, blankCycle, blankCyclic, rulesOf}
 use Rattle.rules.specs.Word.{wordCount}
-use Rattle.ranges.specs.Ranges.{isSetup}
 use Rattle.setup.specs.declared.Fresh.{Fresh}
 use Rattle.setup.specs.declared.SetupAnswer.the-variants.{Done}
-use Rattle.setup.specs.Setup.{rulesIn, freshIn, readSetup, wordsAfter}
-use Rattle.rows.specs.Rows.{Limits, Profile, Conversion, Setup}
+use Rattle.setup.specs.Setup.{rulesIn, freshIn, isAccepted, readSetup, wordsAfter}
+use Rattle.rows.specs.Rows.{Limits, Profile, Conversion, Setup, Two, Cyclic, CyclicLimit, Dates, undated, dated}
 
 -- the switch of value k (1, 2, 4 or 8)
 abbrev pub switch : (k switches : ℕ) → Bool
@@ -78,9 +83,49 @@ profileAt x i = saidAt profileSaid blankProfile (x .profiles) i
 abbrev pub conversionAt : Setup → ℕ → Rate
 conversionAt x i = saidAt conversionSaid blank (x .conversions) i
 
--- with the syllabus, which stands beside the set-up
-unfoldable pub rulesSaid : Setup → ℕ → Rules
-rulesSaid x syllabus =
+-- 1 day, 2 week, 3 month
+abbrev pub periodSaid : (kind : ℕ) → Period
+periodSaid zero = Month
+periodSaid (suc zero) = Day
+periodSaid (suc (suc zero)) = Week
+periodSaid (suc (suc (suc kind))) = Month
+
+abbrev pub cyclicSaid : Cyclic → Cycle
+cyclicSaid c = record { currency = c .currency; period = periodSaid (c .kind); first = c .first }
+
+-- 1: active, 2: allow accumulation, 4: include this transaction
+abbrev pub cyclicLimitSaid : CyclicLimit → CyclicRule
+cyclicLimitSaid l =
+    record {
+      limit = record { 0 = l .limit };
+      active = switch 1 (l .switches);
+      allow = switch 2 (l .switches);
+      include = switch 4 (l .switches);
+    }
+
+abbrev pub cyclicLimitsSaid : Two CyclicLimit → List CyclicRule
+cyclicLimitsSaid r = cyclicLimitSaid (r .one) ∷ cyclicLimitSaid (r .two) ∷ []
+
+-- where dates are off all is blank
+abbrev pub cyclesSaid : Dates → List Cycle
+cyclesSaid undated = blankCycle ∷ blankCycle ∷ []
+cyclesSaid (dated d) = cyclicSaid (d .accumulators .one) ∷ cyclicSaid (d .accumulators .two) ∷ []
+
+abbrev pub cyclicRulesAt : Dates → ℕ → List CyclicRule
+cyclicRulesAt undated j = blankCyclic ∷ blankCyclic ∷ []
+cyclicRulesAt (dated d) j = saidAt cyclicLimitsSaid (blankCyclic ∷ blankCyclic ∷ []) (d .rules) j
+
+abbrev pub amountsSaid : Dates → List AccumulatorAmount
+amountsSaid undated = record { 0 = 0 } ∷ record { 0 = 0 } ∷ []
+amountsSaid (dated d) = record { 0 = d .accumulators .one .amount } ∷ record { 0 = d .accumulators .two .amount } ∷ []
+
+abbrev pub lastSaid : Dates → Date
+lastSaid undated = record { year = 0; month = 0; day = 0 }
+lastSaid (dated d) = record { year = d .year; month = d .month; day = d .day }
+
+-- with the tail of version 04 and the syllabus, which stand beside the set-up
+unfoldable pub rulesSaid : Setup → Dates → ℕ → Rules
+rulesSaid x d syllabus =
     record {
       key = x .key;
       pin = x .pin;
@@ -93,10 +138,12 @@ rulesSaid x syllabus =
             up = yes-if-one syllabus;
           };
       profiles = profileAt x 0 ∷ profileAt x 1 ∷ profileAt x 2 ∷ profileAt x 3 ∷ [];
+      cycles = cyclesSaid d;
+      cyclicRules = cyclicRulesAt d 0 ∷ cyclicRulesAt d 1 ∷ cyclicRulesAt d 2 ∷ cyclicRulesAt d 3 ∷ [];
     }
 
-unfoldable pub freshSaid : Setup → Fresh
-freshSaid x =
+unfoldable pub freshSaid : Setup → Dates → Fresh
+freshSaid x d =
     record {
       values =
           record {
@@ -105,17 +152,19 @@ freshSaid x =
                 ∷ record { 0 = x .accumulators .four .value }
                 ∷ [];
             counters = x .counters .one ∷ x .counters .two ∷ x .counters .three ∷ x .counters .four ∷ [];
+            cyclic = amountsSaid d;
           };
       atc = x .atc;
       online = yes-if-one (x .online);
+      last = lastSaid d;
     }
 
--- What every reader of a body makes of it, where it says x: its length, the rules and the fresh card in its bytes; and once it is accepted, what
--- reading it answers, and the rules in the words that it was loaded into, whatever they held before.
-pub record Says (x : Setup) (s : List ℕ) : Type 0 where
+-- What every reader of a base and a tail of version 04 makes of them, where they say x and d: the base's length, the rules and the fresh card in the
+-- bytes; and once they are accepted, what reading them answers, and the rules in the words that they were loaded into, whatever these held before.
+pub record Says (x : Setup) (d : Dates) (s t : List ℕ) : Type 0 where
   pub size : length s ≡ 52 + 107 * length (x .profiles) + 7 * length (x .conversions)
-  pub rules : (syllabus : ℕ) → rulesIn s syllabus ≡ rulesSaid x syllabus
-  pub fresh : freshIn s ≡ freshSaid x
-  pub read : isSetup s ≡ true → readSetup s ≡ record { fresh = freshSaid x; answer = Done }
-  pub loaded : (syllabus : ℕ) (words : List ℕ) → length words ≡ wordCount → isSetup s ≡ true
-      → rulesOf (wordsAfter words s syllabus) ≡ rulesSaid x syllabus
+  pub rules : (syllabus : ℕ) → rulesIn s t syllabus ≡ rulesSaid x d syllabus
+  pub fresh : freshIn s t ≡ freshSaid x d
+  pub read : (unnamed : ℕ) → isAccepted s t unnamed ≡ true → readSetup s t unnamed ≡ record { fresh = freshSaid x d; answer = Done }
+  pub loaded : (syllabus unnamed : ℕ) (words : List ℕ) → length words ≡ wordCount → isAccepted s t unnamed ≡ true
+      → rulesOf (wordsAfter words s t syllabus unnamed) ≡ rulesSaid x d syllabus

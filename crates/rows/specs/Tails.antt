@@ -1,14 +1,17 @@
--- What follows the base of a set-up's body, spelled (docs/PAPERS.md, "Tail of version 02", "Tail of version 03"; document 02, Three and Nine).
-use Prim.Native.Nat.{ℕ, zero, suc, _+_, _-_, _*_, _≤_, _<_}
+-- What follows the base of a set-up's body, spelled (docs/PAPERS.md, "Tail of version 02" to "Tail of version 04"; document 02, Three, Nine and Five).
+use Prim.Native.Nat.{ℕ, suc, _+_, _-_, _*_, _^_, _≤_, _<_}
 use mathlib.Core.Path.{_≡_}
 use mathlib.Core.List.{List, [], _∷_, _++_}
 use lib.ListN.{length, take, drop}
 use Rattle.wire.specs.Wire.{byte}
 use Rattle.shape.specs.declared.Selecting.{Selecting}
 use Rattle.shape.specs.declared.Selecting.the-variants.{Off, On}
+use Rattle.shape.specs.declared.Dating.{Dating}
+use Rattle.shape.specs.declared.Dating.the-variants.{Off as DatesOff, On as DatesOn}
 use Rattle.shape.specs.declared.Shape.{Shape}
 use Rattle.shape.specs.declared.ReadShape.the-variants.{Taken}
-use Rattle.shape.specs.Shape.{basePart, shapeOf}
+use Rattle.shape.specs.Shape.{basePart, cyclesPart, shapeOf}
+use Rattle.rows.specs.Rows.{Fits, Dates, undated, dated, cyclesRow, cyclesBytes}
 
 -- selection off, or on with the bytes of each entry
 pub data Choosing : Type 0 where
@@ -25,34 +28,57 @@ abbrev pub choosingBytes : Choosing → List ℕ
 choosingBytes off = 0 ∷ []
 choosingBytes (on es) = 1 ∷ length es ∷ fileBytes es
 
--- version 01 has no tail; version 02 has the selection's; version 03 that and the syllabus
+-- 0 off; on, the row of its fields, which begins with 1
+abbrev pub datesBytes : Dates → List ℕ
+datesBytes undated = 0 ∷ []
+datesBytes (dated d) = cyclesBytes (dated d)
+
+-- version 01 has no tail; version 02 has the selection's; version 03 that and the syllabus; version 04 these and the dates'
 pub data Tail : Type 0 where
   first : Tail
   second : Choosing → Tail
   third : Choosing → (syllabus : ℕ) → Tail
+  fourth : Choosing → (syllabus : ℕ) → Dates → Tail
 
 abbrev pub versionOf : Tail → ℕ
 versionOf first = 1
 versionOf (second choosing) = 2
 versionOf (third choosing syllabus) = 3
+versionOf (fourth choosing syllabus dates) = 4
 
 abbrev pub tailBytes : Tail → List ℕ
 tailBytes first = []
 tailBytes (second choosing) = choosingBytes choosing
 tailBytes (third choosing syllabus) = choosingBytes choosing ++ syllabus ∷ []
+tailBytes (fourth choosing syllabus dates) = choosingBytes choosing ++ syllabus ∷ datesBytes dates
 
--- older papers select nothing and follow syllabus 0
+-- older papers select nothing, follow syllabus 0 and have no dates
 abbrev pub choosingOf : Tail → Choosing
 choosingOf first = off
 choosingOf (second choosing) = choosing
 choosingOf (third choosing syllabus) = choosing
+choosingOf (fourth choosing syllabus dates) = choosing
 
 abbrev pub syllabusOf : Tail → ℕ
 syllabusOf first = 0
 syllabusOf (second choosing) = 0
 syllabusOf (third choosing syllabus) = syllabus
+syllabusOf (fourth choosing syllabus dates) = syllabus
 
--- ---- what fits: numbers of entries and lengths below 256, syllabus 0 or 1
+abbrev pub datesOf : Tail → Dates
+datesOf first = undated
+datesOf (second choosing) = undated
+datesOf (third choosing syllabus) = undated
+datesOf (fourth choosing syllabus dates) = dates
+
+-- the first mask bit without a name: 22, and from version 04 on 25, whether dates are on or off
+abbrev pub unnamedOf : Tail → ℕ
+unnamedOf first = 2 ^ 22
+unnamedOf (second choosing) = 2 ^ 22
+unnamedOf (third choosing syllabus) = 2 ^ 22
+unnamedOf (fourth choosing syllabus dates) = 2 ^ 25
+
+-- ---- what fits: numbers of entries and lengths below 256, syllabus 0 or 1, a row of rules for each of the p profiles
 
 abbrev pub FineEntries : List (List ℕ) → Type 0
 FineEntries [] = Unit
@@ -62,10 +88,15 @@ abbrev pub FineChoosing : Choosing → Type 0
 FineChoosing off = Unit
 FineChoosing (on es) = (length es < 256) × FineEntries es
 
-abbrev pub Fine : Tail → Type 0
-Fine first = Unit
-Fine (second choosing) = FineChoosing choosing
-Fine (third choosing syllabus) = FineChoosing choosing × (syllabus ≤ 1)
+abbrev pub FineDates : (p : ℕ) → Dates → Type 0
+FineDates p undated = Unit
+FineDates p (dated d) = Fits (cyclesRow d) × (length (d .rules) ≡ p)
+
+abbrev pub Fine : (p : ℕ) → Tail → Type 0
+Fine p first = Unit
+Fine p (second choosing) = FineChoosing choosing
+Fine p (third choosing syllabus) = FineChoosing choosing × (syllabus ≤ 1)
+Fine p (fourth choosing syllabus dates) = FineChoosing choosing × (syllabus ≤ 1) × FineDates p dates
 
 -- p and c stand at 3 and 4 of the base, which has 52 + 107p + 7c bytes
 abbrev pub baseLength : List ℕ → ℕ
@@ -89,14 +120,30 @@ abbrev pub fileOf : Choosing → List ℕ
 fileOf off = []
 fileOf (on es) = fileBytes es
 
--- the shape: the base's length, where the file stands, the syllabus
+-- where the dates' tail stands: behind the selection's and the syllabus
+abbrev pub dating : Dates → ℕ → Dating
+dating undated at = DatesOff
+dating (dated d) at = DatesOn at (at + length (cyclesBytes (dated d)))
+
+abbrev pub datesAt : (base : List ℕ) → Choosing → ℕ
+datesAt base choosing = length base + length (choosingBytes choosing) + 1
+
+-- the shape: the base's length, where the file stands, the syllabus, where the dates' tail stands, the first unnamed mask bit
 abbrev pub shapeSaid : (base : List ℕ) → Tail → Shape
-shapeSaid base tail = record { base = length base; selecting = selecting (choosingOf tail) (length base); syllabus = syllabusOf tail }
+shapeSaid base tail =
+    record {
+      base = length base;
+      selecting = selecting (choosingOf tail) (length base);
+      syllabus = syllabusOf tail;
+      dating = dating (datesOf tail) (datesAt base (choosingOf tail));
+      unnamed = unnamedOf tail;
+    }
 
 pub record TailSays (base : List ℕ) (tail : Tail) (body : List ℕ) : Type 0 where
   pub read : shapeOf (versionOf tail) body ≡ Taken (shapeSaid base tail)
   pub base-is : basePart (shapeSaid base tail) body ≡ base
   pub file : fileIn (selecting (choosingOf tail) (length base)) body ≡ fileOf (choosingOf tail)
+  pub cycles : cyclesPart (shapeSaid base tail .dating) body ≡ cyclesBytes (datesOf tail)
 
 -- a body is a base and the tail of its version
 pub record IsSpelled (version : ℕ) (body : List ℕ) : Type 0 where
@@ -104,7 +151,7 @@ pub record IsSpelled (version : ℕ) (body : List ℕ) : Type 0 where
   pub tail : Tail
   pub version-is : versionOf tail ≡ version
   pub sized : Base base
-  pub fine : Fine tail
+  pub fine : Fine (byte base 3) tail
   pub joined : base ++ tailBytes tail ≡ body
 
 -- ---- why a tail is refused
@@ -126,11 +173,36 @@ pub data BadChoosing (tail : List ℕ) : Type 0 where
 abbrev pub butLast : List ℕ → List ℕ
 butLast s = take (length s - 1) s
 
+-- of version 04, read from the front: an entry is missing or cut short
+pub data CutFile : List ℕ → ℕ → Type 0 where
+  cut-here : {file : List ℕ} {n : ℕ} → length file ≤ byte file 0 → CutFile file (suc n)
+  cut-below : {file : List ℕ} {n : ℕ} → byte file 0 < length file → CutFile (drop (byte file 0 + 1) file) n → CutFile file (suc n)
+
+-- no switch; a switch above 1; no number of entries; not so many entries
+pub data NoChoosing (tail : List ℕ) : Type 0 where
+  no-choice : length tail ≡ 0 → NoChoosing tail
+  choice-above : 1 < byte tail 0 → NoChoosing tail
+  no-count : byte tail 0 ≡ 1 → length tail ≡ 1 → NoChoosing tail
+  cut-file : byte tail 0 ≡ 1 → 1 < length tail → CutFile (drop 2 tail) (byte tail 1) → NoChoosing tail
+
+-- behind a selection: no syllabus; one above 1; then no switch; one above 1; bytes behind "off"; another length than 28 + 18p
+pub data BadDates (p : ℕ) (tail : List ℕ) : Type 0 where
+  nothing-behind : length tail ≡ 0 → BadDates p tail
+  follows-above : 1 < byte tail 0 → BadDates p tail
+  no-dated : length tail ≡ 1 → BadDates p tail
+  dated-above : 1 < byte tail 1 → BadDates p tail
+  behind-undated : byte tail 1 ≡ 0 → 2 < length tail → BadDates p tail
+  dated-length : byte tail 1 ≡ 1 → (length tail ≡ 1 + (28 + 18 * p) → ⊥) → BadDates p tail
+
 -- version 01: another length than the base's; version 02: what is behind the base; version 03: nothing behind the base, a syllabus above 1, or
--- what stands between
+-- what stands between; version 04: no selection behind the base, or what stands behind one
 pub data BadTail (version : ℕ) (body : List ℕ) : Type 0 where
   other-length : version ≡ 1 → (length body ≡ baseLength body → ⊥) → BadTail version body
   choosing : version ≡ 2 → BadChoosing (drop (baseLength body) body) → BadTail version body
   no-syllabus : version ≡ 3 → length body ≤ baseLength body → BadTail version body
   syllabus-above : version ≡ 3 → 1 < byte body (length body - 1) → BadTail version body
   between : version ≡ 3 → BadChoosing (butLast (drop (baseLength body) body)) → BadTail version body
+  no-choosing : version ≡ 4 → NoChoosing (drop (baseLength body) body) → BadTail version body
+  behind-choosing : version ≡ 4 → (choosing : Choosing) (tail : List ℕ) → drop (baseLength body) body ≡ choosingBytes choosing ++ tail
+      → BadDates (byte body 3) tail
+      → BadTail version body

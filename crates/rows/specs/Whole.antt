@@ -6,14 +6,15 @@ use lib.ListN.{length}
 use Rattle.rules.specs.Rules.{rulesOf}
 use Rattle.rules.specs.Word.{wordCount}
 use Rattle.setup.specs.declared.SetupAnswer.the-variants.{Done}
+use Rattle.setup.specs.declared.ReadSetup.{ReadSetup}
 use Rattle.setup.specs.Setup.{readSetup, wordsAfter, setupNumber}
 use Rattle.shape.specs.declared.Shape.{Shape}
 use Rattle.shape.specs.declared.ReadShape.the-variants.{Taken}
-use Rattle.shape.specs.Shape.{basePart, shapeOf}
+use Rattle.shape.specs.Shape.{basePart, cyclesPart, shapeOf}
 use Rattle.rows.specs.Rows.{Setup, Fits, setupRow, body}
-use Rattle.rows.specs.InRange.{InRange}
+use Rattle.rows.specs.InRange.{InRange, DatesRange}
 use Rattle.rows.specs.Said.{rulesSaid, freshSaid}
-use Rattle.rows.specs.Tails.{Tail, versionOf, tailBytes, syllabusOf, Fine, shapeSaid}
+use Rattle.rows.specs.Tails.{Tail, versionOf, tailBytes, syllabusOf, datesOf, unnamedOf, Fine, shapeSaid}
 
 abbrev pub wholeBody : Setup → Tail → List ℕ
 wholeBody x tail = body x ++ tailBytes tail
@@ -23,19 +24,27 @@ pub record IsSetup (version : ℕ) (s : List ℕ) : Type 0 where
   pub tail : Tail
   pub version-is : versionOf tail ≡ version
   pub fits : Fits (setupRow setup)
-  pub in-range : InRange setup
-  pub fine : Fine tail
+  pub in-range : InRange setup (unnamedOf tail)
+  pub fine : Fine (length (setup .profiles)) tail
+  pub dates-in-range : DatesRange (datesOf tail)
   pub spelled : wholeBody setup tail ≡ s
+
+-- what is read of a body of this shape: its base, and its tail of version 04
+abbrev pub readWhole : Shape → (s : List ℕ) → ReadSetup
+readWhole shape s = readSetup (basePart shape s) (cyclesPart (shape .dating) s) (shape .unnamed)
+
+abbrev pub wordsWhole : (words : List ℕ) → Shape → (s : List ℕ) → List ℕ
+wordsWhole words shape s = wordsAfter words (basePart shape s) (cyclesPart (shape .dating) s) (shape .syllabus) (shape .unnamed)
 
 -- its base and its tails, where its shape is this
 pub record IsTaken (version : ℕ) (s : List ℕ) : Type 0 where
   pub shape : Shape
   pub shape-is : shapeOf version s ≡ Taken shape
-  pub base : setupNumber (readSetup (basePart shape s) .answer) ≡ 0
+  pub base : setupNumber (readWhole shape s .answer) ≡ 0
 
 -- what the conversation asks of it: the rules in the words that it was loaded into, the fresh card, and where selection's file stands
 pub record WholeSays (x : Setup) (tail : Tail) (version : ℕ) (s : List ℕ) : Type 0 where
   pub shape-is : shapeOf version s ≡ Taken (shapeSaid (body x) tail)
-  pub answered : readSetup (basePart (shapeSaid (body x) tail) s) ≡ record { fresh = freshSaid x; answer = Done }
+  pub answered : readWhole (shapeSaid (body x) tail) s ≡ record { fresh = freshSaid x (datesOf tail); answer = Done }
   pub loaded : (words : List ℕ) → length words ≡ wordCount
-      → rulesOf (wordsAfter words (basePart (shapeSaid (body x) tail) s) (syllabusOf tail)) ≡ rulesSaid x (syllabusOf tail)
+      → rulesOf (wordsWhole words (shapeSaid (body x) tail) s) ≡ rulesSaid x (datesOf tail) (syllabusOf tail)

@@ -22,7 +22,7 @@ drop-take (suc k) (suc m) (x ∷ s) = let z : suc m - suc k ≡ m - k = omega ar
 
 module _ (body : List ℕ) where
   -- the first entry, then the others
-  first-entry : (at n : ℕ) → entriesEnd body at (suc n) ≡ entriesEnd body (at + 1 + byte body at) n
+  pub first-entry : (at n : ℕ) → entriesEnd body at (suc n) ≡ entriesEnd body (at + 1 + byte body at) n
   unfolding entriesEnd
   first-entry at zero = refl
   first-entry at (suc n) = ap (λ (end : ℕ). end + 1 + byte body end) (first-entry at n)

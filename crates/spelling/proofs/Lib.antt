@@ -7,6 +7,7 @@ pub mod Lines
 pub mod Parsed
 pub mod Papers
 pub mod Witness
+pub mod Computed
 pub mod Samples
 pub mod Text
 pub mod Shown

@@ -15,7 +15,7 @@ use Rattle.conversation.specs.declared.Event.the-variants.{End, Refused, Answer
 use Rattle.conversation.specs.Conversation.{answeredBy, takenOf}
 use Rattle.conversation.specs.Events.{eventsFrom}
 use Rattle.lines.specs.Sitting.{answerLine, linesOf}
-use Rattle.spelling.specs.Spelling.{Sent, kindOf, bodyOf, spell, spellAll, Choice, choiceIn, Fits, AllFit, standsFor, allStandFor}
+use Rattle.spelling.specs.Spelling.{Sent, kindOf, bodyOf, spell, spellAll, Manner, mannerIn, Fits, AllFit, standsFor, allStandFor}
 use Rattle.spelling.specs.Sitting.{reading, Lies, happened, answers, Ends, ended, faulty, lastEvents, lastLines}
 use Rattle.spelling.proofs.Shapes.{record-length, shift, next-drop, next-nothing}
 use Rattle.spelling.proofs.Records.{sent-stands, Faulty, at-next, at-record, reads-end, reads-fault, reads-spelled}
@@ -26,17 +26,17 @@ no-bytes [] h = refl
 no-bytes (b ∷ s) h = absurd (omega arith)
 
 module _ (rules : Rules) (form : Shape) (s : List ℕ) (lies : Lies (form .selecting) s) where
-  abbrev choice : Choice
-  choice = choiceIn (form .selecting) s
+  abbrev manner : Manner
+  manner = mannerIn form s
 
   -- the card after what is sent, and what happened
   abbrev on : State → Sent → State
-  on state x = stepOf rules state (standsFor choice x) .state
+  on state x = stepOf rules state (standsFor manner x) .state
 
   abbrev told : State → Sent → Event
-  told state x = Answered (standsFor choice x) (stepOf rules state (standsFor choice x) .answer)
+  told state x = Answered (standsFor manner x) (stepOf rules state (standsFor manner x) .answer)
 
-  taken-sent : (state : State) (at : ℕ) (x : Sent) → Fits choice x → (rest : List ℕ) → drop at s ≡ spell x ++ rest
+  taken-sent : (state : State) (at : ℕ) (x : Sent) → Fits manner x → (rest : List ℕ) → drop at s ≡ spell x ++ rest
       → takenOf rules form state s at ≡ record { state = on state x; at = at + length (spell x); event = told state x }
   unfolding takenOf answeredBy
   taken-sent state at x h rest e = let st = sent-stands form s lies at x h rest e in rw (st .next, st .is)
@@ -50,7 +50,7 @@ module _ (rules : Rules) (form : Shape) (s : List ℕ) (lies : Lies (form .selec
   taken-faulty state at (at-next e) = rw e
   taken-faulty state at (at-record end st) = rw (st .next, st .is)
 
-  at-last : (n : ℕ) (state : State) (at : ℕ) (rest : List ℕ) (ends : Ends choice rest) → drop at s ≡ rest → length (drop at s) ≤ n
+  at-last : (n : ℕ) (state : State) (at : ℕ) (rest : List ℕ) (ends : Ends manner rest) → drop at s ≡ rest → length (drop at s) ≤ n
       → eventsFrom n rules form state s at ≡ lastEvents ends
   unfolding eventsFrom
   at-last zero state at rest (ended z) e h = refl
@@ -61,7 +61,7 @@ module _ (rules : Rules) (form : Shape) (s : List ℕ) (lies : Lies (form .selec
   at-last (suc n) state at rest (faulty f) e h = rw (taken-faulty state at (R.faulty form s lies at (rw e f)))
 
   -- one record that goes on
-  one-on : (x : Sent) (n : ℕ) (state : State) (at : ℕ) → Fits choice x
+  one-on : (x : Sent) (n : ℕ) (state : State) (at : ℕ) → Fits manner x
       → (rest : List ℕ) → drop at s ≡ spell x ++ rest → length (drop at s) ≤ n
       → (more : List Event) → ((m : ℕ) → length rest ≤ m → eventsFrom m rules form (on state x) s (at + length (spell x)) ≡ more)
       → eventsFrom n rules form state s at ≡ told state x ∷ more
@@ -75,43 +75,43 @@ module _ (rules : Rules) (form : Shape) (s : List ℕ) (lies : Lies (form .selec
     by (suc m) l = rw (taken-sent state at x h rest e) (ap (λ (t : List Event). told state x ∷ t) (then m (omega (arith, size))))
 
   -- ALL EVENTS FROM A PLACE ON
-  pub events-spelled : (xs : List Sent) (n : ℕ) (state : State) (at : ℕ) → AllFit choice xs → (rest : List ℕ) (ends : Ends choice rest)
+  pub events-spelled : (xs : List Sent) (n : ℕ) (state : State) (at : ℕ) → AllFit manner xs → (rest : List ℕ) (ends : Ends manner rest)
       → drop at s ≡ spellAll xs ++ rest → length (drop at s) ≤ n
-      → eventsFrom n rules form state s at ≡ happened rules state (allStandFor choice xs) ++ lastEvents ends
+      → eventsFrom n rules form state s at ≡ happened rules state (allStandFor manner xs) ++ lastEvents ends
   unfolding spellAll allStandFor happened
   events-spelled [] n state at fit rest ends e h = at-last n state at rest ends e h
   events-spelled (x ∷ xs) n state at fit rest ends e h =
       let front : drop at s ≡ spell x ++ (spellAll xs ++ rest) = e ∙ append-assoc (spell x) (spellAll xs) rest in
       let behind = reads-spelled form s lies at x (fit .0) (spellAll xs ++ rest) front .1 in
-      one-on x n state at (fit .0) (spellAll xs ++ rest) front h (happened rules (on state x) (allStandFor choice xs) ++ lastEvents ends)
+      one-on x n state at (fit .0) (spellAll xs ++ rest) front h (happened rules (on state x) (allStandFor manner xs) ++ lastEvents ends)
       (λ m l. events-spelled xs m (on state x) (at + length (spell x)) (fit .1) rest ends behind (rw behind l))
 
-  -- and with another word for how a Start chooses
-  pub events-by : (by : Choice) → choice ≡ by → (xs : List Sent) (n : ℕ) (state : State) (at : ℕ) → AllFit by xs
+  -- and with another word for the manner
+  pub events-by : (by : Manner) → manner ≡ by → (xs : List Sent) (n : ℕ) (state : State) (at : ℕ) → AllFit by xs
       → (rest : List ℕ) (ends : Ends by rest) → drop at s ≡ spellAll xs ++ rest → length (drop at s) ≤ n
       → eventsFrom n rules form state s at ≡ happened rules state (allStandFor by xs) ++ lastEvents ends
   events-by by e =
-      subst (λ (c : Choice).
+      subst (λ (c : Manner).
       (xs : List Sent) (n : ℕ) (state : State) (at : ℕ) → AllFit c xs
       → (rest : List ℕ) (ends : Ends c rest) → drop at s ≡ spellAll xs ++ rest → length (drop at s) ≤ n
       → eventsFrom n rules form state s at ≡ happened rules state (allStandFor c xs) ++ lastEvents ends)
       e events-spelled
 
 -- THEIR LINES
-module _ (rules : Rules) (choice : Choice) (rest : List ℕ) (ends : Ends choice rest) where
-  last-lines : (ends : Ends choice rest) (number : ℕ) → linesOf number (lastEvents ends) ≡ lastLines ends number
+module _ (rules : Rules) (manner : Manner) (rest : List ℕ) (ends : Ends manner rest) where
+  last-lines : (ends : Ends manner rest) (number : ℕ) → linesOf number (lastEvents ends) ≡ lastLines ends number
   unfolding linesOf
   last-lines (ended z) number = refl
   last-lines (faulty f) number = refl
 
   pub lines-happened : (xs : List Sent) (state : State) (number : ℕ)
-      → linesOf number (happened rules state (allStandFor choice xs) ++ lastEvents ends)
-      ≡ answers rules state number (allStandFor choice xs) ++ lastLines ends (number + length xs)
+      → linesOf number (happened rules state (allStandFor manner xs) ++ lastEvents ends)
+      ≡ answers rules state number (allStandFor manner xs) ++ lastLines ends (number + length xs)
   unfolding linesOf allStandFor happened answers
   lines-happened [] state number = last-lines ends number ∙ ap (lastLines ends) (sym (add-zero number))
   lines-happened (x ∷ xs) state number =
-      let after = stepOf rules state (standsFor choice x) .state in
+      let after = stepOf rules state (standsFor manner x) .state in
       let sum : number + 1 + length xs ≡ number + suc (length xs) = omega arith in
-      ap (λ (l : List (List ℕ)). answerLine number (stepOf rules state (standsFor choice x) .answer) ∷ l)
+      ap (λ (l : List (List ℕ)). answerLine number (stepOf rules state (standsFor manner x) .answer) ∷ l)
       (lines-happened xs after (number + 1)
-      ∙ ap (λ (k : ℕ). answers rules after (number + 1) (allStandFor choice xs) ++ lastLines ends k) sum)
+      ∙ ap (λ (k : ℕ). answers rules after (number + 1) (allStandFor manner xs) ++ lastLines ends k) sum)

@@ -1,5 +1,5 @@
 -- Whole papers: the lines of every byte string. Assumes nothing.
-use mathlib.Core.Path.{_≡_, refl, sym, ap, subst, _∙_}
+use mathlib.Core.Path.{_≡_, refl, sym, ap, ap₂, subst, _∙_}
 use mathlib.Core.Bool.{Bool, true, false, cond, not, _&&_, _||_}
 use mathlib.Core.Logic.{_⊎_, inl, inr}
 use mathlib.Core.List.{List, [], _∷_, _++_}
@@ -12,22 +12,23 @@ use Rattle.wire.specs.Wire.{byte}
 use Rattle.refusal.specs.declared.Refusal.the-variants.{BadSetup, Unreadable}
 use Rattle.rules.specs.Rules.{Rules, rulesOf}
 use Rattle.rules.specs.Word.{wordCount}
-use Rattle.ranges.specs.Ranges.{isSetup}
 use Rattle.setup.specs.declared.SetupAnswer.{SetupAnswer}
 use Rattle.setup.specs.declared.SetupAnswer.the-variants.{Done, Refused as SetupRefused}
 use Rattle.setup.specs.declared.ReadSetup.{ReadSetup}
-use Rattle.setup.specs.Setup.{readSetup, setupNumber, noCard, freshIn, wordsAfter}
+use Rattle.setup.specs.Setup.{readSetup, setupNumber, noCard, freshIn, isAccepted, wordsAfter}
 use Rattle.setup.proofs.Faithful as F
 use Rattle.refusal.specs.declared.Refusal.{Refusal}
 use Rattle.refusal.specs.Refusal.{refusalNumber}
 use Rattle.shape.specs.declared.Selecting.{Selecting}
 use Rattle.shape.specs.declared.Selecting.the-variants.{Off, On}
+use Rattle.shape.specs.declared.Dating.{Dating}
+use Rattle.shape.specs.declared.Dating.the-variants.{Off as DatesOff, On as DatesOn}
 use Rattle.shape.specs.declared.Shape.{Shape}
 use Rattle.shape.specs.declared.Tails.{Tails}
 use Rattle.shape.specs.declared.Tails.the-variants.{Ended, Wrong}
 use Rattle.shape.specs.declared.ReadShape.{ReadShape}
 use Rattle.shape.specs.declared.ReadShape.the-variants.{Taken, Refused as ShapeRefused}
-use Rattle.shape.specs.Shape.{basePart, tailsOf, whole, shapeOf, shapeAt, selectingAt, shapeNumber}
+use Rattle.shape.specs.Shape.{basePart, cyclesPart, tailsOf, whole, shapeOf, shapeAt, selectingAt, datingAt, shapeNumber}
 use Rattle.shape.specs.Shape as Sh
 use Rattle.shape.proofs.Inside.{inside}
 use Rattle.paper.specs.declared.Opened.the-variants.{Setup}
@@ -40,11 +41,12 @@ use Rattle.conversation.specs.declared.Event.the-variants.{Refused}
 use Rattle.conversation.specs.Conversation.{setUpEvent, begunOf, baseBegun, setupBegun, shapedBegun, setupWords, wordsBegun}
 use Rattle.conversation.specs.Events.{eventsFrom, eventsOf}
 use Rattle.lines.specs.Sitting.{linesOf, sittingLines}
-use Rattle.spelling.specs.Spelling.{Bytes, recordOf, paperOf, Sent, spellAll, Choice, choiceIn, AllFit, allStandFor}
+use Rattle.spelling.specs.Spelling.{Bytes, recordOf, paperOf, Sent, spellAll, choiceIn, datesIn, Manner, mannerIn, AllFit, allStandFor}
 use Rattle.spelling.specs.Faults.{OpenFault, Opens}
 use Rattle.spelling.specs.Sitting.{Lies, SetUp, NotSetUp, no-shape, no-base, answers, Ends, lastLines, rulesFrom, cardFrom, sittingOf}
 use Rattle.spelling.specs.Sitting.{Sat, unread, not-set-up, sat}
 use Rattle.spelling.proofs.Numbers.{byte-small, bytes-take, bytes-drop, bytes-front}
+use Rattle.spelling.proofs.Commands.{of}
 use Rattle.spelling.proofs.Shapes.{record-is, here-length, part-drop}
 use Rattle.spelling.proofs.Opening.{opens, faults, Opening, opens-or-faults}
 use Rattle.spelling.proofs.Lines.{events-by, lines-happened}
@@ -52,13 +54,13 @@ use Rattle.spelling.proofs.Parsed.{parsed, one-way}
 
 -- ---- set-ups that are taken, and the others
 
-by-answer : (s : List ℕ) → Bool → ReadSetup
-by-answer s b = cond b (record { fresh = freshIn s; answer = Done }) (record { fresh = noCard; answer = SetupRefused BadSetup })
+by-answer : (s t : List ℕ) → Bool → ReadSetup
+by-answer s t b = cond b (record { fresh = freshIn s t; answer = Done }) (record { fresh = noCard; answer = SetupRefused BadSetup })
 
-is-setup : (s : List ℕ) → readSetup s .answer ≡ Done → isSetup s ≡ true
+is-accepted : (s t : List ℕ) (unnamed : ℕ) → readSetup s t unnamed .answer ≡ Done → isAccepted s t unnamed ≡ true
 unfolding readSetup by-answer
-is-setup s e = by (isSetup s) refl e where
-  by : (b : Bool) → isSetup s ≡ b → by-answer s b .answer ≡ Done → isSetup s ≡ true
+is-accepted s t unnamed e = by (isAccepted s t unnamed) refl e where
+  by : (b : Bool) → isAccepted s t unnamed ≡ b → by-answer s t b .answer ≡ Done → isAccepted s t unnamed ≡ true
   by true q e = q
   by false q e = let z : _≡_ {A = ℕ} 0 1 = cc in absurd (omega arith)
 
@@ -82,14 +84,19 @@ shape-ways version body = by (tailsOf version body) where
 pub set-up-or-not : (version : ℕ) (body : List ℕ) → ((shape : Shape) × SetUp version body shape) ⊎ NotSetUp version body
 unfolding readSetup by-answer
 set-up-or-not version body = by (shape-ways version body) where
-  by-base : (shape : Shape) → shapeOf version body ≡ Taken shape → (b : Bool) → isSetup (basePart shape body) ≡ b
+  by-base : (shape : Shape) → shapeOf version body ≡ Taken shape
+      → (b : Bool) → isAccepted (basePart shape body) (cyclesPart (shape .dating) body) (shape .unnamed) ≡ b
       → ((shape : Shape) × SetUp version body shape) ⊎ NotSetUp version body
   by-base shape e true q = inl (shape, record { shape-is = e; base = rw q })
   by-base shape e false q = inr (no-base shape e (rw q))
 
   by : ShapeWays (shapeOf version body) → ((shape : Shape) × SetUp version body shape) ⊎ NotSetUp version body
-  by (shape-taken shape e) = by-base shape e (isSetup (basePart shape body)) refl
+  by (shape-taken shape e) = by-base shape e (isAccepted (basePart shape body) (cyclesPart (shape .dating) body) (shape .unnamed)) refl
   by (shape-one e) = inr (no-shape e)
+
+pub bytes-cycles : (dating : Dating) (body : List ℕ) → Bytes body → Bytes (cyclesPart dating body)
+bytes-cycles DatesOff body h = tt
+bytes-cycles (DatesOn start end) body h = bytes-take (end - start) (drop start body) (bytes-drop start body h)
 
 module _ (words s : List ℕ) (version : ℕ) (body rest : List ℕ) (o : Opens s version body rest) where
   behind-head : drop 4 s ≡ body ++ rest
@@ -102,14 +109,17 @@ module _ (words s : List ℕ) (version : ℕ) (body rest : List ℕ) (o : Opens 
     abbrev base : List ℕ
     base = basePart shape body
 
+    abbrev tail : List ℕ
+    tail = cyclesPart (shape .dating) body
+
     pub lies-there : Lies (shapeAt 4 shape .selecting) s
     lies-there = by (shape .selecting) (inside body version shape (t .shape-is) .file) where
       by : (x : Selecting) → Sh.Lies x (length body) → Lies (selectingAt 4 x) s
       by Off i = tt
       by (On start end entries) i = (omega (arith, i .0), omega (arith, size, i .1))
 
-    pub chooses : choiceIn (shapeAt 4 shape .selecting) s ≡ choiceIn (shape .selecting) body
-    chooses = by (shape .selecting) (inside body version shape (t .shape-is) .file) where
+    same-choice : choiceIn (selectingAt 4 (shape .selecting)) s ≡ choiceIn (shape .selecting) body
+    same-choice = by (shape .selecting) (inside body version shape (t .shape-is) .file) where
       by : (x : Selecting) → Sh.Lies x (length body) → choiceIn (selectingAt 4 x) s ≡ choiceIn x body
       by Off i = refl
       by (On start end entries) i =
@@ -119,27 +129,37 @@ module _ (words s : List ℕ) (version : ℕ) (body rest : List ℕ) (o : Opens 
           ∙ rw (behind-head, drop-append-le start body rest (omega (arith, i .0, i .1))) (take-append-le (end - start) (drop start body) rest left) in
           rw file
 
+    same-dates : (dating : Dating) → datesIn (datingAt 4 dating) ≡ datesIn dating
+    same-dates DatesOff = refl
+    same-dates (DatesOn start end) = refl
+
+    -- a paper's commands are in the manner that its set-up's body says
+    pub chooses : mannerIn (shapeAt 4 shape) s ≡ mannerIn shape body
+    chooses = ap₂ of same-choice (same-dates (shape .dating))
+
     module _ (bytes : Bytes s) (lent : length words ≡ wordCount) where
-      pub rules-are : rulesOf (wordsAfter words base (shape .syllabus)) ≡ rulesFrom shape body
+      pub rules-are : rulesOf (wordsAfter words base tail (shape .syllabus) (shape .unnamed)) ≡ rulesFrom shape body
       rules-are =
           let body-bytes : Bytes body = bytes-front body rest (subst Bytes behind-head (bytes-drop 4 s bytes)) in
           let base-bytes : Bytes base = bytes-take (shape .base) body body-bytes in
-          F.faithful base (record { below = byte-small base base-bytes }) (shape .syllabus) words lent (is-setup base (t .base))
+          let tail-bytes : Bytes tail = bytes-cycles (shape .dating) body body-bytes in
+          F.faithful base tail (record { below = byte-small base base-bytes }) (record { below = byte-small tail tail-bytes }) (shape .syllabus)
+          (shape .unnamed) words lent (is-accepted base tail (shape .unnamed) (t .base))
 
       -- THE LINES OF A PAPER WHOSE SET-UP IS TAKEN
-      pub lines-of : (xs : List Sent) (end : List ℕ) → AllFit (choiceIn (shape .selecting) body) xs → (ends : Ends (choiceIn (shape .selecting) body) end)
+      pub lines-of : (xs : List Sent) (end : List ℕ) → AllFit (mannerIn shape body) xs → (ends : Ends (mannerIn shape body) end)
           → rest ≡ spellAll xs ++ end → sittingLines words s ≡ sittingOf shape body xs ends
       unfolding sittingLines eventsOf begunOf setupBegun baseBegun wordsBegun setupWords linesOf
       lines-of xs end fit ends e =
           let r = opens s version body rest o in
-          let good = is-setup base (t .base) in
+          let good = is-accepted base tail (shape .unnamed) (t .base) in
           let rules = rulesFrom shape body in
-          let choice = choiceIn (shape .selecting) body in
-          rw (r .0, r .1, t .shape-is, F.started base good, rules-are)
+          let manner = mannerIn shape body in
+          rw (r .0, r .1, t .shape-is, F.started base tail (shape .unnamed) good, rules-are)
           (ap (λ (l : List (List ℕ)). refusalLine 0 0 ∷ l)
-          (ap (linesOf 1) (events-by rules (shapeAt 4 shape) s lies-there choice chooses xs (length s) (cardFrom shape body) (4 + length body) fit end ends
+          (ap (linesOf 1) (events-by rules (shapeAt 4 shape) s lies-there manner chooses xs (length s) (cardFrom shape body) (4 + length body) fit end ends
           (r .2 ∙ e) (omega (arith, length-drop (4 + length body) s)))
-          ∙ lines-happened rules choice end ends xs (cardFrom shape body) 1))
+          ∙ lines-happened rules manner end ends xs (cardFrom shape body) 1))
 
 -- ---- every other paper
 
@@ -163,9 +183,10 @@ pub refused-shape : (body : List ℕ) (place end : ℕ) (t : ReadShape) → shap
 refused-shape body place end (ShapeRefused refusal) e = record { refusal = refusal; is = refl; one = e }
 refused-shape body place end (Taken shape) e = absurd (omega arith)
 
-pub refused-base : (shape : Shape) (base : List ℕ) (end : ℕ) → setupNumber (readSetup base .answer) ≡ 1 → One (baseBegun shape base end .event)
+pub refused-base : (shape : Shape) (base tail : List ℕ) (end : ℕ) → setupNumber (readSetup base tail (shape .unnamed) .answer) ≡ 1
+    → One (baseBegun shape base tail end .event)
 unfolding baseBegun
-refused-base shape base end e = by (readSetup base .answer) e where
+refused-base shape base tail end e = by (readSetup base tail (shape .unnamed) .answer) e where
   by : (a : SetupAnswer) → setupNumber a ≡ 1 → One (setUpEvent a)
   by Done e = absurd (omega arith)
   by (SetupRefused refusal) e = record { refusal = refusal; is = refl; one = e }
@@ -183,17 +204,17 @@ one-line words s version body rest o n =
 
     by : NotSetUp version body → One (shapedBegun body 4 (4 + length body) (shapeOf version body) .event)
     by (no-shape e) = refused-shape body 4 (4 + length body) (shapeOf version body) e
-    by (no-base shape t e) = rw t (refused-base (shapeAt 4 shape) (basePart shape body) (4 + length body) e)
+    by (no-base shape t e) = rw t (refused-base (shapeAt 4 shape) (basePart shape body) (cyclesPart (shape .dating) body) (4 + length body) e)
 
 -- EVERY BYTE STRING IS ONE OF THE THREE, WITH ITS LINES
 pub every-paper : (words s : List ℕ) → length words ≡ wordCount → Bytes s → Sat words s
 every-paper words s lent bytes = by (opens-or-faults s bytes) where
   by-set-up : (o : Opening s) → ((shape : Shape) × SetUp (o .version) (o .body) shape) ⊎ NotSetUp (o .version) (o .body) → Sat words s
   by-set-up o (inl t) =
-      let choice = choiceIn (t .0 .selecting) (o .body) in
+      let manner = mannerIn (t .0) (o .body) in
       let rest-bytes : Bytes (o .rest) =
       subst Bytes (opens s (o .version) (o .body) (o .rest) (o .opens) .2) (bytes-drop (4 + length (o .body)) s bytes) in
-      let p = parsed choice (o .rest) rest-bytes in
+      let p = parsed manner (o .rest) rest-bytes in
       sat (o .version) (o .body) (t .0) (t .1) (p .sent) (p .rest) (p .fit) (p .ends)
       (subst (Opens s (o .version) (o .body)) (p .is) (o .opens))
       (lines-of words s (o .version) (o .body) (o .rest) (o .opens) (t .0) (t .1) bytes lent (p .sent) (p .rest) (p .fit) (p .ends) (p .is))
@@ -214,16 +235,16 @@ one-paper s v w b c rest more o p =
 
 pub one-sitting : (s : List ℕ) (v w : ℕ) (b c : List ℕ) (x y : Shape) → SetUp v b x → SetUp w c y
     → (xs ys : List Sent) (r q : List ℕ)
-    → AllFit (choiceIn (x .selecting) b) xs → AllFit (choiceIn (y .selecting) c) ys
-    → Ends (choiceIn (x .selecting) b) r → Ends (choiceIn (y .selecting) c) q
+    → AllFit (mannerIn x b) xs → AllFit (mannerIn y c) ys
+    → Ends (mannerIn x b) r → Ends (mannerIn y c) q
     → Opens s v b (spellAll xs ++ r) → Opens s w c (spellAll ys ++ q) → (v ≡ w) × (b ≡ c) × (xs ≡ ys) × (r ≡ q)
 one-sitting s v w b c x y t u xs ys r q h k d e o p =
     let one = one-paper s v w b c (spellAll xs ++ r) (spellAll ys ++ q) o p in
     let shapes : shapeOf v b ≡ shapeOf w c = rw (one .0, one .1) in
     let same : x ≡ y = cc (t .shape-is, u .shape-is) in
-    let chosen : choiceIn (y .selecting) c ≡ choiceIn (x .selecting) b = rw (same, one .1) in
+    let chosen : mannerIn y c ≡ mannerIn x b = rw (same, one .1) in
     let way =
-    one-way (choiceIn (x .selecting) b) xs ys r q h (subst (λ (z : Choice). AllFit z ys) chosen k) d (subst (λ (z : Choice). Ends z q) chosen e) (one .2) in
+    one-way (mannerIn x b) xs ys r q h (subst (λ (z : Manner). AllFit z ys) chosen k) d (subst (λ (z : Manner). Ends z q) chosen e) (one .2) in
     (one .0, one .1, way .0, way .1)
 
 -- THE THREE SHUT EACH OTHER OUT
@@ -234,5 +255,5 @@ pub taken-or-not : (v : ℕ) (b : List ℕ) (x : Shape) → SetUp v b x → NotS
 taken-or-not v b x t (no-shape e) = let none : shapeNumber (shapeOf v b) ≡ 0 = rw (t .shape-is) in omega arith
 taken-or-not v b x t (no-base y u e) =
     let same : y ≡ x = cc (t .shape-is, u) in
-    let none : setupNumber (readSetup (basePart y b) .answer) ≡ 0 = rw (same, t .base) in
+    let none : setupNumber (readSetup (basePart y b) (cyclesPart (y .dating) b) (y .unnamed) .answer) ≡ 0 = rw (same, t .base) in
     omega arith

@@ -8,29 +8,30 @@ use Rattle.paper.specs.declared.Next.the-variants.{Record}
 use Rattle.paper.specs.Paper.{nextAt}
 use Rattle.paper.specs.Walk.{part}
 use Rattle.command.specs.declared.ReadCommand.the-variants.{Taken}
-use Rattle.spelling.specs.Spelling.{Bytes, Sent, kindOf, bodyOf, spell, spellAll, Choice, Fits, AllFit, standsFor}
-use Rattle.spelling.specs.Faults.{Whole, RestFault, broken, repeated, unknown, start-length, first-length, second-length}
+use Rattle.spelling.specs.Spelling.{Bytes, Sent, kindOf, bodyOf, spell, spellAll, Manner, Fits, AllFit, standsFor}
+use Rattle.spelling.specs.Faults.{Whole, RestFault, broken, repeated, unknown, start-length, first-length, dated-length, second-length}
 use Rattle.spelling.specs.Sitting.{Ends, ended, faulty}
 use Rattle.spelling.proofs.Numbers.{bytes-behind}
 use Rattle.spelling.proofs.Shapes.{record-length, next-broken, next-whole, body-there, rest-there}
-use Rattle.spelling.proofs.Commands.{readBy, taken, one-sent, Wrong, a-setup, no-command, bad-start, bad-first, bad-second, refused-wrong}
+use Rattle.spelling.proofs.Commands.{readBy, taken, one-sent, refused-wrong}
+use Rattle.spelling.proofs.Commands.{Wrong, a-setup, no-command, bad-start, bad-first, bad-dated, bad-second}
 use Rattle.spelling.proofs.Records.{View, none, fault, spelled, view, whole-spelled}
 
 -- ---- in a way
 
-pub record Parsed (choice : Choice) (s : List ℕ) : Type 0 where
+pub record Parsed (manner : Manner) (s : List ℕ) : Type 0 where
   pub sent : List Sent
   pub rest : List ℕ
-  pub fit : AllFit choice sent
-  pub ends : Ends choice rest
+  pub fit : AllFit manner sent
+  pub ends : Ends manner rest
   pub is : s ≡ spellAll sent ++ rest
 
-module _ (choice : Choice) where
-  at-once : (s : List ℕ) → Ends choice s → Parsed choice s
+module _ (manner : Manner) where
+  at-once : (s : List ℕ) → Ends manner s → Parsed manner s
   unfolding spellAll
   at-once s e = record { sent = []; rest = s; fit = tt; ends = e; is = refl }
 
-  one-more : (s : List ℕ) (x : Sent) (more : List ℕ) → Fits choice x → s ≡ spell x ++ more → Parsed choice more → Parsed choice s
+  one-more : (s : List ℕ) (x : Sent) (more : List ℕ) → Fits manner x → s ≡ spell x ++ more → Parsed manner more → Parsed manner s
   unfolding spellAll
   one-more s x more h e p =
       record {
@@ -45,18 +46,18 @@ module _ (choice : Choice) where
   shorter s x more e =
       ap length e ∙ length-append (spell x) more ∙ ap (λ (k : ℕ). k + length more) (record-length (kindOf x) (bodyOf x))
 
-  by-view : (n : ℕ) (s : List ℕ) → Bytes s → length s ≤ n → View choice s
-      → ((more : List ℕ) → Bytes more → suc (length more) ≤ n → Parsed choice more) → Parsed choice s
+  by-view : (n : ℕ) (s : List ℕ) → Bytes s → length s ≤ n → View manner s
+      → ((more : List ℕ) → Bytes more → suc (length more) ≤ n → Parsed manner more) → Parsed manner s
   by-view n s h l (none e) then = at-once s (ended e)
   by-view n s h l (fault f) then = at-once s (faulty f)
   by-view n s h l (spelled x more fits e) then =
       one-more s x more fits e (then more (bytes-behind (spell x) more (subst Bytes e h)) (omega (arith, shorter s x more e)))
 
-  parse : (n : ℕ) (s : List ℕ) → Bytes s → length s ≤ n → Parsed choice s
-  parse zero s h l = by-view 0 s h l (view choice s h) (λ more b k. absurd (omega arith))
-  parse (suc n) s h l = by-view (suc n) s h l (view choice s h) (λ more b k. parse n more b (omega arith))
+  parse : (n : ℕ) (s : List ℕ) → Bytes s → length s ≤ n → Parsed manner s
+  parse zero s h l = by-view 0 s h l (view manner s h) (λ more b k. absurd (omega arith))
+  parse (suc n) s h l = by-view (suc n) s h l (view manner s h) (λ more b k. parse n more b (omega arith))
 
-  pub parsed : (s : List ℕ) → Bytes s → Parsed choice s
+  pub parsed : (s : List ℕ) → Bytes s → Parsed manner s
   parsed s h = parse (length s) s h (omega arith)
 
 -- ---- in one way
@@ -83,37 +84,38 @@ one-whole s kind kind′ body body′ w v =
       rests = sym behind ∙ ap (λ (n : ℕ). drop n s) end ∙ beyond;
     }
 
-module _ (choice : Choice) where
+module _ (manner : Manner) where
   -- what is spelled is no fault
-  not-wrong : (s : List ℕ) (x : Sent) (more : List ℕ) → Fits choice x → s ≡ spell x ++ more
-      → (kind : ℕ) (body : List ℕ) → Whole s kind body → Wrong choice kind body → ⊥
+  not-wrong : (s : List ℕ) (x : Sent) (more : List ℕ) → Fits manner x → s ≡ spell x ++ more
+      → (kind : ℕ) (body : List ℕ) → Whole s kind body → Wrong manner kind body → ⊥
   not-wrong s x more h e kind body w cause =
-      let same = one-whole s (kindOf x) kind (bodyOf x) body (whole-spelled choice x h s more e) w in
-      let read : readBy choice kind body ≡ Taken (standsFor choice x) = rw (← same .kinds, ← same .bodies) (taken choice x h) in
-      let z : _≡_ {A = ℕ} 0 1 = cc (refused-wrong choice kind body cause) in
+      let same = one-whole s (kindOf x) kind (bodyOf x) body (whole-spelled manner x h s more e) w in
+      let read : readBy manner kind body ≡ Taken (standsFor manner x) = rw (← same .kinds, ← same .bodies) (taken manner x h) in
+      let z : _≡_ {A = ℕ} 0 1 = cc (refused-wrong manner kind body cause) in
       omega arith
 
-  not-both : (s : List ℕ) (x : Sent) (more : List ℕ) → Fits choice x → s ≡ spell x ++ more → RestFault choice s → ⊥
+  not-both : (s : List ℕ) (x : Sent) (more : List ℕ) → Fits manner x → s ≡ spell x ++ more → RestFault manner s → ⊥
   not-both s x more h e (broken b) =
-      let w = whole-spelled choice x h s more e in
+      let w = whole-spelled manner x h s more e in
       let here : nextAt s 0 ≡ Record (kindOf x) 3 (3 + length (bodyOf x)) = rw e (next-whole (kindOf x) (bodyOf x) more (w .sized)) in
       let z : _≡_ {A = ℕ} 0 1 = cc (next-broken s b) in
       omega arith
   not-both s x more h e (repeated body w) = not-wrong s x more h e 1 body w (a-setup refl)
   not-both s x more h e (unknown kind body w k) = not-wrong s x more h e kind body w (no-command k)
   not-both s x more h e (start-length body w c n) = not-wrong s x more h e 2 body w (bad-start refl c n)
-  not-both s x more h e (first-length body w n) = not-wrong s x more h e 3 body w (bad-first refl n)
+  not-both s x more h e (first-length body w d n) = not-wrong s x more h e 3 body w (bad-first refl d n)
+  not-both s x more h e (dated-length body w d n) = not-wrong s x more h e 3 body w (bad-dated refl d n)
   not-both s x more h e (second-length body w n) = not-wrong s x more h e 4 body w (bad-second refl n)
 
-  not-ended : (s : List ℕ) (x : Sent) (more : List ℕ) → Fits choice x → s ≡ spell x ++ more → Ends choice s → ⊥
+  not-ended : (s : List ℕ) (x : Sent) (more : List ℕ) → Fits manner x → s ≡ spell x ++ more → Ends manner s → ⊥
   not-ended s x more h e (ended z) =
-      let size = shorter choice s x more e in
+      let size = shorter manner s x more e in
       let none = ap length z in
       omega arith
   not-ended s x more h e (faulty f) = not-both s x more h e f
 
   -- EQUAL BYTES WERE SENT AS ONE LIST, WITH ONE REST
-  pub one-way : (xs ys : List Sent) (r q : List ℕ) → AllFit choice xs → AllFit choice ys → Ends choice r → Ends choice q
+  pub one-way : (xs ys : List Sent) (r q : List ℕ) → AllFit manner xs → AllFit manner ys → Ends manner r → Ends manner q
       → spellAll xs ++ r ≡ spellAll ys ++ q → (xs ≡ ys) × (r ≡ q)
   unfolding spellAll
   one-way [] [] r q h k d e p = (refl, p)
@@ -127,6 +129,6 @@ module _ (choice : Choice) where
       sym (append-assoc (spell x) (spellAll xs) r) ∙ p ∙ append-assoc (spell y) (spellAll ys) q in
       let same =
       one-whole s (kindOf x) (kindOf y) (bodyOf x) (bodyOf y)
-      (whole-spelled choice x (h .0) s (spellAll xs ++ r) refl) (whole-spelled choice y (k .0) s (spellAll ys ++ q) other) in
+      (whole-spelled manner x (h .0) s (spellAll xs ++ r) refl) (whole-spelled manner y (k .0) s (spellAll ys ++ q) other) in
       let then = one-way xs ys r q (h .1) (k .1) d e (same .rests) in
-      (ap₂ _∷_ (one-sent choice x y (h .0) (k .0) (same .kinds) (same .bodies)) (then .0), then .1)
+      (ap₂ _∷_ (one-sent manner x y (h .0) (k .0) (same .kinds) (same .bodies)) (then .0), then .1)

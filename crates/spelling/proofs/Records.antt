@@ -10,6 +10,8 @@ use lib.Seq.{drop-drop, drop-append-seam}
 use Rattle.refusal.specs.declared.Refusal.the-variants.{Unreadable}
 use Rattle.shape.specs.declared.Selecting.{Selecting}
 use Rattle.shape.specs.declared.Selecting.the-variants.{Off, On}
+use Rattle.shape.specs.declared.Dating.{Dating}
+use Rattle.shape.specs.declared.Dating.the-variants.{Off as DatesOff, On as DatesOn}
 use Rattle.shape.specs.declared.Shape.{Shape as PaperShape}
 use Rattle.paper.specs.declared.Next.the-variants.{Record, Fault}
 use Rattle.paper.specs.Paper.{nextAt, nextNumber}
@@ -17,73 +19,78 @@ use Rattle.paper.specs.Walk.{part}
 use Rattle.command.specs.declared.Command.{Command}
 use Rattle.command.specs.declared.ReadCommand.{ReadCommand}
 use Rattle.command.specs.declared.ReadCommand.the-variants.{Taken, Refused}
-use Rattle.command.specs.Command.{selectingOf, commandIn}
+use Rattle.command.specs.Command.{firstOf, commandOf, selectingOf, commandIn}
 use Rattle.command.specs.Command as C
-use Rattle.spelling.specs.Spelling.{Bytes, big, recordOf, Sent, names, brings, first, second, kindOf, bodyOf, spell}
-use Rattle.spelling.specs.Spelling.{Choice, byName, byFile, choiceIn, Fits, standsFor}
-use Rattle.spelling.specs.Faults.{Broken, Whole, RestFault, broken, repeated, unknown, start-length, first-length, second-length}
+use Rattle.spelling.specs.Spelling.{Bytes, big, recordOf, Sent, names, brings, first, firstOn, second, kindOf, bodyOf, spell}
+use Rattle.spelling.specs.Spelling.{Choice, byName, byFile, choiceIn, Dates, datesIn, Manner, mannerIn, Fits, standsFor}
+use Rattle.spelling.specs.Faults.{Broken, Whole, RestFault, broken, repeated, unknown, start-length, first-length, dated-length, second-length}
 use Rattle.spelling.specs.Sitting.{over, refused, command, readingIn, readingOf, reading, Lies, Spelled}
 use Rattle.spelling.proofs.Numbers.{bytes-drop, bytes-front}
 use Rattle.spelling.proofs.Shapes as S
 use Rattle.spelling.proofs.Shapes.{Shape, nothing, whole, shape, record-is, record-length, shift, next-drop, part-drop}
 use Rattle.spelling.proofs.Shapes.{next-nothing, next-broken, next-whole, body-there}
-use Rattle.spelling.proofs.Commands.{readBy, taken, Wrong, a-setup, no-command, bad-start, bad-first, bad-second, refused-wrong}
-use Rattle.spelling.proofs.Commands.{Meaning, sent, wrong, meaning}
+use Rattle.spelling.proofs.Commands.{of, readBy, taken, Wrong, a-setup, no-command, bad-start, bad-first, bad-dated, bad-second}
+use Rattle.spelling.proofs.Commands.{refused-wrong, Meaning, sent, wrong, meaning}
 
 -- ---- what can stand at the front
 
-pub data View (choice : Choice) (s : List ℕ) : Type 0 where
-  none : s ≡ [] → View choice s
-  fault : RestFault choice s → View choice s
-  spelled : (x : Sent) (more : List ℕ) → Fits choice x → s ≡ spell x ++ more → View choice s
+pub data View (manner : Manner) (s : List ℕ) : Type 0 where
+  none : s ≡ [] → View manner s
+  fault : RestFault manner s → View manner s
+  spelled : (x : Sent) (more : List ℕ) → Fits manner x → s ≡ spell x ++ more → View manner s
 
-as-fault : (choice : Choice) (s : List ℕ) (kind : ℕ) (body : List ℕ) → Whole s kind body → Wrong choice kind body → RestFault choice s
-as-fault choice s kind body w (a-setup e) = repeated body (subst (λ (k : ℕ). Whole s k body) e w)
-as-fault choice s kind body w (no-command h) = unknown kind body w h
-as-fault choice s kind body w (bad-start e c n) = start-length body (subst (λ (k : ℕ). Whole s k body) e w) c n
-as-fault choice s kind body w (bad-first e n) = first-length body (subst (λ (k : ℕ). Whole s k body) e w) n
-as-fault choice s kind body w (bad-second e n) = second-length body (subst (λ (k : ℕ). Whole s k body) e w) n
+as-fault : (manner : Manner) (s : List ℕ) (kind : ℕ) (body : List ℕ) → Whole s kind body → Wrong manner kind body → RestFault manner s
+as-fault manner s kind body w (a-setup e) = repeated body (subst (λ (k : ℕ). Whole s k body) e w)
+as-fault manner s kind body w (no-command h) = unknown kind body w h
+as-fault manner s kind body w (bad-start e c n) = start-length body (subst (λ (k : ℕ). Whole s k body) e w) c n
+as-fault manner s kind body w (bad-first e d n) = first-length body (subst (λ (k : ℕ). Whole s k body) e w) d n
+as-fault manner s kind body w (bad-dated e d n) = dated-length body (subst (λ (k : ℕ). Whole s k body) e w) d n
+as-fault manner s kind body w (bad-second e n) = second-length body (subst (λ (k : ℕ). Whole s k body) e w) n
 
 body-bytes : (s : List ℕ) (kind : ℕ) (body : List ℕ) → Bytes s → Whole s kind body → Bytes body
 body-bytes s kind body h w =
     let all : Bytes (recordOf kind body) = bytes-front (recordOf kind body) (w .more) (subst Bytes (w .is) h) in
     subst Bytes (record-is kind body) all .1 .1 .1
 
-pub view : (choice : Choice) (s : List ℕ) → Bytes s → View choice s
-view choice s h = by-shape (shape s h) where
-  by-meaning : (kind : ℕ) (body : List ℕ) → Whole s kind body → Meaning choice kind body → View choice s
+pub view : (manner : Manner) (s : List ℕ) → Bytes s → View manner s
+view manner s h = by-shape (shape s h) where
+  by-meaning : (kind : ℕ) (body : List ℕ) → Whole s kind body → Meaning manner kind body → View manner s
   by-meaning kind body w (sent x fits k b) = spelled x (w .more) fits (w .is ∙ rw (k, b))
-  by-meaning kind body w (wrong cause) = fault (as-fault choice s kind body w cause)
+  by-meaning kind body w (wrong cause) = fault (as-fault manner s kind body w cause)
 
-  by-shape : Shape s → View choice s
+  by-shape : Shape s → View manner s
   by-shape (nothing e) = none e
   by-shape (S.broken b) = fault (broken b)
-  by-shape (whole kind body w) = by-meaning kind body w (meaning body (body-bytes s kind body h w) choice kind (w .sized))
+  by-shape (whole kind body w) = by-meaning kind body w (meaning body (body-bytes s kind body h w) manner kind (w .sized))
 
 -- a record of what fits has a length of 2 bytes
-pub body-short : (choice : Choice) (x : Sent) → Fits choice x → length (bodyOf x) < 65535
+pub body-short : (manner : Manner) (x : Sent) → Fits manner x → length (bodyOf x) < 65535
 unfolding Fits bodyOf big
-body-short byName (names profile) h = omega arith
-body-short byName (brings terminal) h = absurd h
-body-short byName (first a b c d) h = omega arith
-body-short byName (second a b c d) h = omega arith
-body-short (byFile file entries) (names profile) h = absurd h
-body-short (byFile file entries) (brings terminal) h = h .0
-body-short (byFile file entries) (first a b c d) h = omega arith
-body-short (byFile file entries) (second a b c d) h = omega arith
+body-short manner x h = by (manner .choice) (manner .dates) x h where
+  by : (choice : Choice) (dates : Dates) (x : Sent) → Fits (of choice dates) x → length (bodyOf x) < 65535
+  by byName dates (names profile) h = omega arith
+  by byName dates (brings terminal) h = absurd h
+  by (byFile file entries) dates (names profile) h = absurd h
+  by (byFile file entries) dates (brings terminal) h = h .0
+  by choice dates (first a b c d) h = omega arith
+  by choice dates (firstOn date a b c d) h = omega arith
+  by choice dates (second a b c d) h = omega arith
 
-abbrev pub whole-spelled : (choice : Choice) (x : Sent) → Fits choice x → (s more : List ℕ) → s ≡ spell x ++ more → Whole s (kindOf x) (bodyOf x)
-whole-spelled choice x h s more e = record { more = more; is = e; sized = body-short choice x h }
+abbrev pub whole-spelled : (manner : Manner) (x : Sent) → Fits manner x → (s more : List ℕ) → s ≡ spell x ++ more → Whole s (kindOf x) (bodyOf x)
+whole-spelled manner x h s more e = record { more = more; is = e; sized = body-short manner x h }
 
 -- ---- a place of a paper
 
 pub commands-same : (form : PaperShape) (s : List ℕ) → Lies (form .selecting) s → (kind : ℕ) (body : List ℕ)
-    → commandIn form s kind body ≡ readBy (choiceIn (form .selecting) s) kind body
-unfolding commandIn
-commands-same form s h kind body = by (form .selecting) h where
-  by : (selecting : Selecting) → Lies selecting s → C.readBy selecting s kind body ≡ readBy (choiceIn selecting s) kind body
-  by Off h = refl
-  by (On start end entries) h = rw (le-leb start end (h .0), le-leb end (length s) (h .1))
+    → commandIn form s kind body ≡ readBy (mannerIn form s) kind body
+unfolding commandIn commandOf firstOf selectingOf
+commands-same form s h kind body = by (form .selecting) (form .dating) h where
+  by : (selecting : Selecting) (dating : Dating) → Lies selecting s
+      → C.readBy selecting dating s kind body ≡ readBy (of (choiceIn selecting s) (datesIn dating)) kind body
+  by Off DatesOff h = refl
+  by Off (DatesOn from to) h = refl
+  by (On start end entries) DatesOff h = rw (le-leb start end (h .0), le-leb end (length s) (h .1))
+  by (On start end entries) (DatesOn from to) h = rw (le-leb start end (h .0), le-leb end (length s) (h .1))
 
 -- a record stands at a place, is read as that, and the next place is its end
 pub record Stands (form : PaperShape) (s : List ℕ) (at : ℕ) (read : ReadCommand) (end : ℕ) : Type 0 where
@@ -93,11 +100,11 @@ pub record Stands (form : PaperShape) (s : List ℕ) (at : ℕ) (read : ReadComm
   pub is : commandIn form s kind (part s start end) ≡ read
 
 module _ (form : PaperShape) (s : List ℕ) (lies : Lies (form .selecting) s) (at : ℕ) where
-  abbrev choice : Choice
-  choice = choiceIn (form .selecting) s
+  abbrev manner : Manner
+  manner = mannerIn form s
 
   stands : (kind : ℕ) (body : List ℕ) → Whole (drop at s) kind body
-      → Stands form s at (readBy choice kind body) (at + (3 + length body))
+      → Stands form s at (readBy manner kind body) (at + (3 + length body))
   stands kind body w =
       let there : nextAt (drop at s) 0 ≡ Record kind 3 (3 + length body) = rw (w .is) (next-whole kind body (w .more) (w .sized)) in
       let inside : part (drop at s) 3 (3 + length body) ≡ body = rw (w .is) (body-there kind body (w .more)) in
@@ -108,27 +115,28 @@ module _ (form : PaperShape) (s : List ℕ) (lies : Lies (form .selecting) s) (a
         is = ap (commandIn form s kind) (part-drop s at 3 (3 + length body) ∙ inside) ∙ commands-same form s lies kind body;
       }
 
-  pub sent-stands : (x : Sent) → Fits choice x → (rest : List ℕ) → drop at s ≡ spell x ++ rest
-      → Stands form s at (Taken (standsFor choice x)) (at + length (spell x))
+  pub sent-stands : (x : Sent) → Fits manner x → (rest : List ℕ) → drop at s ≡ spell x ++ rest
+      → Stands form s at (Taken (standsFor manner x)) (at + length (spell x))
   sent-stands x h rest e =
-      let st = stands (kindOf x) (bodyOf x) (whole-spelled choice x h (drop at s) rest e) in
-      rw (record-length (kindOf x) (bodyOf x), ← taken choice x h) st
+      let st = stands (kindOf x) (bodyOf x) (whole-spelled manner x h (drop at s) rest e) in
+      rw (record-length (kindOf x) (bodyOf x), ← taken manner x h) st
 
   -- no whole record stands there, or one that is refused
   pub data Faulty : Type 0 where
     at-next : nextAt s at ≡ Fault → Faulty
     at-record : (end : ℕ) → Stands form s at (Refused Unreadable) end → Faulty
 
-  wrongly : (kind : ℕ) (body : List ℕ) → Whole (drop at s) kind body → Wrong choice kind body → Faulty
+  wrongly : (kind : ℕ) (body : List ℕ) → Whole (drop at s) kind body → Wrong manner kind body → Faulty
   wrongly kind body w cause =
-      at-record (at + (3 + length body)) (rw (← refused-wrong choice kind body cause) (stands kind body w))
+      at-record (at + (3 + length body)) (rw (← refused-wrong manner kind body cause) (stands kind body w))
 
-  pub faulty : RestFault choice (drop at s) → Faulty
+  pub faulty : RestFault manner (drop at s) → Faulty
   faulty (broken b) = at-next (next-drop s at ∙ ap (shift at) (next-broken (drop at s) b))
   faulty (repeated body w) = wrongly 1 body w (a-setup refl)
   faulty (unknown kind body w h) = wrongly kind body w (no-command h)
   faulty (start-length body w c n) = wrongly 2 body w (bad-start refl c n)
-  faulty (first-length body w n) = wrongly 3 body w (bad-first refl n)
+  faulty (first-length body w d n) = wrongly 3 body w (bad-first refl d n)
+  faulty (dated-length body w d n) = wrongly 3 body w (bad-dated refl d n)
   faulty (second-length body w n) = wrongly 4 body w (bad-second refl n)
 
   -- what is read there
@@ -137,8 +145,8 @@ module _ (form : PaperShape) (s : List ℕ) (lies : Lies (form .selecting) s) (a
   reads-stood read end st = ap (readingIn form s) (st .next) ∙ ap (readingOf end) (st .is)
 
   -- WHAT IS SPELLED AT A PLACE IS READ AS THAT COMMAND, AND THE READER GOES ON BEHIND IT
-  pub reads-spelled : (x : Sent) → Fits choice x → (rest : List ℕ) → drop at s ≡ spell x ++ rest
-      → (reading form s at ≡ command (standsFor choice x) (at + length (spell x))) × (drop (at + length (spell x)) s ≡ rest)
+  pub reads-spelled : (x : Sent) → Fits manner x → (rest : List ℕ) → drop at s ≡ spell x ++ rest
+      → (reading form s at ≡ command (standsFor manner x) (at + length (spell x))) × (drop (at + length (spell x)) s ≡ rest)
   reads-spelled x h rest e =
       (reads-stood _ _ (sent-stands x h rest e), sym (drop-drop (length (spell x)) at s) ∙ rw (e, drop-append-seam (spell x) rest))
 
@@ -152,7 +160,7 @@ module _ (form : PaperShape) (s : List ℕ) (lies : Lies (form .selecting) s) (a
   refused-there (at-next e) = rw e
   refused-there (at-record end st) = reads-stood (Refused Unreadable) end st
 
-  pub reads-fault : RestFault choice (drop at s) → reading form s at ≡ refused 9
+  pub reads-fault : RestFault manner (drop at s) → reading form s at ≡ refused 9
   reads-fault f = refused-there (faulty f)
 
   module _ (bytes : Bytes s) where
@@ -171,31 +179,31 @@ module _ (form : PaperShape) (s : List ℕ) (lies : Lies (form .selecting) s) (a
             absurd (omega arith)
 
     -- WHATEVER IS READ AS A COMMAND IS THE SPELLING OF WHAT FITS AND STANDS FOR IT
-    pub spelled-if-read : (c : Command) (end : ℕ) → reading form s at ≡ command c end → Spelled choice s at c end
-    spelled-if-read c end e = by (view choice (drop at s) (bytes-drop at s bytes)) where
-      by : View choice (drop at s) → Spelled choice s at c end
+    pub spelled-if-read : (c : Command) (end : ℕ) → reading form s at ≡ command c end → Spelled manner s at c end
+    spelled-if-read c end e = by (view manner (drop at s) (bytes-drop at s bytes)) where
+      by : View manner (drop at s) → Spelled manner s at c end
       by (none n) = let z : _≡_ {A = ℕ} 0 1 = cc (reads-end n) in absurd (omega arith)
       by (fault f) = let z : _≡_ {A = ℕ} 0 1 = cc (reads-fault f) in absurd (omega arith)
       by (spelled x more fits is) =
           let r = reads-spelled x fits more is in
-          let same : standsFor choice x ≡ c = cc in
+          let same : standsFor manner x ≡ c = cc in
           let to : end ≡ at + length (spell x) = cc in
           record { sent = x; fits = fits; stands = same; is = is ∙ rw (to, r .1); ends = to }
 
     -- A REFUSAL IS 9, AND HAS ONE OF ITS CAUSES
-    pub fault-if-refused : (n : ℕ) → reading form s at ≡ refused n → (n ≡ 9) × RestFault choice (drop at s)
-    fault-if-refused n e = by (view choice (drop at s) (bytes-drop at s bytes)) where
-      by : View choice (drop at s) → (n ≡ 9) × RestFault choice (drop at s)
+    pub fault-if-refused : (n : ℕ) → reading form s at ≡ refused n → (n ≡ 9) × RestFault manner (drop at s)
+    fault-if-refused n e = by (view manner (drop at s) (bytes-drop at s bytes)) where
+      by : View manner (drop at s) → (n ≡ 9) × RestFault manner (drop at s)
       by (none n) = let z : _≡_ {A = ℕ} 0 1 = cc (reads-end n) in absurd (omega arith)
       by (fault f) = (cc (reads-fault f), f)
       by (spelled x more fits is) = let r = reads-spelled x fits more is in let z : _≡_ {A = ℕ} 0 1 = cc in absurd (omega arith)
 
-    pub refused-exactly : (reading form s at ≡ refused 9) ↔ RestFault choice (drop at s)
+    pub refused-exactly : (reading form s at ≡ refused 9) ↔ RestFault manner (drop at s)
     refused-exactly = (λ e. fault-if-refused 9 e .1, reads-fault)
 
     pub end-if-over : reading form s at ≡ over → drop at s ≡ []
-    end-if-over e = by (view choice (drop at s) (bytes-drop at s bytes)) where
-      by : View choice (drop at s) → drop at s ≡ []
+    end-if-over e = by (view manner (drop at s) (bytes-drop at s bytes)) where
+      by : View manner (drop at s) → drop at s ≡ []
       by (none n) = n
       by (fault f) = let z : _≡_ {A = ℕ} 0 1 = cc (reads-fault f) in absurd (omega arith)
       by (spelled x more fits is) = let r = reads-spelled x fits more is in let z : _≡_ {A = ℕ} 0 1 = cc in absurd (omega arith)

@@ -4,11 +4,16 @@ use mathlib.Core.Bool.{Bool, true, false, not, _&&_}
 use mathlib.Core.List.{List, [], _∷_, _++_}
 use Prim.Native.Nat.{ℕ}
 use lib.Dec.{T, eqb}
-use lib.ListN.{length, replicate}
-use Rattle.wire.specs.Wire.{number}
+use lib.ListN.{length, take, drop, replicate, getD}
+use Rattle.wire.specs.Wire.{byte, number}
+use Rattle.calendar.specs.Calendar.{dateAt}
 use Rattle.setup.specs.Setup.{rulesIn, freshIn}
-use Rattle.shape.specs.Shape.{based}
+use Rattle.shape.specs.declared.Dating.the-variants.{On as DatesOn}
+use Rattle.shape.specs.declared.Shape.{Shape}
+use Rattle.shape.specs.Shape.{based, dates}
 use Rattle.paper.specs.Paper.{nextAt, openPaper, openedNumber}
+use Rattle.command.specs.declared.When.{When}
+use Rattle.command.specs.declared.When.the-variants.{Undated, On as DatedOn}
 use Rattle.command.specs.declared.Command.the-variants.{Start as StartCommand, First as FirstCommand, Second as SecondCommand}
 use Rattle.command.specs.Command.{firstOf, secondOf, commandOf, commandIn}
 use Rattle.state.specs.declared.Answer.the-variants.{Started}
@@ -16,10 +21,12 @@ use Rattle.card.specs.Card.{freshState}
 use Rattle.lines.specs.Lines.{digit, decimal, refusalLine, startLine, selectedLine}
 use Rattle.conversation.specs.Conversation.{answeredBy, takenOf}
 use Rattle.conversation.specs.Events.{eventsFrom}
-use Rattle.lines.specs.Sitting.{answerLine, linesOf}
+use Rattle.lines.specs.Sitting.{answerLine, linesOf, sittingLines}
 use Rattle.readback.specs.Fields.{wordsIn, areDigits, valueIn, isHex, bytesIn, Fields, Two, Three, Four, Five, Other, fieldsIn}
-use Rattle.spelling.specs.Spelling.{big, recordOf, names, first, second, kindOf, bodyOf, spell}
+use Rattle.spelling.specs.Spelling.{big, recordOf, names, first, firstOn, second, kindOf, bodyOf, spell, paperOf}
+use Rattle.spelling.specs.Printed.{printed, body}
 use Rattle.spelling.specs.Sitting.{Reading, over, refused, command, reading}
+use Rattle.spelling.proofs.Computed.{answered}
 
 -- `nine-exactly`: a paper ends with 9 before its first command
 abbrev isUnread : List ℕ → Bool
@@ -51,9 +58,27 @@ isSecond (command (FirstCommand f) at) type code issuer csu end = false
 isSecond (command (SecondCommand s) at) type code issuer csu end =
     eqb (s .requested) type && eqb (s .code) code && eqb (s .issuer) issuer && eqb (s .csu) csu && eqb at end
 
+-- and of a First with its date, in a paper with dates
+abbrev withDates : Shape
+withDates = dates (based 0) (DatesOn 0 0)
+
+abbrev isOn : When → (year month day : ℕ) → Bool
+isOn Undated year month day = false
+isOn (DatedOn date) year month day = eqb (date .year) year && eqb (date .month) month && eqb (date .day) day
+
+abbrev isFirstOn : Reading → (year month day : ℕ) → Bool
+isFirstOn over year month day = false
+isFirstOn (refused n) year month day = false
+isFirstOn (command (StartCommand s) at) year month day = false
+isFirstOn (command (FirstCommand f) at) year month day = isOn (f .when) year month day
+isFirstOn (command (SecondCommand s) at) year month day = false
+
+abbrev onDay : List ℕ
+onDay = spell (firstOn (record { year = 0x05; month = 0x07; day = 0x15 }) 1 5000 0x0978 0x22)
+
 -- `lines-of`: how many lines n turns over a rest say
 abbrev lineCount : List ℕ → ℕ
-lineCount s = length (linesOf 1 (eventsFrom 9 (rulesIn [] 0) (based 0) (freshState (freshIn [])) s 0))
+lineCount s = length (linesOf 1 (eventsFrom 9 (rulesIn [] [] 0) (based 0) (freshState (freshIn [] [])) s 0))
 
 -- `answer-shown`: the fields of a Start's line that shows the visits
 abbrev isFour : Fields → (number refusal atc visits : ℕ) → Bool
@@ -63,38 +88,70 @@ isFour (Four n r a v) number refusal atc visits = eqb n number && eqb r refusal 
 isFour (Five n r c a i) number refusal atc visits = false
 isFour Other number refusal atc visits = false
 
+-- `every-paper`: the lines of papers with blank words. The printed set-up and a Start
+abbrev blank : List ℕ
+blank = replicate 186 0
+
+abbrev started : List (List ℕ)
+started = sittingLines blank (paperOf 1 body (spell (names 1)))
+
+-- version 03, the same set-up with 0840 at 0.4 of 0978, syllabus 1; a Start and a First of 1 in 0840: the last digit of the accumulator sent
+abbrev converting : List ℕ
+converting = take 4 body ++ 1 ∷ drop 5 body ++ 0x08 ∷ 0x40 ∷ 0x09 ∷ 0x78 ∷ 0 ∷ 4 ∷ 8 ∷ []
+
+abbrev roundedUp : List (List ℕ)
+roundedUp = sittingLines blank (paperOf 3 (converting ++ 0 ∷ 1 ∷ []) (spell (names 1) ++ spell (first 1 1 0x0840 0x22)))
+
 pub record Samples : Type 0 where
   -- 4 bytes and any 65,533 more
   pub over-long : (more : List ℕ) → length more ≡ 65533 → T (isUnread (1 ∷ 0 ∷ 1 ∷ 1 ∷ more))
   pub version-0 : T (isUnread (0 ∷ 0 ∷ 1 ∷ 1 ∷ []))
-  pub version-4 : T (isUnread (4 ∷ 0 ∷ 1 ∷ 1 ∷ []))
+  pub version-5 : T (isUnread (5 ∷ 0 ∷ 1 ∷ 1 ∷ []))
   pub first-fields : T (isFirst (reading (based 0) (spell (first 1 5000 0x0978 0x22)) 0) 1 5000 0x0978 0x22 15)
+  pub dated-fields : T (isFirst (reading withDates onDay 0) 1 5000 0x0978 0x22 18)
+  pub date-field : T (isFirstOn (reading withDates onDay 0) 0x05 0x07 0x15)
   pub second-fields : T (isSecond (reading (based 0) (spell (second 1 0x5933 2 0x01020304)) 0) 1 0x5933 2 0x01020304 11)
   -- the set-up repeated, an unknown kind, none (length 0), a Start of two bytes
   pub setup-repeated : T (faults (recordOf 1 (1 ∷ [])))
   pub kind-unknown : T (faults (recordOf 5 (replicate 8 0)))
   pub no-kind : T (faults (0 ∷ 0 ∷ 0 ∷ []))
   pub start-too-long : T (faults (recordOf 2 (1 ∷ 1 ∷ [])))
+  -- a First of 12 bytes in a paper with dates, of 15 in one without
+  pub first-undated : T (isNine (reading withDates (spell (first 1 5000 0x0978 0x22)) 0))
+  pub first-dated : T (faults onDay)
   -- what stands behind a fault is no longer a command
   pub ends-at-nine : T (eqb (lineCount (recordOf 1 (1 ∷ []) ++ spell (names 1))) 1)
+  -- the set-up's line has number 0, the first command's is the next, by the paper's own rules and its syllabus
+  pub numbered-from-0 : T (eqb (byte (getD (sittingLines [] []) 0 []) 0) 0x30)
+  pub first-command : T (eqb (length started) 2)
+  pub own-rules : T (eqb (length (getD started 1 [])) 6)
+  pub rounded-up : T (eqb (byte (getD roundedUp 2 []) 36) 0x31)
   -- one visit shows
   pub visit-shown : T (isFour (fieldsIn (answerLine 3 (Started 2 1))) 3 0 2 1)
 
 pub samples : Samples
-unfolding openPaper nextAt number reading commandIn commandOf firstOf secondOf kindOf bodyOf recordOf big
+unfolding openPaper nextAt number dateAt reading commandIn commandOf firstOf secondOf kindOf bodyOf recordOf big
     eventsFrom takenOf answeredBy linesOf refusalLine decimal digit answerLine startLine selectedLine
-    fieldsIn wordsIn areDigits valueIn isHex bytesIn
+    fieldsIn wordsIn areDigits valueIn isHex bytesIn printed answered
 samples =
     record {
       over-long = λ more e. rw e tt;
       version-0 = tt;
-      version-4 = tt;
+      version-5 = tt;
       first-fields = tt;
+      dated-fields = tt;
+      date-field = tt;
       second-fields = tt;
       setup-repeated = tt;
       kind-unknown = tt;
       no-kind = tt;
       start-too-long = tt;
+      first-undated = tt;
+      first-dated = tt;
       ends-at-nine = tt;
+      numbered-from-0 = tt;
+      first-command = tt;
+      own-rules = tt;
+      rounded-up = tt;
       visit-shown = tt;
     }

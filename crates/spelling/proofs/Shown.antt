@@ -7,7 +7,7 @@ use borrow.Author.Tests.{ne-eqb}
 use lib.ListN.{replicate}
 use Rattle.refusal.specs.declared.Refusal.{Refusal}
 use Rattle.refusal.specs.declared.Refusal.the-variants.{BadSetup, OutOfTurn, UnknownProfile, AtcUsedUp, BadType, OutOfRange}
-use Rattle.refusal.specs.declared.Refusal.the-variants.{RoomTooSmall, NotAnIad, Unreadable, BadRate, BadMta, NotSelected}
+use Rattle.refusal.specs.declared.Refusal.the-variants.{RoomTooSmall, NotAnIad, Unreadable, BadRate, BadMta, NotSelected, NotADay}
 use Rattle.refusal.specs.Refusal.{refusalNumber}
 use Rattle.iad.specs.declared.Iad.{Iad}
 use Rattle.iad.specs.Iad.{written}
@@ -21,7 +21,7 @@ use Rattle.readback.proofs.Told.{refusal-told, start-told, selected-told, crypt
 use Rattle.lines.specs.Sitting.{answerLine}
 use Rattle.spelling.specs.Shown.{shown, Sized}
 
-small : (refusal : Refusal) → refusalNumber refusal < 100_000
+pub small : (refusal : Refusal) → refusalNumber refusal < 100_000
 small BadSetup = omega arith
 small OutOfTurn = omega arith
 small UnknownProfile = omega arith
@@ -34,6 +34,7 @@ small Unreadable = omega arith
 small BadRate = omega arith
 small BadMta = omega arith
 small NotSelected = omega arith
+small NotADay = omega arith
 
 lies : (iad : Iad) → Writable iad → LaidOut iad (written iad (replicate 32 0))
 lies iad can =

@@ -6,29 +6,30 @@ use lib.ListN.{length}
 use Rattle.wire.specs.Wire.{number}
 use Rattle.rules.specs.Rules.{findProfile}
 use Rattle.rules.specs.Word.{wordCount}
-use Rattle.setup.specs.Setup.{rateIn, accumulatorIn, counterIn, profileIn, rulesIn, freshIn}
+use Rattle.setup.specs.Setup.{rateIn, accumulatorIn, counterIn, profileIn, cycleIn, cyclicIn, rulesIn, freshIn}
 use Rattle.shape.specs.Shape.{based}
 use Rattle.money.specs.Money.{rateFor, scaled, convertOf}
 use Rattle.iad.specs.Iad.{isCvr, isWritable, pairsOf, iadBytes, writeIad, written}
-use Rattle.purchase.specs.Meter.{worth}
+use Rattle.purchase.specs.Meter.{worth, cyclicWorth}
 use Rattle.meters.specs.Meters.{applied}
-use Rattle.checks.specs.Checks.{accumulatorsLower, accumulatorsUpper, countersLower, countersUpper, maximumExceeded, decisionBits}
+use Rattle.checks.specs.Checks.{accumulatorsLower, accumulatorsUpper, countersLower, countersUpper, datingFlags, maximumExceeded, decisionBits}
 use Rattle.cryptogram.specs.Cryptogram.{limitsByte, verification, sentIad}
-use Rattle.first.specs.First.{decision, settled, asked, concluded, firstPerformed}
+use Rattle.cycles.specs.Cycles.{timingOf, dated}
+use Rattle.first.specs.First.{decision, settled, asked, concluded, firstAnswered, firstPerformed}
 use Rattle.second.specs.Second.{closed, unablePerformed, secondPerformed}
 use Rattle.card.specs.Card.{freshState, startStep, firstStep, secondStep, stepOf}
 use Rattle.lines.specs.Lines.{digit, decimal, hex, refusalLine, startLine, cryptogramLine}
 use Rattle.lines.specs.Sitting.{answerLine, sittingLines}
-use Rattle.spelling.specs.Spelling.{byName, standsFor, allStandFor}
+use Rattle.spelling.specs.Spelling.{standsFor, allStandFor}
 use Rattle.spelling.specs.Sitting.{answers, ended, sittingOf}
 use Rattle.spelling.specs.Printed.{printed, body, sent, printedLines}
-use Rattle.spelling.proofs.Witness.{printed-lines}
+use Rattle.spelling.proofs.Witness.{named, printed-lines}
 
-worked : sittingOf (based 159) body {choice = byName} sent {rest = []} (ended refl) ≡ printedLines
+worked : sittingOf (based 159) body {manner = named} sent {rest = []} (ended refl) ≡ printedLines
 unfolding printed sent printedLines standsFor allStandFor answers answerLine digit decimal hex refusalLine startLine cryptogramLine
-    freshState freshIn number rulesIn rateIn profileIn accumulatorIn counterIn stepOf startStep firstStep secondStep findProfile
-    firstPerformed decision limitsByte settled asked concluded decisionBits accumulatorsLower accumulatorsUpper countersLower countersUpper
-    maximumExceeded worth convertOf rateFor scaled applied verification sentIad pairsOf iadBytes isCvr isWritable writeIad written
+    freshState freshIn number rulesIn rateIn profileIn accumulatorIn counterIn cycleIn cyclicIn stepOf startStep firstStep secondStep findProfile
+    firstPerformed firstAnswered timingOf dated decision limitsByte settled asked concluded decisionBits accumulatorsLower accumulatorsUpper countersLower countersUpper
+    datingFlags maximumExceeded worth cyclicWorth convertOf rateFor scaled applied verification sentIad pairsOf iadBytes isCvr isWritable writeIad written
     secondPerformed unablePerformed closed
 worked = refl
 

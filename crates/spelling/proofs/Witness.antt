@@ -1,4 +1,5 @@
--- The premises are met: by the paper of the printed sitting, and by one whose Starts bring the terminal's data. Assumes nothing.
+-- The premises are met: by the paper of the printed sitting, by one whose Starts bring the terminal's data, and by one whose Firsts have
+-- their dates. Assumes nothing.
 use mathlib.Core.Path.{_≡_, refl, sym}
 use mathlib.Core.Bool.{Bool, true, _&&_}
 use mathlib.Core.List.{List, [], _∷_, append-nil}
@@ -13,16 +14,18 @@ use Rattle.ranges.specs.Ranges.{isSetup, hasLength, isHead, areAccumulators, is
 use Rattle.ranges.specs.Ranges.{areProfiles, isProfileOrAbsent, isProfile, areMasks, isMaximumAmount, areAccumulatorRules, isAccumulatorRule}
 use Rattle.ranges.specs.Ranges.{areCounterRules, areSent, areNumbersApart, profileNumber}
 use Rattle.ranges.specs.Ranges.{areConversions, isConversionOrAbsent, isConversion, conversionPair, arePairsApart}
+use Rattle.ranges.specs.Ranges.{isCycle, isCyclicRule, areCyclicRules, areCycles}
+use Rattle.calendar.specs.Calendar.{dateAt, hasDay, isDay}
 use Rattle.setup.specs.Setup.{readSetup}
-use Rattle.shape.specs.declared.Selecting.the-variants.{On}
+use Rattle.shape.specs.declared.Dating.the-variants.{On as DatesOn}
 use Rattle.shape.specs.declared.Shape.{Shape}
-use Rattle.shape.specs.Shape.{based, baseTail, entriesEnd, selects, selectionTail, tailsOf, shapeOf}
+use Rattle.shape.specs.Shape.{based, baseTail, entriesEnd, selects, selectionTail, syllabusTail, dates, datingTail, tailsOf, shapeOf}
 use Rattle.lines.specs.Sitting.{sittingLines}
-use Rattle.spelling.specs.Spelling.{Bytes, big, recordOf, brings, first, second, kindOf, bodyOf, spellAll, paperOf}
-use Rattle.spelling.specs.Spelling.{Choice, byName, byFile, choiceIn, Fits, AllFit}
+use Rattle.spelling.specs.Spelling.{Bytes, big, recordOf, brings, first, firstOn, second, kindOf, bodyOf, spellAll, paperOf}
+use Rattle.spelling.specs.Spelling.{byName, byFile, undated, dated, Manner, mannerIn, Fits, AllFit}
 use Rattle.spelling.specs.Faults.{Opens}
 use Rattle.spelling.specs.Sitting.{SetUp, ended, sittingOf}
-use Rattle.spelling.specs.Printed.{printed, body, sent, selection, selectionBody, file, brought}
+use Rattle.spelling.specs.Printed.{printed, body, sent, selection, selectionBody, file, brought, calendar, calendarBody, datedSent}
 use Rattle.spelling.proofs.Papers.{lines-of}
 
 areBytes : List ℕ → Bool
@@ -54,24 +57,27 @@ opens = record { is = refl; least = lit≤ tt; most = lit≤ tt; short = lit≤ 
 pub set-up : SetUp 1 body (based 159)
 unfolding printed shapeOf tailsOf baseTail readSetup isSetup hasLength isHead areAccumulators isAccumulator number
     areProfiles isProfileOrAbsent isProfile areMasks isMaximumAmount areAccumulatorRules isAccumulatorRule areCounterRules areSent
-    areNumbersApart profileNumber areConversions isConversionOrAbsent isConversion conversionPair arePairsApart
+    areNumbersApart profileNumber areConversions isConversionOrAbsent isConversion conversionPair arePairsApart areCycles
 set-up = record { shape-is = refl; base = refl }
 
-pub fit : AllFit byName sent
+abbrev pub named : Manner
+named = record { choice = byName; dates = undated }
+
+pub fit : AllFit named sent
 unfolding sent Fits
 fit = (one, (buys 5000 (lit< tt), (one, (buys 1 (lit< tt), (cannot, (one, (buys 5000 (lit< tt), (cannot, tt)))))))) where
   one : 1 < 256
   one = lit< tt
 
-  buys : (amount : ℕ) → amount < 256 ^ 8 → Fits byName (first 1 amount 0x0978 0x22)
+  buys : (amount : ℕ) → amount < 256 ^ 8 → Fits named (first 1 amount 0x0978 0x22)
   buys amount h = (one, h, lit< tt, lit< tt)
 
-  cannot : Fits byName (second 1 0x5933 0 0)
+  cannot : Fits named (second 1 0x5933 0 0)
   cannot = (one, lit< tt, lit< tt, lit< tt)
 
 -- THE PRINTED SITTING: THE LINES OF THE 242 BYTES ARE THOSE OF THE EIGHT THAT WERE SENT, AND NO MORE
 pub printed-lines : (words : List ℕ) → length words ≡ wordCount
-    → sittingLines words printed ≡ sittingOf (based 159) body {choice = byName} sent {rest = []} (ended refl)
+    → sittingLines words printed ≡ sittingOf (based 159) body {manner = named} sent {rest = []} (ended refl)
 printed-lines words lent =
     lines-of words printed 1 body (spellAll sent) opens (based 159) set-up bytes lent sent [] fit (ended refl) (sym (append-nil (spellAll sent)))
 
@@ -80,8 +86,8 @@ printed-lines words lent =
 abbrev selective : Shape
 selective = selects (based 266) 268 279 1
 
-abbrev chosen : Choice
-chosen = byFile file 1
+abbrev chosen : Manner
+chosen = record { choice = byFile file 1; dates = undated }
 
 pub brought-spelled : paperOf 2 selectionBody (spellAll brought) ≡ selection
 unfolding selection brought spellAll kindOf bodyOf recordOf big
@@ -102,10 +108,10 @@ brought-opens = record { is = refl; least = lit≤ tt; most = lit≤ tt; short =
 pub brought-set-up : SetUp 2 selectionBody selective
 unfolding selection shapeOf tailsOf baseTail selectionTail entriesEnd readSetup isSetup hasLength isHead areAccumulators isAccumulator number
     areProfiles isProfileOrAbsent isProfile areMasks isMaximumAmount areAccumulatorRules isAccumulatorRule areCounterRules areSent
-    areNumbersApart profileNumber areConversions isConversionOrAbsent isConversion conversionPair arePairsApart
+    areNumbersApart profileNumber areConversions isConversionOrAbsent isConversion conversionPair arePairsApart areCycles
 brought-set-up = record { shape-is = refl; base = refl }
 
-pub brought-chosen : choiceIn (On 268 279 1) selectionBody ≡ chosen
+pub brought-chosen : mannerIn selective selectionBody ≡ chosen
 unfolding selection
 brought-chosen = refl
 
@@ -119,8 +125,78 @@ brought-fit = (three 1 0 0x56 tt tt tt, (buys 5000 (lit< tt), (three 1 8 0x40 tt
   buys amount h = (lit< tt, h, lit< tt, lit< tt)
 
 pub brought-lines : (words : List ℕ) → length words ≡ wordCount
-    → sittingLines words selection ≡ sittingOf selective selectionBody {choice = chosen} brought {rest = []} (ended refl)
+    → sittingLines words selection ≡ sittingOf selective selectionBody {manner = chosen} brought {rest = []} (ended refl)
 unfolding selection
 brought-lines words lent =
     lines-of words selection 2 selectionBody (spellAll brought) brought-opens selective brought-set-up brought-bytes lent brought []
     brought-fit (ended refl) (sym (append-nil (spellAll brought)))
+
+-- ---- the paper whose Firsts have their dates
+
+abbrev calendarly : Shape
+calendarly = dates (based 159) (DatesOn 161 207)
+
+abbrev onDays : Manner
+onDays = record { choice = byName; dates = dated }
+
+pub dated-spelled : paperOf 4 calendarBody (spellAll datedSent) ≡ calendar
+unfolding calendar datedSent spellAll kindOf bodyOf recordOf big
+dated-spelled = refl
+
+pub dated-long : length calendar ≡ 343
+unfolding calendar
+dated-long = refl
+
+pub dated-bytes : Bytes calendar
+unfolding calendar areBytes
+dated-bytes = bytes-of calendar refl
+
+pub dated-opens : Opens calendar 4 calendarBody (spellAll datedSent)
+unfolding calendar datedSent spellAll kindOf bodyOf recordOf big
+dated-opens = record { is = refl; least = lit≤ tt; most = lit≤ tt; short = lit≤ tt }
+
+pub dated-set-up : SetUp 4 calendarBody calendarly
+unfolding calendar shapeOf tailsOf baseTail selectionTail syllabusTail datingTail readSetup isSetup hasLength isHead areAccumulators isAccumulator number
+    areProfiles isProfileOrAbsent isProfile areMasks isMaximumAmount areAccumulatorRules isAccumulatorRule areCounterRules areSent
+    areNumbersApart profileNumber areConversions isConversionOrAbsent isConversion conversionPair arePairsApart
+    areCycles isCycle areCyclicRules isCyclicRule dateAt isDay hasDay
+dated-set-up = record { shape-is = refl; base = refl }
+
+pub dated-manner : mannerIn calendarly calendarBody ≡ onDays
+dated-manner = refl
+
+pub dated-fit : AllFit onDays datedSent
+unfolding datedSent Fits
+dated-fit = (
+  one,
+  (
+    buys 0x07 0x15 6000 tt tt tt,
+    (
+      one,
+      (
+        buys 0x07 0x15 4001 tt tt tt,
+        (
+          one,
+          (
+            buys 0x07 0x15 4000 tt tt tt,
+            (one, (buys 0x07 0x16 5001 tt tt tt, (one, (buys 0x07 0x16 5000 tt tt tt, (one, (buys 0x08 0x01 10000 tt tt tt, tt)))))),
+          ),
+        ),
+      ),
+    ),
+  ),
+)
+  where
+    one : 1 < 256
+    one = lit< tt
+
+    buys : (month day amount : ℕ) → T (ltb month 256) → T (ltb day 256) → T (ltb amount (256 ^ 8))
+        → Fits onDays (firstOn (record { year = 0x05; month = month; day = day }) 1 amount 0x0978 0x22)
+    buys month day amount p q r = ((one, lit< r, lit< tt, lit< tt), (lit< tt, lit< p, lit< q))
+
+pub dated-lines : (words : List ℕ) → length words ≡ wordCount
+    → sittingLines words calendar ≡ sittingOf calendarly calendarBody {manner = onDays} datedSent {rest = []} (ended refl)
+unfolding calendar
+dated-lines words lent =
+    lines-of words calendar 4 calendarBody (spellAll datedSent) dated-opens calendarly dated-set-up dated-bytes lent datedSent []
+    dated-fit (ended refl) (sym (append-nil (spellAll datedSent)))

@@ -11,7 +11,7 @@ use Rattle.shape.specs.declared.Selecting.{Selecting}
 use Rattle.shape.specs.declared.Selecting.the-variants.{Off, On}
 use Rattle.shape.specs.declared.Shape.{Shape}
 use Rattle.shape.specs.declared.ReadShape.the-variants.{Taken as ShapeTaken}
-use Rattle.shape.specs.Shape.{basePart, shapeOf, shapeNumber}
+use Rattle.shape.specs.Shape.{basePart, cyclesPart, shapeOf, shapeNumber}
 use Rattle.paper.specs.declared.Next.{Next}
 use Rattle.paper.specs.declared.Next.the-variants.{Record, Fault, End}
 use Rattle.paper.specs.Paper.{nextAt, nextNumber}
@@ -26,7 +26,7 @@ use Rattle.lines.specs.Lines.{refusalLine}
 use Rattle.conversation.specs.declared.Event.{Event}
 use Rattle.conversation.specs.declared.Event.the-variants.{Refused as EndRefused, Answered}
 use Rattle.lines.specs.Sitting.{answerLine, sittingLines}
-use Rattle.spelling.specs.Spelling.{Sent, spell, spellAll, Choice, choiceIn, Fits, AllFit, standsFor, allStandFor}
+use Rattle.spelling.specs.Spelling.{Sent, spell, spellAll, Manner, mannerIn, Fits, AllFit, standsFor, allStandFor}
 use Rattle.spelling.specs.Faults.{OpenFault, Opens, RestFault}
 
 -- what is read at a place: the paper's end, a refusal, or a command and the place behind it
@@ -53,23 +53,23 @@ Lies Off s = Unit
 Lies (On start end entries) s = (start ≤ end) × (end ≤ length s)
 
 -- from a place to an end stands, spelled, what was sent, and it stands for a command
-pub record Spelled (choice : Choice) (s : List ℕ) (at : ℕ) (c : Command) (end : ℕ) : Type 0 where
+pub record Spelled (manner : Manner) (s : List ℕ) (at : ℕ) (c : Command) (end : ℕ) : Type 0 where
   pub sent : Sent
-  pub fits : Fits choice sent
-  pub stands : standsFor choice sent ≡ c
+  pub fits : Fits manner sent
+  pub stands : standsFor manner sent ≡ c
   pub is : drop at s ≡ spell sent ++ drop end s
   pub ends : end ≡ at + length (spell sent)
 
--- the set-up is taken: its shape and its base
+-- the set-up is taken: its shape, and its base with the tail of version 04
 pub record SetUp (version : ℕ) (body : List ℕ) (shape : Shape) : Type 0 where
   pub shape-is : shapeOf version body ≡ ShapeTaken shape
-  pub base : readSetup (basePart shape body) .answer ≡ Done
+  pub base : readSetup (basePart shape body) (cyclesPart (shape .dating) body) (shape .unnamed) .answer ≡ Done
 
 -- or its shape is refused, or its base
 pub data NotSetUp (version : ℕ) (body : List ℕ) : Type 0 where
   no-shape : shapeNumber (shapeOf version body) ≡ 1 → NotSetUp version body
-  no-base : (shape : Shape) → shapeOf version body ≡ ShapeTaken shape → setupNumber (readSetup (basePart shape body) .answer) ≡ 1
-      → NotSetUp version body
+  no-base : (shape : Shape) → shapeOf version body ≡ ShapeTaken shape
+      → setupNumber (readSetup (basePart shape body) (cyclesPart (shape .dating) body) (shape .unnamed) .answer) ≡ 1 → NotSetUp version body
 
 -- the events of a list of commands, one after the other from a state on
 unfoldable pub happened : Rules → State → List Command → List Event
@@ -83,31 +83,31 @@ answers rules state number (c ∷ cs) =
     answerLine number (stepOf rules state c .answer) ∷ answers rules (stepOf rules state c .state) (number + 1) cs
 
 -- behind the last command a paper ends, or a fault stands
-pub data Ends (choice : Choice) (s : List ℕ) : Type 0 where
-  ended : s ≡ [] → Ends choice s
-  faulty : RestFault choice s → Ends choice s
+pub data Ends (manner : Manner) (s : List ℕ) : Type 0 where
+  ended : s ≡ [] → Ends manner s
+  faulty : RestFault manner s → Ends manner s
 
 -- and then nothing more happens, or refusal 9
-abbrev pub lastEvents : {choice : Choice} {s : List ℕ} → Ends choice s → List Event
+abbrev pub lastEvents : {manner : Manner} {s : List ℕ} → Ends manner s → List Event
 lastEvents (ended is) = []
 lastEvents (faulty fault) = EndRefused Unreadable ∷ []
 
 -- and there is no line more, or the one line with refusal 9
-abbrev pub lastLines : {choice : Choice} {s : List ℕ} → Ends choice s → (number : ℕ) → List (List ℕ)
+abbrev pub lastLines : {manner : Manner} {s : List ℕ} → Ends manner s → (number : ℕ) → List (List ℕ)
 lastLines (ended is) number = []
 lastLines (faulty fault) number = refusalLine number 9 ∷ []
 
 -- the rules and the fresh card of a set-up
 abbrev pub rulesFrom : Shape → (body : List ℕ) → Rules
-rulesFrom shape body = rulesIn (basePart shape body) (shape .syllabus)
+rulesFrom shape body = rulesIn (basePart shape body) (cyclesPart (shape .dating) body) (shape .syllabus)
 
 abbrev pub cardFrom : Shape → (body : List ℕ) → State
-cardFrom shape body = freshState (freshIn (basePart shape body))
+cardFrom shape body = freshState (freshIn (basePart shape body) (cyclesPart (shape .dating) body))
 
 -- the lines of a paper whose set-up is taken: the set-up's, those of the conversation, and perhaps the one of refusal 9
-abbrev pub sittingOf : Shape → (body : List ℕ) {choice : Choice} (xs : List Sent) {rest : List ℕ} → Ends choice rest → List (List ℕ)
-sittingOf shape body {choice} xs ends =
-    refusalLine 0 0 ∷ (answers (rulesFrom shape body) (cardFrom shape body) 1 (allStandFor choice xs) ++ lastLines ends (1 + length xs))
+abbrev pub sittingOf : Shape → (body : List ℕ) {manner : Manner} (xs : List Sent) {rest : List ℕ} → Ends manner rest → List (List ℕ)
+sittingOf shape body {manner} xs ends =
+    refusalLine 0 0 ∷ (answers (rulesFrom shape body) (cardFrom shape body) 1 (allStandFor manner xs) ++ lastLines ends (1 + length xs))
 
 -- a paper and its lines
 pub data Sat (words s : List ℕ) : Type 0 where
@@ -115,5 +115,5 @@ pub data Sat (words s : List ℕ) : Type 0 where
   not-set-up : (version : ℕ) (body rest : List ℕ) → Opens s version body rest → NotSetUp version body
       → sittingLines words s ≡ refusalLine 0 1 ∷ [] → Sat words s
   sat : (version : ℕ) (body : List ℕ) (shape : Shape) → SetUp version body shape
-      → (xs : List Sent) (rest : List ℕ) → AllFit (choiceIn (shape .selecting) body) xs → (ends : Ends (choiceIn (shape .selecting) body) rest)
+      → (xs : List Sent) (rest : List ℕ) → AllFit (mannerIn shape body) xs → (ends : Ends (mannerIn shape body) rest)
       → Opens s version body (spellAll xs ++ rest) → sittingLines words s ≡ sittingOf shape body xs ends → Sat words s

@@ -1,2 +1,4 @@
 pub mod Papers
+pub mod Undated
 pub mod Versions
+pub mod Files

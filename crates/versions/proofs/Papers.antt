@@ -1,6 +1,6 @@
 -- A paper of a version: what stands in front of a record does not matter to its events, but for the file that selects. Assumes nothing.
 use mathlib.Core.Path.{_≡_, refl, sym, ap, _∙_}
-use mathlib.Core.Bool.{Bool, true, false, cond, not, _&&_, _||_}
+use mathlib.Core.Bool.{Bool, true, false, cond, not, _||_}
 use mathlib.Core.List.{List, [], _∷_, _++_}
 use Prim.Native.Nat.{ℕ, zero, suc, _+_, _-_, _/_, _%_, _≤_}
 use native.Mathlib.Nat.{add-zero, add-assoc}
@@ -10,29 +10,30 @@ use lib.Dec.{leb, ltb, eqb}
 use lib.ListN.{length, drop, length-append, length-drop}
 use lib.Seq.{getD-append-add, drop-append-add, drop-append-le, take-append-le, take-at}
 use Rattle.wire.specs.Wire.{byte, number}
+use Rattle.refusal.specs.declared.Refusal.the-variants.{Unreadable}
 use Rattle.rules.specs.Rules.{Rules, rulesOf}
 use Rattle.setup.specs.Setup.{readSetup, wordsAfter}
-use Rattle.selection.specs.Selection.{selectionOf}
 use Rattle.shape.specs.declared.Selecting.{Selecting}
 use Rattle.shape.specs.declared.Selecting.the-variants.{Off, On}
+use Rattle.shape.specs.declared.Dating.{Dating}
+use Rattle.shape.specs.declared.Dating.the-variants.{Off as DatesOff, On as DatesOn}
 use Rattle.shape.specs.declared.Shape.{Shape}
 use Rattle.shape.specs.declared.ReadShape.{ReadShape}
 use Rattle.shape.specs.declared.ReadShape.the-variants.{Taken as ShapeTaken, Refused as ShapeRefused}
-use Rattle.shape.specs.Shape.{Lies, basePart, shapeOf, shapeAt}
+use Rattle.shape.specs.Shape.{Lies, basePart, cyclesPart, shapeOf, selectingAt, datingAt, shapeAt}
 use Rattle.shape.proofs.Inside.{inside}
 use Rattle.paper.specs.declared.Next.{Next}
 use Rattle.paper.specs.declared.Next.the-variants.{Record, Fault, End}
 use Rattle.paper.specs.declared.Opened.the-variants.{Setup}
 use Rattle.paper.specs.Paper.{endAt, nextAt, openPaper}
 use Rattle.paper.specs.Walk.{part, written}
-use Rattle.command.specs.Command.{commandOf, selectingOf, readBy, commandIn}
-use Rattle.command.specs.declared.Command.the-variants.{Start as StartCommand}
+use Rattle.command.specs.Command.{firstOf, commandOf, selectingOf, readBy, commandIn}
 use Rattle.command.specs.declared.ReadCommand.{ReadCommand}
 use Rattle.command.specs.declared.ReadCommand.the-variants.{Taken as CommandTaken, Refused as CommandRefused}
 use Rattle.state.specs.declared.State.{State}
 use Rattle.card.specs.Card.{freshState}
 use Rattle.conversation.specs.declared.Event.{Event}
-use Rattle.conversation.specs.declared.Event.the-variants.{Refused}
+use Rattle.conversation.specs.declared.Event.the-variants.{End as EndEvent, Refused}
 use Rattle.conversation.specs.declared.Taken.{Taken}
 use Rattle.conversation.specs.Conversation.{answeredBy, nextTaken, takenOf, setUpEvent, baseBegun, setupBegun, begunOf, setupWords, wordsBegun}
 use Rattle.conversation.specs.Events.{following, eventsFrom, eventsOf}
@@ -41,16 +42,16 @@ use Rattle.conversation.proofs.Events.{settled}
 -- ---- what stands in front of a record does not matter, but for the file
 
 -- the events of n records over a rest, whatever reads them
-abbrev pub takenBy : Rules → (ℕ → List ℕ → ReadCommand) → Shape → State → List ℕ → (at : ℕ) → Next → Taken
-takenBy rules reads shape state s at End = nextTaken rules shape state s at End
-takenBy rules reads shape state s at Fault = nextTaken rules shape state s at Fault
-takenBy rules reads shape state s at (Record kind start end) = answeredBy rules state end (reads kind (part s start end))
+abbrev pub takenBy : Rules → (ℕ → List ℕ → ReadCommand) → State → List ℕ → (at : ℕ) → Next → Taken
+takenBy rules reads state s at End = record { state = state; at = at; event = EndEvent }
+takenBy rules reads state s at Fault = record { state = state; at = at; event = Refused Unreadable }
+takenBy rules reads state s at (Record kind start end) = answeredBy rules state end (reads kind (part s start end))
 
-unfoldable pub eventsBy : ℕ → Rules → (ℕ → List ℕ → ReadCommand) → Shape → State → List ℕ → (at : ℕ) → List Event
-eventsBy zero rules reads shape state s at = []
-eventsBy (suc n) rules reads shape state s at =
-    let taken = takenBy rules reads shape state s at (nextAt s at) in
-    following (taken .event) (eventsBy n rules reads shape (taken .state) s (taken .at))
+unfoldable pub eventsBy : ℕ → Rules → (ℕ → List ℕ → ReadCommand) → State → List ℕ → (at : ℕ) → List Event
+eventsBy zero rules reads state s at = []
+eventsBy (suc n) rules reads state s at =
+    let taken = takenBy rules reads state s at (nextAt s at) in
+    following (taken .event) (eventsBy n rules reads (taken .state) s (taken .at))
 
 module _ (front s : List ℕ) where
   abbrev from : ℕ → ℕ
@@ -109,28 +110,28 @@ module _ (front s : List ℕ) where
     abbrev further-on : Taken → Taken
     further-on t = record { state = t .state; at = from (t .at); event = t .event }
 
-    taken-behind : (state : State) (at : ℕ) → takenOf rules shape state all (from at) ≡ further-on (takenBy rules reads shape state s at (nextAt s at))
+    taken-behind : (state : State) (at : ℕ) → takenOf rules shape state all (from at) ≡ further-on (takenBy rules reads state s at (nextAt s at))
     unfolding takenOf answeredBy
     taken-behind state at = rw (next-behind at) (by (nextAt s at)) where
       answered : (end : ℕ) (read : ReadCommand) → answeredBy rules state (from end) read ≡ further-on (answeredBy rules state end read)
       answered end (CommandTaken command) = refl
       answered end (CommandRefused refusal) = refl
 
-      by : (n : Next) → nextTaken rules shape state all (from at) (shift n) ≡ further-on (takenBy rules reads shape state s at n)
+      by : (n : Next) → nextTaken rules shape state all (from at) (shift n) ≡ further-on (takenBy rules reads state s at n)
       by End = refl
       by Fault = refl
       by (Record kind start end) = rw (part-behind start end, agrees kind (part s start end)) (answered end (reads kind (part s start end)))
 
-    events-behind : (n : ℕ) (state : State) (at : ℕ) → eventsFrom n rules shape state all (from at) ≡ eventsBy n rules reads shape state s at
+    events-behind : (n : ℕ) (state : State) (at : ℕ) → eventsFrom n rules shape state all (from at) ≡ eventsBy n rules reads state s at
     unfolding eventsFrom eventsBy
     events-behind zero state at = refl
     events-behind (suc n) state at =
-        let taken = takenBy rules reads shape state s at (nextAt s at) in
+        let taken = takenBy rules reads state s at (nextAt s at) in
         rw (taken-behind state at) (ap (following (taken .event)) (events-behind n (taken .state) (taken .at)))
 
     -- and the events behind it are those of the rest
     events-of-rest : (n : ℕ) (state : State) → length s ≤ n
-        → eventsFrom n rules shape state all (length front) ≡ eventsBy (length s) rules reads shape state s 0
+        → eventsFrom n rules shape state all (length front) ≡ eventsBy (length s) rules reads state s 0
     events-of-rest n state h =
         settled rules shape all (length s) n state (length front) (omega (arith, length-append front s)) h
         ∙ ap (eventsFrom (length s) rules shape state all) (sym (add-zero (length front)))
@@ -145,21 +146,31 @@ front version body = version ∷ written (record { kind = 1; body = body })
 abbrev pub paperOf : (version : ℕ) (body rest : List ℕ) → List ℕ
 paperOf version body rest = front version body ++ rest
 
--- the events of a paper, from its base, what stands behind its set-up, what reads its records, and the shape that was read
-abbrev pub eventsShaped : (words base rest : List ℕ) → (ℕ → List ℕ → ReadCommand) → ReadShape → List Event
-eventsShaped words base rest reads (ShapeRefused refusal) = Refused refusal ∷ []
-eventsShaped words base rest reads (ShapeTaken shape) =
-    following (setUpEvent (readSetup base .answer))
-    (eventsBy (length rest) (rulesOf (wordsAfter words base (shape .syllabus))) reads (shapeAt 4 shape) (freshState (readSetup base .fresh)) rest 0)
+-- the events of a paper, from its base and its tail with dates, what stands behind its set-up, what reads its records, and the shape that
+-- was read
+abbrev pub eventsShaped : (words base cycles rest : List ℕ) → (ℕ → List ℕ → ReadCommand) → ReadShape → List Event
+eventsShaped words base cycles rest reads (ShapeRefused refusal) = Refused refusal ∷ []
+eventsShaped words base cycles rest reads (ShapeTaken shape) =
+    let read = readSetup base cycles (shape .unnamed) in
+    following (setUpEvent (read .answer))
+    (eventsBy (length rest) (rulesOf (wordsAfter words base cycles (shape .syllabus) (shape .unnamed))) reads (freshState (read .fresh)) rest 0)
 
--- its base, and its records are so read
-abbrev pub Agrees : (body base : List ℕ) → (ℕ → List ℕ → ReadCommand) → ReadShape → Type 0
-Agrees body base reads (ShapeRefused refusal) = Unit
-Agrees body base reads (ShapeTaken shape) = (basePart shape body ≡ base) × ((kind : ℕ) (b : List ℕ) → commandIn shape body kind b ≡ reads kind b)
+-- its base and its tail are these, and its records are so read
+abbrev pub Agrees : (body base cycles : List ℕ) → (ℕ → List ℕ → ReadCommand) → ReadShape → Type 0
+Agrees body base cycles reads (ShapeRefused refusal) = Unit
+Agrees body base cycles reads (ShapeTaken shape) =
+    (basePart shape body ≡ base) × (cyclesPart (shape .dating) body ≡ cycles)
+    × ((kind : ℕ) (b : List ℕ) → commandIn shape body kind b ≡ reads kind b)
 
--- 01, 02 or 03
+-- 01 to 04
 abbrev pub Known : ℕ → Type 0
-Known version = (1 ≤ version) × (version ≤ 3)
+Known version = (1 ≤ version) × (version ≤ 4)
+
+-- where its tail stands does not matter to a First, only whether there is one
+same-dates : (place : ℕ) (dating : Dating) (kind : ℕ) (b : List ℕ) → commandOf (datingAt place dating) kind b ≡ commandOf dating kind b
+unfolding commandOf firstOf
+same-dates place DatesOff kind b = refl
+same-dates place (DatesOn start end) kind b = refl
 
 module _ (version : ℕ) (known : Known version) (body rest : List ℕ) (short : length (paperOf version body rest) ≤ 65536) where
   said : number (paperOf version body rest) 1 2 ≡ length body + 1
@@ -181,7 +192,7 @@ module _ (version : ℕ) (known : Known version) (body rest : List ℕ) (short :
       (simp (
         le-ltb 65536 (length (paperOf version body rest)) short,
         ne-eqb version 0 (omega (arith, known .0)),
-        le-ltb 3 version (known .1),
+        le-ltb 4 version (known .1),
         ne-eqb (length body + 1) 0 (omega arith),
         le-ltb (length (paperOf version body rest)) (4 + length body) (omega arith),
         ne-eqb (length (paperOf version body rest)) 0 (omega arith),
@@ -203,12 +214,12 @@ module _ (version : ℕ) (known : Known version) (body rest : List ℕ) (short :
   -- its records are read by the file in its body
   pub by-body : (shape : Shape) → Lies (shape .selecting) (length body) → (kind : ℕ) (b : List ℕ)
       → commandIn (shapeAt 4 shape) (paperOf version body rest) kind b ≡ commandIn shape body kind b
-  unfolding commandIn
+  unfolding commandIn selectingOf
   by-body shape lies kind b = by (shape .selecting) lies where
     by : (selecting : Selecting) → Lies selecting (length body)
-        → readBy (shapeAt 4 (record { base = 0; selecting = selecting; syllabus = 0 }) .selecting) (paperOf version body rest) kind b
-        ≡ readBy selecting body kind b
-    by Off l = refl
+        → readBy (selectingAt 4 selecting) (datingAt 4 (shape .dating)) (paperOf version body rest) kind b
+        ≡ readBy selecting (shape .dating) body kind b
+    by Off l = same-dates 4 (shape .dating) kind b
     by (On start end entries) l =
         rw (
           le-leb (4 + start) (4 + end) (omega (arith, l .0)),
@@ -216,24 +227,26 @@ module _ (version : ℕ) (known : Known version) (body rest : List ℕ) (short :
           le-leb start end (l .0),
           le-leb end (length body) (l .1),
           part-of-body start end (l .0) (l .1),
+          same-dates 4 (shape .dating) kind b,
         )
 
   -- ITS EVENTS, BY ITS BODY'S SHAPE
-  pub events-are : (words base : List ℕ) (reads : ℕ → List ℕ → ReadCommand) (read : ReadShape) → shapeOf version body ≡ read
-      → Agrees body base reads read → eventsOf words (paperOf version body rest) ≡ eventsShaped words base rest reads read
+  pub events-are : (words base cycles : List ℕ) (reads : ℕ → List ℕ → ReadCommand) (read : ReadShape) → shapeOf version body ≡ read
+      → Agrees body base cycles reads read → eventsOf words (paperOf version body rest) ≡ eventsShaped words base cycles rest reads read
   unfolding eventsOf begunOf setupBegun baseBegun wordsBegun setupWords
-  events-are words base reads (ShapeRefused refusal) e agrees = rw (opened, its-body, e)
-  events-are words base reads (ShapeTaken shape) e agrees =
-      let rules = rulesOf (wordsAfter words base (shape .syllabus)) in
-      let state = freshState (readSetup base .fresh) in
+  events-are words base cycles reads (ShapeRefused refusal) e agrees = rw (opened, its-body, e)
+  events-are words base cycles reads (ShapeTaken shape) e agrees =
+      let rules = rulesOf (wordsAfter words base cycles (shape .syllabus) (shape .unnamed)) in
+      let read = readSetup base cycles (shape .unnamed) in
+      let state = freshState (read .fresh) in
       let paper = paperOf version body rest in
-      rw (opened, its-body, e, agrees .0)
-      (ap (following (setUpEvent (readSetup base .answer)))
+      rw (opened, its-body, e, agrees .0, agrees .1)
+      (ap (following (setUpEvent (read .answer)))
       (ap (eventsFrom (length paper) rules (shapeAt 4 shape) state paper) (sym front-length)
       ∙ events-of-rest (front version body) rest rules (shapeAt 4 shape) reads
-      (λ kind b. by-body shape (inside body version shape e .file) kind b ∙ agrees .1 kind b) (length paper) state (omega (arith, whole-length))))
+      (λ kind b. by-body shape (inside body version shape e .file) kind b ∙ agrees .2 kind b) (length paper) state (omega (arith, whole-length))))
 
-  -- its shape, with the file's places in the paper
-  pub shaped : (shape : Shape) → shapeOf version body ≡ ShapeTaken shape → begunOf (paperOf version body rest) .shape ≡ shapeAt 4 shape
-  unfolding begunOf setupBegun baseBegun
-  shaped shape e = rw (opened, its-body, e)
+  -- what it begins with is what its body says
+  pub begun-is : begunOf (paperOf version body rest) ≡ setupBegun version body 4 (4 + length body)
+  unfolding begunOf
+  begun-is = rw (opened, its-body)

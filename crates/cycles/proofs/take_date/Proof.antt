@@ -10,8 +10,9 @@ returns c = simp (c .enum-told .given .1)
 returns-2 : tie.Need-returns-2
 unfolding dated
 returns-2 c =
-    let told = c .before .before .before .before in
-    simp (told .when .given .1, ← c .before .is-before .ensures, c .if1 .taken)
+    let asked = c .before in
+    let told = asked .before .before .before in
+    simp (told .when .given .1, ← asked .is-before .ensures, c .if1 .taken)
 
 returns-3 : tie.Need-returns-3
 unfolding dated

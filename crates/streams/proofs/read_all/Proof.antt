@@ -3,8 +3,8 @@ use borrow.Author.Needs.{needs}
 use Prim.Native.Nat.{_-_, _≤_}
 use lib.ListN.{length}
 use mathlib.Core.Path.{_≡_}
-use Rattle.importing.proofs.read_all.Statement.{statement}
-use Rattle.importing.proofs.read_all.Tie as tie
+use Rattle.streams.proofs.read_all.Statement.{statement}
+use Rattle.streams.proofs.read_all.Tie as tie
 
 abbrev Inv-loop : tie.InvT-loop
 Inv-loop buffer₀ filled₀ buffer filled = (filled ≤ length buffer) × (length buffer ≡ length buffer₀)
@@ -15,5 +15,5 @@ abbrev μ-loop : tie.MeasureT-loop
 pub read-all-spec : {M : Type 1} → statement M
 read-all-spec =
     tie.close
-    (tie.spec Inv-loop μ-loop (search needs) (search needs) (search needs) (search needs) (search needs) (search needs) (search needs)
-    (search needs) (search needs) (search needs))
+    (tie.spec Inv-loop μ-loop (search needs) (search needs) (search needs) (search needs) (search needs)
+    (search needs) (search needs) (search needs) (search needs) (search needs))

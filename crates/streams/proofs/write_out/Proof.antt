@@ -2,8 +2,8 @@ use borrow.Author.Needs.{needs}
 use lib.Seq.{length-take-le}
 use mathlib.Core.Path.{sym}
 use denote.Ref.{now}
-use Rattle.importing.proofs.write_out.Statement.{statement}
-use Rattle.importing.proofs.write_out.Tie as tie
+use Rattle.streams.proofs.write_out.Statement.{statement}
+use Rattle.streams.proofs.write_out.Tie as tie
 
 slice-aggregate-write-all : tie.Need-slice-aggregate-write-all
 slice-aggregate-write-all c = sym (length-take-le _ (now (c .before .before .before .args .room)) (c .before .if1 .left))

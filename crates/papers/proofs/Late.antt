@@ -1,0 +1,125 @@
+-- A date error over a paper's bytes: First leaves the last date, Y3 too, and the issuer's approval recovers it. Assumes nothing.
+use mathlib.Core.Path.{_≡_, refl}
+use mathlib.Core.Bool.{Bool, true, false, _&&_}
+use mathlib.Core.List.{List, [], _∷_}
+use Prim.Native.Nat.{ℕ}
+use borrow.Author.Tests.{ltb-true}
+use lib.Dec.{ltb, lit≤}
+use lib.ListN.{length, take}
+use Rattle.wire.specs.Wire.{number}
+use Rattle.wire.proofs.Pairs.{both}
+use Rattle.calendar.specs.declared.Date.{Date}
+use Rattle.purchase.specs.declared.Timing.the-variants.{InOrder, DateError}
+use Rattle.purchase.specs.Meter.{cyclic}
+use Rattle.ranges.specs.Ranges.{isSetup, hasLength, isHead, areAccumulators, isAccumulator}
+use Rattle.ranges.specs.Ranges.{areProfiles, isProfileOrAbsent, isProfile, areMasks, isMaximumAmount, areAccumulatorRules, isAccumulatorRule}
+use Rattle.ranges.specs.Ranges.{areCounterRules, areSent, areNumbersApart, profileNumber}
+use Rattle.ranges.specs.Ranges.{areConversions, isConversionOrAbsent, isConversion, conversionPair, arePairsApart}
+use Rattle.ranges.specs.Ranges.{isCycle, isCyclicRule, areCyclicRules, areCycles}
+use Rattle.calendar.specs.Calendar.{dateAt, hasDay, isDay}
+use Rattle.setup.specs.Setup.{readSetup}
+use Rattle.shape.specs.declared.Dating.the-variants.{On as DatesOn}
+use Rattle.shape.specs.declared.Shape.{Shape}
+use Rattle.shape.specs.Shape.{based, baseTail, selectionTail, syllabusTail, dates, datingTail, tailsOf, shapeOf}
+use Rattle.demands.specs.Conversation.{Exchange}
+use Rattle.demands.specs.Audit.{bought, lastDate, audited}
+use Rattle.demands.proofs.Computed.{computed}
+use Rattle.spelling.specs.Spelling.{Bytes, big, recordOf}
+use Rattle.spelling.specs.Faults.{Opens}
+use Rattle.spelling.specs.Sitting.{SetUp}
+use Rattle.papers.specs.Papers.{entriesLong, setupOf, mannerOf, Accepted, frontOf, meant, walk, walked, commandsOf, faulty}
+use Rattle.papers.specs.Talk.{talk, newest}
+use Rattle.papers.specs.Late.{late, lateBody, lateRest}
+use Rattle.papers.proofs.Events.{accepted-if-taken}
+use Rattle.papers.proofs.Witness.{saidIn}
+
+areBytes : List ℕ → Bool
+areBytes [] = true
+areBytes (b ∷ s) = ltb b 256 && areBytes s
+
+bytes-of : (s : List ℕ) → areBytes s ≡ true → Bytes s
+unfolding areBytes
+bytes-of [] e = tt
+bytes-of (b ∷ s) e = let t = both (ltb b 256) (areBytes s) e in (ltb-true b 256 (t .0), bytes-of s (t .1))
+
+bytes : Bytes late
+unfolding late areBytes
+bytes = bytes-of late refl
+
+opens : Opens late 4 lateBody lateRest
+unfolding late recordOf big
+opens = record { is = refl; least = lit≤ tt; most = lit≤ tt; short = lit≤ tt }
+
+abbrev shaped : Shape
+shaped = dates (based 159) (DatesOn 161 207)
+
+set-up : SetUp 4 lateBody shaped
+unfolding late shapeOf tailsOf baseTail selectionTail syllabusTail datingTail readSetup isSetup hasLength isHead areAccumulators isAccumulator number
+    areProfiles isProfileOrAbsent isProfile areMasks isMaximumAmount areAccumulatorRules isAccumulatorRule areCounterRules areSent
+    areNumbersApart profileNumber areConversions isConversionOrAbsent isConversion conversionPair arePairsApart
+    areCycles isCycle areCyclicRules isCyclicRule dateAt isDay hasDay
+set-up = record { shape-is = refl; base = refl }
+
+pub accepted : Accepted late
+accepted = accepted-if-taken late bytes 4 lateBody lateRest opens shaped set-up
+
+-- 17 commands, and no fault
+pub its-commands : (length (commandsOf late) ≡ 17) × (faulty late ≡ false)
+unfolding late mannerOf entriesLong number frontOf meant walk walked
+its-commands = (refl, refl)
+
+-- ---- what the conversation says behind so many answers
+
+abbrev log : (n : ℕ) → List Exchange
+log n = newest (take n (saidIn late))
+
+-- a day of July 2005
+abbrev july : ℕ → Date
+july day = record { year = 0x05; month = 0x07; day = day }
+
+-- THE LAST DATE: the set-up's; an error leaves it; the issuer's approval recovers; a later date moves it on; Y3 in an error leaves it; an approval
+-- with an order recovers again
+pub record LastDates : Type 0 where
+  pub begins : lastDate (setupOf late) (log 1) ≡ july 0x25
+  pub in-error : bought (setupOf late) (log 2) .timing ≡ DateError (july 0x24)
+  pub left : lastDate (setupOf late) (log 2) ≡ july 0x25
+  pub recovered : lastDate (setupOf late) (log 3) ≡ july 0x24
+  pub in-order : bought (setupOf late) (log 5) .timing ≡ InOrder
+  pub moved-on : lastDate (setupOf late) (log 7) ≡ july 0x25
+  pub unable : lastDate (setupOf late) (log 10) ≡ july 0x25
+  pub again : lastDate (setupOf late) (log 13) ≡ july 0x24
+
+pub last-dates : LastDates
+unfolding late setupOf mannerOf entriesLong number frontOf meant walk walked talk computed
+last-dates =
+    record {
+      begins = refl;
+      in-error = refl;
+      left = refl;
+      recovered = refl;
+      in-order = refl;
+      moved-on = refl;
+      unable = refl;
+      again = refl;
+    }
+
+-- THE CYCLIC ACCUMULATOR: 500, of which nothing is added in an error; 400 in order; the order takes the limit; another 0 leaves it
+pub record Amounts : Type 0 where
+  pub begins : audited (setupOf late) (log 1) (cyclic 0) ≡ 500
+  pub uncounted : audited (setupOf late) (log 3) (cyclic 0) ≡ 500
+  pub counted : audited (setupOf late) (log 7) (cyclic 0) ≡ 900
+  pub unable : audited (setupOf late) (log 10) (cyclic 0) ≡ 900
+  pub limited : audited (setupOf late) (log 13) (cyclic 0) ≡ 1000
+  pub ends : audited (setupOf late) (log 17) (cyclic 0) ≡ 1000
+
+pub amounts : Amounts
+unfolding late setupOf mannerOf entriesLong number frontOf meant walk walked talk computed
+amounts =
+    record {
+      begins = refl;
+      uncounted = refl;
+      counted = refl;
+      unable = refl;
+      limited = refl;
+      ends = refl;
+    }
