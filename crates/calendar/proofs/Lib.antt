@@ -7,3 +7,4 @@ pub mod Dates
 pub mod Cycles
 pub mod Agree
 pub mod Vectors
+pub mod Samples
