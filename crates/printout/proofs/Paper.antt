@@ -151,7 +151,7 @@ pub accepted-text : (words paper : List ℕ) → length words ≡ 186 → Bytes 
 accepted-text words paper lent bytes a = printed-lines words paper ∙ lines-are words paper lent bytes a
 
 -- a command's line says its place and the fields of its answer
-pub line-says : (words paper : List ℕ) → length words ≡ 164 → Bytes paper → Accepted paper
+pub line-says : (words paper : List ℕ) → length words ≡ 186 → Bytes paper → Accepted paper
     → (before : List Exchange) (command : Command) (answer : Answer) (behind : List Event)
     → CutBehind words paper before (Answered command answer ∷ behind) → suc (length before) < 100_000 → Sized answer
     → fieldsIn (getD (linesRead (transcriptOf words paper)) (suc (length before)) []) ≡ shown (suc (length before)) answer
@@ -162,5 +162,5 @@ line-says words paper lent bytes a before command answer behind e few sized =
     ∙ answer-shown n few answer sized
 
 -- DOCUMENT 01'S SITTING
-pub printed-sitting : (words : List ℕ) → length words ≡ 164 → linesRead (transcriptOf words printed) ≡ printedLines
+pub printed-sitting : (words : List ℕ) → length words ≡ 186 → linesRead (transcriptOf words printed) ≡ printedLines
 printed-sitting words lent = printed-lines words printed ∙ printed-text words lent
