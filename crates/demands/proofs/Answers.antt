@@ -67,18 +67,18 @@ use Rattle.demands.proofs.First.{flags-same, kind-answers}
 use Rattle.demands.proofs.Verification.{limits-are, limitsBy, limits-audited, verifies, same-cvr, sends-audited}
 
 -- what the card keeps of First for Second's CVR
-pub record Keeps (setup : Setup) (before : List Exchange) (at : ℕ) (purchase : Purchase) (pending : Pending) : Type 0 where
+pub record Pends (setup : Setup) (before : List Exchange) (at : ℕ) (purchase : Purchase) (pending : Pending) : Type 0 where
   pub history-is : pending .history ≡ past setup before
   pub limits-is : pending .limits ≡ limitsBy (inForce setup before) at purchase (audited setup before)
 
-abbrev pub KeepsIn : Setup → List Exchange → (at : ℕ) → Purchase → Phase → Type 0
-KeepsIn setup before at purchase Idle = Unit
-KeepsIn setup before at purchase (Opened place) = Unit
-KeepsIn setup before at purchase (Asked pending) = Keeps setup before at purchase pending
+abbrev pub PendsIn : Setup → List Exchange → (at : ℕ) → Purchase → Phase → Type 0
+PendsIn setup before at purchase Idle = Unit
+PendsIn setup before at purchase (Opened place) = Unit
+PendsIn setup before at purchase (Asked pending) = Pends setup before at purchase pending
 
 abbrev pub Keeping : Setup → Sitting → Type 0
 Keeping setup sitting =
-    KeepsIn setup (beforeFirst (sitting .log)) (placeBy setup (sitting .log)) (bought setup (sitting .log)) (sitting .state .phase)
+    PendsIn setup (beforeFirst (sitting .log)) (placeBy setup (sitting .log)) (bought setup (sitting .log)) (sitting .state .phase)
 
 pub record Knows (setup : Setup) (sitting : Sitting) : Type 0 where
   pub deals : Deals setup sitting
@@ -199,8 +199,8 @@ module _ (setup : Setup) (sitting : Sitting) (ruled : Ruled setup sitting) (know
     no-more : pending .purchase .amount .0 ≤ max
     no-more = subst (λ (p : Purchase). p .amount .0 ≤ max) (sym purchase-is) (subst (Remembers (bought setup log)) is (knows .deals .remembers) .1)
 
-    kept : Keeps setup (beforeFirst log) at (bought setup log) pending
-    kept = subst (KeepsIn setup (beforeFirst log) at (bought setup log)) is (knows .keeps)
+    kept : Pends setup (beforeFirst log) at (bought setup log) pending
+    kept = subst (PendsIn setup (beforeFirst log) at (bought setup log)) is (knows .keeps)
 
     -- the set-up, the values and the history at First
     abbrev first-setup : Setup
@@ -382,7 +382,7 @@ module _ (setup : Setup) (sitting : Sitting) (ruled : Ruled setup sitting) (know
       concluded-knows first place (stood place is) type small day
       (firstKind rules (dated rules state (first .when)) place first (timingOf (state .last) (first .when)))
   did-kept (took-second second pending is type issuer) =
-      subst (KeepsIn setup _ _ _) (sym (second-closes rules state second pending .idle)) tt
+      subst (PendsIn setup _ _ _) (sym (second-closes rules state second pending .idle)) tt
 
   did-gives : {command : Command} {outcome : Outcome} → Did rules state command outcome → Holding setup (after sitting command outcome)
       → Gives setup log command outcome

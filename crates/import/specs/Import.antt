@@ -10,8 +10,8 @@ use Rattle.money.specs.declared.Rate.{Rate}
 use Rattle.mta.specs.declared.Mta.{Mta}
 use Rattle.mta.specs.declared.Mta.the-variants.{Amount, NotWhole}
 use Rattle.mta.specs.Mta.{mtaOf}
-use Rattle.rate.specs.declared.Found.{Found}
-use Rattle.rate.specs.declared.Found.the-variants.{Pair, NoPair}
+use Rattle.rate.specs.declared.Pairing.{Pairing}
+use Rattle.rate.specs.declared.Pairing.the-variants.{Pair, NoPair}
 use Rattle.rate.specs.Rate.{rateOf}
 use Rattle.refusal.specs.Refusal.{refusalNumber}
 use Rattle.refusal.specs.declared.Refusal.the-variants.{OutOfRange, RoomTooSmall, Unreadable, BadRate, BadMta}
@@ -36,7 +36,7 @@ abbrev pub withMta : Rate → Mta → TakenOver
 withMta conversion (Amount mta) = Record (record { mta = mta; conversion = conversion })
 withMta conversion NotWhole = TakeRefused BadMta
 
-abbrev pub withRate : OldRecord → Found → TakenOver
+abbrev pub withRate : OldRecord → Pairing → TakenOver
 withRate old (Pair digits shift) =
     withMta (record { from = old .from; to = old .to; digits = digits; shift = shift }) (mtaOf (old .mta))
 withRate old NoPair = TakeRefused BadRate

@@ -7,7 +7,7 @@ ghost use Rattle.mta.specs.Mta.{mtaOf};
 use money::AccumulatorAmount;
 use money::Rate;
 use mta::Mta;
-use rate::Found;
+use rate::Pairing;
 use refusal::Refusal;
 
 const OLD_LENGTH: usize = 20;
@@ -91,7 +91,7 @@ pub fn take_over(old: OldRecord) -> TakenOver
     }
     let found = rate::rate_of(old.rate);
     match found {
-        Found::Pair { digits, shift } => {
+        Pairing::Pair { digits, shift } => {
             let conversion = Rate {
                 from: old.from,
                 to: old.to,
@@ -100,7 +100,7 @@ pub fn take_over(old: OldRecord) -> TakenOver
             };
             with_mta(conversion, old.mta)
         }
-        Found::NoPair => TakenOver::Refused(Refusal::BadRate),
+        Pairing::NoPair => TakenOver::Refused(Refusal::BadRate),
     }
 }
 

@@ -20,9 +20,9 @@ use Rattle.import.specs.declared.NewRecord.{NewRecord}
 use Rattle.import.specs.declared.TakenOver.{TakenOver}
 use Rattle.import.specs.declared.TakenOver.the-variants.{Record, Refused as TakeRefused}
 use Rattle.import.specs.Import.{oldRecord, takeOver, bytesOf, newBytes, importRecord, imported}
-use Rattle.moved.specs.Moved.{Moved}
-use Rattle.moved.proofs.Kept.{kept}
-use Rattle.moved.proofs.Written.{in-range, read-back, room-is}
+use Rattle.import_laws.specs.Moved.{Moved}
+use Rattle.import_laws.proofs.Kept.{kept}
+use Rattle.import_laws.proofs.Written.{in-range, read-back, room-is}
 use Rattle.lines.specs.Lines.{hex}
 use Rattle.lines.proofs.Each.{Each, none, more, append, weaken}
 use Rattle.lines.proofs.Decimal.{IsDigit}

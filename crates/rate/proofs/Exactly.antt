@@ -6,7 +6,7 @@ use native.Mathlib.Omega.{arith}
 use lib.Dec.{T, leb, ltb}
 use lib.Ieee.{Float, binary64, fits}
 use borrow.Author.Tests.{ltb-true, ltb-false, leb-true, leb-false, le-leb}
-use Rattle.rate.specs.declared.Found.the-variants.{Pair, NoPair}
+use Rattle.rate.specs.declared.Pairing.the-variants.{Pair, NoPair}
 use Rattle.rate.specs.Rate.{roundsTo, digitsOf, digitsAt, shiftAt, hasDigits, place, pairAt, rateOf}
 use Rattle.rate.proofs.Search.{First, is-first}
 use Rattle.rate.proofs.Names.{InRange, Names, passes, rounds}

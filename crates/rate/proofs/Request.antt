@@ -8,8 +8,8 @@ use lib.Dec.{T, leb}
 use lib.Ieee.{Float, binary64, round, fits}
 use lib.Ieee.Positive.{positive}
 use borrow.Author.Tests.{leb-true, leb-false, le-leb, lt-leb}
-use Rattle.rate.specs.declared.Found.{Found}
-use Rattle.rate.specs.declared.Found.the-variants.{Pair, NoPair}
+use Rattle.rate.specs.declared.Pairing.{Pairing}
+use Rattle.rate.specs.declared.Pairing.the-variants.{Pair, NoPair}
 use Rattle.rate.specs.Rate.{shiftAt, rateOf}
 use Rattle.rate.specs.Taken.{Quotient, Product, Taken, divided, multiplied}
 use Rattle.rate.proofs.Names.{Names, nearest, names-positive}
@@ -105,7 +105,7 @@ module _ (rate : Float) where
 
     pub only-refused : ((digits e : ℕ) → Quotient rate digits e → ⊥) → ((digits k : ℕ) → Product rate digits k → ⊥) → rateOf rate ≡ NoPair
     only-refused no-quotient no-product = by (rateOf rate) refl where
-      by : (found : Found) → rateOf rate ≡ found → rateOf rate ≡ NoPair
+      by : (found : Pairing) → rateOf rate ≡ found → rateOf rate ≡ NoPair
       by NoPair h = h
       by (Pair digits shift) h = absurd (contradicts (rate-taken digits shift h)) where
         contradicts : Taken rate digits shift → ⊥
@@ -115,6 +115,6 @@ module _ (rate : Float) where
     -- not-a-number, infinities, zeros of either sign and anything negative never get through
     pub never : (T (positive rate) → ⊥) → rateOf rate ≡ NoPair
     never low = by (rateOf rate) refl where
-      by : (found : Found) → rateOf rate ≡ found → rateOf rate ≡ NoPair
+      by : (found : Pairing) → rateOf rate ≡ found → rateOf rate ≡ NoPair
       by NoPair h = h
       by (Pair digits shift) h = absurd (low (names-positive rate digits shift (taken rate held digits shift h)))

@@ -9,8 +9,8 @@ use lib.Pow.{pow-add}
 use lib.Ieee.{Float, binary64, fits, ofBits, round}
 use lib.Ieee.Bits.{ofBits-fits}
 use borrow.Author.Tests.{le-leb}
-use Rattle.rate.specs.declared.Found.{Found}
-use Rattle.rate.specs.declared.Found.the-variants.{Pair, NoPair}
+use Rattle.rate.specs.declared.Pairing.{Pairing}
+use Rattle.rate.specs.declared.Pairing.the-variants.{Pair, NoPair}
 use Rattle.rate.specs.Rate.{shiftAt, rateOf}
 use Rattle.rate.specs.Taken.{Quotient}
 use Rattle.rate.proofs.Power.{ten-pos}
@@ -42,7 +42,7 @@ module _ (rate : Float) (held : T (fits binary64 rate)) where
     named : Names rate digits (9 - e)
     named = quotient-names rate digits e q
 
-    by : (found : Found) → rateOf rate ≡ found → rateOf rate ≡ Pair digits (9 - e)
+    by : (found : Pairing) → rateOf rate ≡ found → rateOf rate ≡ Pair digits (9 - e)
     by NoPair h = absurd (refused rate h digits (9 - e) named)
     by (Pair digits' shift) h =
         let n = taken rate held digits' shift h in

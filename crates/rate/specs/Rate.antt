@@ -4,8 +4,8 @@ use mathlib.Core.Bool.{Bool, cond}
 use lib.IntN.{pos}
 use lib.Dec.{leb, ltb}
 use lib.Ieee.{Float, binary64, div, eq, ofInt}
-use Rattle.rate.specs.declared.Found.{Found}
-use Rattle.rate.specs.declared.Found.the-variants.{Pair, NoPair}
+use Rattle.rate.specs.declared.Pairing.{Pairing}
+use Rattle.rate.specs.declared.Pairing.the-variants.{Pair, NoPair}
 
 -- two whole numbers, each a float exactly, and their quotient, rounded once
 abbrev pub quotient : ℕ → ℕ → Float
@@ -39,13 +39,13 @@ hasDigits rate place = leb (digitsAt rate (shiftAt place)) 9999
 unfoldable pub place : Float → ℕ
 place rate = first (hasDigits rate) 13 0
 
-abbrev pub pairAt : Float → ℕ → Found
+abbrev pub pairAt : Float → ℕ → Pairing
 pairAt rate place = cond (ltb place 13) (Pair (digitsAt rate (shiftAt place)) (shiftAt place)) NoPair
 
-unfoldable pub rateOf : Float → Found
+unfoldable pub rateOf : Float → Pairing
 rateOf rate = pairAt rate (place rate)
 
 -- the number of the answer: taken, or refused for its rate
-abbrev pub foundNumber : Found → ℕ
-foundNumber (Pair digits shift) = 0
-foundNumber NoPair = 10
+abbrev pub pairingNumber : Pairing → ℕ
+pairingNumber (Pair digits shift) = 0
+pairingNumber NoPair = 10

@@ -7,7 +7,7 @@ ghost use Rattle.rate.specs.Rate.{shiftAt, digitsOf, digitsAt, rateOf};
 const LAST: u16 = 9_999;
 
 // Digits and a shift, the paper's s + 9, or that no pair rounds to the rate.
-pub enum Found {
+pub enum Pairing {
     Pair { digits: u16, shift: u8 },
     NoPair,
 }
@@ -60,15 +60,15 @@ fn shift_at(place: u8) -> u8
 }
 
 // The first pair that rounds to the rate.
-pub fn rate_of(rate: f64) -> Found
+pub fn rate_of(rate: f64) -> Pairing
     ensures { λ r. ⌜ r ≡ rateOf rate ⌝ }
 {
     for place in 0..13 {
         let shift = shift_at(place);
         let digits = digits_at(rate, shift);
         if digits <= LAST {
-            return Found::Pair { digits, shift };
+            return Pairing::Pair { digits, shift };
         }
     }
-    Found::NoPair
+    Pairing::NoPair
 }

@@ -11,15 +11,15 @@ use lib.Ieee.{binary64, ofBits, whole, inUnsigned, toUnsigned}
 use lib.Ieee.Bits.{ofBits-fits}
 use Rattle.wire.specs.Wire.{number}
 use Rattle.mta.specs.Mta.{mtaOf}
-use Rattle.rate.specs.declared.Found.the-variants.{NoPair}
+use Rattle.rate.specs.declared.Pairing.the-variants.{NoPair}
 use Rattle.rate.specs.Rate.{rateOf}
 use Rattle.rate.proofs.Request.{never}
 use Rattle.rate.proofs.Settled.{euro}
 use Rattle.import.specs.Import.{oldRecord, takeOver, bytesOf, newBytes, importRecord, importedNumber, imported}
-use Rattle.moved.specs.Causes.{two, eight, float, Cause, not-twenty, in-fields, small-room, no-pair, rank, Numbered, refused}
-use Rattle.moved.proofs.Fields.{Codes, unpaired, clear}
-use Rattle.moved.proofs.Imports.{only-number, taken}
-use Rattle.moved.proofs.Witness as witness
+use Rattle.import_laws.specs.Causes.{two, eight, float, Cause, not-twenty, in-fields, small-room, no-pair, rank, Numbered, refused}
+use Rattle.import_laws.proofs.Fields.{Codes, unpaired, clear}
+use Rattle.import_laws.proofs.Imports.{only-number, taken}
+use Rattle.import_laws.proofs.Witness as witness
 
 -- ---- records: from 0978 or 0840 to 0840; the rate is not-a-number or 0.85, the MTA 0.5 or 12,345
 abbrev zeros : ℕ → List ℕ

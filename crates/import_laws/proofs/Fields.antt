@@ -15,9 +15,9 @@ use Rattle.mta.specs.declared.Mta.{Mta}
 use Rattle.mta.specs.declared.Mta.the-variants.{Amount, NotWhole}
 use Rattle.mta.specs.Mta.{mtaOf, mtaNumber}
 use Rattle.mta.proofs.Whole.{whole-taken, taken-whole}
-use Rattle.rate.specs.declared.Found.{Found}
-use Rattle.rate.specs.declared.Found.the-variants.{Pair, NoPair}
-use Rattle.rate.specs.Rate.{rateOf, foundNumber}
+use Rattle.rate.specs.declared.Pairing.{Pairing}
+use Rattle.rate.specs.declared.Pairing.the-variants.{Pair, NoPair}
+use Rattle.rate.specs.Rate.{rateOf, pairingNumber}
 use Rattle.rate.specs.Taken.{Taken, divided, multiplied}
 use Rattle.rate.proofs.Request.{rate-taken, rate-refused}
 use Rattle.refusal.specs.declared.Refusal.the-variants.{OutOfRange}
@@ -28,15 +28,15 @@ use Rattle.import.specs.declared.OldRecord.{OldRecord}
 use Rattle.import.specs.declared.TakenOver.{TakenOver}
 use Rattle.import.specs.declared.TakenOver.the-variants.{Record, Refused}
 use Rattle.import.specs.Import.{areCurrencies, withMta, withRate, takeOver, takenNumber}
-use Rattle.moved.specs.Causes.{Paired, Whole, FieldCause, from-not-digits, to-not-digits, same-codes, no-pair, not-whole, rank}
-use Rattle.moved.specs.Causes.{Numbered, done, refused, Judged, holds, fails}
+use Rattle.import_laws.specs.Causes.{Paired, Whole, FieldCause, from-not-digits, to-not-digits, same-codes, no-pair, not-whole, rank}
+use Rattle.import_laws.specs.Causes.{Numbered, done, refused, Judged, holds, fails}
 
 -- ---- the two floats
 pub unpaired : (rate : Float) → rateOf rate ≡ NoPair → (digits shift : ℕ) → Taken rate digits shift → ⊥
 unpaired rate h digits shift (divided e is q least) = rate-refused rate h .0 digits e q
 unpaired rate h digits shift (multiplied k is p none least) = rate-refused rate h .1 digits k p
 
-judge-rate : (rate : Float) → T (fits binary64 rate) → (found : Found) → rateOf rate ≡ found → Judged (Paired rate) 10 (foundNumber found)
+judge-rate : (rate : Float) → T (fits binary64 rate) → (found : Pairing) → rateOf rate ≡ found → Judged (Paired rate) 10 (pairingNumber found)
 judge-rate rate held (Pair digits shift) e = holds refl (record { digits = digits; shift = shift; taken = rate-taken rate held digits shift e })
 judge-rate rate held NoPair e = fails refl (λ p. unpaired rate e (p .digits) (p .shift) (p .taken))
 
@@ -55,7 +55,7 @@ judge-mta mta held NotWhole e =
     omega arith)
 
 -- A RATE'S NUMBER IS 0 EXACTLY WHEN SOME PAIR EXISTS, ELSE 10
-pub rate-number : (rate : Float) → T (fits binary64 rate) → Judged (Paired rate) 10 (foundNumber (rateOf rate))
+pub rate-number : (rate : Float) → T (fits binary64 rate) → Judged (Paired rate) 10 (pairingNumber (rateOf rate))
 rate-number rate held = judge-rate rate held (rateOf rate) refl
 
 -- AN MTA'S NUMBER IS 0 EXACTLY WHEN IT IS A WHOLE NUMBER FROM 0 TO MAX, ELSE 11
@@ -134,7 +134,7 @@ module _ (old : OldRecord) (rate-held : T (fits binary64 (old .rate))) (mta-held
     by-mta pair conversion NotWhole (holds e whole) = absurd (omega arith)
     by-mta pair conversion NotWhole (fails e none) = (not-whole refl none, clear 3 (λ l. codes) (λ l. pair) (λ l. absurd (omega arith)))
 
-    by-rate : (found : Found) → Judged (Paired (old .rate)) 10 (foundNumber found) → Ruled old (withRate old found)
+    by-rate : (found : Pairing) → Judged (Paired (old .rate)) 10 (pairingNumber found) → Ruled old (withRate old found)
     by-rate (Pair digits shift) (holds e pair) = by-mta pair _ (mtaOf (old .mta)) (mta-number (old .mta) mta-held)
     by-rate (Pair digits shift) (fails e none) = absurd (omega arith)
     by-rate NoPair (holds e pair) = absurd (omega arith)

@@ -23,8 +23,8 @@ use Rattle.import.specs.declared.TakenOver.{TakenOver}
 use Rattle.import.specs.declared.TakenOver.the-variants.{Record, Refused as TakeRefused}
 use Rattle.import.specs.declared.Imported.the-variants.{Done, Refused as ImportRefused}
 use Rattle.import.specs.Import.{areCurrencies, oldRecord, takeOver, bytesOf, newBytes, inRoom, importRecord, imported}
-use Rattle.moved.specs.Moved.{Moved, Read}
-use Rattle.moved.proofs.Kept.{kept}
+use Rattle.import_laws.specs.Moved.{Moved, Read}
+use Rattle.import_laws.proofs.Kept.{kept}
 
 -- ---- digits and shift of a rate that is taken are in a set-up's ranges
 pub record InRange (digits shift : ℕ) : Type 0 where

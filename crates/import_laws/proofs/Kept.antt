@@ -11,8 +11,8 @@ use Rattle.mta.specs.declared.Mta.{Mta}
 use Rattle.mta.specs.declared.Mta.the-variants.{Amount, NotWhole}
 use Rattle.mta.specs.Mta.{mtaOf}
 use Rattle.mta.proofs.Whole.{taken-whole}
-use Rattle.rate.specs.declared.Found.{Found}
-use Rattle.rate.specs.declared.Found.the-variants.{Pair, NoPair}
+use Rattle.rate.specs.declared.Pairing.{Pairing}
+use Rattle.rate.specs.declared.Pairing.the-variants.{Pair, NoPair}
 use Rattle.rate.specs.Rate.{rateOf}
 use Rattle.rate.proofs.Request.{rate-taken, never}
 use Rattle.refusal.specs.declared.Refusal.{Refusal}
@@ -21,7 +21,7 @@ use Rattle.import.specs.declared.OldRecord.{OldRecord}
 use Rattle.import.specs.declared.NewRecord.{NewRecord}
 use Rattle.import.specs.declared.TakenOver.the-variants.{Record, Refused}
 use Rattle.import.specs.Import.{areCurrencies, withMta, withRate, takeOver}
-use Rattle.moved.specs.Moved.{Moved}
+use Rattle.import_laws.specs.Moved.{Moved}
 
 differ : (refusal : Refusal) (new : NewRecord) → Refused refusal ≡ Record new → ⊥
 differ refusal new e = let z : _≡_ {A = ℕ} 0 1 = cc in omega arith
@@ -40,7 +40,7 @@ module _ (old : OldRecord) (new : NewRecord) (rate-held : T (fits binary64 (old 
       subst (λ (n : NewRecord). Moved old n) is
       (record { codes = codes; from = refl; to = refl; taken = rate-taken (old .rate) rate-held digits shift found; same = whole .0; most = whole .1 })
 
-  by-rate : areCurrencies (old .from) (old .to) ≡ true → (found : Found) → rateOf (old .rate) ≡ found → withRate old found ≡ Record new
+  by-rate : areCurrencies (old .from) (old .to) ≡ true → (found : Pairing) → rateOf (old .rate) ≡ found → withRate old found ≡ Record new
       → Moved old new
   by-rate codes NoPair e h = absurd (differ BadRate new h)
   by-rate codes (Pair digits shift) e h = by-mta digits shift codes e (mtaOf (old .mta)) refl h
@@ -64,4 +64,4 @@ module _ (old : OldRecord) (new : NewRecord) (rate-held : T (fits binary64 (old 
   never-through low h =
       let codes = areCurrencies (old .from) (old .to) in
       through codes
-      (subst (λ (found : Found). cond codes (withRate old found) (Refused OutOfRange) ≡ Record new) (never (old .rate) rate-held low) h)
+      (subst (λ (found : Pairing). cond codes (withRate old found) (Refused OutOfRange) ≡ Record new) (never (old .rate) rate-held low) h)

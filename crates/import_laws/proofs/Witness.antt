@@ -12,8 +12,8 @@ use Rattle.import.specs.declared.NewRecord.{NewRecord}
 use Rattle.import.specs.declared.TakenOver.the-variants.{Record}
 use Rattle.import.specs.declared.Imported.the-variants.{Done}
 use Rattle.import.specs.Import.{oldRecord, takeOver, bytesOf, newBytes, importRecord, imported}
-use Rattle.moved.specs.Moved.{Read}
-use Rattle.moved.proofs.Written.{room-is, read-back}
+use Rattle.import_laws.specs.Moved.{Read}
+use Rattle.import_laws.proofs.Written.{room-is, read-back}
 
 abbrev pub old : List ℕ
 old =

@@ -23,10 +23,10 @@ use Rattle.import.specs.declared.TakenOver.the-variants.{Record, Refused as Tak
 use Rattle.import.specs.declared.Imported.{Imported}
 use Rattle.import.specs.declared.Imported.the-variants.{Done, Refused as ImportRefused}
 use Rattle.import.specs.Import.{oldRecord, takeOver, inRoom, importRecord, importedNumber, imported}
-use Rattle.moved.specs.Moved.{Read}
-use Rattle.moved.specs.Causes.{two, eight, float, rank, Cause, not-twenty, in-fields, small-room, Numbered, done, refused, Becomes}
-use Rattle.moved.proofs.Written.{read-back, refusal-keeps}
-use Rattle.moved.proofs.Fields.{before-room, numberAt, at-place, field-place, only, FieldsOf, FirstOf, Ruled, ruled}
+use Rattle.import_laws.specs.Moved.{Read}
+use Rattle.import_laws.specs.Causes.{two, eight, float, rank, Cause, not-twenty, in-fields, small-room, Numbered, done, refused, Becomes}
+use Rattle.import_laws.proofs.Written.{read-back, refusal-keeps}
+use Rattle.import_laws.proofs.Fields.{before-room, numberAt, at-place, field-place, only, FieldsOf, FirstOf, Ruled, ruled}
 
 -- ---- the bytes
 abbrev fields : List ℕ → OldRecord
