@@ -8,7 +8,7 @@ use lib.ListN.{length}
 use Rattle.wire.specs.Wire.{byte, number}
 use Rattle.wire.proofs.Numbers.{one}
 use Rattle.setup.proofs.Faithful.{Bytes}
-use Rattle.rows.specs.Rows.{Field, Fits, widths, spelled, each, Controls, listed, byteRow, controlsRow}
+use Rattle.rows.specs.Rows.{Fits, widths, spelled, each, Controls, listed, byteRow, controlsRow}
 use Rattle.rows.specs.Offsets.{ControlsOffsets}
 use Rattle.rows.proofs.Spelling.{Stands, stands-whole, stands-fit, whole-spelled, parts, joins, widths-each, spelled-size}
 use Rattle.rows.proofs.Placed.{at-byte, bytes-in}
