@@ -1239,7 +1239,9 @@ static void papers(void)
     draft->bytes[0] = 4;
     expect("version 04 without a tail", "0 1\n");
     draft->bytes[0] = 5;
-    expect("version 05", "0 9\n");
+    expect("version 05 without a tail", "0 1\n");
+    draft->bytes[0] = 6;
+    expect("version 06", "0 9\n");
     begin();
     draft->length--;
     expect("set-up cut short", "0 9\n");

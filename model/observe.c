@@ -1,6 +1,8 @@
 #include "observe.h"
 
 #include <assert.h>
+#include <inttypes.h>
+#include <stdio.h>
 #include <string.h>
 
 #include "bytes.h"
@@ -64,11 +66,12 @@ static void observe_setup(const struct setup *setup, unsigned version)
     if (version < VERSION_SELECTION)
         reached(SETUP_TAKEN + 0);
     else
-        reached(SETUP_TAKEN + 1 + 2 * (version - VERSION_SELECTION) + on
-                + 2 * (setup->cyclics > 0));
-    reached_if(version == VERSION_SYLLABUS, SYLLABUS_TAKEN + setup->syllabus);
-    reached_if(version > VERSION_SYLLABUS,
-               SYLLABUS_TAKEN + 2 + setup->syllabus);
+        reached(SETUP_TAKEN + 1
+                + setup_kind(version, on, setup->cyclics > 0,
+                             is_cpace(setup)));
+    reached_if(version >= VERSION_SYLLABUS,
+               SYLLABUS_TAKEN + 2 * (version - VERSION_SYLLABUS)
+                   + setup->syllabus);
     for (unsigned i = 0; i < setup->cyclics; i++) {
         const struct cyclic *cyclic = &setup->cyclic[i];
         const unsigned place = 7 * i + cyclic->first_day;
@@ -151,16 +154,53 @@ static bool observe_test(const uint8_t *entry, const uint8_t *data)
     return observe_order(type, values, width, masked, value);
 }
 
-static bool ill_formed(const uint8_t *at)
+/* Twelve digits, as text reads them; false if one is none. */
+static bool observe_digits(const uint8_t *at, uint64_t *value)
+{
+    char text[13];
+    int used = 0;
+
+    for (unsigned i = 0; i < 6; i++)
+        snprintf(text + 2 * i, 3, "%02X", at[i]);
+    return sscanf(text, "%12" SCNu64 "%n", value, &used) == 1 && used == 12;
+}
+
+/* Which slot a check type from 80 on means: accumulators 0 to 3, of which it
+ * cannot name the last, counters 4 to 7; none, 8. */
+static unsigned slot_of(uint8_t type)
+{
+    static const uint8_t counters[] = {7, 4, 5, 6};
+    static const uint8_t accumulators[] = {8, 0, 1, 2};
+
+    return (type & 0x40 ? accumulators : counters)[(type & 0x30) / 0x10];
+}
+
+/* An entry that tests a slot, sound but for what it takes from the data. */
+static bool ill_formed_slot(const uint8_t *at)
+{
+    uint64_t block;
+    const unsigned slot = slot_of(at[4 + at[2]]);
+
+    if (slot == 8)
+        return true;
+    return slot < 4 ? at[2] != 6 || !observe_digits(at + 4, &block)
+                    : at[2] != 1;
+}
+
+static bool ill_formed(const struct setup *setup, const uint8_t *at)
 {
     const unsigned blocks = at[0] < 6 ? 0 : (unsigned)at[2] * at[3];
 
-    return at[0] != blocks + 6 || blocks == 0 || at[3] < 2 || at[1] == 0
-        || at[4 + blocks] > 2;
+    if (at[0] != blocks + 6)
+        return true;
+    if (tests_slot(setup, at[4 + blocks]))
+        return at[3] != 1 || ill_formed_slot(at);
+    return blocks == 0 || at[3] < 2 || at[1] == 0 || at[4 + blocks] > 2;
 }
 
 /* At an entry with so many left, itself included. */
-static void observe_move(const uint8_t *at, unsigned left, unsigned move)
+static void observe_move(const struct setup *setup, const uint8_t *at,
+                         unsigned left, unsigned move)
 {
     static const unsigned place[] = {0, 0, 1};
 
@@ -168,12 +208,12 @@ static void observe_move(const uint8_t *at, unsigned left, unsigned move)
     reached_if(move + 1 == left, MOVE_TO_LAST);
     for (unsigned i = 1; i < move; i++) {
         at += 1 + at[0];
-        reached_if(ill_formed(at), UNVISITED_BAD + 0);
+        reached_if(ill_formed(setup, at), UNVISITED_BAD + 0);
     }
 }
 
-static void observe_selected(const uint8_t *at, unsigned left, unsigned visits,
-                             uint8_t untaken)
+static void observe_selected(const struct setup *setup, const uint8_t *at,
+                             unsigned left, unsigned visits, uint8_t untaken)
 {
     if (visits < 3)
         reached(VISITS + visits - 1);
@@ -185,40 +225,80 @@ static void observe_selected(const uint8_t *at, unsigned left, unsigned visits,
     reached_if(untaken > 0x80 && untaken - 0x80u >= left, ACTION_UNTAKEN + 3);
     for (; left > 1; left--) {
         at += 1 + at[0];
-        reached_if(ill_formed(at), UNVISITED_BAD + 1);
+        reached_if(ill_formed(setup, at), UNVISITED_BAD + 1);
     }
 }
 
+/* What a slot is worth in the test; false for refusal 12. */
+static bool observe_value(const struct card *before, const uint8_t *at,
+                          const struct start *start, uint64_t *value)
+{
+    const uint8_t type = at[4 + at[2]];
+    const unsigned slot = slot_of(type);
+    const uint64_t most = slot < 4 ? AMOUNT_MAX : COUNTER_MAX;
+    uint64_t added = type >> 1 & 1;
+
+    if (slot < 4 && added > 0)
+        if (at[1] == 0 || at[1] + 5u > start->length
+            || !observe_digits(start->data + at[1] - 1, &added))
+            return false;
+    *value = slot < 4 ? before->accumulator[slot] : before->counter[slot - 4];
+    *value = added > most - *value ? most : *value + added;
+    return true;
+}
+
+/* An entry that tests a slot; false for refusal 12. */
+static bool observe_slot(const struct card *before, const uint8_t *at,
+                         const struct start *start, bool *positive)
+{
+    const uint8_t type = at[4 + at[2]];
+    uint64_t value, block = at[4];
+
+    if (!observe_value(before, at, start, &value))
+        return false;
+    if (slot_of(type) < 4)
+        observe_digits(at + 4, &block);
+    *positive = type & 1 ? block < value : value < block;
+    return true;
+}
+
 /* Walks the file; the number that it gives, 0 for refusal 12. */
-static uint8_t observe_file(const struct selection *selection,
+static uint8_t observe_file(const struct card *before,
                             const struct start *start)
 {
-    const uint8_t *at = selection->file;
-    unsigned left = selection->entries;
+    const struct setup *setup = &before->setup;
+    const uint8_t *at = setup->selection.file;
+    unsigned left = setup->selection.entries;
 
     if (left == 0)
         return 0;
     observe_data(start->length);
     for (unsigned visits = 1;; visits++) {
-        if (ill_formed(at))
+        if (ill_formed(setup, at))
             return 0;
         const size_t from = at[1] - 1u, width = at[2];
-        if (from + width > start->length)
-            return 0;
-        reached_if(from + width == start->length, DATA_TO_END);
-        const bool positive = observe_test(at, start->data + from);
         const uint8_t *actions = at + 5 + width * at[3];
+        bool positive;
+        if (tests_slot(setup, actions[-1])) {
+            if (!observe_slot(before, at, start, &positive))
+                return 0;
+        } else {
+            if (from + width > start->length)
+                return 0;
+            reached_if(from + width == start->length, DATA_TO_END);
+            positive = observe_test(at, start->data + from);
+        }
         const uint8_t action = actions[!positive];
         if (action == 0x00 || action == 0x80 || action == 0x7F)
             return 0;
         if (action < 0x80) {
-            observe_selected(at, left, visits, actions[positive]);
+            observe_selected(setup, at, left, visits, actions[positive]);
             return action;
         }
         const unsigned move = action & 0x7F;
         if (move >= left)
             return 0;
-        observe_move(at, left, move);
+        observe_move(setup, at, left, move);
         left -= move;
         for (unsigned i = 0; i < move; i++)
             at += 1 + at[0];
@@ -235,8 +315,12 @@ static void observe_start(const struct card *before, const struct card *after,
     const unsigned due = (unsigned)before->due;
     uint8_t number = 0;
 
+    if (is_cpace(setup) && start->data[0] > CONTACTLESS) {
+        assert(refusal == 6);
+        return;
+    }
     if (selects)
-        number = observe_file(&setup->selection, start);
+        number = observe_file(before, start);
     assert((selects && number == 0) == (refusal == 12));
     switch (refusal) {
     case 12:
@@ -389,6 +473,30 @@ static void observe_count(unsigned row, unsigned switches, unsigned value,
     reached_if(!included && exceeds, COUNT_LEFT_OUT + row);
 }
 
+/* Whether a slot, accumulators 0 to 3, counters 4 to 7, is closed to the
+ * transaction. */
+static bool is_closed(const struct setup *setup, const struct transaction *open,
+                      unsigned slot)
+{
+    if (!is_cpace(setup))
+        return false;
+    return (slot < 4 ? setup->accumulator_control[slot]
+                     : setup->counter_control[slot - 4]) & open->cvm;
+}
+
+/* Its switches, less those that the gate takes away. */
+static unsigned switches_of(const struct card *before,
+                            const struct transaction *open, unsigned slot)
+{
+    const struct profile *profile = open->profile;
+    unsigned on = slot < 4 ? profile->accumulator[slot].switches
+                           : profile->counter[slot - 4].switches;
+
+    if (is_closed(&before->setup, open, slot))
+        on &= ACTIVE | INCLUDE_DECLINES;
+    return on;
+}
+
 /* The cyclic amounts are those that are tested. */
 static void observe_checks(const struct card *before,
                            const struct transaction *open,
@@ -408,15 +516,17 @@ static void observe_checks(const struct card *before,
         reached(MTA_KEPT + (open->for_mta.amount == profile->mta));
     for (unsigned i = 0; i < ACCUMULATORS; i++) {
         const struct accumulator_rule *rule = &profile->accumulator[i];
-        observe_limit(i, rule->switches, before->accumulator[i],
-                      open->for_accumulator[i], rule->lower);
-        observe_limit(i + 4, rule->switches, before->accumulator[i],
+        const unsigned on = switches_of(before, open, i);
+        observe_limit(i, on, before->accumulator[i], open->for_accumulator[i],
+                      rule->lower);
+        observe_limit(i + 4, on, before->accumulator[i],
                       open->for_accumulator[i], rule->upper);
     }
     for (unsigned i = 0; i < COUNTERS; i++) {
         const struct counter_rule *rule = &profile->counter[i];
-        observe_count(i, rule->switches, before->counter[i], rule->lower);
-        observe_count(i + 4, rule->switches, before->counter[i], rule->upper);
+        const unsigned on = switches_of(before, open, 4 + i);
+        observe_count(i, on, before->counter[i], rule->lower);
+        observe_count(i + 4, on, before->counter[i], rule->upper);
     }
     for (unsigned i = 0; i < before->setup.cyclics && !open->date_error; i++) {
         const struct cyclic_rule *rule = &profile->cyclic[i];
@@ -455,7 +565,7 @@ static void observe_approval(const struct card *before,
     bool grows = false;
 
     for (unsigned i = 0; i < ACCUMULATORS; i++)
-        if (observe_growth(i, open->profile->accumulator[i].switches,
+        if (observe_growth(i, switches_of(before, open, i),
                            before->accumulator[i], open->for_accumulator[i]))
             grows = true;
     reached_if(open->date_error && grows, ERROR_GROWS + where);
@@ -471,7 +581,7 @@ static void observe_approval(const struct card *before,
                        ERROR_UNCOUNTED + 3 * i + where);
     }
     for (unsigned i = 0; i < COUNTERS; i++) {
-        const unsigned on = open->profile->counter[i].switches;
+        const unsigned on = switches_of(before, open, 4 + i);
         if (!(on & ACTIVE))
             reached(COUNT_UNTOUCHED + i);
         else if (!(on & ALLOW))

@@ -34,6 +34,13 @@
     "1 Fri|1 Sat|1 Sun|1 Mon|1 Tue|1 Wed|1 Thu|"                               \
     "2 Fri|2 Sat|2 Sun|2 Mon|2 Tue|2 Wed|2 Thu"
 
+/* In the order of setup_kind. */
+#define SETUP_KINDS                                                            \
+    "02 off|02 on|03 off|03 on|"                                               \
+    "04 off|04 on|04 off, dated|04 on, dated|"                                 \
+    "05 CPA off|05 CPA on|05 CPA off, dated|05 CPA on, dated|"                 \
+    "05 CPACE off|05 CPACE on|05 CPACE off, dated|05 CPACE on, dated"
+
 /* What has a value and grows by amounts, and its limits. */
 #define SLOTS "1|2|3|4|cyclic 1|cyclic 2"
 #define LIMITS                                                                 \
@@ -43,7 +50,7 @@
 #define REACHED_LIST(X)                                                        \
     X(PAPER_EMPTY, 1, "refusal 9", "paper empty", "")                          \
     X(PAPER_LONG, 1, "refusal 9", "paper over 65,536 bytes", "")               \
-    X(PAPER_VERSION, 2, "refusal 9", "version unknown", "00|above 04")         \
+    X(PAPER_VERSION, 2, "refusal 9", "version unknown", "00|above 05")         \
     X(PAPER_BARE, 1, "refusal 9", "set-up missing: no record at all", "")      \
     X(SETUP_MISSING, 3, "refusal 9",                                           \
       "set-up missing, first record of another kind",                          \
@@ -58,11 +65,14 @@
     X(KIND_NONE, 2, "refusal 9", "no kind (length 0)", "record 0|later")       \
     X(KIND_ZERO, 2, "refusal 9", "kind 0", "record 0|later")                   \
     X(KIND_ABOVE, 2, "refusal 9", "kind above 4", "record 0|later")            \
-    X(START_LENGTH, 2, "refusal 9", "Start's body length, selection off",      \
-      "short|long")                                                            \
-    X(FIRST_LENGTH, 6, "refusal 9", "First's body length",                     \
-      "undated, short|undated, long|undated, 15|"                              \
-      "dated, short|dated, 12|dated, long")                                    \
+    X(START_LENGTH, 6, "refusal 9", "Start's body length",                     \
+      "off, 0|off, above 1|CPACE off, 0|CPACE off, 1|CPACE off, above 2|"      \
+      "CPACE on, 0")                                                           \
+    X(FIRST_LENGTH, 20, "refusal 9", "First's body length",                    \
+      "12: 15|12: 21|12: 24|12: below|12: another|"                            \
+      "15: 12|15: 21|15: 24|15: below|15: another|"                            \
+      "21: 12|21: 15|21: 24|21: below|21: another|"                            \
+      "24: 12|24: 15|24: 21|24: below|24: another")                            \
     X(SECOND_LENGTH, 2, "refusal 9", "Second's body length", "short|long")     \
                                                                                \
     X(BODY_HEAD, 1, "refusal 1", "body under 52 bytes", "")                    \
@@ -81,12 +91,12 @@
     X(BAD_VALUE, 4, "refusal 1", "value of accumulator above MAX", "#1")       \
     X(BAD_NUMBER, 2, "refusal 1", "profile number", "0|above 124")             \
     X(BAD_NUMBER_TWICE, 1, "refusal 1", "profile number twice", "")            \
-    X(BAD_ONLINE, 2, "refusal 1", "Online mask has an unnamed bit",            \
-      "01 to 03|04")                                                           \
-    X(BAD_DECLINE, 2, "refusal 1", "Decline mask has an unnamed bit",          \
-      "01 to 03|04")                                                           \
-    X(BAD_DEFAULT, 2, "refusal 1", "Default mask has an unnamed bit",          \
-      "01 to 03|04")                                                           \
+    X(BAD_ONLINE, 3, "refusal 1", "Online mask has an unnamed bit",            \
+      "01 to 03|04|05")                                                        \
+    X(BAD_DECLINE, 3, "refusal 1", "Decline mask has an unnamed bit",          \
+      "01 to 03|04|05")                                                        \
+    X(BAD_DEFAULT, 3, "refusal 1", "Default mask has an unnamed bit",          \
+      "01 to 03|04|05")                                                        \
     X(BAD_MTA_ON, 1, "refusal 1", "MTA on above 1", "")                        \
     X(BAD_MTA_CURRENCY, 4, "refusal 1", "MTA's currency, digit", "#1")         \
     X(BAD_MTA, 1, "refusal 1", "MTA above MAX", "")                            \
@@ -140,15 +150,21 @@
       "#1")                                                                    \
     X(BAD_LIMITS_AT, 4, "refusal 1", "the fault is in the limits of profile",  \
       "#1")                                                                    \
-    X(TAIL_LONG, 8, "refusal 1", "bytes left over behind the tail, selection", \
-      "02 off|02 on|03 off|03 on|"                                             \
-      "04 off|04 on|04 off, dated|04 on, dated")                               \
+    X(FAMILY_MISSING, 1, "refusal 1", "no family", "")                         \
+    X(BAD_FAMILY, 2, "refusal 1", "family", "2|above")                         \
+    X(FAMILY_SHORT, 2, "refusal 1", "CPACE, the tail ends too early",          \
+      "within the controls|within the switches")                               \
+    X(BAD_CONTROL, 8, "refusal 1", "control above 15",                         \
+      "accumulator 1|2|3|4|counter 1|2|3|4")                                   \
+    X(BAD_CASHBACK, 4, "refusal 1", "cashback check above 1, profile", "#1")   \
+    X(TAIL_LONG, 16, "refusal 1",                                              \
+      "bytes left over behind the tail, selection",                            \
+      SETUP_KINDS)                                                             \
                                                                                \
-    X(SETUP_TAKEN, 9, "set-up", "taken, of version, selection",                \
-      "01|02 off|02 on|03 off|03 on|"                                          \
-      "04 off|04 on|04 off, dated|04 on, dated")                               \
-    X(SYLLABUS_TAKEN, 4, "set-up", "taken, syllabus",                          \
-      "0 in 03|1 in 03|0 in 04|1 in 04")                                       \
+    X(SETUP_TAKEN, 17, "set-up", "taken, of version, selection",               \
+      "01|" SETUP_KINDS)                                                       \
+    X(SYLLABUS_TAKEN, 6, "set-up", "taken, syllabus",                          \
+      "0 in 03|1 in 03|0 in 04|1 in 04|0 in 05|1 in 05")                       \
     X(DAY_TAKEN, 14, "set-up", "taken, days from, cyclic accumulator",         \
       FIRST_DAYS)                                                              \
     X(WEEK_TAKEN, 14, "set-up", "taken, weeks from, cyclic accumulator",       \
@@ -168,6 +184,15 @@
     X(ENTRY_TYPE, 2, "refusal 12", "check type", "3|above")                    \
     X(ENTRY_POSITION, 1, "refusal 12", "P is 0", "")                           \
     X(ENTRY_PAST, 2, "refusal 12", "reaches past the data", "no data|some")    \
+    X(SLOT_BLOCKS, 2, "slot tests", "12: n is not 1", "0|above")               \
+    X(SLOT_NONE, 1, "slot tests", "12: accumulator 0", "")                     \
+    X(SLOT_WIDTH, 4, "slot tests", "12: L",                                    \
+      "accumulator, under 6|accumulator, above|counter, 0|counter, above 1")   \
+    X(SLOT_BLOCK, 1, "slot tests", "12: the block is not of digits", "")       \
+    X(SLOT_POSITION, 1, "slot tests", "12: an amount at P 0", "")              \
+    X(SLOT_PAST, 1, "slot tests", "12: an amount that reaches past the data",  \
+      "")                                                                      \
+    X(SLOT_AMOUNT, 1, "slot tests", "12: an amount that is not of digits", "") \
     X(FAULT_VISITED, 2, "refusal 12", "the fault is in the entry visited",     \
       "first|later")                                                           \
     X(ACTION_00, 2, "refusal 12", "action 00", "positive|negative")            \
@@ -259,7 +284,7 @@
     X(MTA_BROKEN, 1, "First", "MTA on, exceeded", "")                          \
     X(MTA_OVER, 2, "First", "MTA on, exceeded as the amount is over",          \
       "MTA under MAX|MTA is MAX")                                              \
-    X(ADR_SET, 25, "First", "ADR bit set", "#0")                               \
+    X(ADR_SET, 26, "First", "ADR bit set", "#0")                               \
     X(FIRST_AAC_ASKED, 1, "First", "AAC: requested", "")                       \
     X(FIRST_AAC_DECLINE, 2, "First", "AAC, ADR meets Decline",                 \
       "TC requested|ARQC requested")                                           \
@@ -283,9 +308,9 @@
     X(FIRST_ONLINE_DEFAULT, 1, "First",                                        \
       "TC: any other terminal, though ADR meets Default",                      \
       "")                                                                      \
-    X(BY_DECLINE, 25, "First", "AAC by Decline, by one bit alone", "#0")       \
-    X(BY_ONLINE, 25, "First", "ARQC by Online, by one bit alone", "#0")        \
-    X(BY_DEFAULT, 25, "First", "AAC by Default, by one bit alone", "#0")       \
+    X(BY_DECLINE, 26, "First", "AAC by Decline, by one bit alone", "#0")       \
+    X(BY_ONLINE, 26, "First", "ARQC by Online, by one bit alone", "#0")        \
+    X(BY_DEFAULT, 26, "First", "AAC by Default, by one bit alone", "#0")       \
                                                                                \
     X(DATE_IS, 4, "date", "against the last one",                              \
       "before|the same|the next day|later")                                    \
@@ -447,7 +472,7 @@
     X(UNABLE_CSU, 1, "Second", "unable, CSU not zero has no effect", "")       \
     X(UNABLE_AAC_ASKED, 1, "Second", "unable, AAC: requested", "")             \
     X(UNABLE_AAC_DEFAULT, 1, "Second", "unable, AAC: ADR meets Default", "")   \
-    X(UNABLE_BY_DEFAULT, 25, "Second",                                         \
+    X(UNABLE_BY_DEFAULT, 26, "Second",                                         \
       "unable, AAC by Default, by one bit alone",                              \
       "#0")                                                                    \
     X(UNABLE_TC, 1, "Second", "unable, TC", "")                                \
@@ -531,12 +556,40 @@ static inline bool fault(unsigned cause)
     return false;
 }
 
-/* How a First's length is wrong, in a set-up with the date or without. */
-static inline unsigned bad_first(size_t length, bool dated)
+/* Which kind of set-up this is: versions 02 and 03 with selection off or on,
+ * version 04 with that and dated or not, version 05 with all that, and CPA or
+ * CPACE. */
+static inline unsigned setup_kind(unsigned version, bool on, bool dated,
+                                  bool cpace)
 {
-    if (dated)
-        return length == 12 ? 4 : length < 15 ? 3 : 5;
-    return length == 15 ? 2 : length > 12;
+    const unsigned from = version < 5 ? 2 * (version - 2) : 8;
+
+    return from + on + 2 * dated + 4 * cpace;
+}
+
+/* How a Start's length is wrong. */
+static inline unsigned bad_start(size_t length, bool on, bool cpace)
+{
+    if (on)
+        return 5;
+    if (cpace)
+        return length > 1 ? 4 : 2 + (unsigned)length;
+    return length > 0;
+}
+
+/* How a First's length is wrong: that of another set-up, below or above. */
+static inline unsigned bad_first(size_t length, bool dated, bool cpace)
+{
+    static const uint8_t lengths[] = {12, 15, 21, 24};
+    const unsigned right = dated + 2u * cpace;
+    unsigned other = 0;
+
+    for (unsigned i = 0; i < 4; i++) {
+        if (length == lengths[i])
+            return 5 * right + other;
+        other += i != right;
+    }
+    return 5 * right + 3 + (length > lengths[right]);
 }
 
 /* How three bytes that are no day fail, in the order of NOT_DAYS. */
