@@ -835,6 +835,46 @@ static void cyclic_sittings(void)
            "11 9\n");
 }
 
+/* Request Thirteen's sittings of examples/. */
+static void cpace_sittings(void)
+{
+    cpace_sitting();
+    expect("CPACE",
+           "0 0\n"
+           "1 0 1\n"
+           "2 0 80 1 " IAD("A030000000", "000000000000", "0000")
+           "3 0 00 1 " IAD("2230000100", "000000000000", "0000")
+           "4 0 2\n"
+           "5 0 40 2 " IAD("9231000000", "000000000000", "0100")
+           "6 0 3\n"
+           "7 0 80 3 " IAD("A231200000", "000000000000", "0100")
+           "8 0 40 3 " IAD("6231200100", "000000006000", "0100")
+           "9 0 4\n"
+           "10 0 00 4 " IAD("8231300000", "000000006000", "0100")
+           "11 0 5\n"
+           "12 0 80 5 " IAD("A231200000", "000000006000", "0100")
+           "13 0 40 5 " IAD("6031200000", "000000006000", "0200")
+           "14 6\n");
+    interface_selection();
+    expect("interface and selection",
+           "0 0\n"
+           "1 0 1 1\n"
+           "2 0 40 1 " IAD("9030000000", "000000000600", "0100")
+           "3 0 2 3\n"
+           "4 0 40 2 " IAD("9030000000", "000000001000", "0200")
+           "5 0 3 2\n"
+           "6 0 40 3 0FA501903000000000000000100002000F02" ZEROS "\n"
+           "7 0 4 1\n"
+           "8 0 40 4 " IAD("9030000000", "000000001001", "0300")
+           "9 0 5 1\n"
+           "10 0 40 5 " IAD("9030000000", "000000001002", "0400")
+           "11 0 6 2\n"
+           "12 12\n"
+           "13 12\n"
+           "14 6\n"
+           "15 9\n");
+}
+
 /* CPA Annex I: what one purchase makes of the first cyclic accumulator. Profile
  * 2 declines above what it is to be, profile 3 above one less. */
 struct annex {
@@ -1311,6 +1351,7 @@ int main(void)
     over();
     counters();
     cyclic_sittings();
+    cpace_sittings();
     annex_i();
     cycles();
     no_days();
