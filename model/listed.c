@@ -1091,4 +1091,5 @@ void listed_papers(uint64_t seed, void (*then)(struct draft *draft))
     listed_cycles();
     listed_dates();
     listed_bounds();
+    listed_cpace();
 }
