@@ -243,6 +243,8 @@ static bool observe_value(const struct card *before, const uint8_t *at,
             || !observe_digits(start->data + at[1] - 1, &added))
             return false;
     *value = slot < 4 ? before->accumulator[slot] : before->counter[slot - 4];
+    reached_if(added > most - *value,
+               SLOT_STOPPED + (slot < 4 ? slot : slot - 1));
     *value = added > most - *value ? most : *value + added;
     return true;
 }
@@ -251,13 +253,30 @@ static bool observe_value(const struct card *before, const uint8_t *at,
 static bool observe_slot(const struct card *before, const uint8_t *at,
                          const struct start *start, bool *positive)
 {
+    static const unsigned rows[] = {SLOT_LESS, SLOT_GREATER, SLOT_SUM_LESS,
+                                    SLOT_SUM_GREATER};
     const uint8_t type = at[4 + at[2]];
+    const unsigned slot = slot_of(type);
+    const unsigned place = slot < 4 ? slot : slot - 1; /* 4 has no name */
+    const size_t position = at[1], end = position + at[2] - 1u;
+    const bool reads = slot < 4 && type & 2;
     uint64_t value, block = at[4];
 
     if (!observe_value(before, at, start, &value))
         return false;
-    if (slot_of(type) < 4)
+    if (slot < 4)
         observe_digits(at + 4, &block);
+    reached(rows[type & 3] + 3 * place
+            + (value < block ? 0 : 1 + (value > block)));
+    reached_if(type & 0x0C, SLOT_UNASKED + (type >> 2 & 3u) - 1);
+    if (reads) {
+        reached_if(end == start->length, SLOT_TO_END);
+        reached_if(position == 1, SLOT_INTERFACE);
+    } else {
+        reached_if(position == 0, SLOT_P + (slot < 4 ? 0 : 2));
+        reached_if(position > 0 && end > start->length,
+                   SLOT_P + (slot < 4 ? 1 : 3));
+    }
     *positive = type & 1 ? block < value : value < block;
     return true;
 }
@@ -286,6 +305,8 @@ static uint8_t observe_file(const struct card *before,
             if (from + width > start->length)
                 return 0;
             reached_if(from + width == start->length, DATA_TO_END);
+            reached_if(is_cpace(setup) && from == 0,
+                       INTERFACE_READ + start->data[0]);
             positive = observe_test(at, start->data + from);
         }
         const uint8_t action = actions[!positive];
@@ -305,6 +326,40 @@ static uint8_t observe_file(const struct card *before,
     }
 }
 
+static bool has_profile(const struct setup *setup, uint8_t number)
+{
+    for (unsigned i = 0; i < setup->profiles; i++)
+        if (setup->profile[i].number == number)
+            return true;
+    return false;
+}
+
+/* An interface that is none, and what a card would say that did not look at
+ * it; of that nothing is counted. */
+static void observe_interface(const struct card *before,
+                              const struct start *start)
+{
+    static uint64_t counts[REACHED_ALL];
+    const struct setup *setup = &before->setup;
+    const bool selects = setup->selection.on;
+    uint8_t number = selects ? 0 : start->data[1];
+
+    reached(START_REFUSED_6 + (start->data[0] > 2));
+    reached_if(before->due != NOTHING_DUE,
+               START_REFUSED_6_OPEN + (unsigned)before->due - 1);
+    if (selects) {
+        memcpy(counts, reached_count, sizeof counts);
+        number = observe_file(before, start);
+        memcpy(reached_count, counts, sizeof counts);
+    }
+    if (selects && number == 0)
+        reached(START_REFUSED_6_OF + 0);
+    else if (!has_profile(setup, number))
+        reached(START_REFUSED_6_OF + 1);
+    else
+        reached_if(before->atc == ATC_MAX, START_REFUSED_6_OF + 2);
+}
+
 static void observe_start(const struct card *before, const struct card *after,
                           const struct start *start, unsigned refusal)
 {
@@ -317,6 +372,7 @@ static void observe_start(const struct card *before, const struct card *after,
 
     if (is_cpace(setup) && start->data[0] > CONTACTLESS) {
         assert(refusal == 6);
+        observe_interface(before, start);
         return;
     }
     if (selects)
@@ -340,6 +396,8 @@ static void observe_start(const struct card *before, const struct card *after,
         break;
     default:
         reached(START_DONE + due);
+        reached_if(is_cpace(setup),
+                   START_INTERFACE + start->data[0] + 2 * selects);
         reached(START_PROFILE
                 + (unsigned)(after->open.profile - after->setup.profile));
         reached_if(after->atc == ATC_MAX, START_LAST);
@@ -497,6 +555,157 @@ static unsigned switches_of(const struct card *before,
     return on;
 }
 
+static bool all_closed(const struct setup *setup,
+                       const struct transaction *open)
+{
+    bool all = true;
+
+    for (unsigned slot = 0; slot < 8; slot++)
+        all = all && is_closed(setup, open, slot);
+    return all;
+}
+
+/* What a closed slot's tests leave out, and what they do not. */
+static void observe_closed_tests(const struct card *before,
+                                 const struct transaction *open)
+{
+    for (unsigned i = 0; i < ACCUMULATORS; i++) {
+        const struct accumulator_rule *rule = &open->profile->accumulator[i];
+        const struct converted added = open->for_accumulator[i];
+        const uint64_t value = before->accumulator[i];
+        const uint64_t limits[] = {rule->lower, rule->upper};
+        if (!is_closed(&before->setup, open, i) || !(rule->switches & ACTIVE))
+            continue;
+        for (unsigned j = 0; j < 2; j++) {
+            const unsigned row = 4 * j + i;
+            const bool included = rule->switches & INCLUDE
+                && value <= limits[j];
+            reached_if(value > limits[j], GATE_VALUE + row);
+            reached_if(included && added.how == OVER, GATE_OVER + row);
+            reached_if(included && added.how == CONVERTED
+                       && value + added.amount > limits[j], GATE_SUM + row);
+        }
+    }
+    for (unsigned i = 0; i < COUNTERS; i++) {
+        const struct counter_rule *rule = &open->profile->counter[i];
+        const unsigned value = before->counter[i];
+        const unsigned limits[] = {rule->lower, rule->upper};
+        if (!is_closed(&before->setup, open, 4 + i)
+            || !(rule->switches & ACTIVE))
+            continue;
+        for (unsigned j = 0; j < 2; j++) {
+            const unsigned row = 8 + 4 * j + i;
+            reached_if(value > limits[j], GATE_VALUE + row);
+            reached_if(rule->switches & INCLUDE && value == limits[j],
+                       GATE_SUM + row);
+        }
+    }
+    reached_if(all_closed(&before->setup, open) && open->adr & MTA_EXCEEDED,
+               GATE_MTA);
+}
+
+/* Slots that do not take an approval or order 11 up as they are closed, and
+ * cyclic accumulators that do all the same. */
+static void observe_closed_growth(const struct card *before,
+                                  const struct transaction *open,
+                                  unsigned where)
+{
+    for (unsigned i = 0; i < 8; i++) {
+        const unsigned on = i < 4 ? open->profile->accumulator[i].switches
+                                  : open->profile->counter[i - 4].switches;
+        const struct converted one = {CONVERTED, 1};
+        const struct converted added = i < 4 ? open->for_accumulator[i] : one;
+        const bool full = i < 4 ? before->accumulator[i] == AMOUNT_MAX
+                                : before->counter[i - 4] == COUNTER_MAX;
+        if (!is_closed(&before->setup, open, i))
+            continue;
+        reached_if(counts_approvals((uint8_t)on) && !full
+                   && (added.how == OVER
+                       || (added.how == CONVERTED && added.amount > 0)),
+                   GATE_ADDS + 3 * i + where);
+    }
+    for (unsigned i = 0; i < before->setup.cyclics; i++)
+        reached_if(all_closed(&before->setup, open) && !open->date_error
+                   && counts_approvals(open->profile->cyclic[i].switches)
+                   && open->for_cyclic[i].how == CONVERTED
+                   && open->for_cyclic[i].amount > 0,
+                   GATE_CYCLIC + 2 * i + 1);
+}
+
+/* The CVM of the results, as C.80 lists them, and the slots that it meets. */
+static void observe_cvm(const struct card *before,
+                        const struct transaction *open,
+                        const struct first *first)
+{
+    const uint8_t *results = first->cvm_results;
+    const unsigned low = results[0] % 0x40u;
+    const bool done = results[2] == 0;
+    const bool pin = low == 0x02, signature = low == 0x1E;
+    const unsigned is = done && pin ? 2 : done && signature ? 1 : 0;
+
+    assert(open->cvm == 1u << is);
+    if (is > 0) {
+        const unsigned row = CVM_UNASKED + (is == 2 ? 0 : 3);
+        reached(CVM_IS + (is == 1));
+        reached_if(results[0] & 0x80, row + 0);
+        reached_if(results[0] & 0x40, row + 1);
+        reached_if(results[1] > 0, row + 2);
+    } else if (pin || signature) {
+        reached(CVM_IS + 3 + signature);
+    } else if (low == 0x01 || (low >= 0x03 && low <= 0x05)) {
+        reached(CVM_IS + 5); /* by the terminal's word */
+    } else if (low == 0x22 || low == 0x3E) {
+        reached(CVM_IS + 6);
+    } else {
+        reached(CVM_IS + (low == 0x1F ? 2 : 7));
+    }
+    for (unsigned i = 0; i < 8; i++) {
+        const unsigned control = i < 4
+            ? before->setup.accumulator_control[i]
+            : before->setup.counter_control[i - 4];
+        const unsigned on = i < 4 ? open->profile->accumulator[i].switches
+                                  : open->profile->counter[i - 4].switches;
+        if (!(on & ACTIVE))
+            continue;
+        if (control >> is & 1)
+            reached(GATE_CLOSED + 3 * i + is);
+        else
+            reached_if(control & 7, GATE_OPEN + i);
+        reached_if(control == 8, GATE_OFFLINE + i);
+    }
+}
+
+static void observe_cashback(const struct transaction *open,
+                             const struct first *first, unsigned gives)
+{
+    const uint8_t *bytes = first->cashback;
+    unsigned some = 0;
+    bool digits = true;
+
+    for (unsigned i = 0; i < 6; i++) {
+        some += bytes[i] > 0;
+        digits = digits && bytes[i] % 16 < 10 && bytes[i] < 0xA0;
+    }
+    assert(!(open->adr & CASHBACK)
+           == (some == 0 || !open->profile->cashback_check));
+    if (!open->profile->cashback_check) {
+        reached_if(some > 0, CASHBACK_UNCHECKED);
+        return;
+    }
+    if (some == 0) {
+        reached(CASHBACK_IS + 0);
+        return;
+    }
+    if (some == 1)
+        reached(CASHBACK_IS + (bytes[5] > 0 ? 1 : bytes[0] > 0 ? 2 : 3));
+    else
+        reached(CASHBACK_IS + 4);
+    reached_if(!digits, CASHBACK_IS + 5);
+    reached_if(bytes[0] & 0x80, CASHBACK_IS + 6);
+    reached(CASHBACK_GIVES + gives);
+    reached_if(open->date_error, CASHBACK_ERROR);
+}
+
 /* The cyclic amounts are those that are tested. */
 static void observe_checks(const struct card *before,
                            const struct transaction *open,
@@ -504,6 +713,7 @@ static void observe_checks(const struct card *before,
 {
     const struct profile *profile = open->profile;
 
+    observe_closed_tests(before, open);
     if (!profile->mta_on)
         reached(MTA_IS_OFF);
     else if (open->for_mta.how == NO_ENTRY)
@@ -532,6 +742,9 @@ static void observe_checks(const struct card *before,
         const struct cyclic_rule *rule = &profile->cyclic[i];
         observe_limit(8 + i, rule->switches, cyclic[i], open->for_cyclic[i],
                       rule->limit);
+        reached_if(all_closed(&before->setup, open) && cyclic[i] <= rule->limit
+                   && open->adr & (uint32_t)CYCLIC_LIMIT << i,
+                   GATE_CYCLIC + 2 * i);
     }
 }
 
@@ -564,6 +777,7 @@ static void observe_approval(const struct card *before,
 {
     bool grows = false;
 
+    observe_closed_growth(before, open, where);
     for (unsigned i = 0; i < ACCUMULATORS; i++)
         if (observe_growth(i, switches_of(before, open, i),
                            before->accumulator[i], open->for_accumulator[i]))
@@ -622,6 +836,8 @@ static void observe_decline(const struct card *before,
             reached(DECLINE_STOPPED + row);
         } else {
             reached(DECLINE_ADDED + row);
+            reached_if(is_closed(&before->setup, open, 4 + i),
+                       GATE_DECLINES + row);
             reached_if(value == COUNTER_MAX - 1, DECLINE_TO_255 + row);
             reached_if(!second && value == rule->lower
                        && !(open->adr & COUNTERS_LOWER), DECLINE_PASSES + 0);
@@ -656,15 +872,25 @@ static void observe_update(const struct card *before,
         const bool active = profile->accumulator[i].switches & ACTIVE;
         const uint64_t value = before->accumulator[i];
         const uint64_t upper = profile->accumulator[i].upper;
+        const bool closed = active && is_closed(&before->setup, open, i);
         if (order == 1 && value != upper)
             reached((active ? ORDER_UPPER : ORDER_UPPER_INACTIVE) + i);
         if (order == 2 && value != 0)
             reached((active ? ORDER_ZERO : ORDER_ZERO_INACTIVE) + i);
+        reached_if(closed && order == 1 && value != upper,
+                   GATE_ORDERED + 2 * i);
+        reached_if(closed && order == 2 && value != 0,
+                   GATE_ORDERED + 2 * i + 1);
     }
     for (unsigned i = 0; i < COUNTERS; i++) {
         const bool active = profile->counter[i].switches & ACTIVE;
         const uint8_t value = before->counter[i];
         const uint8_t upper = profile->counter[i].upper;
+        const bool closed = active && is_closed(&before->setup, open, 4 + i);
+        reached_if(closed && order == 1 && value != upper,
+                   GATE_ORDERED + 8 + 2 * i);
+        reached_if(closed && order == 2 && value != 0,
+                   GATE_ORDERED + 8 + 2 * i + 1);
         if (order == 1 && value != upper)
             reached((active ? ORDER_UPPER_COUNTER
                             : ORDER_UPPER_COUNTER_INACTIVE) + i);
@@ -1005,6 +1231,12 @@ static void observe_first(const struct card *before, const struct card *after,
     for (unsigned i = 0; i < CYCLICS && given != TC; i++)
         assert(after->cyclic[i] == cyclic[i]);
     observe_amount(&before->setup, open->profile, first);
+    if (is_cpace(&before->setup)) {
+        observe_cvm(before, open, first);
+        observe_cashback(open, first, gives(first, given));
+    } else {
+        assert(!(open->adr & CASHBACK));
+    }
     observe_checks(before, open, cyclic);
     observe_decision(open, first, given);
     if (given == AAC)
@@ -1094,6 +1326,7 @@ static void observe_unable(const struct card *before,
     const struct profile *profile = open->profile;
 
     observe_checks(before, open, before->cyclic);
+    reached_if(open->adr & CASHBACK, CASHBACK_UNABLE + (given == AAC));
     reached_if(open->date_error, ERROR_UNABLE + (given == AAC));
     if (given == TC) {
         observe_approval(before, open, before->cyclic, AT_UNABLE);
@@ -1156,8 +1389,12 @@ static void observe_second(const struct card *before, const struct card *after,
     else
         reached_if(given == AAC && counts_any_decline(open->profile),
                    DECLINE_ONLINE + second->issuer_data);
-    if (!is_unable(second->code) && second->issuer_data == ISSUER_VERIFIED)
+    if (!is_unable(second->code) && second->issuer_data == ISSUER_VERIFIED) {
         observe_update(before, open, second->csu[1] & 3);
+        reached_if((second->csu[1] & 3) == 3
+                   && all_closed(&before->setup, open),
+                   GATE_ORDER_11 + (given == TC));
+    }
     if (open->date_error)
         observe_recovery(before, open, second, given);
     assert(after->last.number

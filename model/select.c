@@ -145,7 +145,7 @@ static bool test_data(const struct entry *entry, const struct start *start,
     if (entry->width == 0)
         return fault(ENTRY_WIDTH);
     if (entry->type > GREATER)
-        return fault(ENTRY_TYPE + (entry->type > 3));
+        return fault(ENTRY_TYPE + (entry->type > 3) + (entry->type >= 0x80));
     if (entry->position == 0)
         return fault(ENTRY_POSITION);
     if (!reaches(entry, start))
