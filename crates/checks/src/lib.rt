@@ -1,13 +1,12 @@
 // The tests of document 01, "Start and the checks", and the decision bits (ADR).
 ghost use mathlib.Core.Path.{_≡_};
-ghost use mathlib.Core.Bool.{cond};
+ghost use mathlib.Core.Bool.{cond, _&&_};
 ghost use Prim.Native.Nat.{_+_, _*_, _≤_, _<_};
 ghost use lib.Dec.{ltb};
 ghost use Rattle.money.specs.declared.Converted.the-variants.{NoEntry};
 ghost use Rattle.rules.specs.Rules.{rulesOf, cyclicRule};
-ghost use Rattle.purchase.specs.Meter.{accumulator, counter, ruleOf, worth, cyclicWorth, once};
-ghost use Rattle.checks.specs.Checks.{isIncluded};
-ghost use Rattle.checks.specs.Checks.{bit, packed, limitBits, accumulatorBits, counterBits, cyclicExceeds, datingBits, maximumExceeded, cashbackFound, historyFlags, decisionBits, meetsMask};
+ghost use Rattle.purchase.specs.Meter.{accumulator, counter, ruleOf, worth, cyclicWorth, once, isOpen};
+ghost use Rattle.checks.specs.Checks.{bit, packed, limitBits, accumulatorBits, counterBits, cyclicExceeds, datingBits, maximumExceeded, cashbackFound, historyFlags, decisionBits, meetsMask, isIncluded};
 use money::AccumulatorAmount;
 use money::Converted;
 use purchase::Purchase;
@@ -64,15 +63,19 @@ fn limits_exceeded(lower: u64, upper: u64, value: u64, more: u64) -> u8
     bit(sum_exceeds(lower, value, more)) + bit(sum_exceeds(upper, value, more)) * 16
 }
 
-// What the tests of accumulator i + 1 add to its value: the purchase, where it is included.
+// What the tests of accumulator i + 1 add to its value: the purchase, with "include this transaction"
+// and where the slot takes it up.
 fn included(words: &Words, purchase: Purchase, i: usize, include: bool) -> Converted
-    ensures { λ r. ⌜ r ≡ cond include (worth (rulesOf (now (words .entry))) purchase i) NoEntry ⌝ }
+    ensures { λ r. ⌜ r ≡ cond (isOpen (rulesOf (now (words .entry))) purchase i && include)
+        (worth (rulesOf (now (words .entry))) purchase i) NoEntry ⌝ }
 {
-    if include {
-        purchase::worth(words, purchase, i)
-    } else {
-        Converted::NoEntry
+    if !include {
+        return Converted::NoEntry;
     }
+    if purchase::is_open(words, purchase, i) {
+        return purchase::worth(words, purchase, i);
+    }
+    Converted::NoEntry
 }
 
 // The limits that accumulator i + 1 exceeds: bit 0 the lower, bit 4 the upper. An amount that is
@@ -92,12 +95,22 @@ fn test_accumulator(
     if !rule.active {
         return 0;
     }
-    let include = purchase::is_open(words, purchase, i) & rule.include;
-    match included(words, purchase, i, include) {
+    match included(words, purchase, i, rule.include) {
         Converted::Amount(more) => limits_exceeded(rule.lower.0, rule.upper.0, value.0, more.0),
         Converted::Over => 17,
         Converted::NoEntry => limits_exceeded(rule.lower.0, rule.upper.0, value.0, 0),
     }
+}
+
+// What the tests of counter i + 1 add to its value: 1 for a purchase that is included likewise.
+fn one_included(words: &Words, purchase: Purchase, i: usize, include: bool) -> u8
+    requires { ⌜ i < 4 ⌝ }
+    ensures { λ r. ⌜ (r ≡ bit (isOpen (rulesOf (now (words .entry))) purchase (4 + i) && include)) × (r ≤ 1) ⌝ }
+{
+    if !include {
+        return 0;
+    }
+    bit(purchase::is_open(words, purchase, 4 + i))
 }
 
 // The limits that counter i + 1 exceeds. A purchase adds 1.
@@ -111,8 +124,7 @@ fn test_counter(words: &Words, place: Place, i: usize, value: u8, purchase: Purc
     if !rule.active {
         return 0;
     }
-    let include = purchase::is_open(words, purchase, 4 + i) & rule.include;
-    let sum = value as u16 + bit(include) as u16;
+    let sum = value as u16 + one_included(words, purchase, i, rule.include) as u16;
     bit((rule.lower as u16) < sum) + bit((rule.upper as u16) < sum) * 16
 }
 

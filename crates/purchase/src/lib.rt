@@ -52,10 +52,14 @@ pub fn cyclic_worth(words: &Words, purchase: Purchase, i: usize) -> Converted
 }
 
 // Whether a slot, accumulator i + 1 or from 5 on a counter, takes the purchase up: its control does not
-// close it.
+// close it. A control of 0, as every one of a CPA card, lets all in.
 pub fn is_open(words: &Words, purchase: Purchase, slot: usize) -> bool
     ensures { λ r. ⌜ r ≡ isOpen (rulesOf (now (words .entry))) purchase slot ⌝ }
 {
+    let control = rules::control(words, slot);
+    if control == 0 {
+        return true;
+    }
     let cvm = purchase.cvm;
-    !cpace::closes(rules::control(words, slot), cvm)
+    !cpace::closes(control, cvm)
 }

@@ -17,11 +17,10 @@ unfolding rulesOf
 returns-2 c =
     let told = c .before .before in
     let tested = told .before .before in
-    let opened = tested .before .before in
-    let active = opened .before in
+    let active = tested .before in
     let rule = active .before .before .accumulator-rule in
     let on = not-false (rule .result .active) (active .if1 .left) in (
-      simp (← rule .ensures, on, ← opened .is-open .ensures, exceeds-sum, ← tested .included .ensures, told .more .given .1)
+      simp (← rule .ensures, on, exceeds-sum, ← tested .included .ensures, told .more .given .1)
           (c .limits-exceeded .ensures .0),
       c .limits-exceeded .ensures .1,
     )
@@ -30,11 +29,10 @@ returns-3 : tie.Need-returns-3
 unfolding rulesOf
 returns-3 c =
     let tested = c .before .before in
-    let opened = tested .before .before in
-    let active = opened .before in
+    let active = tested .before in
     let rule = active .before .before .accumulator-rule in
     let on = not-false (rule .result .active) (active .if1 .left) in (
-      simp (← rule .ensures, on, ← opened .is-open .ensures, exceeds-sum, ← tested .included .ensures, c .enum-told .given .1),
+      simp (← rule .ensures, on, exceeds-sum, ← tested .included .ensures, c .enum-told .given .1),
       omega arith,
     )
 
@@ -42,11 +40,10 @@ returns-4 : tie.Need-returns-4
 unfolding rulesOf
 returns-4 c =
     let tested = c .before .before .before in
-    let opened = tested .before .before in
-    let active = opened .before in
+    let active = tested .before in
     let rule = active .before .before .accumulator-rule in
     let on = not-false (rule .result .active) (active .if1 .left) in (
-      simp (← rule .ensures, on, ← opened .is-open .ensures, exceeds-sum, ← tested .included .ensures, c .before .enum-told2 .given .1)
+      simp (← rule .ensures, on, exceeds-sum, ← tested .included .ensures, c .before .enum-told2 .given .1)
           (c .limits-exceeded2 .ensures .0),
       c .limits-exceeded2 .ensures .1,
     )
@@ -55,4 +52,4 @@ pub test-accumulator-spec : {M : Type 1} → statement M
 test-accumulator-spec =
     tie.close
     (tie.spec (search needs) returns (search needs) (search needs) (search needs) (search needs) (search needs)
-    (search needs) (search needs) returns-2 returns-3 returns-4)
+    (search needs) returns-2 returns-3 returns-4)

@@ -15,23 +15,21 @@ returns-2 : tie.Need-returns-2
 returns-2 c =
     let lower = c .before .before in
     let more = lower .before .before in
-    let opened = more .before .before in
-    let active = opened .before in
+    let active = more .before in
     let rule = active .before .before .counter-rule in (
       simp (
-        c .bit3 .ensures .0,
-        lower .bit2 .ensures .0,
-        more .bit .ensures .0,
+        c .bit2 .ensures .0,
+        lower .bit .ensures .0,
+        more .one-included .ensures .0,
         ← rule .ensures,
         not-false (rule .result .active) (active .if1 .left),
-        ← opened .is-open .ensures,
         exceeds-once,
       ),
-      omega (arith, c .bit3 .ensures .1, lower .bit2 .ensures .1),
+      omega (arith, c .bit2 .ensures .1, lower .bit .ensures .1),
     )
 
 pub test-counter-spec : {M : Type 1} → statement M
 test-counter-spec =
     tie.close
     (tie.spec (search needs) returns (search needs) (search needs) (search needs) (search needs) (search needs)
-    (search needs) (search needs) (search needs) (search needs) (search needs) (search needs) returns-2)
+    (search needs) (search needs) (search needs) (search needs) returns-2)
