@@ -57,7 +57,7 @@ abbrev pub readBy : Manner → ℕ → List ℕ → ReadCommand
 readBy manner kind body = readAs (manner .choice) (manner .dates) (manner .family) kind body
 
 -- a Start aside, a record is read alike however profiles are chosen
-not-start : (manner : Manner) (kind : ℕ) (body : List ℕ) → (kind ≡ 2 → ⊥)
+pub not-start : (manner : Manner) (kind : ℕ) (body : List ℕ) → (kind ≡ 2 → ⊥)
     → readBy manner kind body ≡ commandOf (datingOf (manner .dates)) (familyOf (manner .family)) kind body
 unfolding selectingOf
 not-start manner kind body n = by (manner .choice) where
@@ -117,7 +117,7 @@ module _ (a b c d : ℕ) where
       (big-at s 12 1 (date .year) _ refl (h .0), big-at s 13 1 (date .month) _ refl (h .1), big-at s 14 1 (date .day) behind refl (h .2))
 
 -- and what is presented behind them
-abbrev Shows : List ℕ → (at r1 r2 r3 cashback : ℕ) → Type 0
+abbrev pub Shows : List ℕ → (at r1 r2 r3 cashback : ℕ) → Type 0
 Shows s at r1 r2 r3 cashback =
     (number s at 1 ≡ r1) × (number s (at + 1) 1 ≡ r2) × (number s (at + 2) 1 ≡ r3) × (number s (at + 3) 6 ≡ cashback)
 
@@ -132,14 +132,14 @@ module _ (s : List ℕ) (at r1 r2 r3 cashback : ℕ) where
         big-at s (at + 3) 6 cashback [] (past 3) (h .3),
       )
 
-  cvm-read : Shows s at r1 r2 r3 cashback → cvmAt s at ≡ cvmOf (shown r1 r2 r3 cashback)
+  pub cvm-read : Shows s at r1 r2 r3 cashback → cvmAt s at ≡ cvmOf (shown r1 r2 r3 cashback)
   unfolding cvmAt
   cvm-read r = rw (as-byte s at r1 (r .0), as-byte s (at + 2) r3 (r .2)) (by (eqb r3 0)) where
     by : (b : Bool) → cond b (methodOf r1) NoCvm ≡ cond (b && eqb (r1 % 64) 0x02) OnlinePin (cond (b && eqb (r1 % 64) 0x1E) Signature NoCvm)
     by true = refl
     by false = refl
 
-  cashback-read : Shows s at r1 r2 r3 cashback → cashbackAt s (at + 3) ≡ cashbackOf (shown r1 r2 r3 cashback)
+  pub cashback-read : Shows s at r1 r2 r3 cashback → cashbackAt s (at + 3) ≡ cashbackOf (shown r1 r2 r3 cashback)
   unfolding cashbackAt
   cashback-read r = rw (r .3) (by cashback) where
     by : (n : ℕ) → not (eqb n 0) ≡ cashbackOf (shown r1 r2 r3 n)
@@ -490,7 +490,7 @@ start-asked : (family : CardFamily) → C.startLength (familyOf family) ≡ star
 start-asked cpa = refl
 start-asked cpace = refl
 
-first-asked : (dates : Dates) (family : CardFamily) → C.firstLength (datingOf dates) (familyOf family) ≡ firstLength dates family
+pub first-asked : (dates : Dates) (family : CardFamily) → C.firstLength (datingOf dates) (familyOf family) ≡ firstLength dates family
 first-asked undated cpa = refl
 first-asked undated cpace = refl
 first-asked dated cpa = refl

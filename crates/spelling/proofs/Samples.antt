@@ -11,6 +11,7 @@ use Rattle.calendar.specs.Calendar.{dateAt}
 use Rattle.cpace.specs.declared.Cvm.{Cvm}
 use Rattle.cpace.specs.declared.Cvm.the-variants.{OnlinePin, Signature, NoCvm}
 use Rattle.cpace.specs.Cpace.{cvmAt, cashbackAt}
+use Rattle.rules.specs.Word.{wordCount}
 use Rattle.setup.specs.Setup.{rulesIn, freshIn}
 use Rattle.entry.specs.Entry.{isWellFormed, reachesPast, block, masked, isAnyOf, passes, actionOf, actionTaken}
 use Rattle.selection.specs.declared.Selection.{Selection}
@@ -145,7 +146,7 @@ isFour Other number refusal atc visits = false
 
 -- `every-paper`: the lines of papers with blank words. The printed set-up and a Start
 abbrev blank : List ℕ
-blank = replicate 198 0
+blank = replicate wordCount 0
 
 abbrev started : List (List ℕ)
 started = sittingLines blank (paperOf 1 body (spell (names unsaid 1)))
