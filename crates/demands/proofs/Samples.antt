@@ -147,7 +147,7 @@ writes n = not (isSetup (sending n .bytes) (sending n .unnamed)) || canWrite (ne
 
 abbrev areSetups : List Setup → Bool
 areSetups [] = true
-areSetups (setup ∷ setups) = isAccepted (setup .bytes) (setup .tail) (setup .unnamed) && areSetups setups
+areSetups (setup ∷ setups) = isAccepted (setup .bytes) (setup .tail) (setup .family) (setup .unnamed) && areSetups setups
 
 pub record Samples : Type 0 where
   pub accepted : T (areSetups (counting ∷ limiting 1 0x07 0xD0 ∷ limiting 1 0x17 0x70 ∷ limiting 5 0x17 0x70 ∷ defaulting ∷ full ∷ sending 124 ∷ []))

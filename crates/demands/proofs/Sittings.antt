@@ -1,7 +1,10 @@
 -- Set-ups and commands of a few sittings, for the rows of Samples and the premises of Witness. Assumes nothing.
+use mathlib.Core.Bool.{Bool, false}
 use mathlib.Core.List.{List, [], _∷_, _++_}
 use Prim.Native.Nat.{ℕ, _*_, _^_}
 use lib.ListN.{replicate}
+use Rattle.cpace.specs.declared.Cvm.{Cvm}
+use Rattle.cpace.specs.declared.Cvm.the-variants.{NoCvm}
 use Rattle.selection.specs.declared.Selection.the-variants.{Selected}
 use Rattle.command.specs.declared.When.{When}
 use Rattle.command.specs.declared.When.the-variants.{Undated, On}
@@ -16,7 +19,7 @@ zeros n = replicate n 0
 
 -- of version 01
 abbrev pub setupOf : List ℕ → Setup
-setupOf body = record { bytes = body; tail = []; syllabus = 0; unnamed = 2 ^ 22 }
+setupOf body = record { bytes = body; tail = []; family = []; syllabus = 0; unnamed = 2 ^ 22 }
 
 -- p profiles, c conversions, ATC 0; accumulators in 0978 from a number below 65536, in 0840 from 0, in 0978 from 7
 abbrev pub head : (p c high low : ℕ) → List ℕ
@@ -85,6 +88,7 @@ datedOf month day cycles rules =
     record {
       bytes = head 2 0 0 0 ++ datedProfile 1 ++ datedProfile 2;
       tail = 1 ∷ 0x00 ∷ month ∷ day ∷ cycles ++ rules;
+      family = [];
       syllabus = 0;
       unnamed = 2 ^ 25;
     }
@@ -105,12 +109,23 @@ weekly =
 -- ---- sittings
 
 abbrev pub start : ℕ → Command
-start n = StartCommand (record { chosen = Selected n 0 })
+start n = StartCommand (record { interface = 0; chosen = Selected n 0 })
 
 -- requested 0 AAC, 1 TC, 2 ARQC
+abbrev pub firstBy : Cvm → (cashback : Bool) → When → (amount currency requested : ℕ) → Command
+firstBy cvm cashback when amount currency requested =
+    FirstCommand (record {
+      amount = record { 0 = amount };
+      currency = currency;
+      requested = requested;
+      terminal = 0x22;
+      when = when;
+      cvm = cvm;
+      cashback = cashback;
+    })
+
 abbrev pub firstOn : When → (amount currency requested : ℕ) → Command
-firstOn when amount currency requested =
-    FirstCommand (record { amount = record { 0 = amount }; currency = currency; requested = requested; terminal = 0x22; when = when })
+firstOn when amount currency requested = firstBy NoCvm false when amount currency requested
 
 abbrev pub first : (amount currency requested : ℕ) → Command
 first amount currency requested = firstOn Undated amount currency requested

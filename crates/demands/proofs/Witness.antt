@@ -9,10 +9,10 @@ use borrow.Author.Tests.{ltb-true}
 use lib.Dec.{ltb}
 use Rattle.wire.specs.Wire.{byte}
 use Rattle.command.specs.declared.Command.{Command}
-use Rattle.demands.specs.Setup.{Setup, AcceptedSetup}
+use Rattle.demands.specs.Setup.{Setup, IsCpa, AcceptedSetup}
 use Rattle.purchase.specs.Meter.{Meter, accumulator, cyclic, valueOf}
 use Rattle.demands.specs.Conversation.{told, sat, next}
-use Rattle.demands.specs.Audit.{upperOf, takesUp, bought, inForce, placeBy, approves}
+use Rattle.demands.specs.Audit.{upperOf, takesPart, bought, inForce, placeBy, approves}
 use Rattle.demands.specs.Guards.{Guards}
 use Rattle.demands.specs.Printed.{body, start, first, second, commands, linesOf, lines}
 use Rattle.demands.proofs.Computed.{computed}
@@ -35,23 +35,32 @@ bytes-of (b ∷ s) e (suc i) = bytes-of s (right (ltb b 256) (areBytes s) e) i w
 
 -- of version 01
 abbrev pub setup : Setup
-setup = record { bytes = body; tail = []; syllabus = 0; unnamed = 2 ^ 22 }
+setup = record { bytes = body; tail = []; family = []; syllabus = 0; unnamed = 2 ^ 22 }
 
 pub good : AcceptedSetup setup
 unfolding body computed
-good = record { bytes = record { below = bytes-of body refl }; tail-bytes = record { below = bytes-of [] refl }; taken = refl; tail-taken = refl }
+good =
+    record {
+      bytes = record { below = bytes-of body refl };
+      tail-bytes = record { below = bytes-of [] refl };
+      family-bytes = record { below = bytes-of [] refl };
+      taken = refl;
+      tail-taken = refl;
+      family-taken = refl;
+    }
 
 -- THE PRINTED SITTING
 pub printed : linesOf (sat setup commands .log) ≡ lines
 unfolding body commands lines computed
 printed = refl
 
--- an approval happens: the answer approves a purchase that the meter takes up, the value is what it is after it, and the profile guards the
+-- an approval happens on a CPA card: the answer approves a purchase in which the meter takes part, the value is what it is after it, and the profile guards the
 -- meter against its upper limit
 pub record Approval (setup : Setup) (meter : Meter) (before : List Command) (command : Command) (value upper : ℕ) : Type 0 where
+  pub cpa : IsCpa setup
   pub guards : Guards (inForce setup (sat setup before .log)) (placeBy setup (sat setup before .log)) meter
   pub approves-it : approves command (next setup before command .answer) ≡ true
-  pub takes-it-up : takesUp (bought setup (told (sat setup before) command .log)) meter ≡ true
+  pub takes-part : takesPart (bought setup (told (sat setup before) command .log)) meter ≡ true
   pub value-is : valueOf (next setup before command .state .values) meter ≡ value
   pub upper-is : upperOf (inForce setup (sat setup before .log)) (placeBy setup (sat setup before .log)) meter ≡ upper
 
@@ -60,9 +69,10 @@ pub at-first : Approval setup (accumulator 0) (start ∷ []) (first 5000) 5000 1
 unfolding body computed
 at-first =
     record {
+      cpa = refl;
       guards = record { active = refl; included = refl; decline = refl; default = refl };
       approves-it = refl;
-      takes-it-up = refl;
+      takes-part = refl;
       value-is = refl;
       upper-is = refl;
     }
@@ -71,9 +81,10 @@ pub at-second : Approval setup (accumulator 0) (start ∷ first 5000 ∷ start �
 unfolding body computed
 at-second =
     record {
+      cpa = refl;
       guards = record { active = refl; included = refl; decline = refl; default = refl };
       approves-it = refl;
-      takes-it-up = refl;
+      takes-part = refl;
       value-is = refl;
       upper-is = refl;
     }
@@ -88,17 +99,20 @@ dated-good =
     record {
       bytes = record { below = bytes-of (dated-setup .bytes) refl };
       tail-bytes = record { below = bytes-of (dated-setup .tail) refl };
+      family-bytes = record { below = bytes-of [] refl };
       taken = refl;
       tail-taken = refl;
+      family-taken = refl;
     }
 
 pub in-a-cycle : Approval dated-setup (cyclic 0) (start ∷ []) (firstOn (onDay 0x00 0x07 0x16) 900 0x0978 1) 900 1000
 unfolding spending computed
 in-a-cycle =
     record {
+      cpa = refl;
       guards = record { active = refl; included = refl; decline = refl; default = refl };
       approves-it = refl;
-      takes-it-up = refl;
+      takes-part = refl;
       value-is = refl;
       upper-is = refl;
     }

@@ -25,10 +25,10 @@ use Rattle.readback.specs.WellFormed.{Writable, OfBytes, LaidOut, WellFormed}
 use Rattle.conversation.specs.declared.Event.{Event}
 use Rattle.conversation.specs.declared.Event.the-variants.{Answered}
 use Rattle.lines.specs.Sitting.{answerLine, linesOf, sittingLines}
-use Rattle.demands.specs.Setup.{Setup, AcceptedSetup}
+use Rattle.demands.specs.Setup.{Setup, IsCpa, AcceptedSetup}
 use Rattle.demands.specs.Conversation.{Exchange, Sitting, rulesBy, sat, next}
 use Rattle.demands.specs.Ledger.{owed}
-use Rattle.demands.specs.Audit.{capOf, startOf, approves, upperOf, brought, bought, lastDate, inForce, placeBy, takesUp, ledger, tested}
+use Rattle.demands.specs.Audit.{capOf, startOf, approves, upperOf, brought, bought, lastDate, inForce, placeBy, takesPart, ledger, tested}
 use Rattle.demands.specs.Guards.{Guards}
 use Rattle.demands.specs.Past.{past, atcBy, Says}
 use Rattle.demands.specs.Due.{due, dueIn, InKind}
@@ -45,7 +45,7 @@ use Rattle.demands.proofs.First.{first-answers}
 use Rattle.demands.proofs.Answers.{gives}
 use Rattle.demands.proofs.Sendable.{written-out}
 use Rattle.spelling.specs.Spelling.{Bytes}
-use Rattle.papers.specs.Papers.{restIn, setupOf, mannerOf, choiceOf, datesOf, Accepted, walked, commandsOf, faulty, Chosen, Timed}
+use Rattle.papers.specs.Papers.{restIn, setupOf, mannerOf, choiceOf, datesOf, cardOf, Accepted, walked, commandsOf, faulty, Chosen, Timed}
 use Rattle.papers.specs.Talk.{allAnswered, CutBehind, newest, cardAfter}
 use Rattle.papers.proofs.Setups.{good-setup, begins}
 use Rattle.papers.proofs.Walk.{walk-cards}
@@ -156,16 +156,16 @@ module _ (words paper : List ℕ) (lent : length words ≡ wordCount) (bytes : B
         ∙ line-at 1 before command answer more
         ∙ ap (λ (k : ℕ). answerLine k answer) (omega arith)
 
-    -- DEMAND 3, THE UPPER LIMIT: no offline approval under a guarding profile leaves the value above it
+    -- DEMAND 3, THE UPPER LIMIT: on a CPA card no offline approval under a guarding profile leaves the value above it
     -- (of a cyclic accumulator, no approval without a date error)
-    pub paper-limit : (meter : Meter) → IsMeter meter → Guards (inForce setup log) (placeBy setup log) meter → approves command answer ≡ true
-        → takesUp (bought setup (record { command = command; answer = answer } ∷ log)) meter ≡ true
+    pub paper-limit : IsCpa setup → (meter : Meter) → IsMeter meter → Guards (inForce setup log) (placeBy setup log) meter → approves command answer ≡ true
+        → takesPart (bought setup (record { command = command; answer = answer } ∷ log)) meter ≡ true
         → valueOf (then .values) meter ≤ upperOf (inForce setup log) (placeBy setup log) meter
-    paper-limit meter is =
+    paper-limit cpa meter is =
         at-turn (λ log card outcome. Guards (inForce setup log) (placeBy setup log) meter → approves command (outcome .answer) ≡ true
-        → takesUp (bought setup (record { command = command; answer = outcome .answer } ∷ log)) meter ≡ true
+        → takesPart (bought setup (record { command = command; answer = outcome .answer } ∷ log)) meter ≡ true
         → valueOf (outcome .state .values) meter ≤ upperOf (inForce setup log) (placeBy setup log) meter)
-        (λ commands. limit setup accepted commands command meter is)
+        (λ commands. limit setup accepted cpa commands command meter is)
 
     -- DEMAND 1: the number is the first row that applies; a command that is taken is answered in its kind; a refusal keeps the card
     pub paper-numbered : Numbered (InSetup (inForce setup log)) (atcBy setup log) (due log) command (answerNumber answer)
@@ -187,15 +187,15 @@ module _ (words paper : List ℕ) (lent : length words ≡ wordCount) (bytes : B
     pub paper-gives : Gives setup log command (record { state = then; answer = answer })
     paper-gives = at-turn (λ log card outcome. Gives setup log command outcome) (λ commands. gives setup accepted commands command)
 
-    -- a Start's profile is the one that its record names, or the one that the paper's file gives for the terminal's data in it; and a First has its
-    -- date in a dated paper
+    -- a Start's profile is the one that its record names, or the one that the paper's file gives for the bytes in it; and a First has its date in a
+    -- dated paper
     met : Met (mannerOf paper) command
     unfolding walked
     met =
         let whole = here .whole ∙ ap (λ (l : List Command). here .heard ++ l) (its .left-is) in
         all-met (mannerOf paper) (length paper) (restIn paper) (here .heard) command (its .behind) whole
 
-    pub paper-chosen : (start : Start) → command ≡ StartCommand start → Chosen (choiceOf paper) start
+    pub paper-chosen : (start : Start) → command ≡ StartCommand start → Chosen (choiceOf paper) (cardOf paper) start
     paper-chosen start is = met-right (mannerOf paper) (StartCommand start) (subst (Met (mannerOf paper)) is met)
 
     pub paper-timed : (first : First) → command ≡ FirstCommand first → Timed (datesOf paper) first

@@ -11,7 +11,7 @@ use Rattle.refusal.specs.declared.Refusal.the-variants.{Unreadable}
 use Rattle.rules.specs.Word.{wordCount}
 use Rattle.setup.specs.Setup.{setupNumber}
 use Rattle.shape.specs.declared.Shape.{Shape}
-use Rattle.shape.specs.Shape.{basePart, cyclesPart, shapeOf, shapeAt}
+use Rattle.shape.specs.Shape.{basePart, cyclesPart, familyPart, shapeOf, shapeAt}
 use Rattle.conversation.specs.declared.Begun.{Begun}
 use Rattle.conversation.specs.declared.Event.{Event}
 use Rattle.conversation.specs.declared.Event.the-variants.{SetUp, Refused}
@@ -89,7 +89,9 @@ unfolding begunOf setupBegun
 one-event paper version body rest o n = let r = opens paper version body rest o in rw (r .0, r .1) (by n) where
   by : NotSetUp version body → One (shapedBegun body 4 (4 + length body) (shapeOf version body) .event)
   by (no-shape e) = refused-shape body 4 (4 + length body) (shapeOf version body) e
-  by (no-base shape t e) = rw t (refused-base (shapeAt 4 shape) (basePart shape body) (cyclesPart (shape .dating) body) (4 + length body) e)
+  by (no-base shape t e) =
+      rw t
+      (refused-base (shapeAt 4 shape) (basePart shape body) (cyclesPart (shape .dating) body) (familyPart (shape .family) body) (4 + length body) e)
 
 -- EVERY BYTE STRING: it does not open, its set-up is not one, or it is heard
 pub every-paper : (words paper : List ℕ) → length words ≡ wordCount → Bytes paper → Heard words paper

@@ -5,12 +5,14 @@ use mathlib.Core.Bool.{Bool, true, false, cond}
 use mathlib.Core.List.{List, [], _∷_, _++_}
 use Prim.Native.Nat.{ℕ, zero, suc}
 use native.Mathlib.Omega.{arith}
+use borrow.Author.Tests.{ne-eqb}
 use lib.Dec.{eqb}
 use lib.ListN.{length}
 use Rattle.wire.specs.Wire.{byte}
 use Rattle.command.specs.declared.Command.{Command}
 use Rattle.command.specs.declared.Command.the-variants.{Start as StartCommand, First as FirstCommand, Second as SecondCommand}
-use Rattle.spelling.specs.Spelling.{Choice, byName, byFile, Dates, undated, dated, Manner}
+use Rattle.spelling.specs.Spelling.{Choice, byName, byFile, Dates, undated, dated, CardFamily, cpa, cpace, Manner}
+use Rattle.spelling.specs.Faults.{firstLength}
 use Rattle.spelling.proofs.Commands.{of}
 use Rattle.papers.specs.Papers.{Front, nothing, broken, one, frontOf, Meaning, none, means, startMeant, firstMeant, secondMeant, meant}
 use Rattle.papers.specs.Papers.{goingOn, walkBy, walk, Chosen, Timed}
@@ -53,7 +55,7 @@ module _ (manner : Manner) where
 
 -- a Start's profile, and a First's date
 abbrev Right : Manner → Command → Type 0
-Right manner (StartCommand start) = Chosen (manner .choice) start
+Right manner (StartCommand start) = Chosen (manner .choice) (manner .family) start
 Right manner (FirstCommand first) = Timed (manner .dates) first
 Right manner (SecondCommand second) = Unit
 
@@ -65,21 +67,26 @@ either : (manner : Manner) (b : Bool) (m : Meaning) → RightIn manner m → Rig
 either manner true m right = right
 either manner false m right = tt
 
-module _ (body : List ℕ) where
-  start-right : (choice : Choice) (dates : Dates) → RightIn (of choice dates) (startMeant choice body)
-  start-right byName dates = either (of byName dates) (eqb (length body) 1) _ (byte body 0, refl)
-  start-right (byFile file entries) dates = (body, refl)
+start-right : (choice : Choice) (dates : Dates) (family : CardFamily) (body : List ℕ) → RightIn (of choice dates family) (startMeant choice family body)
+start-right byName dates cpa body = either (of byName dates cpa) (eqb (length body) 1) _ (byte body 0, refl)
+start-right byName dates cpace body = either (of byName dates cpace) (eqb (length body) 2) _ (byte body 1, refl)
+start-right (byFile file entries) dates cpa body = (body, refl)
+start-right (byFile file entries) dates cpace [] = tt
+start-right (byFile file entries) dates cpace (interface ∷ terminal) = rw (ne-eqb (suc (length terminal)) 0 (λ e. omega arith)) (terminal, refl)
 
-  first-right : (choice : Choice) (dates : Dates) → RightIn (of choice dates) (firstMeant dates body)
-  first-right choice undated = either (of choice undated) (eqb (length body) 12) _ refl
-  first-right choice dated = either (of choice dated) (eqb (length body) 15) _ (record { year = byte body 12; month = byte body 13; day = byte body 14 }, refl)
+first-right : (choice : Choice) (dates : Dates) (family : CardFamily) (body : List ℕ) → RightIn (of choice dates family) (firstMeant dates family body)
+first-right choice undated family body = either (of choice undated family) (eqb (length body) (firstLength undated family)) _ refl
+first-right choice dated family body =
+    either (of choice dated family) (eqb (length body) (firstLength dated family)) _
+    (record { year = byte body 12; month = byte body 13; day = byte body 14 }, refl)
 
 pub met-right : (manner : Manner) (c : Command) → Met manner c → Right manner c
 unfolding meant
 met-right manner c met = subst (RightIn manner) (met .is) (by (eqb (met .kind) 2) (eqb (met .kind) 3) (eqb (met .kind) 4)) where
   by : (two three four : Bool) → RightIn manner
-      (cond two (startMeant (manner .choice) (met .body)) (cond three (firstMeant (manner .dates) (met .body)) (cond four (secondMeant (met .body)) none)))
-  by true three four = start-right (met .body) (manner .choice) (manner .dates)
-  by false true four = first-right (met .body) (manner .choice) (manner .dates)
+      (cond two (startMeant (manner .choice) (manner .family) (met .body))
+      (cond three (firstMeant (manner .dates) (manner .family) (met .body)) (cond four (secondMeant (met .body)) none)))
+  by true three four = start-right (manner .choice) (manner .dates) (manner .family) (met .body)
+  by false true four = first-right (manner .choice) (manner .dates) (manner .family) (met .body)
   by false false true = either manner (eqb (length (met .body)) 8) _ tt
   by false false false = tt

@@ -4,14 +4,18 @@ use mathlib.Core.Bool.{Bool, true, false, cond}
 use mathlib.Core.List.{List, [], _∷_, _++_}
 use Prim.Native.Nat.{ℕ, zero, suc, _+_, _-_, _*_, _≤_, _<_}
 use native.Mathlib.Omega.{arith}
-use borrow.Author.Tests.{lt-leb, le-ltb, ltb-true, ltb-false, ne-eqb, eqb-true}
+use borrow.Author.Tests.{lt-leb, le-ltb, ltb-true, ltb-false, ne-eqb, eqb-true, eqb-false}
 use lib.Dec.{eqb, ltb}
 use lib.ListN.{length, take, drop, length-drop}
 use lib.Seq.{drop-drop}
-use Rattle.wire.specs.Wire.{number}
+use Rattle.wire.specs.Wire.{byte, number}
+use Rattle.wire.proofs.Numbers.{one as number-1}
 use Rattle.calendar.specs.Calendar.{dateAt}
+use Rattle.cpace.specs.Cpace.{cvmAt, cashbackAt}
 use Rattle.refusal.specs.declared.Refusal.the-variants.{Unreadable}
 use Rattle.rules.specs.Rules.{Rules}
+use Rattle.shape.specs.declared.Dating.{Dating}
+use Rattle.shape.specs.declared.Family.{Family}
 use Rattle.shape.specs.declared.Shape.{Shape}
 use Rattle.paper.specs.declared.Next.{Next}
 use Rattle.paper.specs.declared.Next.the-variants.{Record, Fault, End as PaperEnd}
@@ -20,7 +24,7 @@ use Rattle.paper.specs.Walk.{part}
 use Rattle.command.specs.declared.Command.{Command}
 use Rattle.command.specs.declared.ReadCommand.{ReadCommand}
 use Rattle.command.specs.declared.ReadCommand.the-variants.{Taken as CommandTaken, Refused as CommandRefused}
-use Rattle.command.specs.Command.{commandOf, selectingOf, startOf, firstOf, secondOf, commandIn}
+use Rattle.command.specs.Command.{commandOf, selectingOf, startSelected, startOf, firstOf, secondOf, commandIn}
 use Rattle.state.specs.declared.State.{State}
 use Rattle.card.specs.Card.{stepOf}
 use Rattle.conversation.specs.declared.Event.{Event}
@@ -29,13 +33,13 @@ use Rattle.conversation.specs.declared.Event.the-variants.{End, Refused, Answer
 use Rattle.conversation.specs.Conversation.{answeredBy, takenOf}
 use Rattle.conversation.specs.Events.{eventsFrom}
 use Rattle.demands.specs.Conversation.{Exchange, Sitting, told as heard, run}
-use Rattle.spelling.specs.Spelling.{Choice, byName, byFile, Dates, undated, dated, Manner, mannerIn}
+use Rattle.spelling.specs.Spelling.{Choice, byName, byFile, Dates, undated, dated, CardFamily, cpa, cpace, Manner, mannerIn, cvmOf, cashbackOf}
 use Rattle.spelling.specs.Faults.{cut-in-length, cut-short, no-kind}
 use Rattle.spelling.specs.Sitting.{Lies, happened}
 use Rattle.spelling.proofs.Shapes.{shift, next-drop, part-drop, next-broken}
-use Rattle.spelling.proofs.Commands.{of, readBy}
+use Rattle.spelling.proofs.Commands.{of, datingOf, familyOf, readBy, not-start, Shows, cvm-read, cashback-read}
 use Rattle.spelling.proofs.Records.{commands-same}
-use Rattle.papers.specs.Papers.{Front, nothing, broken, one, frontBy, frontOf, Meaning, none, means, meant}
+use Rattle.papers.specs.Papers.{Front, nothing, broken, one, frontBy, frontOf, Meaning, none, means, startMeant, shownAt, firstMeant, secondMeant, meant}
 use Rattle.papers.specs.Papers.{Walked, stopped, goingOn, walkBy, walk}
 use Rattle.papers.specs.Talk.{ending, turns}
 
@@ -100,25 +104,50 @@ abbrev asRead : Meaning → ReadCommand
 asRead none = CommandRefused Unreadable
 asRead (means command) = CommandTaken command
 
-meant-read : (manner : Manner) (kind : ℕ) (body : List ℕ) → readBy manner kind body ≡ asRead (meant manner kind body)
-unfolding meant commandOf selectingOf startOf firstOf secondOf dateAt
-meant-read manner kind body = by (manner .choice) (manner .dates) (eqb kind 2) (eqb kind 3) (eqb kind 4) refl refl refl where
-  if-so : (b : Bool) (m : Meaning) → cond b (asRead m) (CommandRefused Unreadable) ≡ asRead (cond b m none)
-  if-so true m = refl
-  if-so false m = refl
+if-so : (b : Bool) (m : Meaning) → cond b (asRead m) (CommandRefused Unreadable) ≡ asRead (cond b m none)
+if-so true m = refl
+if-so false m = refl
 
-  by : (choice : Choice) (dates : Dates) (two three four : Bool) → eqb kind 2 ≡ two → eqb kind 3 ≡ three → eqb kind 4 ≡ four
-      → readBy (of choice dates) kind body ≡ asRead (meant (of choice dates) kind body)
-  by byName dates true three four e f g = rw (eqb-true kind 2 e) (if-so (eqb (length body) 1) _)
-  by (byFile file entries) dates true three four e f g = rw (eqb-true kind 2 e)
-  by byName undated false true four e f g = rw (eqb-true kind 3 f) (if-so (eqb (length body) 12) _)
-  by byName dated false true four e f g = rw (eqb-true kind 3 f) (if-so (eqb (length body) 15) _)
-  by (byFile file entries) undated false true four e f g = rw (eqb-true kind 3 f) (if-so (eqb (length body) 12) _)
-  by (byFile file entries) dated false true four e f g = rw (eqb-true kind 3 f) (if-so (eqb (length body) 15) _)
-  by byName dates false false true e f g = rw (eqb-true kind 4 g) (if-so (eqb (length body) 8) _)
-  by (byFile file entries) dates false false true e f g = rw (eqb-true kind 4 g) (if-so (eqb (length body) 8) _)
-  by byName dates false false false e f g = rw (e, f, g)
-  by (byFile file entries) dates false false false e f g = rw (e, f, g)
+unless : (b : Bool) (m : Meaning) → cond b (CommandRefused Unreadable) (asRead m) ≡ asRead (cond b none m)
+unless true m = refl
+unless false m = refl
+
+module _ (body : List ℕ) where
+  start-meant : (choice : Choice) (dates : Dates) (family : CardFamily) → readBy (of choice dates family) 2 body ≡ asRead (startMeant choice family body)
+  unfolding commandOf selectingOf startSelected startOf
+  start-meant byName dates cpa = if-so (eqb (length body) 1) _
+  start-meant byName dates cpace = if-so (eqb (length body) 2) _
+  start-meant (byFile file entries) dates cpa = refl
+  start-meant (byFile file entries) dates cpace = unless (eqb (length body) 0) _
+
+  shown-meant : (at : ℕ) → (cvmAt body at ≡ cvmOf (shownAt at body)) × (cashbackAt body (at + 3) ≡ cashbackOf (shownAt at body))
+  shown-meant at =
+      let there : Shows body at (byte body at) (byte body (at + 1)) (byte body (at + 2)) (number body (at + 3) 6) =
+      (number-1 body at, number-1 body (at + 1), number-1 body (at + 2), refl) in
+      (cvm-read body at _ _ _ _ there, cashback-read body at _ _ _ _ there)
+
+  first-meant : (dates : Dates) (family : CardFamily)
+      → commandOf (datingOf dates) (familyOf family) 3 body ≡ asRead (firstMeant dates family body)
+  unfolding commandOf firstOf dateAt
+  first-meant undated cpa = if-so (eqb (length body) 12) _
+  first-meant dated cpa = if-so (eqb (length body) 15) _
+  first-meant undated cpace = let (cvm, cashback) = shown-meant 12 in rw (cvm, cashback) (if-so (eqb (length body) 21) _)
+  first-meant dated cpace = let (cvm, cashback) = shown-meant 15 in rw (cvm, cashback) (if-so (eqb (length body) 24) _)
+
+meant-read : (manner : Manner) (kind : ℕ) (body : List ℕ) → readBy manner kind body ≡ asRead (meant manner kind body)
+unfolding meant commandOf secondOf
+meant-read manner kind body = by (eqb kind 2) (eqb kind 3) (eqb kind 4) refl refl refl where
+  other : eqb kind 2 ≡ false → readBy manner kind body ≡ commandOf (datingOf (manner .dates)) (familyOf (manner .family)) kind body
+  other e = not-start manner kind body (eqb-false kind 2 e)
+
+  second-meant : (dating : Dating) (family : Family) → commandOf dating family 4 body ≡ asRead (secondMeant body)
+  second-meant dating family = if-so (eqb (length body) 8) _
+
+  by : (two three four : Bool) → eqb kind 2 ≡ two → eqb kind 3 ≡ three → eqb kind 4 ≡ four → readBy manner kind body ≡ asRead (meant manner kind body)
+  by true three four e f g = rw (eqb-true kind 2 e) (start-meant body (manner .choice) (manner .dates) (manner .family))
+  by false true four e f g = other e ∙ rw (eqb-true kind 3 f) (first-meant body (manner .dates) (manner .family))
+  by false false true e f g = other e ∙ rw (eqb-true kind 4 g) (second-meant (datingOf (manner .dates)) (familyOf (manner .family)))
+  by false false false e f g = other e ∙ rw (e, f, g)
 
 -- ---- one turn, and all of them
 

@@ -1,7 +1,7 @@
 -- The events of what is spelled from a place on, and their lines: those of the conversation, and at a fault the one of refusal 9. Assumes nothing.
 use mathlib.Core.Path.{_≡_, refl, sym, ap, subst, _∙_}
 use mathlib.Core.List.{List, [], _∷_, _++_, append-assoc}
-use Prim.Native.Nat.{ℕ, zero, suc, _+_, _<_, _≤_}
+use Prim.Native.Nat.{ℕ, zero, suc, _+_, _≤_}
 use native.Mathlib.Nat.{add-zero}
 use native.Mathlib.Omega.{arith}
 use lib.ListN.{length, drop, length-append}
@@ -16,14 +16,11 @@ use Rattle.conversation.specs.Conversation.{answeredBy, takenOf}
 use Rattle.conversation.specs.Events.{eventsFrom}
 use Rattle.lines.specs.Sitting.{answerLine, linesOf}
 use Rattle.spelling.specs.Spelling.{Sent, kindOf, bodyOf, spell, spellAll, Manner, mannerIn, Fits, AllFit, standsFor, allStandFor}
-use Rattle.spelling.specs.Sitting.{reading, Lies, happened, answers, Ends, ended, faulty, lastEvents, lastLines}
+use Rattle.spelling.specs.Sitting.{Lies, happened, answers, Ends, ended, faulty, lastEvents, lastLines}
+use Rattle.spelling.proofs.Numbers.{no-bytes}
 use Rattle.spelling.proofs.Shapes.{record-length, shift, next-drop, next-nothing}
 use Rattle.spelling.proofs.Records.{sent-stands, Faulty, at-next, at-record, reads-end, reads-fault, reads-spelled}
 use Rattle.spelling.proofs.Records as R
-
-no-bytes : (s : List ℕ) → length s ≤ 0 → s ≡ []
-no-bytes [] h = refl
-no-bytes (b ∷ s) h = absurd (omega arith)
 
 module _ (rules : Rules) (form : Shape) (s : List ℕ) (lies : Lies (form .selecting) s) where
   abbrev manner : Manner

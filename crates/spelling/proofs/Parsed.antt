@@ -9,12 +9,12 @@ use Rattle.paper.specs.Paper.{nextAt}
 use Rattle.paper.specs.Walk.{part}
 use Rattle.command.specs.declared.ReadCommand.the-variants.{Taken}
 use Rattle.spelling.specs.Spelling.{Bytes, Sent, kindOf, bodyOf, spell, spellAll, Manner, Fits, AllFit, standsFor}
-use Rattle.spelling.specs.Faults.{Whole, RestFault, broken, repeated, unknown, start-length, first-length, dated-length, second-length}
+use Rattle.spelling.specs.Faults.{Whole, RestFault, broken, repeated, unknown, start-length, start-empty, first-length, second-length}
 use Rattle.spelling.specs.Sitting.{Ends, ended, faulty}
 use Rattle.spelling.proofs.Numbers.{bytes-behind}
 use Rattle.spelling.proofs.Shapes.{record-length, next-broken, next-whole, body-there, rest-there}
 use Rattle.spelling.proofs.Commands.{readBy, taken, one-sent, refused-wrong}
-use Rattle.spelling.proofs.Commands.{Wrong, a-setup, no-command, bad-start, bad-first, bad-dated, bad-second}
+use Rattle.spelling.proofs.Commands.{Wrong, a-setup, no-command, bad-start, bad-empty, bad-first, bad-second}
 use Rattle.spelling.proofs.Records.{View, none, fault, spelled, view, whole-spelled}
 
 -- ---- in a way
@@ -103,8 +103,8 @@ module _ (manner : Manner) where
   not-both s x more h e (repeated body w) = not-wrong s x more h e 1 body w (a-setup refl)
   not-both s x more h e (unknown kind body w k) = not-wrong s x more h e kind body w (no-command k)
   not-both s x more h e (start-length body w c n) = not-wrong s x more h e 2 body w (bad-start refl c n)
-  not-both s x more h e (first-length body w d n) = not-wrong s x more h e 3 body w (bad-first refl d n)
-  not-both s x more h e (dated-length body w d n) = not-wrong s x more h e 3 body w (bad-dated refl d n)
+  not-both s x more h e (start-empty w f) = not-wrong s x more h e 2 [] w (bad-empty refl refl f)
+  not-both s x more h e (first-length body w n) = not-wrong s x more h e 3 body w (bad-first refl n)
   not-both s x more h e (second-length body w n) = not-wrong s x more h e 4 body w (bad-second refl n)
 
   not-ended : (s : List ℕ) (x : Sent) (more : List ℕ) → Fits manner x → s ≡ spell x ++ more → Ends manner s → ⊥

@@ -2,16 +2,18 @@
 use mathlib.Core.Path.{_≡_, refl, sym, ap, subst, _∙_}
 use mathlib.Core.Logic.{_↔_}
 use mathlib.Core.List.{List, [], _++_}
-use Prim.Native.Nat.{ℕ, _+_, _<_}
+use Prim.Native.Nat.{ℕ, _+_, _-_, _<_, _≤_}
 use native.Mathlib.Omega.{arith}
 use borrow.Author.Tests.{le-leb}
-use lib.ListN.{length, drop}
+use lib.ListN.{length, take, drop, length-append}
 use lib.Seq.{drop-drop, drop-append-seam}
 use Rattle.refusal.specs.declared.Refusal.the-variants.{Unreadable}
 use Rattle.shape.specs.declared.Selecting.{Selecting}
 use Rattle.shape.specs.declared.Selecting.the-variants.{Off, On}
 use Rattle.shape.specs.declared.Dating.{Dating}
 use Rattle.shape.specs.declared.Dating.the-variants.{Off as DatesOff, On as DatesOn}
+use Rattle.shape.specs.declared.Family.{Family}
+use Rattle.shape.specs.declared.Family.the-variants.{Cpa, Cpace}
 use Rattle.shape.specs.declared.Shape.{Shape as PaperShape}
 use Rattle.paper.specs.declared.Next.the-variants.{Record, Fault}
 use Rattle.paper.specs.Paper.{nextAt, nextNumber}
@@ -19,17 +21,18 @@ use Rattle.paper.specs.Walk.{part}
 use Rattle.command.specs.declared.Command.{Command}
 use Rattle.command.specs.declared.ReadCommand.{ReadCommand}
 use Rattle.command.specs.declared.ReadCommand.the-variants.{Taken, Refused}
-use Rattle.command.specs.Command.{firstOf, commandOf, selectingOf, commandIn}
+use Rattle.command.specs.Command.{startOf, firstOf, commandOf, startSelected, selectingOf, commandIn}
 use Rattle.command.specs.Command as C
-use Rattle.spelling.specs.Spelling.{Bytes, big, recordOf, Sent, names, brings, first, firstOn, second, kindOf, bodyOf, spell}
-use Rattle.spelling.specs.Spelling.{Choice, byName, byFile, choiceIn, Dates, datesIn, Manner, mannerIn, Fits, standsFor}
-use Rattle.spelling.specs.Faults.{Broken, Whole, RestFault, broken, repeated, unknown, start-length, first-length, dated-length, second-length}
+use Rattle.spelling.specs.Spelling.{Bytes, big, recordOf, Interface, unsaid, on, Presented, unshown, shown, Sent, names, brings, first, firstOn}
+use Rattle.spelling.specs.Spelling.{second, kindOf, interfaceBytes, presentedBytes, bodyOf, spell}
+use Rattle.spelling.specs.Spelling.{Choice, byName, byFile, choiceIn, Dates, datesIn, familyIn, Manner, mannerIn, Fits, standsFor}
+use Rattle.spelling.specs.Faults.{Broken, Whole, RestFault, broken, repeated, unknown, start-length, start-empty, first-length, second-length}
 use Rattle.spelling.specs.Sitting.{over, refused, command, readingIn, readingOf, reading, Lies, Spelled}
 use Rattle.spelling.proofs.Numbers.{bytes-drop, bytes-front}
 use Rattle.spelling.proofs.Shapes as S
 use Rattle.spelling.proofs.Shapes.{Shape, nothing, whole, shape, record-is, record-length, shift, next-drop, part-drop}
 use Rattle.spelling.proofs.Shapes.{next-nothing, next-broken, next-whole, body-there}
-use Rattle.spelling.proofs.Commands.{of, readBy, taken, Wrong, a-setup, no-command, bad-start, bad-first, bad-dated, bad-second}
+use Rattle.spelling.proofs.Commands.{of, datingOf, familyOf, readBy, taken, Wrong, a-setup, no-command, bad-start, bad-empty, bad-first, bad-second}
 use Rattle.spelling.proofs.Commands.{refused-wrong, Meaning, sent, wrong, meaning}
 
 -- ---- what can stand at the front
@@ -43,8 +46,8 @@ as-fault : (manner : Manner) (s : List ℕ) (kind : ℕ) (body : List ℕ) → W
 as-fault manner s kind body w (a-setup e) = repeated body (subst (λ (k : ℕ). Whole s k body) e w)
 as-fault manner s kind body w (no-command h) = unknown kind body w h
 as-fault manner s kind body w (bad-start e c n) = start-length body (subst (λ (k : ℕ). Whole s k body) e w) c n
-as-fault manner s kind body w (bad-first e d n) = first-length body (subst (λ (k : ℕ). Whole s k body) e w) d n
-as-fault manner s kind body w (bad-dated e d n) = dated-length body (subst (λ (k : ℕ). Whole s k body) e w) d n
+as-fault manner s kind body w (bad-empty e z f) = start-empty (subst (λ (k : ℕ). Whole s k []) e (subst (Whole s kind) z w)) f
+as-fault manner s kind body w (bad-first e n) = first-length body (subst (λ (k : ℕ). Whole s k body) e w) n
 as-fault manner s kind body w (bad-second e n) = second-length body (subst (λ (k : ℕ). Whole s k body) e w) n
 
 body-bytes : (s : List ℕ) (kind : ℕ) (body : List ℕ) → Bytes s → Whole s kind body → Bytes body
@@ -67,13 +70,22 @@ view manner s h = by-shape (shape s h) where
 pub body-short : (manner : Manner) (x : Sent) → Fits manner x → length (bodyOf x) < 65535
 unfolding Fits bodyOf big
 body-short manner x h = by (manner .choice) (manner .dates) x h where
-  by : (choice : Choice) (dates : Dates) (x : Sent) → Fits (of choice dates) x → length (bodyOf x) < 65535
-  by byName dates (names profile) h = omega arith
-  by byName dates (brings terminal) h = absurd h
-  by (byFile file entries) dates (names profile) h = absurd h
-  by (byFile file entries) dates (brings terminal) h = h .0
-  by choice dates (first a b c d) h = omega arith
-  by choice dates (firstOn date a b c d) h = omega arith
+  interface-short : (i : Interface) → length (interfaceBytes i) ≤ 1
+  interface-short unsaid = omega arith
+  interface-short (on interface) = omega arith
+
+  presented-short : (p : Presented) → length (presentedBytes p) ≤ 9
+  presented-short unshown = omega arith
+  presented-short (shown r1 r2 r3 cashback) = omega arith
+
+  by : (choice : Choice) (dates : Dates) (x : Sent) → Fits (of choice dates (manner .family)) x → length (bodyOf x) < 65535
+  by byName dates (names interface profile) h =
+      omega (arith, length-append (interfaceBytes interface) (big 1 profile), interface-short interface)
+  by byName dates (brings interface terminal) h = absurd h
+  by (byFile file entries) dates (names interface profile) h = absurd h
+  by (byFile file entries) dates (brings interface terminal) h = h .1
+  by choice dates (first a b c d p) h = omega (arith, presented-short p)
+  by choice dates (firstOn date a b c d p) h = omega (arith, presented-short p)
   by choice dates (second a b c d) h = omega arith
 
 abbrev pub whole-spelled : (manner : Manner) (x : Sent) → Fits manner x → (s more : List ℕ) → s ≡ spell x ++ more → Whole s (kindOf x) (bodyOf x)
@@ -81,16 +93,28 @@ whole-spelled manner x h s more e = record { more = more; is = e; sized = body-s
 
 -- ---- a place of a paper
 
+-- where the tails stand is nothing to the readers
+module _ (file : List ℕ) (entries kind : ℕ) (body : List ℕ) where
+  tails-aside : (dating : Dating) (family : Family)
+      → (commandOf dating family kind body ≡ commandOf (datingOf (datesIn dating)) (familyOf (familyIn family)) kind body)
+      × (selectingOf dating family file entries kind body ≡ selectingOf (datingOf (datesIn dating)) (familyOf (familyIn family)) file entries kind body)
+  unfolding commandOf startOf firstOf selectingOf startSelected
+  tails-aside DatesOff Cpa = (refl, refl)
+  tails-aside DatesOff (Cpace from to) = (refl, refl)
+  tails-aside (DatesOn start end) Cpa = (refl, refl)
+  tails-aside (DatesOn start end) (Cpace from to) = (refl, refl)
+
 pub commands-same : (form : PaperShape) (s : List ℕ) → Lies (form .selecting) s → (kind : ℕ) (body : List ℕ)
     → commandIn form s kind body ≡ readBy (mannerIn form s) kind body
-unfolding commandIn commandOf firstOf selectingOf
-commands-same form s h kind body = by (form .selecting) (form .dating) h where
-  by : (selecting : Selecting) (dating : Dating) → Lies selecting s
-      → C.readBy selecting dating s kind body ≡ readBy (of (choiceIn selecting s) (datesIn dating)) kind body
-  by Off DatesOff h = refl
-  by Off (DatesOn from to) h = refl
-  by (On start end entries) DatesOff h = rw (le-leb start end (h .0), le-leb end (length s) (h .1))
-  by (On start end entries) (DatesOn from to) h = rw (le-leb start end (h .0), le-leb end (length s) (h .1))
+unfolding commandIn
+commands-same form s h kind body = by (form .selecting) h where
+  by : (selecting : Selecting) → Lies selecting s
+      → C.readBy selecting (form .dating) (form .family) s kind body
+      ≡ readBy (of (choiceIn selecting s) (datesIn (form .dating)) (familyIn (form .family))) kind body
+  by Off h = tails-aside [] 0 kind body (form .dating) (form .family) .0
+  by (On start end entries) h =
+      rw (le-leb start end (h .0), le-leb end (length s) (h .1))
+      (tails-aside (take (end - start) (drop start s)) entries kind body (form .dating) (form .family) .1)
 
 -- a record stands at a place, is read as that, and the next place is its end
 pub record Stands (form : PaperShape) (s : List ℕ) (at : ℕ) (read : ReadCommand) (end : ℕ) : Type 0 where
@@ -135,8 +159,8 @@ module _ (form : PaperShape) (s : List ℕ) (lies : Lies (form .selecting) s) (a
   faulty (repeated body w) = wrongly 1 body w (a-setup refl)
   faulty (unknown kind body w h) = wrongly kind body w (no-command h)
   faulty (start-length body w c n) = wrongly 2 body w (bad-start refl c n)
-  faulty (first-length body w d n) = wrongly 3 body w (bad-first refl d n)
-  faulty (dated-length body w d n) = wrongly 3 body w (bad-dated refl d n)
+  faulty (start-empty w f) = wrongly 2 [] w (bad-empty refl refl f)
+  faulty (first-length body w n) = wrongly 3 body w (bad-first refl n)
   faulty (second-length body w n) = wrongly 4 body w (bad-second refl n)
 
   -- what is read there

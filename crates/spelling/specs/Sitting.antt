@@ -5,13 +5,14 @@ use Prim.Native.Nat.{ℕ, _+_, _≤_}
 use lib.ListN.{length, drop}
 use Rattle.rules.specs.Rules.{Rules}
 use Rattle.setup.specs.declared.SetupAnswer.the-variants.{Done}
+use Rattle.setup.specs.declared.ReadSetup.{ReadSetup}
 use Rattle.setup.specs.Setup.{readSetup, setupNumber, rulesIn, freshIn}
 use Rattle.refusal.specs.declared.Refusal.the-variants.{Unreadable}
 use Rattle.shape.specs.declared.Selecting.{Selecting}
 use Rattle.shape.specs.declared.Selecting.the-variants.{Off, On}
 use Rattle.shape.specs.declared.Shape.{Shape}
 use Rattle.shape.specs.declared.ReadShape.the-variants.{Taken as ShapeTaken}
-use Rattle.shape.specs.Shape.{basePart, cyclesPart, shapeOf, shapeNumber}
+use Rattle.shape.specs.Shape.{basePart, cyclesPart, familyPart, shapeOf, shapeNumber}
 use Rattle.paper.specs.declared.Next.{Next}
 use Rattle.paper.specs.declared.Next.the-variants.{Record, Fault, End}
 use Rattle.paper.specs.Paper.{nextAt, nextNumber}
@@ -60,16 +61,20 @@ pub record Spelled (manner : Manner) (s : List ℕ) (at : ℕ) (c : Command) (en
   pub is : drop at s ≡ spell sent ++ drop end s
   pub ends : end ≡ at + length (spell sent)
 
--- the set-up is taken: its shape, and its base with the tail of version 04
+-- a set-up's base, read with the tails of versions 04 and 05
+abbrev pub setupFrom : Shape → (body : List ℕ) → ReadSetup
+setupFrom shape body = readSetup (basePart shape body) (cyclesPart (shape .dating) body) (familyPart (shape .family) body) (shape .unnamed)
+
+-- the set-up is taken: its shape, and its base with those tails
 pub record SetUp (version : ℕ) (body : List ℕ) (shape : Shape) : Type 0 where
   pub shape-is : shapeOf version body ≡ ShapeTaken shape
-  pub base : readSetup (basePart shape body) (cyclesPart (shape .dating) body) (shape .unnamed) .answer ≡ Done
+  pub base : setupFrom shape body .answer ≡ Done
 
 -- or its shape is refused, or its base
 pub data NotSetUp (version : ℕ) (body : List ℕ) : Type 0 where
   no-shape : shapeNumber (shapeOf version body) ≡ 1 → NotSetUp version body
-  no-base : (shape : Shape) → shapeOf version body ≡ ShapeTaken shape
-      → setupNumber (readSetup (basePart shape body) (cyclesPart (shape .dating) body) (shape .unnamed) .answer) ≡ 1 → NotSetUp version body
+  no-base : (shape : Shape) → shapeOf version body ≡ ShapeTaken shape → setupNumber (setupFrom shape body .answer) ≡ 1
+      → NotSetUp version body
 
 -- the events of a list of commands, one after the other from a state on
 unfoldable pub happened : Rules → State → List Command → List Event
@@ -99,7 +104,8 @@ lastLines (faulty fault) number = refusalLine number 9 ∷ []
 
 -- the rules and the fresh card of a set-up
 abbrev pub rulesFrom : Shape → (body : List ℕ) → Rules
-rulesFrom shape body = rulesIn (basePart shape body) (cyclesPart (shape .dating) body) (shape .syllabus)
+rulesFrom shape body =
+    rulesIn (basePart shape body) (cyclesPart (shape .dating) body) (familyPart (shape .family) body) (shape .syllabus)
 
 abbrev pub cardFrom : Shape → (body : List ℕ) → State
 cardFrom shape body = freshState (freshIn (basePart shape body) (cyclesPart (shape .dating) body))
