@@ -108,8 +108,11 @@ weekly =
 
 -- ---- sittings
 
+abbrev pub startOn : (interface n : ℕ) → Command
+startOn interface n = StartCommand (record { interface = interface; chosen = Selected n 0 })
+
 abbrev pub start : ℕ → Command
-start n = StartCommand (record { interface = 0; chosen = Selected n 0 })
+start n = startOn 0 n
 
 -- requested 0 AAC, 1 TC, 2 ARQC
 abbrev pub firstBy : Cvm → (cashback : Bool) → When → (amount currency requested : ℕ) → Command

@@ -1,13 +1,16 @@
 -- The premises of demand 3's theorems are met: by the set-up of the printed sitting, in which a guarding profile approves, and by one with
--- dates; and the sitting's lines are those that document 01 prints. Assumes nothing.
+-- dates; so are those of the two families' likeness; and the sitting's lines are those that document 01 prints. Assumes nothing.
 use mathlib.Core.Path.{_≡_, refl}
 use mathlib.Core.Bool.{Bool, true, false, _&&_}
 use mathlib.Core.List.{List, [], _∷_}
-use Prim.Native.Nat.{ℕ, zero, suc, _^_, _<_}
+use Prim.Native.Nat.{ℕ, zero, suc, _^_, _≤_, _<_}
 use native.Mathlib.Omega.{arith}
 use borrow.Author.Tests.{ltb-true}
 use lib.Dec.{ltb}
 use Rattle.wire.specs.Wire.{byte}
+use Rattle.cpace.specs.declared.Cvm.the-variants.{OnlinePin, Signature, NoCvm}
+use Rattle.selection.specs.declared.Selection.the-variants.{Selected}
+use Rattle.command.specs.declared.When.the-variants.{Undated}
 use Rattle.command.specs.declared.Command.{Command}
 use Rattle.demands.specs.Setup.{Setup, IsCpa, AcceptedSetup}
 use Rattle.purchase.specs.Meter.{Meter, accumulator, cyclic, valueOf}
@@ -15,8 +18,9 @@ use Rattle.demands.specs.Conversation.{told, sat, next}
 use Rattle.demands.specs.Audit.{upperOf, takesPart, bought, inForce, placeBy, approves}
 use Rattle.demands.specs.Guards.{Guards}
 use Rattle.demands.specs.Printed.{body, start, first, second, commands, linesOf, lines}
+use Rattle.demands.specs.Alike.{AlikeSetups, AlikeCommands, starts, firsts, seconds, AllAlike, nothing, more}
 use Rattle.demands.proofs.Computed.{computed}
-use Rattle.demands.proofs.Sittings.{spending, firstOn, onDay}
+use Rattle.demands.proofs.Sittings.{zeros, spending, startOn, firstBy, firstOn, onDay}
 
 abbrev areBytes : List ℕ → Bool
 areBytes [] = true
@@ -116,3 +120,40 @@ in-a-cycle =
       value-is = refl;
       upper-is = refl;
     }
+
+-- THE TWO FAMILIES: the printed sitting's set-up, and the same of a CPACE card, one profile, controls and cashback switch 0
+abbrev pub cpace-setup : Setup
+cpace-setup = record { bytes = body; tail = []; family = 1 ∷ zeros 9; syllabus = 0; unnamed = 2 ^ 26 }
+
+pub cpace-good : AcceptedSetup cpace-setup
+unfolding body computed
+cpace-good =
+    record {
+      bytes = record { below = bytes-of body refl };
+      tail-bytes = record { below = bytes-of [] refl };
+      family-bytes = record { below = bytes-of (cpace-setup .family) refl };
+      taken = refl;
+      tail-taken = refl;
+      family-taken = refl;
+    }
+
+all-zero : (n i : ℕ) → byte (zeros n) i ≡ 0
+all-zero zero i = refl
+all-zero (suc n) zero = refl
+all-zero (suc n) (suc i) = all-zero n i
+
+pub alike-setups : AlikeSetups setup cpace-setup
+alike-setups = record { bytes = refl; tail = refl; syllabus = refl; none = refl; zeros = all-zero 9 }
+
+-- contactless Starts, an online PIN and a signature, cashback
+pub alike-commands : AllAlike commands
+    (startOn 1 1 ∷ firstBy OnlinePin true Undated 5000 0x0978 1 ∷ start ∷ firstBy Signature false Undated 1 0x0978 1 ∷ second
+    ∷ startOn 1 1
+    ∷ first 5000
+    ∷ second
+    ∷ [])
+unfolding commands
+alike-commands =
+    let opens : (interface : ℕ) → interface ≤ 1 → AlikeCommands start (startOn interface 1) = λ i l. starts (Selected 1 0) 0 i (omega arith) l in
+    more (opens 1 (omega arith)) (more (firsts _ OnlinePin true) (more (opens 0 (omega arith)) (more (firsts _ Signature false) (more (seconds _)
+    (more (opens 1 (omega arith)) (more (firsts _ NoCvm false) (more (seconds _) nothing)))))))
