@@ -241,7 +241,7 @@ pub record Samples : Type 0 where
   pub one-more : T (isRefused 4 (tailBytes daily ++ 0 ∷ []))
   pub control-15 : T (eqb (number-with (controlling 12 12 1 1)) 0)
   pub control-16 : T (eqb (number-with (controlling 13 12 1 1)) 1 && eqb (number-with (controlling 12 13 1 1)) 1)
-  pub cashback-2 : T (eqb (number-with (controlling 0 0 1 2)) 1)
+  pub cashback-2 : T (eqb (number-with (controlling 0 0 2 0)) 1)
   pub controls-read : T (eqb (controlRead 0) 1 && eqb (controlRead 3) 4 && eqb (controlRead 4) 5 && eqb (controlRead 7) 8)
   pub cashbacks-read : T (not (cashbackRead 0) && cashbackRead 1 && not (cashbackRead 2))
   pub family-read : T (eqb (shapeNumber (shapeOf 5 (printedBytes ++ tailBytes dual))) 0)
