@@ -212,9 +212,9 @@ years = start 1 ∷ firstOn (onDay 0x00 0x07 0x15) 30 0x0978 1 ∷ start 1 ∷ f
 
 -- ---- to a CPACE card
 
--- a purchase of 6000 by its CVM, with cashback or without; and one that goes online, and a Second
+-- a purchase of 4000 by its CVM, with cashback or without; and one that goes online, and a Second
 unfoldable pub pay : Cvm → (cashback : Bool) → (requested : ℕ) → List Command
-pay cvm cashback requested = start 1 ∷ firstBy cvm cashback Undated 6000 0x0978 requested ∷ []
+pay cvm cashback requested = start 1 ∷ firstBy cvm cashback Undated 4000 0x0978 requested ∷ []
 
 unfoldable pub payOnline : Cvm → (cashback : Bool) → Command → List Command
 payOnline cvm cashback command = pay cvm cashback 2 ++ command ∷ []
