@@ -106,6 +106,22 @@ weekly =
     datedOf 0x01 0x01 (cycle 0 9 2 3 ++ cycle 0 9 2 2)
     (cyclicRule 7 0xFF 0xFF ++ cyclicRule 7 0xFF 0xFF ++ cyclicRule 7 0xFF 0xFF ++ cyclicRule 7 0xFF 0xFF)
 
+-- ---- set-ups of a CPACE card, of version 05
+
+-- accumulator 1 from a number, 5000 and 10000, and counter 1, 255, with declines: both count and are tested with the purchase; Online MTA, 9000,
+-- accumulator 1's lower limit and cashback; Decline its upper limit; Default that and cashback; a control of each, and the cashback switch
+unfoldable pub dual : (high low control control' cashback : ℕ) → Setup
+dual high low control control' cashback =
+    let masks : List ℕ = 0x02 ∷ 0 ∷ 0 ∷ 0x60 ∷ 0 ∷ 0 ∷ 0x04 ∷ 0 ∷ 0x02 ∷ 0 ∷ 0x04 ∷ 0 ∷ [] in
+    let maximum : List ℕ = 1 ∷ 0x09 ∷ 0x78 ∷ zeros 6 ++ 0x23 ∷ 0x28 ∷ [] in
+    record {
+      bytes = head 1 0 high low ++ 1 ∷ masks ++ maximum ++ rule 7 0x13 0x88 0x27 0x10 ++ zeros 51 ++ 15 ∷ 255 ∷ 255 ∷ zeros 9 ++ 1 ∷ 1 ∷ 0 ∷ [];
+      tail = [];
+      family = 1 ∷ control ∷ zeros 3 ++ control' ∷ zeros 3 ++ cashback ∷ [];
+      syllabus = 0;
+      unnamed = 2 ^ 26;
+    }
+
 -- ---- sittings
 
 abbrev pub startOn : (interface n : ℕ) → Command
@@ -193,3 +209,12 @@ weeks = inJanuary 0x02 ++ inJanuary 0x03 ++ inJanuary 0x09 ++ inJanuary 0x10
 -- 30 in July 2000 and 1 in July 2001
 unfoldable pub years : List Command
 years = start 1 ∷ firstOn (onDay 0x00 0x07 0x15) 30 0x0978 1 ∷ start 1 ∷ firstOn (onDay 0x01 0x07 0x15) 1 0x0978 1 ∷ []
+
+-- ---- to a CPACE card
+
+-- a purchase of 4000 by its CVM, with cashback or without; and one that goes online, and a Second
+unfoldable pub pay : Cvm → (cashback : Bool) → (requested : ℕ) → List Command
+pay cvm cashback requested = start 1 ∷ firstBy cvm cashback Undated 4000 0x0978 requested ∷ []
+
+unfoldable pub payOnline : Cvm → (cashback : Bool) → Command → List Command
+payOnline cvm cashback command = pay cvm cashback 2 ++ command ∷ []

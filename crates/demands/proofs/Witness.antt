@@ -8,6 +8,7 @@ use native.Mathlib.Omega.{arith}
 use borrow.Author.Tests.{ltb-true}
 use lib.Dec.{ltb}
 use Rattle.wire.specs.Wire.{byte}
+use Rattle.ranges.specs.Ranges.{isSetup, areCycles, isFamily}
 use Rattle.cpace.specs.declared.Cvm.the-variants.{OnlinePin, Signature, NoCvm}
 use Rattle.selection.specs.declared.Selection.the-variants.{Selected}
 use Rattle.command.specs.declared.When.the-variants.{Undated}
@@ -20,7 +21,7 @@ use Rattle.demands.specs.Guards.{Guards}
 use Rattle.demands.specs.Printed.{body, start, first, second, commands, linesOf, lines}
 use Rattle.demands.specs.Alike.{AlikeSetups, AlikeCommands, starts, firsts, seconds, AllAlike, nothing, more}
 use Rattle.demands.proofs.Computed.{computed}
-use Rattle.demands.proofs.Sittings.{zeros, spending, startOn, firstBy, firstOn, onDay}
+use Rattle.demands.proofs.Sittings.{zeros, spending, dual, startOn, firstBy, firstOn, onDay}
 
 abbrev areBytes : List ℕ → Bool
 areBytes [] = true
@@ -37,21 +38,25 @@ bytes-of (b ∷ s) e (suc i) = bytes-of s (right (ltb b 256) (areBytes s) e) i w
   right true y e = e
   right false y e = cc
 
+accepted-of : (setup : Setup) → areBytes (setup .bytes) ≡ true → areBytes (setup .tail) ≡ true → areBytes (setup .family) ≡ true
+    → isSetup (setup .bytes) (setup .unnamed) ≡ true → areCycles (setup .tail) ≡ true → isFamily (setup .family) ≡ true → AcceptedSetup setup
+accepted-of setup base tail family taken tail-taken family-taken =
+    record {
+      bytes = record { below = bytes-of (setup .bytes) base };
+      tail-bytes = record { below = bytes-of (setup .tail) tail };
+      family-bytes = record { below = bytes-of (setup .family) family };
+      taken = taken;
+      tail-taken = tail-taken;
+      family-taken = family-taken;
+    }
+
 -- of version 01
 abbrev pub setup : Setup
 setup = record { bytes = body; tail = []; family = []; syllabus = 0; unnamed = 2 ^ 22 }
 
 pub good : AcceptedSetup setup
 unfolding body computed
-good =
-    record {
-      bytes = record { below = bytes-of body refl };
-      tail-bytes = record { below = bytes-of [] refl };
-      family-bytes = record { below = bytes-of [] refl };
-      taken = refl;
-      tail-taken = refl;
-      family-taken = refl;
-    }
+good = accepted-of setup refl refl refl refl refl refl
 
 -- THE PRINTED SITTING
 pub printed : linesOf (sat setup commands .log) ≡ lines
@@ -99,15 +104,7 @@ dated-setup = spending 1 7 0x03 0xE8
 
 pub dated-good : AcceptedSetup dated-setup
 unfolding spending computed
-dated-good =
-    record {
-      bytes = record { below = bytes-of (dated-setup .bytes) refl };
-      tail-bytes = record { below = bytes-of (dated-setup .tail) refl };
-      family-bytes = record { below = bytes-of [] refl };
-      taken = refl;
-      tail-taken = refl;
-      family-taken = refl;
-    }
+dated-good = accepted-of dated-setup refl refl refl refl refl refl
 
 pub in-a-cycle : Approval dated-setup (cyclic 0) (start ∷ []) (firstOn (onDay 0x00 0x07 0x16) 900 0x0978 1) 900 1000
 unfolding spending computed
@@ -121,21 +118,18 @@ in-a-cycle =
       upper-is = refl;
     }
 
+-- A CPACE CARD that closes accumulator 1 to a transaction without CVM, and counter 1 to one with online PIN or signature
+pub dual-good : AcceptedSetup (dual 0 0 1 6 1)
+unfolding dual computed
+dual-good = accepted-of (dual 0 0 1 6 1) refl refl refl refl refl refl
+
 -- THE TWO FAMILIES: the printed sitting's set-up, and the same of a CPACE card, one profile, controls and cashback switch 0
 abbrev pub cpace-setup : Setup
 cpace-setup = record { bytes = body; tail = []; family = 1 ∷ zeros 9; syllabus = 0; unnamed = 2 ^ 26 }
 
 pub cpace-good : AcceptedSetup cpace-setup
 unfolding body computed
-cpace-good =
-    record {
-      bytes = record { below = bytes-of body refl };
-      tail-bytes = record { below = bytes-of [] refl };
-      family-bytes = record { below = bytes-of (cpace-setup .family) refl };
-      taken = refl;
-      tail-taken = refl;
-      family-taken = refl;
-    }
+cpace-good = accepted-of cpace-setup refl refl refl refl refl refl
 
 all-zero : (n i : ℕ) → byte (zeros n) i ≡ 0
 all-zero zero i = refl
