@@ -6,6 +6,7 @@ use Prim.Native.Nat.{ℕ, _≤_}
 use native.Mathlib.Omega.{arith}
 use borrow.Author.Tests.{leb-true}
 use lib.Dec.{leb}
+use Rattle.slot.specs.declared.Slots.{Slots}
 use Rattle.shape.specs.declared.Selecting.{Selecting}
 use Rattle.shape.specs.declared.Selecting.the-variants.{Off, On}
 use Rattle.shape.specs.declared.Dating.{Dating}
@@ -20,20 +21,20 @@ both a b c d e = by (leb a b) (leb c d) refl refl e where
   by true false h k e = let z : _≡_ {A = ℕ} 0 1 = cc in (omega arith, omega arith)
   by false q h k e = let z : _≡_ {A = ℕ} 0 1 = cc in (omega arith, omega arith)
 
-module _ (selecting : Selecting) (dating : Dating) (family : Family) (paper : List ℕ) (kind : ℕ) (body : List ℕ) where
+module _ (selecting : Selecting) (dating : Dating) (family : Family) (slots : Slots) (paper : List ℕ) (kind : ℕ) (body : List ℕ) where
   pub selected : isSelecting selecting kind ≡ true
-      → readBy selecting dating family paper kind body ≡ startSelected family (selectedIn selecting paper body) body
+      → readBy selecting dating family slots paper kind body ≡ startSelected family (selectedIn selecting slots paper body) body
   unfolding selectingOf
   selected e = by selecting e where
     by : (selecting : Selecting) → isSelecting selecting kind ≡ true
-        → readBy selecting dating family paper kind body ≡ startSelected family (selectedIn selecting paper body) body
+        → readBy selecting dating family slots paper kind body ≡ startSelected family (selectedIn selecting slots paper body) body
     by Off e = absurd (let z : _≡_ {A = ℕ} 0 1 = cc in omega arith)
     by (On start end entries) e = rw e
 
-  pub unselected : isSelecting selecting kind ≡ false → readBy selecting dating family paper kind body ≡ commandOf dating family kind body
+  pub unselected : isSelecting selecting kind ≡ false → readBy selecting dating family slots paper kind body ≡ commandOf dating family kind body
   unfolding selectingOf
   unselected e = by selecting e where
     by : (selecting : Selecting) → isSelecting selecting kind ≡ false
-        → readBy selecting dating family paper kind body ≡ commandOf dating family kind body
+        → readBy selecting dating family slots paper kind body ≡ commandOf dating family kind body
     by Off e = refl
     by (On start end entries) e = rw e

@@ -1,8 +1,8 @@
 -- The commands of a paper (document 01, "The paper" and "Refusal numbers"; document 02, Three, Five and Thirteen).
 use Prim.Native.Nat.{ℕ, _+_, _-_}
 use mathlib.Core.Bool.{Bool, true, false, cond, _&&_}
-use mathlib.Core.List.{List, []}
-use lib.ListN.{length, take, drop}
+use mathlib.Core.List.{List, [], _∷_}
+use lib.ListN.{length, getD, take, drop}
 use lib.Dec.{eqb, leb}
 use Rattle.wire.specs.Wire.{byte, number}
 use Rattle.calendar.specs.Calendar.{dateAt}
@@ -11,6 +11,9 @@ use Rattle.cpace.specs.declared.Cvm.the-variants.{NoCvm}
 use Rattle.cpace.specs.Cpace.{cvmAt, cashbackAt}
 use Rattle.refusal.specs.declared.Refusal.the-variants.{Unreadable}
 use Rattle.refusal.specs.Refusal.{refusalNumber}
+use Rattle.money.specs.declared.AccumulatorAmount.{AccumulatorAmount}
+use Rattle.rules.specs.declared.Values.{Values}
+use Rattle.slot.specs.declared.Slots.{Slots}
 use Rattle.selection.specs.declared.Selection.{Selection}
 use Rattle.selection.specs.declared.Selection.the-variants.{Selected, NotSelected}
 use Rattle.selection.specs.Selection.{selectionOf}
@@ -100,9 +103,9 @@ startSelected family chosen body =
     cond (isCpace family && eqb (length body) 0) (Refused Unreadable)
     (Taken (StartCommand (record { interface = interfaceOf family body; chosen = chosen })))
 
-unfoldable pub selectingOf : Dating → Family → (file : List ℕ) (entries kind : ℕ) (body : List ℕ) → ReadCommand
-selectingOf dating family file entries kind body =
-    cond (eqb kind 2) (startSelected family (selectionOf file entries body) body) (commandOf dating family kind body)
+unfoldable pub selectingOf : Dating → Family → Slots → (file : List ℕ) (entries kind : ℕ) (body : List ℕ) → ReadCommand
+selectingOf dating family slots file entries kind body =
+    cond (eqb kind 2) (startSelected family (selectionOf file entries body slots) body) (commandOf dating family kind body)
 
 -- a file that does not lie in the paper is empty
 abbrev pub fileIn : (paper : List ℕ) (start end : ℕ) → List ℕ
@@ -113,17 +116,32 @@ abbrev pub isSelecting : Selecting → (kind : ℕ) → Bool
 isSelecting Off kind = false
 isSelecting (On start end entries) kind = eqb kind 2
 
-abbrev pub selectedIn : Selecting → (paper terminal : List ℕ) → Selection
-selectedIn Off paper terminal = NotSelected
-selectedIn (On start end entries) paper terminal = selectionOf (fileIn paper start end) entries terminal
+abbrev pub selectedIn : Selecting → Slots → (paper terminal : List ℕ) → Selection
+selectedIn Off slots paper terminal = NotSelected
+selectedIn (On start end entries) slots paper terminal = selectionOf (fileIn paper start end) entries terminal slots
 
--- THE COMMAND IN A RECORD OF A PAPER, by the paper's shape
-abbrev pub readBy : Selecting → Dating → Family → (paper : List ℕ) (kind : ℕ) (body : List ℕ) → ReadCommand
-readBy Off dating family paper kind body = commandOf dating family kind body
-readBy (On start end entries) dating family paper kind body = selectingOf dating family (fileIn paper start end) entries kind body
+-- what the file's entries may test: a CPACE card's accumulators and counters, as they are
+abbrev pub amountAt : List AccumulatorAmount → ℕ → ℕ
+amountAt amounts i = getD amounts i (record { 0 = 0 }) .0
 
-unfoldable pub commandIn : Shape → (paper : List ℕ) (kind : ℕ) (body : List ℕ) → ReadCommand
-commandIn shape paper kind body = readBy (shape .selecting) (shape .dating) (shape .family) paper kind body
+unfoldable pub slotsOf : Family → Values → Slots
+slotsOf family values =
+    let amounts = values .accumulators in
+    record {
+      testable = isCpace family;
+      amounts = amountAt amounts 0 ∷ amountAt amounts 1 ∷ amountAt amounts 2 ∷ amountAt amounts 3 ∷ [];
+      counts = values .counters;
+    }
+
+-- THE COMMAND IN A RECORD OF A PAPER, by the paper's shape and the card's present values
+abbrev pub readBy : Selecting → Dating → Family → Slots → (paper : List ℕ) (kind : ℕ) (body : List ℕ) → ReadCommand
+readBy Off dating family slots paper kind body = commandOf dating family kind body
+readBy (On start end entries) dating family slots paper kind body =
+    selectingOf dating family slots (fileIn paper start end) entries kind body
+
+unfoldable pub commandIn : Shape → Values → (paper : List ℕ) (kind : ℕ) (body : List ℕ) → ReadCommand
+commandIn shape values paper kind body =
+    readBy (shape .selecting) (shape .dating) (shape .family) (slotsOf (shape .family) values) paper kind body
 
 abbrev pub readNumber : ReadCommand → ℕ
 readNumber (Taken command) = 0

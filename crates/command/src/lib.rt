@@ -2,16 +2,18 @@
 ghost use mathlib.Core.Path.{_≡_};
 ghost use Prim.Native.Nat.{_≤_};
 ghost use Rattle.command.specs.Command.{isCpace, interfaceOf, startLength, profileNamed, startOf, plainLength, firstLength, whenOf, cvmOf, cashbackOf};
-ghost use Rattle.command.specs.Command.{firstOf, secondOf, commandOf, isSelecting, selectedIn, startSelected, commandIn};
+ghost use Rattle.command.specs.Command.{firstOf, secondOf, commandOf, slotsOf, isSelecting, selectedIn, startSelected, commandIn};
 use calendar::Date;
 use cpace::Cvm;
 use money::TransactionAmount;
 use refusal::Refusal;
+use rules::Values;
 use selection::Selection;
 use shape::Dating;
 use shape::Family;
 use shape::Selecting;
 use shape::Shape;
+use slot::Slots;
 
 const START: u8 = 2;
 
@@ -214,10 +216,23 @@ fn selects(selecting: Selecting, kind: u8) -> bool
     }
 }
 
+// What the file's entries may test: a CPACE card's accumulators and counters, as they are.
+fn slots_of(family: Family, values: Values) -> Slots
+    ensures { λ r. ⌜ r ≡ slotsOf family values ⌝ }
+{
+    let amounts = values.accumulators;
+    let counts = values.counters;
+    Slots {
+        testable: is_cpace(family),
+        amounts: [amounts[0].0, amounts[1].0, amounts[2].0, amounts[3].0],
+        counts,
+    }
+}
+
 // What the paper's file selects for the terminal's data. A file that does not lie in the paper is
 // empty.
-fn select_profile(selecting: Selecting, paper: &[u8], data: &[u8]) -> Selection
-    ensures { λ r. ⌜ r ≡ selectedIn selecting (now (paper .entry)) (now («data» .entry)) ⌝ }
+fn select_profile(selecting: Selecting, slots: Slots, paper: &[u8], data: &[u8]) -> Selection
+    ensures { λ r. ⌜ r ≡ selectedIn selecting slots (now (paper .entry)) (now («data» .entry)) ⌝ }
 {
     match selecting {
         Selecting::Off => Selection::NotSelected,
@@ -227,37 +242,43 @@ fn select_profile(selecting: Selecting, paper: &[u8], data: &[u8]) -> Selection
             entries,
         } => {
             if (start <= end) & (end <= paper.len()) {
-                return selection::select(&paper[start..end], entries, data);
+                return selection::select(&paper[start..end], entries, data, slots);
             }
-            selection::select(&paper[..0], entries, data)
+            selection::select(&paper[..0], entries, data, slots)
         }
     }
 }
 
 // A Start that selects its profile: the terminal's data, of any length, before which a CPACE card's
 // interface stands. Both together are what the file reads.
-fn read_selecting(family: Family, selecting: Selecting, paper: &[u8], body: &[u8]) -> ReadCommand
-    ensures { λ r. ⌜ r ≡ startSelected family (selectedIn selecting (now (paper .entry)) (now (body .entry))) (now (body .entry)) ⌝ }
+fn read_selecting(
+    family: Family,
+    selecting: Selecting,
+    values: Values,
+    paper: &[u8],
+    body: &[u8],
+) -> ReadCommand
+    ensures { λ r. ⌜ r ≡ startSelected family (selectedIn selecting (slotsOf family values) (now (paper .entry)) (now (body .entry))) (now (body .entry)) ⌝ }
 {
     if is_cpace(family) & (body.len() == 0) {
         return ReadCommand::Refused(Refusal::Unreadable);
     }
-    let chosen = select_profile(selecting, paper, body);
+    let chosen = select_profile(selecting, slots_of(family, values), paper, body);
     ReadCommand::Taken(Command::Start(Start {
         interface: interface_of(family, body),
         chosen,
     }))
 }
 
-// The command in a record of a paper, by the paper's shape.
-pub fn read_record(shape: Shape, paper: &[u8], kind: u8, body: &[u8]) -> ReadCommand
-    ensures { λ r. ⌜ r ≡ commandIn shape (now (paper .entry)) kind (now (body .entry)) ⌝ }
+// The command in a record of a paper, by the paper's shape and the card's present values.
+pub fn read_record(shape: Shape, values: Values, paper: &[u8], kind: u8, body: &[u8]) -> ReadCommand
+    ensures { λ r. ⌜ r ≡ commandIn shape values (now (paper .entry)) kind (now (body .entry)) ⌝ }
 {
     let selecting = shape.selecting;
     let dating = shape.dating;
     let family = shape.family;
     if selects(selecting, kind) {
-        return read_selecting(family, selecting, paper, body);
+        return read_selecting(family, selecting, values, paper, body);
     }
     read_command(dating, family, kind, body)
 }

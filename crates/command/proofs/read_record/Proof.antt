@@ -1,7 +1,7 @@
 use borrow.Author.Needs.{needs}
 use mathlib.Core.Path.{sym, _∙_}
 use denote.Ref.{now}
-use Rattle.command.specs.Command.{commandIn}
+use Rattle.command.specs.Command.{slotsOf, commandIn}
 use Rattle.command.proofs.Selecting.{selected, unselected}
 use Rattle.command.proofs.read_record.Statement.{statement}
 use Rattle.command.proofs.read_record.Tie as tie
@@ -13,7 +13,7 @@ returns c =
     let a = tested .before .before .before .args in
     let told = sym (tested .selects .ensures) ∙ c .before .if1 .taken in
     simp (
-      selected (a .shape .selecting) (a .shape .dating) (a .shape .family) (now (a .paper)) (a .kind) (now (a .body)) told,
+      selected (a .shape .selecting) (a .shape .dating) (a .shape .family) (slotsOf (a .shape .family) (a .values)) (now (a .paper)) (a .kind) (now (a .body)) told,
       c .read-selecting .ensures,
     )
 
@@ -24,7 +24,7 @@ returns-2 c =
     let a = tested .before .before .before .args in
     let told = sym (tested .selects .ensures) ∙ c .before .if1 .left in
     simp (
-      unselected (a .shape .selecting) (a .shape .dating) (a .shape .family) (now (a .paper)) (a .kind) (now (a .body)) told,
+      unselected (a .shape .selecting) (a .shape .dating) (a .shape .family) (slotsOf (a .shape .family) (a .values)) (now (a .paper)) (a .kind) (now (a .body)) told,
       c .read-command .ensures,
     )
 

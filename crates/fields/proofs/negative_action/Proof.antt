@@ -3,8 +3,8 @@ use denote.Ref.{now}
 use mathlib.Core.Path.{ap, _∙_}
 use Prim.Native.Nat.{ℕ, _+_}
 use Rattle.wire.specs.Wire.{byte}
-use Rattle.entry.proofs.negative_action.Statement.{statement}
-use Rattle.entry.proofs.negative_action.Tie as tie
+use Rattle.fields.proofs.negative_action.Statement.{statement}
+use Rattle.fields.proofs.negative_action.Tie as tie
 
 returns : tie.Need-returns
 returns c =

@@ -3,9 +3,9 @@ use borrow.Author.Needs.{needs}
 use native.Mathlib.Omega.{arith}
 use mathlib.Core.Path.{ap}
 use Prim.Native.Nat.{ℕ, _+_, _*_, _≤_}
-use Rattle.entry.proofs.Facts.{product}
-use Rattle.entry.proofs.block_place.Statement.{statement}
-use Rattle.entry.proofs.block_place.Tie as tie
+use Rattle.fields.proofs.Facts.{product}
+use Rattle.fields.proofs.block_place.Statement.{statement}
+use Rattle.fields.proofs.block_place.Tie as tie
 
 small : (c : tie.After-byte-at) → c .before .before .args .i * c .byte-at .result ≤ 65025
 small c = product (c .before .before .args .i) (c .byte-at .result) (omega arith) (omega arith)

@@ -1,9 +1,9 @@
 use borrow.Author.Needs.{needs}
 use denote.Ref.{now}
 use mathlib.Core.Path.{ap, _∙_}
-use Rattle.entry.specs.Entry.{blockPlace}
-use Rattle.entry.proofs.blocks_end.Statement.{statement}
-use Rattle.entry.proofs.blocks_end.Tie as tie
+use Rattle.fields.specs.Fields.{blockPlace}
+use Rattle.fields.proofs.blocks_end.Statement.{statement}
+use Rattle.fields.proofs.blocks_end.Tie as tie
 
 returns : tie.Need-returns
 returns c =

@@ -1,0 +1,17 @@
+-- The number that a check type names. Assumes nothing.
+use mathlib.Core.Path.{_≡_, refl}
+use mathlib.Core.Bool.{Bool, true, false, cond}
+use Prim.Native.Nat.{ℕ, _/_, _%_, _≤_}
+use native.Mathlib.Omega.{arith}
+use lib.Dec.{eqb}
+use Rattle.slot.specs.Slot.{slotOf, numberOf}
+use Rattle.slot.specs.declared.Slot.the-variants.{Accumulator, Counter}
+
+by-bits : (s t : Bool) (x : ℕ) → x ≤ 4 → numberOf (cond s (Accumulator x) (Counter (cond t 4 x))) ≤ 4
+by-bits true t x h = h
+by-bits false true x h = omega arith
+by-bits false false x h = h
+
+pub to-four : (check : ℕ) → numberOf (slotOf check) ≤ 4
+unfolding slotOf
+to-four check = by-bits (eqb (check / 64 % 2) 1) (eqb (check / 16 % 4) 0) (check / 16 % 4) (omega arith)
