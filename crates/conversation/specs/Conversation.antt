@@ -37,7 +37,7 @@ answeredBy rules state end (CommandTaken command) =
 abbrev pub nextTaken : Rules → Shape → State → (paper : List ℕ) (at : ℕ) → Next → Taken
 nextTaken rules shape state paper at PaperEnd = record { state = state; at = at; event = End }
 nextTaken rules shape state paper at Fault = record { state = state; at = at; event = Refused Unreadable }
-nextTaken rules shape state paper at (Record kind start end) = answeredBy rules state end (commandIn shape paper kind (part paper start end))
+nextTaken rules shape state paper at (Record kind start end) = answeredBy rules state end (commandIn shape (state .values) paper kind (part paper start end))
 
 unfoldable pub takenOf : Rules → Shape → State → (paper : List ℕ) (at : ℕ) → Taken
 takenOf rules shape state paper at = nextTaken rules shape state paper at (nextAt paper at)

@@ -89,7 +89,8 @@ pub fn take(words: &Words, shape: Shape, state: State, paper: &[u8], at: usize) 
             event: Event::Refused(Refusal::Unreadable),
         },
         Next::Record { kind, start, end } => {
-            let read = command::read_record(shape, paper, kind, &paper[start..end]);
+            let values = state.values;
+            let read = command::read_record(shape, values, paper, kind, &paper[start..end]);
             answer(words, state, read, end)
         }
     }

@@ -22,6 +22,7 @@ use Rattle.paper.specs.declared.Next.the-variants.{Record, Fault, End as PaperE
 use Rattle.paper.specs.Paper.{nextAt}
 use Rattle.paper.specs.Walk.{part}
 use Rattle.paper.proofs.Walk.{inside}
+use Rattle.slot.specs.declared.Slots.{Slots}
 use Rattle.selection.specs.declared.Selection.{Selection}
 use Rattle.selection.specs.Selection.{selectionOf, visitsOf}
 use Rattle.command.specs.declared.Start.{Start}
@@ -29,7 +30,7 @@ use Rattle.command.specs.declared.Command.{Command}
 use Rattle.command.specs.declared.Command.the-variants.{Start as StartCommand, First as FirstCommand, Second as SecondCommand}
 use Rattle.command.specs.declared.ReadCommand.{ReadCommand}
 use Rattle.command.specs.declared.ReadCommand.the-variants.{Taken, Refused as NotTaken}
-use Rattle.command.specs.Command.{isCpace, interfaceOf, startLength, startOf, plainLength, firstLength, firstOf, secondOf, commandOf, startSelected, selectingOf, fileIn, readBy, commandIn}
+use Rattle.command.specs.Command.{isCpace, interfaceOf, startLength, startOf, plainLength, firstLength, firstOf, secondOf, commandOf, startSelected, selectingOf, slotsOf, fileIn, readBy, commandIn}
 use Rattle.state.specs.declared.Answer.{Answer}
 use Rattle.state.specs.declared.Answer.the-variants.{Refused as AnswerRefused, Started, Given}
 use Rattle.state.specs.declared.State.{State}
@@ -132,12 +133,12 @@ module _ (dating : Dating) (family : Family) (kind : ℕ) (body : List ℕ) wher
     by true = tt
     by false = tt
 
-  sized : (selecting : Selecting) (paper : List ℕ) → SizedIn (readBy selecting dating family paper kind body) (length body)
+  sized : (selecting : Selecting) (slots : Slots) (paper : List ℕ) → SizedIn (readBy selecting dating family slots paper kind body) (length body)
   unfolding selectingOf
-  sized Off paper = sized-by-kind
-  sized (On start end entries) paper = by (eqb kind 2) refl where
-    by : (b : Bool) → eqb kind 2 ≡ b → SizedIn (selectingOf dating family (fileIn paper start end) entries kind body) (length body)
-    by true e = rw e (sized-selected (selectionOf (fileIn paper start end) entries body))
+  sized Off slots paper = sized-by-kind
+  sized (On start end entries) slots paper = by (eqb kind 2) refl where
+    by : (b : Bool) → eqb kind 2 ≡ b → SizedIn (selectingOf dating family slots (fileIn paper start end) entries kind body) (length body)
+    by true e = rw e (sized-selected (selectionOf (fileIn paper start end) entries body slots))
     by false e = rw e sized-by-kind
 
 module _ (rules : Rules) (state : State) where
@@ -182,5 +183,6 @@ record-short rules shape state paper at number = by (nextAt paper at) refl where
       let size = part-length paper start end (omega (arith, i .holds, i .start-is)) (i .fits) in
       let holds = i .holds in
       let begins = i .start-is in
-      by-read end (length (part paper start end)) (commandIn shape paper kind (part paper start end))
-      (unfold commandIn in sized (shape .dating) (shape .family) kind (part paper start end) (shape .selecting) paper) (omega arith)
+      by-read end (length (part paper start end)) (commandIn shape (state .values) paper kind (part paper start end))
+      (unfold commandIn in sized (shape .dating) (shape .family) kind (part paper start end) (shape .selecting) (slotsOf (shape .family) (state .values)) paper)
+      (omega arith)

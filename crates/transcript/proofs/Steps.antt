@@ -60,7 +60,7 @@ never-set-up rules shape state paper at = by (nextAt paper at) where
   by : (next : Next) → nextTaken rules shape state paper at next .event ≡ SetUp → ⊥
   by PaperEnd e = let z : _≡_ {A = ℕ} 0 1 = cc in omega arith
   by Fault e = let z : _≡_ {A = ℕ} 0 1 = cc in omega arith
-  by (Record kind start end) e = by-read end (commandIn shape paper kind (part paper start end)) e
+  by (Record kind start end) e = by-read end (commandIn shape (state .values) paper kind (part paper start end)) e
 
 module _ (rules : Rules) (shape : Shape) (state : State) (paper : List ℕ) (at number : ℕ) where
   abbrev taken : Taken
