@@ -9,6 +9,8 @@ use lib.Dec.{lit≤, eqb, ltb, leb}
 use lib.ListN.{length, take, drop, length-append, List·getD-append}
 use lib.Seq.{getD-append-add, getD-append-seam, drop-append-add, take-append-seam}
 use Rattle.wire.specs.Wire.{byte}
+use Rattle.rules.specs.declared.Values.{Values}
+use Rattle.slot.specs.declared.Slots.{Slots}
 use Rattle.selection.specs.declared.Selection.{Selection}
 use Rattle.selection.specs.Selection.{isFile, selectionOf}
 use Rattle.shape.specs.declared.Selecting.the-variants.{On}
@@ -23,12 +25,12 @@ use Rattle.shape.specs.Shape.{families, familyTail, tailsOf, shapeOf, shapeAt}
 use Rattle.shape.proofs.Files.{file-ends}
 use Rattle.shape.proofs.Inside.{inside}
 use Rattle.paper.specs.Walk.{part}
-use Rattle.command.specs.Command.{isCpace, startSelected, selectingOf, commandIn}
+use Rattle.command.specs.Command.{isCpace, startSelected, selectingOf, slotsOf, commandIn}
 use Rattle.command.specs.declared.Command.the-variants.{Start as StartCommand}
 use Rattle.command.specs.declared.ReadCommand.the-variants.{Taken as CommandTaken}
 use Rattle.conversation.specs.declared.Begun.{Begun}
 use Rattle.conversation.specs.Conversation.{baseBegun, setupBegun, begunOf}
-use Rattle.versions.proofs.Papers.{Known, Reads, paperOf, file-there, by-body, begun-is}
+use Rattle.versions.proofs.Papers.{Known, Reads, readsOf, paperOf, file-there, by-body, begun-is}
 
 -- a tail that is off, or on with so many bytes in all
 pub data Switched (size : ℕ) : (on : Bool) → List ℕ → Type 0 where
@@ -55,12 +57,21 @@ abbrev pub Asks : (cpace : Bool) (terminal : List ℕ) → Type 0
 Asks false terminal = Unit
 Asks true terminal = 1 ≤ length terminal
 
--- a Start is read as what a file of so many entries selects by its body, to a CPACE card with the interface
+-- a card's slots, by whether it is a CPACE card: where its tail stands does not matter to them
+abbrev pub slotsBy : (cpace : Bool) → Values → Slots
+slotsBy cpace = slotsOf (cond cpace (Cpace 0 0) Cpa)
+
+slots-are : (family : Family) → slotsOf family ≡ slotsBy (isCpace family)
+unfolding slotsOf
+slots-are Cpa = refl
+slots-are (Cpace start end) = refl
+
+-- a Start is read as what a file of so many entries selects by its body and the card's present values, to a CPACE card with the interface
 abbrev pub Selects : (file : List ℕ) (entries : ℕ) (cpace : Bool) → Reads → Type 0
 Selects file entries cpace reads =
-    (terminal : List ℕ) → Asks cpace terminal
-    → reads 2 terminal
-    ≡ CommandTaken (StartCommand (record { interface = cond cpace (byte terminal 0) 0; chosen = selectionOf file entries terminal }))
+    (values : Values) (terminal : List ℕ) → Asks cpace terminal
+    → reads values 2 terminal
+    ≡ CommandTaken (StartCommand (record { interface = cond cpace (byte terminal 0) 0; chosen = selectionOf file entries terminal (slotsBy cpace values) }))
 
 started : (family : Family) (chosen : Selection) (terminal : List ℕ) → Asks (isCpace family) terminal
     → startSelected family chosen terminal
@@ -177,11 +188,11 @@ module _ (s : List ℕ) (sized : length s ≡ 52 + 107 * byte s 3 + 7 * byte s 4
       family-ends = rw profiles (switched-ends (families shape) Cpa (Cpace at (at + (9 + byte s 3))) i)
 
     -- a Start is read by the file in the body
-    by-file : (shape : Shape) → shape .selecting ≡ On start end entries → Selects file entries (isCpace (shape .family)) (commandIn shape body)
+    by-file : (shape : Shape) → shape .selecting ≡ On start end entries → Selects file entries (isCpace (shape .family)) (readsOf shape body)
     unfolding commandIn selectingOf
-    by-file shape selecting terminal asks =
-        rw (selecting, file-there body start end (omega arith) (omega (arith, long)), file-is)
-        (started (shape .family) (selectionOf file entries terminal) terminal asks)
+    by-file shape selecting values terminal asks =
+        rw (selecting, file-there body start end (omega arith) (omega (arith, long)), file-is, slots-are (shape .family))
+        (started (shape .family) (selectionOf file entries terminal (slotsBy (isCpace (shape .family)) values)) terminal asks)
 
   -- ---- the shape of each version
 
@@ -248,7 +259,7 @@ module _ (s : List ℕ) (sized : length s ≡ 52 + 107 * byte s 3 + 7 * byte s 4
   -- A PAPER'S STARTS ARE READ BY THE FILE BEHIND ITS SWITCH
   pub file-selects : (version : ℕ) (cpace : Bool) (behind : List ℕ) → Behind (byte s 3) version cpace behind
       → (rest : List ℕ) → length (paperOf version (body behind) rest) ≤ 65536
-      → Selects file entries cpace (commandIn (begunOf (paperOf version (body behind) rest) .shape) (paperOf version (body behind) rest))
+      → Selects file entries cpace (readsOf (begunOf (paperOf version (body behind) rest) .shape) (paperOf version (body behind) rest))
   unfolding setupBegun baseBegun
   file-selects version cpace behind b rest short =
       let t = takes version cpace behind b in
@@ -257,6 +268,6 @@ module _ (s : List ℕ) (sized : length s ≡ 52 + 107 * byte s 3 + 7 * byte s 4
       let shaped : begunOf paper .shape ≡ shapeAt 4 (t .shape) =
       ap (λ (x : Begun). x .shape) (begun-is version known (body behind) rest short) ∙ rw (t .is) in
       let lies = inside (body behind) version (t .shape) (t .is) .file in
-      let reads : commandIn (begunOf paper .shape) paper ≡ commandIn (t .shape) (body behind) =
-      ap (λ (shape : Shape). commandIn shape paper) shaped ∙ by-body version known (body behind) rest short (t .shape) lies in
+      let reads : readsOf (begunOf paper .shape) paper ≡ readsOf (t .shape) (body behind) =
+      ap (λ (shape : Shape). readsOf shape paper) shaped ∙ by-body version known (body behind) rest short (t .shape) lies in
       subst₂ (Selects file entries) (t .family) (sym reads) (by-file behind (t .shape) (t .on))

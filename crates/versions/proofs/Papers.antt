@@ -11,6 +11,7 @@ use lib.ListN.{length, drop, length-append, length-drop}
 use lib.Seq.{getD-append-add, drop-append-add, drop-append-le, take-append-le, take-at}
 use Rattle.wire.specs.Wire.{byte, number}
 use Rattle.refusal.specs.declared.Refusal.the-variants.{Unreadable}
+use Rattle.rules.specs.declared.Values.{Values}
 use Rattle.rules.specs.Rules.{Rules, rulesOf}
 use Rattle.setup.specs.Setup.{readSetup, wordsAfter}
 use Rattle.shape.specs.declared.Selecting.{Selecting}
@@ -29,7 +30,7 @@ use Rattle.paper.specs.declared.Next.the-variants.{Record, Fault, End}
 use Rattle.paper.specs.declared.Opened.the-variants.{Setup}
 use Rattle.paper.specs.Paper.{endAt, nextAt, openPaper}
 use Rattle.paper.specs.Walk.{part, written}
-use Rattle.command.specs.Command.{startOf, firstOf, commandOf, startSelected, selectingOf, fileIn, readBy, commandIn}
+use Rattle.command.specs.Command.{startOf, firstOf, commandOf, startSelected, selectingOf, fileIn, slotsOf, readBy, commandIn}
 use Rattle.command.specs.declared.ReadCommand.{ReadCommand}
 use Rattle.command.specs.declared.ReadCommand.the-variants.{Taken as CommandTaken, Refused as CommandRefused}
 use Rattle.state.specs.declared.State.{State}
@@ -43,15 +44,18 @@ use Rattle.conversation.proofs.Events.{settled}
 
 -- ---- what stands in front of a record does not matter, but for the file
 
--- what reads a record
+-- what reads a record, by the card's present values
 abbrev pub Reads : Type 0
-Reads = (kind : ℕ) (body : List ℕ) → ReadCommand
+Reads = (values : Values) (kind : ℕ) (body : List ℕ) → ReadCommand
+
+abbrev pub readsOf : Shape → (paper : List ℕ) → Reads
+readsOf shape paper values = commandIn shape values paper
 
 -- the events of n records over a rest, whatever reads them
 abbrev pub takenBy : Rules → Reads → State → List ℕ → (at : ℕ) → Next → Taken
 takenBy rules reads state s at End = record { state = state; at = at; event = EndEvent }
 takenBy rules reads state s at Fault = record { state = state; at = at; event = Refused Unreadable }
-takenBy rules reads state s at (Record kind start end) = answeredBy rules state end (reads kind (part s start end))
+takenBy rules reads state s at (Record kind start end) = answeredBy rules state end (reads (state .values) kind (part s start end))
 
 unfoldable pub eventsBy : ℕ → Rules → Reads → State → List ℕ → (at : ℕ) → List Event
 eventsBy zero rules reads state s at = []
@@ -118,7 +122,7 @@ module _ (front s : List ℕ) where
 
   module _ (rules : Rules) (shape : Shape) where
     abbrev reads : Reads
-    reads = commandIn shape all
+    reads = readsOf shape all
 
     -- what is taken, its place counted from the front
     abbrev further-on : Taken → Taken
@@ -134,7 +138,7 @@ module _ (front s : List ℕ) where
       by : (n : Next) → nextTaken rules shape state all (from at) (shift n) ≡ further-on (takenBy rules reads state s at n)
       by End = refl
       by Fault = refl
-      by (Record kind start end) = rw (part-behind start end) (answered end (reads kind (part s start end)))
+      by (Record kind start end) = rw (part-behind start end) (answered end (reads (state .values) kind (part s start end)))
 
     events-behind : (n : ℕ) (state : State) (at : ℕ) → eventsFrom n rules shape state all (from at) ≡ eventsBy n rules reads state s at
     unfolding eventsFrom eventsBy
@@ -173,7 +177,7 @@ partsOf shape body =
       base = basePart shape body;
       cycles = cyclesPart (shape .dating) body;
       family = familyPart (shape .family) body;
-      reads = commandIn shape body;
+      reads = readsOf shape body;
     }
 
 -- the events of a paper, from what its set-up's body says and what stands behind it
@@ -192,17 +196,17 @@ abbrev pub Known : ℕ → Type 0
 Known version = (1 ≤ version) × (version ≤ 5)
 
 -- where its tails stand does not matter to a command, only whether they are there
-abbrev SamePlaces : (place : ℕ) → Dating → Family → Type 0
-SamePlaces place dating family =
-    (commandOf (datingAt place dating) (familyAt place family) ≡ commandOf dating family)
-    × (selectingOf (datingAt place dating) (familyAt place family) ≡ selectingOf dating family)
+record SamePlaces (place : ℕ) (dating : Dating) (family : Family) : Type 0 where
+  command : commandOf (datingAt place dating) (familyAt place family) ≡ commandOf dating family
+  selecting : selectingOf (datingAt place dating) (familyAt place family) ≡ selectingOf dating family
+  slots : slotsOf (familyAt place family) ≡ slotsOf family
 
 same-places : (place : ℕ) (dating : Dating) (family : Family) → SamePlaces place dating family
-unfolding commandOf startOf firstOf selectingOf startSelected
-same-places place DatesOff Cpa = (refl, refl)
-same-places place DatesOff (Cpace start end) = (refl, refl)
-same-places place (DatesOn from to) Cpa = (refl, refl)
-same-places place (DatesOn from to) (Cpace start end) = (refl, refl)
+unfolding commandOf startOf firstOf selectingOf startSelected slotsOf
+same-places place DatesOff Cpa = record { command = refl; selecting = refl; slots = refl }
+same-places place DatesOff (Cpace start end) = record { command = refl; selecting = refl; slots = refl }
+same-places place (DatesOn from to) Cpa = record { command = refl; selecting = refl; slots = refl }
+same-places place (DatesOn from to) (Cpace start end) = record { command = refl; selecting = refl; slots = refl }
 
 -- a file that lies in a list
 pub file-there : (s : List ℕ) (start end : ℕ) → start ≤ end → end ≤ length s → fileIn s start end ≡ part s start end
@@ -248,14 +252,15 @@ module _ (version : ℕ) (known : Known version) (body rest : List ℕ) (short :
       ∙ sym (file-there body start end l h)
 
   -- its records are read by the file in its body
-  pub by-body : (shape : Shape) → Lies (shape .selecting) (length body) → commandIn (shapeAt 4 shape) (paperOf version body rest) ≡ commandIn shape body
+  pub by-body : (shape : Shape) → Lies (shape .selecting) (length body) → readsOf (shapeAt 4 shape) (paperOf version body rest) ≡ readsOf shape body
   unfolding commandIn
-  by-body shape lies = by (shape .selecting) lies (same-places 4 (shape .dating) (shape .family)) where
+  by-body shape lies = λ i values. by (shape .selecting) lies (same-places 4 (shape .dating) (shape .family)) values i where
     by : (selecting : Selecting) → Lies selecting (length body) → SamePlaces 4 (shape .dating) (shape .family)
-        → readBy (selectingAt 4 selecting) (datingAt 4 (shape .dating)) (familyAt 4 (shape .family)) (paperOf version body rest)
-        ≡ readBy selecting (shape .dating) (shape .family) body
-    by Off l same = same .0
-    by (On start end entries) l same = λ i. same .1 i (same-file start end (l .0) (l .1) i) entries
+        → (values : Values)
+        → readBy (selectingAt 4 selecting) (datingAt 4 (shape .dating)) (familyAt 4 (shape .family)) (slotsOf (familyAt 4 (shape .family)) values) (paperOf version body rest)
+        ≡ readBy selecting (shape .dating) (shape .family) (slotsOf (shape .family) values) body
+    by Off l same values = same .command
+    by (On start end entries) l same values = λ i. same .selecting i (same .slots i values) (same-file start end (l .0) (l .1) i) entries
 
   -- ITS EVENTS, BY ITS BODY'S SHAPE
   pub events-are : (words : List ℕ) (read : ReadShape) → shapeOf version body ≡ read

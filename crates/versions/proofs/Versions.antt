@@ -30,12 +30,13 @@ use Rattle.shape.specs.declared.ReadShape.the-variants.{Taken, Refused}
 use Rattle.shape.specs.Shape.{Lies, Spans, Holds, based, baseTail, dates, families, tailsOf, shapeOf, basePart, cyclesPart, familyPart}
 use Rattle.shape.proofs.Inside.{Inside, inside}
 use Rattle.shape.proofs.Older.{selection-off, syllabus-off, dates-off, family-off}
-use Rattle.command.specs.Command.{selectingOf, fileIn, readBy, commandIn}
+use Rattle.slot.specs.declared.Slots.{Slots}
+use Rattle.command.specs.Command.{selectingOf, fileIn, readBy, slotsOf, commandIn}
 use Rattle.conversation.specs.declared.Begun.{Begun}
 use Rattle.conversation.specs.declared.Event.the-variants.{SetUp, Refused as EndRefused}
 use Rattle.conversation.specs.Conversation.{setUpEvent, baseBegun, shapedBegun, setupBegun, begunOf}
 use Rattle.lines.specs.Sitting.{linesOf, sittingLines}
-use Rattle.versions.proofs.Papers.{Known, paperOf, Parts, partsOf, eventsWith, eventsShaped}
+use Rattle.versions.proofs.Papers.{Known, readsOf, paperOf, Parts, partsOf, eventsWith, eventsShaped}
 use Rattle.versions.proofs.Papers.{part-before, file-there, whole-length, events-are, begun-is}
 use Rattle.versions.proofs.Undated.{undated, of-cpa, MasksBelow, below-more, accepted-below, same-judged}
 
@@ -83,18 +84,18 @@ module _ (body : List ℕ) where
   same-family (Cpace start end) s = part-before body (0 ∷ []) start end (s .0) (s .1)
 
   same-reads : (shape : Shape) (unnamed : ℕ) → Lies (shape .selecting) (length body)
-      → commandIn (naming shape unnamed) (newer body) ≡ commandIn shape body
+      → readsOf (naming shape unnamed) (newer body) ≡ readsOf shape body
   unfolding commandIn
-  same-reads shape unnamed lies = by (shape .selecting) lies where
-    by : (selecting : Selecting) → Lies selecting (length body)
-        → readBy selecting (shape .dating) (shape .family) (newer body) ≡ readBy selecting (shape .dating) (shape .family) body
-    by Off l = refl
-    by (On start end entries) l =
+  same-reads shape unnamed lies = λ i values. by (shape .selecting) lies (slotsOf (shape .family) values) i where
+    by : (selecting : Selecting) → Lies selecting (length body) → (slots : Slots)
+        → readBy selecting (shape .dating) (shape .family) slots (newer body) ≡ readBy selecting (shape .dating) (shape .family) slots body
+    by Off l slots = refl
+    by (On start end entries) l slots =
         let same : fileIn (newer body) start end ≡ fileIn body start end =
         file-there (newer body) start end (l .0) (omega (arith, length-append body (0 ∷ []), l .1))
         ∙ part-before body (0 ∷ []) start end (l .0) (l .1)
         ∙ sym (file-there body start end (l .0) (l .1)) in
-        ap (λ (file : List ℕ). selectingOf (shape .dating) (shape .family) file entries) same
+        ap (λ (file : List ℕ). selectingOf (shape .dating) (shape .family) slots file entries) same
 
   same-base : (shape : Shape) → Inside shape (length body) → basePart shape (newer body) ≡ basePart shape body
   same-base shape lies = take-append-le (shape .base) body (0 ∷ []) (lies .base)
