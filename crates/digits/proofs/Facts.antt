@@ -13,16 +13,14 @@ use Rattle.digits.specs.Digits.{arePairs, pairsValue}
 pub small : (i : ℕ) → i < 6 → 100 ^ i ≤ 10_000_000_000
 small i h = pow-le-pow-right (lit< tt) {i = i} {j = 5} (omega arith)
 
--- they are those of the bytes
-module _ (s t : List ℕ) (at : ℕ) where
-  pub same-pairs : (n : ℕ) → ((k : ℕ) → k < n → byte s (at + k) ≡ byte t (at + k)) → arePairs s at n ≡ arePairs t at n
+-- they are those of the bytes, wherever these stand
+module _ (s t : List ℕ) (a b : ℕ) where
+  pub same-pairs : (n : ℕ) → ((k : ℕ) → k < n → byte s (a + k) ≡ byte t (b + k)) → arePairs s a n ≡ arePairs t b n
   unfolding arePairs
   same-pairs zero h = refl
-  same-pairs (suc n) h =
-      ap₂ (λ (a : Bool) (b : ℕ). a && isPair b) (same-pairs n (λ k l. h k (omega arith))) (h n (omega arith))
+  same-pairs (suc n) h = ap₂ (λ (p : Bool) (x : ℕ). p && isPair x) (same-pairs n (λ k l. h k (omega arith))) (h n (omega arith))
 
-  pub same-value : (n : ℕ) → ((k : ℕ) → k < n → byte s (at + k) ≡ byte t (at + k)) → pairsValue s at n ≡ pairsValue t at n
+  pub same-value : (n : ℕ) → ((k : ℕ) → k < n → byte s (a + k) ≡ byte t (b + k)) → pairsValue s a n ≡ pairsValue t b n
   unfolding pairsValue
   same-value zero h = refl
-  same-value (suc n) h =
-      ap₂ (λ (x b : ℕ). x * 100 + pairValue b) (same-value n (λ k l. h k (omega arith))) (h n (omega arith))
+  same-value (suc n) h = ap₂ (λ (v x : ℕ). v * 100 + pairValue x) (same-value n (λ k l. h k (omega arith))) (h n (omega arith))

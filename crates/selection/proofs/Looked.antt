@@ -69,10 +69,10 @@ module _ (e d d′ : List ℕ) (same : stretch e d ≡ stretch e d′) where
   -- an amount of six bytes
   module _ (six : blockLength e ≡ 6) where
     same-amount : pairsValue d (position e - 1) 6 ≡ pairsValue d′ (position e - 1) 6
-    same-amount = same-value d d′ (position e - 1) 6 (λ k h. same-byte k (omega arith))
+    same-amount = same-value d d′ (position e - 1) (position e - 1) 6 (λ k h. same-byte k (omega arith))
 
     same-digits : arePairs d (position e - 1) 6 ≡ arePairs d′ (position e - 1) 6
-    same-digits = same-pairs d d′ (position e - 1) 6 (λ k h. same-byte k (omega arith))
+    same-digits = same-pairs d d′ (position e - 1) (position e - 1) 6 (λ k h. same-byte k (omega arith))
 
     within : (d : List ℕ) (t : Bool) → 0 < position e → reachesPast e d ≡ t → leb (position e + 5) (length d) ≡ not t
     unfolding reachesPast
