@@ -19,7 +19,7 @@ use Rattle.conversation.specs.Conversation.{begunOf, setupBegun, shapedBegun}
 use Rattle.conversation.specs.Events.{eventsOf}
 use Rattle.lines.specs.Lines.{refusalLine}
 use Rattle.lines.specs.Sitting.{answerLine, linesOf, sittingLines}
-use Rattle.demands.specs.Conversation.{Exchange, rulesBy}
+use Rattle.demands.specs.Conversation.{Exchange, run, rulesBy}
 use Rattle.rows.specs.Whole.{IsTaken}
 use Rattle.rows.proofs.Whole.{taken-if-spelled}
 use Rattle.spelling.specs.Spelling.{Bytes}
@@ -40,10 +40,10 @@ module _ (words paper : List ℕ) (lent : length words ≡ wordCount) (bytes : B
   -- THE EVENTS OF AN ACCEPTED PAPER ARE THOSE OF ITS COMMANDS OVER ITS SET-UP
   pub happened-there : eventsOf words paper
       ≡ SetUp ∷ (happened (rulesBy (setupOf paper)) (fresh (setupOf paper) .state) (commandsOf paper) ++ ending (faulty paper))
-  unfolding eventsOf walked
+  unfolding eventsOf walked run
   happened-there =
       let b = begins words paper lent bytes a in
-      let walks = walk-events (rulesBy (setupOf paper)) (b .shape) paper (b .lies) (length paper) (fresh (setupOf paper) .state) (b .at) in
+      let walks = walk-events (rulesBy (setupOf paper)) (b .shape) paper (b .lies) (length paper) (fresh (setupOf paper) .state) [] (b .at) in
       rw (b .begun-is, b .rules) (ap (λ (l : List Event). SetUp ∷ l) (walks ∙ rw (b .manner, b .rest)))
 
   pub events-are : eventsOf words paper ≡ eventsBy paper

@@ -1,5 +1,5 @@
 -- What the statements say at chosen inputs, worked out. Assumes nothing.
-use mathlib.Core.Bool.{cond}
+use mathlib.Core.Bool.{false, cond}
 use mathlib.Core.List.{List, [], _∷_, _++_}
 use Prim.Native.Nat.{ℕ}
 use lib.Dec.{T, eqb}
@@ -11,6 +11,7 @@ use Rattle.cpace.specs.declared.Cvm.the-variants.{OnlinePin, Signature, NoCvm}
 use Rattle.cpace.specs.Cpace.{cvmAt, cashbackAt}
 use Rattle.selection.specs.declared.Selection.{Selection}
 use Rattle.selection.specs.declared.Selection.the-variants.{Selected, NotSelected}
+use Rattle.slot.specs.declared.Slots.{Slots}
 use Rattle.setup.specs.Setup.{rulesIn, freshIn}
 use Rattle.shape.specs.declared.ReadShape.{ReadShape}
 use Rattle.shape.specs.declared.ReadShape.the-variants.{Taken, Refused as ShapeRefused}
@@ -34,6 +35,7 @@ use Rattle.conversation.specs.Conversation.{answeredBy, takenOf, begunOf}
 use Rattle.conversation.specs.Events.{eventsFrom, eventsOf}
 use Rattle.lines.specs.Lines.{digit, decimal, refusalLine}
 use Rattle.lines.specs.Sitting.{linesOf, sittingLines}
+use Rattle.demands.specs.Conversation.{Sitting}
 use Rattle.demands.proofs.Computed.{computed}
 use Rattle.spelling.specs.Spelling.{big, recordOf, byName, undated, dated, cpa, cpace, unsaid, names, kindOf, bodyOf, spell}
 use Rattle.spelling.proofs.Commands.{of}
@@ -44,8 +46,11 @@ use Rattle.papers.specs.Papers.{tailsIn, entriesLong, syllabusIn, cycles
 abbrev twoStarts : List ℕ
 twoStarts = spell (names unsaid 1) ++ spell (names unsaid 1)
 
+abbrev card : Sitting
+card = record { rules = rulesIn body [] [] 0; state = freshState (freshIn body []); log = [] }
+
 abbrev events : List Event
-events = eventsFrom 9 (rulesIn body [] [] 0) (based 159) (freshState (freshIn body [])) twoStarts 0
+events = eventsFrom 9 (card .rules) (based 159) (card .state) twoStarts 0
 
 abbrev chosenIn : Selection → ℕ
 chosenIn (Selected profile visits) = profile
@@ -100,6 +105,9 @@ dayOf (StartCommand start) = 0
 dayOf (FirstCommand first) = dayOn (first .when)
 dayOf (SecondCommand second) = 0
 
+abbrev none-tested : Slots
+none-tested = record { testable = false; amounts = []; counts = [] }
+
 abbrev fieldRead : (Command → ℕ) → ReadCommand → ℕ
 fieldRead field (CommandTaken command) = field command
 fieldRead field (CommandRefused refusal) = 98
@@ -143,17 +151,17 @@ abbrev numberOf : List (List ℕ) → (place : ℕ) → ℕ
 numberOf lines place = byte (getD lines place []) 0
 
 pub record Samples : Type 0 where
-  pub each-record : T (eqb (length events) (length (walk 9 (of byName undated cpa) twoStarts .commands)))
+  pub each-record : T (eqb (length events) (length (walk 9 (of byName undated cpa) card twoStarts .commands)))
   pub latest-card : T (eqb (atcIn (getD events 1 End)) 2)
   pub its-command : T (eqb (profileIn (getD events 1 End)) 1)
   pub numbered-from-0 : T (eqb (numberOf (sittingLines [] []) 0) 0x30)
   pub rising-by-1 : T (eqb (numberOf (linesOf 0 (SetUp ∷ SetUp ∷ [])) 1) 0x31)
   pub syllabus-1 : T (eqb (syllabusRead (shapeOf 3 latest)) (syllabusIn (tailsIn latest)))
   pub last-day : T (eqb (lastRead (shapeOf 4 dating)) (lastDay (cyclesIn 0 (tailsIn dating))))
-  pub first-day : T (eqb (fieldRead dayOf (commandOf (DatesOn 0 0) Cpa 3 first)) (fieldMeant dayOf (meant (of byName dated cpa) 3 first)))
+  pub first-day : T (eqb (fieldRead dayOf (commandOf (DatesOn 0 0) Cpa 3 first)) (fieldMeant dayOf (meant (of byName dated cpa) none-tested 3 first)))
   pub first-control : T (eqb (controlRead (shapeOf 5 controlling)) (firstControl (familyIn 0 (tailsIn controlling))))
-  pub first-cvm : T (eqb (fieldRead cvmIn (commandOf DatesOff (Cpace 0 0) 3 presenting)) (fieldMeant cvmIn (meant (of byName undated cpace) 3 presenting)))
-  pub first-cashback : T (eqb (fieldRead cashbackIn (commandOf DatesOff (Cpace 0 0) 3 presenting)) (fieldMeant cashbackIn (meant (of byName undated cpace) 3 presenting)))
+  pub first-cvm : T (eqb (fieldRead cvmIn (commandOf DatesOff (Cpace 0 0) 3 presenting)) (fieldMeant cvmIn (meant (of byName undated cpace) none-tested 3 presenting)))
+  pub first-cashback : T (eqb (fieldRead cashbackIn (commandOf DatesOff (Cpace 0 0) 3 presenting)) (fieldMeant cashbackIn (meant (of byName undated cpace) none-tested 3 presenting)))
 
 pub samples : Samples
 unfolding computed printed openPaper nextAt commandIn commandOf startOf kindOf bodyOf recordOf big eventsFrom eventsOf takenOf answeredBy begunOf

@@ -22,7 +22,7 @@ use Rattle.state.specs.declared.Answer.the-variants.{Refused}
 use Rattle.conversation.specs.declared.Event.{Event}
 use Rattle.conversation.specs.declared.Event.the-variants.{SetUp, Answered}
 use Rattle.lines.specs.Sitting.{sittingLines}
-use Rattle.demands.specs.Conversation.{Exchange}
+use Rattle.demands.specs.Conversation.{Exchange, run, rulesBy, sat}
 use Rattle.demands.specs.Audit.{inForce, placeBy, approves, bought, takesPart}
 use Rattle.demands.specs.Guards.{Guards}
 use Rattle.demands.specs.Printed.{first, second, commands}
@@ -33,7 +33,8 @@ use Rattle.rows.specs.Tails.{off, third}
 use Rattle.rows.specs.Whole.{wholeBody}
 use Rattle.rows.proofs.Witness as R
 use Rattle.spelling.specs.Spelling.{Bytes, big, recordOf, spellAll, paperOf, byName, byFile, undated, dated, cpa, cpace, Manner}
-use Rattle.spelling.specs.Spelling.{standsFor, allStandFor}
+use Rattle.spelling.specs.Spelling.{Sent, standsFor}
+use Rattle.spelling.specs.Sitting.{allStandFor}
 use Rattle.spelling.specs.Printed.{printed, body, sent, printedLines, selection, selectionBody, file, brought, calendar, calendarBody, datedSent}
 use Rattle.spelling.specs.Printed.{cpacePaper, cpaceBody, cpaceSent}
 use Rattle.spelling.proofs.Witness as W
@@ -136,6 +137,10 @@ refused-there words lent = cut-behind words lent 7
 
 -- ---- the paper whose Starts bring the terminal's data
 
+-- what is sent stands for these commands at a paper's card
+abbrev standIn : (paper : List ℕ) → Manner → List Sent → List Command
+standIn paper manner xs = allStandFor (rulesBy (setupOf paper)) manner (sat (setupOf paper) [] .state) xs
+
 pub brought-accepted : Accepted selection
 brought-accepted =
     accepted-if-taken selection W.brought-bytes 2 selectionBody (spellAll brought) W.brought-opens (selects (based 266) 268 279 1) W.brought-set-up
@@ -144,8 +149,8 @@ pub brought-choice : choiceOf selection ≡ byFile file 1
 unfolding selection mannerOf entriesLong number
 brought-choice = refl
 
-pub brought-commands : commandsOf selection ≡ allStandFor (record { choice = byFile file 1; dates = undated; family = cpa }) brought
-unfolding selection brought mannerOf entriesLong number frontOf meant walk walked standsFor allStandFor
+pub brought-commands : commandsOf selection ≡ standIn selection (record { choice = byFile file 1; dates = undated; family = cpa }) brought
+unfolding selection brought mannerOf entriesLong number frontOf meant walk walked standsFor allStandFor run
 brought-commands = refl
 
 -- ---- a paper of version 03: the printed set-up, selection off, syllabus 1
@@ -198,7 +203,7 @@ pub dated-manner : mannerOf calendar ≡ onDays
 unfolding calendar mannerOf entriesLong number
 dated-manner = refl
 
-pub dated-commands : commandsOf calendar ≡ allStandFor onDays datedSent
+pub dated-commands : commandsOf calendar ≡ standIn calendar onDays datedSent
 unfolding calendar datedSent mannerOf entriesLong number frontOf meant walk walked standsFor allStandFor
 dated-commands = refl
 
@@ -262,7 +267,7 @@ pub cpace-manner : mannerOf cpacePaper ≡ presenting
 unfolding cpacePaper mannerOf entriesLong number
 cpace-manner = refl
 
-pub cpace-commands : commandsOf cpacePaper ≡ allStandFor presenting cpaceSent
+pub cpace-commands : commandsOf cpacePaper ≡ standIn cpacePaper presenting cpaceSent
 unfolding cpacePaper cpaceSent mannerOf entriesLong number frontOf meant walk walked standsFor allStandFor
 cpace-commands = refl
 

@@ -7,6 +7,7 @@ use lib.Dec.{eqb, ltb}
 use lib.ListN.{length, take, drop}
 use Rattle.wire.specs.Wire.{byte, number}
 use Rattle.calendar.specs.declared.Date.{Date}
+use Rattle.slot.specs.declared.Slots.{Slots}
 use Rattle.selection.specs.declared.Selection.the-variants.{Selected}
 use Rattle.selection.specs.Selection.{selectionOf}
 use Rattle.command.specs.declared.When.{When}
@@ -16,9 +17,10 @@ use Rattle.command.specs.declared.First.{First}
 use Rattle.command.specs.declared.Command.{Command}
 use Rattle.command.specs.declared.Command.the-variants.{Second as SecondCommand}
 use Rattle.demands.specs.Setup.{Setup}
+use Rattle.demands.specs.Conversation.{Sitting, told, sat}
 use Rattle.rows.specs.Tails.{baseLength}
 use Rattle.spelling.specs.Spelling.{unsaid, on, Presented, unshown, shown, Choice, byName, byFile, Dates, undated, dated, CardFamily, cpa, cpace, Manner}
-use Rattle.spelling.specs.Spelling.{selects, startSent, firstSent}
+use Rattle.spelling.specs.Spelling.{slotsIn, selects, startSent, firstSent}
 use Rattle.spelling.specs.Faults.{firstLength, Opens}
 use Rattle.rows.specs.Whole.{IsSetup}
 
@@ -150,13 +152,14 @@ pub data Meaning : Type 0 where
   none : Meaning
   means : Command → Meaning
 
--- Start: profile (1), or where profiles are selected the terminal's data; to a CPACE card interface (1) before it, which the file reads too
-abbrev pub startMeant : Choice → CardFamily → (body : List ℕ) → Meaning
-startMeant byName cpa body = cond (eqb (length body) 1) (means (startSent unsaid (Selected (byte body 0) 0))) none
-startMeant byName cpace body = cond (eqb (length body) 2) (means (startSent (on (byte body 0)) (Selected (byte body 1) 0))) none
-startMeant (byFile file entries) cpa body = means (startSent unsaid (selects (byFile file entries) body))
-startMeant (byFile file entries) cpace body =
-    cond (eqb (length body) 0) none (means (startSent (on (byte body 0)) (selects (byFile file entries) body)))
+-- Start: profile (1), or where profiles are selected the terminal's data; to a CPACE card interface (1) before it, which the file reads too, and
+-- besides what its entries may test
+abbrev pub startMeant : Choice → CardFamily → Slots → (body : List ℕ) → Meaning
+startMeant byName cpa slots body = cond (eqb (length body) 1) (means (startSent unsaid (Selected (byte body 0) 0))) none
+startMeant byName cpace slots body = cond (eqb (length body) 2) (means (startSent (on (byte body 0)) (Selected (byte body 1) 0))) none
+startMeant (byFile file entries) cpa slots body = means (startSent unsaid (selects (byFile file entries) slots body))
+startMeant (byFile file entries) cpace slots body =
+    cond (eqb (length body) 0) none (means (startSent (on (byte body 0)) (selects (byFile file entries) slots body)))
 
 -- First: type (1), amount (8), currency (2), terminal type (1), in a dated paper the date, YY, MM and DD (1 each), and to a CPACE card CVM results
 -- (3) and cashback (6)
@@ -186,12 +189,13 @@ secondMeant body =
     none
 
 -- kind 2 is a Start, 3 a First, 4 a Second
-unfoldable pub meant : Manner → (kind : ℕ) (body : List ℕ) → Meaning
-meant manner kind body =
-    cond (eqb kind 2) (startMeant (manner .choice) (manner .family) body)
+unfoldable pub meant : Manner → Slots → (kind : ℕ) (body : List ℕ) → Meaning
+meant manner slots kind body =
+    cond (eqb kind 2) (startMeant (manner .choice) (manner .family) slots body)
     (cond (eqb kind 3) (firstMeant (manner .dates) (manner .family) body) (cond (eqb kind 4) (secondMeant body) none))
 
--- ---- all of them, one behind the other: the commands, up to the end or to a fault, which is a record that is none
+-- ---- all of them, one behind the other, each at the card that heard those before it: the commands, up to the end or to a fault, which is a
+-- record that is none
 pub record Walked : Type 0 where
   pub commands : List Command
   pub fault : Bool
@@ -199,22 +203,29 @@ pub record Walked : Type 0 where
 abbrev pub stopped : (fault : Bool) → Walked
 stopped fault = record { commands = []; fault = fault }
 
-abbrev pub goingOn : Meaning → Walked → Walked
+abbrev pub met : Command → Walked → Walked
+met command more = record { commands = command ∷ more .commands; fault = more .fault }
+
+abbrev pub goingOn : Meaning → (Command → Walked) → Walked
 goingOn none more = stopped true
-goingOn (means command) more = record { commands = command ∷ more .commands; fault = more .fault }
+goingOn (means command) more = met command (more command)
 
-abbrev pub walkBy : Manner → Front → (List ℕ → Walked) → Walked
-walkBy manner nothing more = stopped false
-walkBy manner broken more = stopped true
-walkBy manner (one kind body behind) more = goingOn (meant manner kind body) (more behind)
+abbrev pub slotsAt : Manner → Sitting → Slots
+slotsAt manner sitting = slotsIn (manner .family) (sitting .state .values)
 
-unfoldable pub walk : (n : ℕ) → Manner → List ℕ → Walked
-walk zero manner s = stopped false
-walk (suc n) manner s = walkBy manner (frontOf s) (walk n manner)
+abbrev pub walkBy : Manner → Sitting → Front → (Sitting → List ℕ → Walked) → Walked
+walkBy manner sitting nothing more = stopped false
+walkBy manner sitting broken more = stopped true
+walkBy manner sitting (one kind body behind) more =
+    goingOn (meant manner (slotsAt manner sitting) kind body) (λ command. more (told sitting command) behind)
+
+unfoldable pub walk : (n : ℕ) → Manner → Sitting → List ℕ → Walked
+walk zero manner sitting s = stopped false
+walk (suc n) manner sitting s = walkBy manner sitting (frontOf s) (walk n manner)
 
 -- no paper has more records than bytes
 unfoldable pub walked : (paper : List ℕ) → Walked
-walked paper = walk (length paper) (mannerOf paper) (restIn paper)
+walked paper = walk (length paper) (mannerOf paper) (sat (setupOf paper) []) (restIn paper)
 
 -- THE COMMANDS OF A PAPER, and whether it ends by a fault
 abbrev pub commandsOf : (paper : List ℕ) → List Command
@@ -224,11 +235,11 @@ abbrev pub faulty : (paper : List ℕ) → Bool
 faulty paper = walked paper .fault
 
 -- how a Start came to its profile: it names it, with no entry visited, or the file gives it for the terminal's data, behind the interface to a
--- CPACE card
-abbrev pub Chosen : Choice → CardFamily → Start → Type 0
-Chosen byName family start = (profile : ℕ) × (start .chosen ≡ Selected profile 0)
-Chosen (byFile file entries) cpa start = (terminal : List ℕ) × (start .chosen ≡ selectionOf file entries terminal)
-Chosen (byFile file entries) cpace start = (terminal : List ℕ) × (start .chosen ≡ selectionOf file entries (start .interface ∷ terminal))
+-- CPACE card, and for what its entries may test
+abbrev pub Chosen : Choice → CardFamily → Slots → Start → Type 0
+Chosen byName family slots start = (profile : ℕ) × (start .chosen ≡ Selected profile 0)
+Chosen (byFile file entries) cpa slots start = (terminal : List ℕ) × (start .chosen ≡ selectionOf file entries terminal slots)
+Chosen (byFile file entries) cpace slots start = (terminal : List ℕ) × (start .chosen ≡ selectionOf file entries (start .interface ∷ terminal) slots)
 
 -- and whether a First has its date
 abbrev pub Timed : Dates → First → Type 0

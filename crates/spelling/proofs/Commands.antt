@@ -17,6 +17,7 @@ use Rattle.cpace.specs.declared.Cvm.{Cvm}
 use Rattle.cpace.specs.declared.Cvm.the-variants.{OnlinePin, Signature, NoCvm}
 use Rattle.cpace.specs.Cpace.{methodOf, cvmAt, cashbackAt}
 use Rattle.refusal.specs.declared.Refusal.the-variants.{Unreadable}
+use Rattle.slot.specs.declared.Slots.{Slots}
 use Rattle.shape.specs.declared.Dating.{Dating}
 use Rattle.shape.specs.declared.Dating.the-variants.{Off, On}
 use Rattle.shape.specs.declared.Family.{Family}
@@ -49,20 +50,20 @@ abbrev pub familyOf : CardFamily → Family
 familyOf cpa = Cpa
 familyOf cpace = Cpace 0 0
 
-abbrev readAs : Choice → Dates → CardFamily → ℕ → List ℕ → ReadCommand
-readAs byName dates family kind body = commandOf (datingOf dates) (familyOf family) kind body
-readAs (byFile file entries) dates family kind body = selectingOf (datingOf dates) (familyOf family) file entries kind body
+abbrev readAs : Choice → Dates → CardFamily → Slots → ℕ → List ℕ → ReadCommand
+readAs byName dates family slots kind body = commandOf (datingOf dates) (familyOf family) kind body
+readAs (byFile file entries) dates family slots kind body = selectingOf (datingOf dates) (familyOf family) slots file entries kind body
 
-abbrev pub readBy : Manner → ℕ → List ℕ → ReadCommand
-readBy manner kind body = readAs (manner .choice) (manner .dates) (manner .family) kind body
+abbrev pub readBy : Manner → Slots → ℕ → List ℕ → ReadCommand
+readBy manner slots kind body = readAs (manner .choice) (manner .dates) (manner .family) slots kind body
 
 -- a Start aside, a record is read alike however profiles are chosen
-pub not-start : (manner : Manner) (kind : ℕ) (body : List ℕ) → (kind ≡ 2 → ⊥)
-    → readBy manner kind body ≡ commandOf (datingOf (manner .dates)) (familyOf (manner .family)) kind body
+pub not-start : (manner : Manner) (slots : Slots) (kind : ℕ) (body : List ℕ) → (kind ≡ 2 → ⊥)
+    → readBy manner slots kind body ≡ commandOf (datingOf (manner .dates)) (familyOf (manner .family)) kind body
 unfolding selectingOf
-not-start manner kind body n = by (manner .choice) where
+not-start manner slots kind body n = by (manner .choice) where
   by : (choice : Choice)
-      → readAs choice (manner .dates) (manner .family) kind body ≡ commandOf (datingOf (manner .dates)) (familyOf (manner .family)) kind body
+      → readAs choice (manner .dates) (manner .family) slots kind body ≡ commandOf (datingOf (manner .dates)) (familyOf (manner .family)) kind body
   by byName = refl
   by (byFile file entries) = rw (ne-eqb kind 2 n)
 
@@ -181,11 +182,11 @@ second-taken dating family a b c d ha hb hc hd =
     ap (λ (f : Second). Taken (SecondCommand f))
     (second-is (as-byte (secondBody a b c d) 0 a (r .0)) (r .1) (as-byte (secondBody a b c d) 3 c (r .2)) (r .3))
 
-pub taken : (manner : Manner) (x : Sent) → Fits manner x → readBy manner (kindOf x) (bodyOf x) ≡ Taken (standsFor manner x)
+pub taken : (manner : Manner) (slots : Slots) (x : Sent) → Fits manner x → readBy manner slots (kindOf x) (bodyOf x) ≡ Taken (standsFor manner slots x)
 unfolding Fits kindOf bodyOf standsFor commandOf selectingOf startSelected startOf dateAt big
-taken manner x h = by (manner .choice) (manner .dates) (manner .family) x h where
+taken manner slots x h = by (manner .choice) (manner .dates) (manner .family) x h where
   by : (choice : Choice) (dates : Dates) (family : CardFamily) (x : Sent) → Fits (of choice dates family) x
-      → readAs choice dates family (kindOf x) (bodyOf x) ≡ Taken (standsFor (of choice dates family) x)
+      → readAs choice dates family slots (kindOf x) (bodyOf x) ≡ Taken (standsFor (of choice dates family) slots x)
   by byName dates cpa (names unsaid profile) h = let small : profile % 256 ≡ profile = omega arith in rw small
   by byName dates cpa (names (on interface) profile) h = absurd (h .0)
   by byName dates cpace (names unsaid profile) h = absurd (h .0)
@@ -205,19 +206,19 @@ taken manner x h = by (manner .choice) (manner .dates) (manner .family) x h wher
   by choice undated family (firstOn date a b c d p) h = absurd h
   by choice undated family (first a b c d p) h =
       let s = firstBytes a b c d (presentedBytes p) in
-      not-start (of choice undated family) 3 s (λ e. omega arith)
+      not-start (of choice undated family) slots 3 s (λ e. omega arith)
       ∙ first-taken undated s family Undated a b c d p (first-read a b c d (presentedBytes p) (h .0)) refl
       (presented-read undated s family p refl (omega arith) (h .1))
   by choice dated family (firstOn date a b c d p) h =
       let behind = dateBytes date ++ presentedBytes p in
       let s = firstBytes a b c d behind in
       let t = date-read a b c d date (presentedBytes p) (h .1) in
-      not-start (of choice dated family) 3 s (λ e. omega arith)
+      not-start (of choice dated family) slots 3 s (λ e. omega arith)
       ∙ first-taken dated s family (DatedOn date) a b c d p (first-read a b c d behind (h .0))
       (ap DatedOn (date-is (as-byte s 12 (date .year) (t .0)) (as-byte s 13 (date .month) (t .1)) (as-byte s 14 (date .day) (t .2))))
       (presented-read dated s family p refl (omega arith) (h .2))
   by choice dates family (second a b c d) h =
-      not-start (of choice dates family) 4 (secondBody a b c d) (λ e. omega arith)
+      not-start (of choice dates family) slots 4 (secondBody a b c d) (λ e. omega arith)
       ∙ second-taken (datingOf dates) (familyOf family) a b c d (h .0) (h .1) (h .2) (h .3)
 
 -- ---- in one way
@@ -480,10 +481,10 @@ module _ (body : List ℕ) (bytes : Bytes body) where
 
 -- ---- and what is wrong is refused
 
-other : (manner : Manner) (kind : ℕ) (body : List ℕ) → (kind ≡ 2 → ⊥) → (kind ≡ 3 → ⊥) → (kind ≡ 4 → ⊥)
-    → readBy manner kind body ≡ Refused Unreadable
+other : (manner : Manner) (slots : Slots) (kind : ℕ) (body : List ℕ) → (kind ≡ 2 → ⊥) → (kind ≡ 3 → ⊥) → (kind ≡ 4 → ⊥)
+    → readBy manner slots kind body ≡ Refused Unreadable
 unfolding commandOf
-other manner kind body p q r = not-start manner kind body p ∙ simp (ne-eqb kind 2 p, ne-eqb kind 3 q, ne-eqb kind 4 r)
+other manner slots kind body p q r = not-start manner slots kind body p ∙ simp (ne-eqb kind 2 p, ne-eqb kind 3 q, ne-eqb kind 4 r)
 
 -- the lengths that the readers ask for
 start-asked : (family : CardFamily) → C.startLength (familyOf family) ≡ startLength family
@@ -496,20 +497,20 @@ first-asked undated cpace = refl
 first-asked dated cpa = refl
 first-asked dated cpace = refl
 
-empty-refused : (choice : Choice) (dates : Dates) → readAs choice dates cpace 2 [] ≡ Refused Unreadable
+empty-refused : (choice : Choice) (dates : Dates) (slots : Slots) → readAs choice dates cpace slots 2 [] ≡ Refused Unreadable
 unfolding commandOf selectingOf startSelected
-empty-refused byName dates = refl
-empty-refused (byFile file entries) dates = refl
+empty-refused byName dates slots = refl
+empty-refused (byFile file entries) dates slots = refl
 
-pub refused-wrong : (manner : Manner) (kind : ℕ) (body : List ℕ) → Wrong manner kind body → readBy manner kind body ≡ Refused Unreadable
+pub refused-wrong : (manner : Manner) (slots : Slots) (kind : ℕ) (body : List ℕ) → Wrong manner kind body → readBy manner slots kind body ≡ Refused Unreadable
 unfolding commandOf
-refused-wrong manner kind body (a-setup e) = other manner kind body (λ h. omega arith) (λ h. omega arith) (λ h. omega arith)
-refused-wrong manner kind body (no-command (inl e)) = other manner kind body (λ h. omega arith) (λ h. omega arith) (λ h. omega arith)
-refused-wrong manner kind body (no-command (inr l)) = other manner kind body (λ h. omega arith) (λ h. omega arith) (λ h. omega arith)
-refused-wrong manner kind body (bad-start e c n) =
+refused-wrong manner slots kind body (a-setup e) = other manner slots kind body (λ h. omega arith) (λ h. omega arith) (λ h. omega arith)
+refused-wrong manner slots kind body (no-command (inl e)) = other manner slots kind body (λ h. omega arith) (λ h. omega arith) (λ h. omega arith)
+refused-wrong manner slots kind body (no-command (inr l)) = other manner slots kind body (λ h. omega arith) (λ h. omega arith) (λ h. omega arith)
+refused-wrong manner slots kind body (bad-start e c n) =
     rw (c, e, start-asked (manner .family), ne-eqb (length body) (startLength (manner .family)) n)
-refused-wrong manner kind body (bad-empty e z f) = rw (e, z, f) (empty-refused (manner .choice) (manner .dates))
-refused-wrong manner kind body (bad-first e n) =
-    not-start manner kind body (λ h. omega arith)
+refused-wrong manner slots kind body (bad-empty e z f) = rw (e, z, f) (empty-refused (manner .choice) (manner .dates) slots)
+refused-wrong manner slots kind body (bad-first e n) =
+    not-start manner slots kind body (λ h. omega arith)
     ∙ rw (e, first-asked (manner .dates) (manner .family), ne-eqb (length body) (firstLength (manner .dates) (manner .family)) n)
-refused-wrong manner kind body (bad-second e n) = not-start manner kind body (λ h. omega arith) ∙ rw (e, ne-eqb (length body) 8 n)
+refused-wrong manner slots kind body (bad-second e n) = not-start manner slots kind body (λ h. omega arith) ∙ rw (e, ne-eqb (length body) 8 n)

@@ -1,9 +1,11 @@
 -- Every byte string is what was sent, spelled, and then nothing or a fault; in one way. Assumes nothing.
 use mathlib.Core.Path.{_≡_, refl, sym, ap, ap₂, subst, _∙_}
+use mathlib.Core.Bool.{false}
 use mathlib.Core.List.{List, [], _∷_, _++_, append-assoc}
 use Prim.Native.Nat.{ℕ, zero, suc, _+_, _≤_}
 use native.Mathlib.Omega.{arith}
 use lib.ListN.{length, drop, length-append}
+use Rattle.slot.specs.declared.Slots.{Slots}
 use Rattle.paper.specs.declared.Next.the-variants.{Record}
 use Rattle.paper.specs.Paper.{nextAt}
 use Rattle.paper.specs.Walk.{part}
@@ -85,13 +87,18 @@ one-whole s kind kind′ body body′ w v =
     }
 
 module _ (manner : Manner) where
+  -- whatever may be tested
+  abbrev none-tested : Slots
+  none-tested = record { testable = false; amounts = []; counts = [] }
+
   -- what is spelled is no fault
   not-wrong : (s : List ℕ) (x : Sent) (more : List ℕ) → Fits manner x → s ≡ spell x ++ more
       → (kind : ℕ) (body : List ℕ) → Whole s kind body → Wrong manner kind body → ⊥
   not-wrong s x more h e kind body w cause =
       let same = one-whole s (kindOf x) kind (bodyOf x) body (whole-spelled manner x h s more e) w in
-      let read : readBy manner kind body ≡ Taken (standsFor manner x) = rw (← same .kinds, ← same .bodies) (taken manner x h) in
-      let z : _≡_ {A = ℕ} 0 1 = cc (refused-wrong manner kind body cause) in
+      let read : readBy manner none-tested kind body ≡ Taken (standsFor manner none-tested x) =
+      rw (← same .kinds, ← same .bodies) (taken manner none-tested x h) in
+      let z : _≡_ {A = ℕ} 0 1 = cc (refused-wrong manner none-tested kind body cause) in
       omega arith
 
   not-both : (s : List ℕ) (x : Sent) (more : List ℕ) → Fits manner x → s ≡ spell x ++ more → RestFault manner s → ⊥

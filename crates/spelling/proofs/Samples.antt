@@ -13,7 +13,9 @@ use Rattle.cpace.specs.declared.Cvm.the-variants.{OnlinePin, Signature, NoCvm}
 use Rattle.cpace.specs.Cpace.{cvmAt, cashbackAt}
 use Rattle.rules.specs.Word.{wordCount}
 use Rattle.setup.specs.Setup.{rulesIn, freshIn}
-use Rattle.entry.specs.Entry.{isWellFormed, reachesPast, block, masked, isAnyOf, passes, actionOf, actionTaken}
+use Rattle.rules.specs.declared.Values.{Values}
+use Rattle.slot.specs.Slot.{testsSlot, slotOf, isSlotSound, lacksAmount, slotValue, slotPasses}
+use Rattle.entry.specs.Entry.{isWellFormed, reachesPast, block, masked, isAnyOf, passes, actionOf, dataAction, slotAction, actionTaken}
 use Rattle.selection.specs.declared.Selection.{Selection}
 use Rattle.selection.specs.declared.Selection.the-variants.{Selected, NotSelected}
 use Rattle.selection.specs.Selection.{entriesOf, follow, selectFrom, selectionOf}
@@ -27,7 +29,7 @@ use Rattle.command.specs.declared.First.{First}
 use Rattle.command.specs.declared.When.{When}
 use Rattle.command.specs.declared.When.the-variants.{Undated, On as DatedOn}
 use Rattle.command.specs.declared.Command.the-variants.{Start as StartCommand, First as FirstCommand, Second as SecondCommand}
-use Rattle.command.specs.Command.{startOf, firstOf, secondOf, commandOf, startSelected, selectingOf, commandIn}
+use Rattle.command.specs.Command.{startOf, firstOf, secondOf, commandOf, startSelected, selectingOf, slotsOf, commandIn}
 use Rattle.state.specs.declared.Answer.the-variants.{Started}
 use Rattle.card.specs.Card.{freshState}
 use Rattle.lines.specs.Lines.{digit, decimal, refusalLine, startLine, selectedLine}
@@ -44,6 +46,13 @@ use Rattle.spelling.proofs.Computed.{answered}
 abbrev isUnread : List ℕ → Bool
 isUnread s = eqb (openedNumber (openPaper s)) 9
 
+-- what is read at a card whose counter 1 is 5
+abbrev values : Values
+values = record { accumulators = []; counters = 5 ∷ []; cyclic = [] }
+
+abbrev readingWith : Shape → List ℕ → ℕ → Reading
+readingWith shape s at = reading shape values s at
+
 -- `reads-fault`: what stands there ends the paper with 9
 abbrev isNine : Reading → Bool
 isNine over = false
@@ -51,7 +60,7 @@ isNine (refused n) = eqb n 9
 isNine (command c end) = false
 
 abbrev faults : List ℕ → Bool
-faults s = isNine (reading (based 0) s 0)
+faults s = isNine (readingWith (based 0) s 0)
 
 -- `reads-spelled`: the fields read of a Start, a First and a Second, and where the next record stands
 abbrev ofStart : (Start → (end : ℕ) → Bool) → Reading → Bool
@@ -111,7 +120,7 @@ isStart reading interface profile visits end =
     ofStart (λ s at. eqb (s .interface) interface && isNamed (s .chosen) profile visits && eqb at end) reading
 
 abbrev presenting : Presented → Reading
-presenting presented = reading withCpace (spell (first 1 5000 0x0978 0x22 presented)) 0
+presenting presented = readingWith withCpace (spell (first 1 5000 0x0978 0x22 presented)) 0
 
 -- the CVM by its bit in a control
 abbrev cvmBit : Cvm → ℕ
@@ -130,7 +139,11 @@ abbrev asking : List ℕ
 asking = 8 ∷ 1 ∷ 1 ∷ 2 ∷ 0xFF ∷ 1 ∷ 0 ∷ 2 ∷ 1 ∷ []
 
 abbrev behindFile : List ℕ → Reading
-behindFile start = reading (selects withCpace 0 9 1) (asking ++ start) 9
+behindFile start = readingWith (selects withCpace 0 9 1) (asking ++ start) 9
+
+-- a file that asks whether counter 1 is above 4: then profile 2, else 1
+abbrev testing : List ℕ
+testing = 7 ∷ 0 ∷ 1 ∷ 1 ∷ 4 ∷ 0x91 ∷ 2 ∷ 1 ∷ []
 
 -- `lines-of`: how many lines n turns over a rest say
 abbrev lineCount : List ℕ → ℕ
@@ -163,16 +176,18 @@ pub record Samples : Type 0 where
   pub over-long : (more : List ℕ) → length more ≡ 65533 → T (isUnread (1 ∷ 0 ∷ 1 ∷ 1 ∷ more))
   pub version-0 : T (isUnread (0 ∷ 0 ∷ 1 ∷ 1 ∷ []))
   pub version-6 : T (isUnread (6 ∷ 0 ∷ 1 ∷ 1 ∷ []))
-  pub first-fields : T (isFirst (reading (based 0) (spell (first 1 5000 0x0978 0x22 unshown)) 0) 1 5000 0x0978 0x22 15)
-  pub dated-fields : T (isFirst (reading withDates onDay 0) 1 5000 0x0978 0x22 18)
-  pub date-field : T (isFirstOn (reading withDates onDay 0) 0x05 0x07 0x15)
-  pub second-fields : T (isSecond (reading (based 0) (spell (second 1 0x5933 2 0x01020304)) 0) 1 0x5933 2 0x01020304 11)
+  pub first-fields : T (isFirst (readingWith (based 0) (spell (first 1 5000 0x0978 0x22 unshown)) 0) 1 5000 0x0978 0x22 15)
+  pub dated-fields : T (isFirst (readingWith withDates onDay 0) 1 5000 0x0978 0x22 18)
+  pub date-field : T (isFirstOn (readingWith withDates onDay 0) 0x05 0x07 0x15)
+  pub second-fields : T (isSecond (readingWith (based 0) (spell (second 1 0x5933 2 0x01020304)) 0) 1 0x5933 2 0x01020304 11)
   -- a CPACE Start names its interface and then its profile; where it brings the terminal's data, the file reads the interface first
-  pub interface-field : T (isStart (reading withCpace (spell (names (on 0) 1)) 0) 0 1 0 5)
+  pub interface-field : T (isStart (readingWith withCpace (spell (names (on 0) 1)) 0) 0 1 0 5)
   pub interface-read : T (isStart (behindFile (spell (brings (on 1) []))) 1 2 1 13)
+  -- or what the card holds
+  pub slot-tested : T (isStart (readingWith (selects withCpace 0 8 1) (testing ++ spell (brings (on 1) [])) 8) 1 2 1 12)
   -- a CPACE First, also with its date
   pub presented-fields : T (isFirst (presenting (shown 0x1E 0x03 0x00 0)) 1 5000 0x0978 0x22 24)
-  pub presented-on-day : T (isVerified (reading (families withDates (Cpace 0 0)) (spell (firstOn day 1 5000 0x0978 0x22 (shown 0x1E 3 0 0))) 0) 2)
+  pub presented-on-day : T (isVerified (readingWith (families withDates (Cpace 0 0)) (spell (firstOn day 1 5000 0x0978 0x22 (shown 0x1E 3 0 0))) 0) 2)
   -- 1E 03 00 is signature, 42 03 00 online PIN, 1E 03 02 no CVM
   pub signature-shown : T (isVerified (presenting (shown 0x1E 0x03 0x00 0)) 2)
   pub low-bits-asked : T (isVerified (presenting (shown 0x42 0x03 0x00 0)) 4)
@@ -186,11 +201,11 @@ pub record Samples : Type 0 where
   pub no-kind : T (faults (0 ∷ 0 ∷ 0 ∷ []))
   pub start-too-long : T (faults (recordOf 2 (1 ∷ 1 ∷ [])))
   -- a First of 12 bytes in a paper with dates, of 15 in one without
-  pub first-undated : T (isNine (reading withDates (spell (first 1 5000 0x0978 0x22 unshown)) 0))
+  pub first-undated : T (isNine (readingWith withDates (spell (first 1 5000 0x0978 0x22 unshown)) 0))
   pub first-dated : T (faults onDay)
   -- neither is a First in a paper of a CPACE card, nor a Start of one byte, nor an empty one where it brings the terminal's data
-  pub first-unpresented : T (isNine (reading withCpace onDay 0))
-  pub start-too-short : T (isNine (reading withCpace (spell (names unsaid 1)) 0))
+  pub first-unpresented : T (isNine (readingWith withCpace onDay 0))
+  pub start-too-short : T (isNine (readingWith withCpace (spell (names unsaid 1)) 0))
   pub start-empty : T (isNine (behindFile (recordOf 2 [])))
   -- what stands behind a fault is no longer a command
   pub ends-at-nine : T (eqb (lineCount (recordOf 1 (1 ∷ []) ++ spell (names unsaid 1))) 1)
@@ -204,7 +219,8 @@ pub record Samples : Type 0 where
 
 pub samples : Samples
 unfolding openPaper nextAt number dateAt cvmAt cashbackAt reading commandIn commandOf startOf firstOf secondOf startSelected selectingOf
-    selectionOf selectFrom entriesOf follow actionTaken actionOf passes isAnyOf masked block reachesPast isWellFormed
+    selectionOf selectFrom entriesOf follow actionTaken dataAction actionOf passes isAnyOf masked block reachesPast isWellFormed
+    slotsOf testsSlot slotAction isSlotSound slotOf lacksAmount slotPasses slotValue
     kindOf bodyOf recordOf big
     eventsFrom takenOf answeredBy linesOf refusalLine decimal digit answerLine startLine selectedLine
     fieldsIn wordsIn areDigits valueIn isHex bytesIn printed answered
@@ -219,6 +235,7 @@ samples =
       second-fields = tt;
       interface-field = tt;
       interface-read = tt;
+      slot-tested = tt;
       presented-fields = tt;
       presented-on-day = tt;
       signature-shown = tt;

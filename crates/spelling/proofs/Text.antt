@@ -20,8 +20,8 @@ use Rattle.second.specs.Second.{closed, unablePerformed, secondPerformed}
 use Rattle.card.specs.Card.{freshState, startStep, firstStep, secondStep, stepOf}
 use Rattle.lines.specs.Lines.{digit, decimal, hex, refusalLine, startLine, cryptogramLine}
 use Rattle.lines.specs.Sitting.{answerLine, sittingLines}
-use Rattle.spelling.specs.Spelling.{standsFor, allStandFor}
-use Rattle.spelling.specs.Sitting.{answers, ended, sittingOf}
+use Rattle.spelling.specs.Spelling.{standsFor}
+use Rattle.spelling.specs.Sitting.{allStandFor, answers, ended, sittingOf}
 use Rattle.spelling.specs.Printed.{printed, body, sent, printedLines}
 use Rattle.spelling.proofs.Witness.{named, printed-lines}
 

@@ -3,10 +3,12 @@ use mathlib.Core.Bool.{Bool, true, false, cond, _&&_}
 use mathlib.Core.List.{List, [], _∷_, _++_}
 use Prim.Native.Nat.{ℕ, zero, suc, _+_, _-_, _/_, _%_, _^_, _<_}
 use lib.Dec.{eqb}
-use lib.ListN.{length, take, drop}
+use lib.ListN.{length, take, drop, getD}
 use Rattle.calendar.specs.declared.Date.{Date}
 use Rattle.cpace.specs.declared.Cvm.{Cvm}
 use Rattle.cpace.specs.declared.Cvm.the-variants.{OnlinePin, Signature, NoCvm}
+use Rattle.rules.specs.declared.Values.{Values}
+use Rattle.slot.specs.declared.Slots.{Slots}
 use Rattle.selection.specs.declared.Selection.{Selection}
 use Rattle.selection.specs.declared.Selection.the-variants.{Selected, NotSelected}
 use Rattle.selection.specs.Selection.{selectionOf}
@@ -181,10 +183,20 @@ abbrev pub AllFit : Manner → List Sent → Type 0
 AllFit manner [] = Unit
 AllFit manner (x ∷ xs) = Fits manner x × AllFit manner xs
 
+-- what a file's entries may test: of a CPACE card its accumulators and counters as they are, of a CPA card nothing
+abbrev pub isTested : CardFamily → Bool
+isTested cpa = false
+isTested cpace = true
+
+unfoldable pub slotsIn : CardFamily → Values → Slots
+slotsIn family values =
+    let amount : ℕ → ℕ = λ i. getD (values .accumulators) i (record { 0 = 0 }) .0 in
+    record { testable = isTested family; amounts = amount 0 ∷ amount 1 ∷ amount 2 ∷ amount 3 ∷ []; counts = values .counters }
+
 -- the profile that a Start's bytes select: those of the interface too
-abbrev pub selects : Choice → List ℕ → Selection
-selects byName bytes = NotSelected
-selects (byFile file entries) bytes = selectionOf file entries bytes
+abbrev pub selects : Choice → Slots → List ℕ → Selection
+selects byName slots bytes = NotSelected
+selects (byFile file entries) slots bytes = selectionOf file entries bytes slots
 
 -- a CPA card asks no interface, and takes each transaction for one without a CVM and without cashback
 abbrev pub interfaceOf : Interface → ℕ
@@ -203,7 +215,7 @@ cashbackOf unshown = false
 cashbackOf (shown r1 r2 r3 zero) = false
 cashbackOf (shown r1 r2 r3 (suc cashback)) = true
 
--- the command that it stands for; a profile that is named is found without a visit
+-- the command that it stands for, by what the file's entries may test; a profile that is named is found without a visit
 abbrev pub startSent : Interface → Selection → Command
 startSent interface chosen = StartCommand (record { interface = interfaceOf interface; chosen = chosen })
 
@@ -219,13 +231,9 @@ firstSent when type amount currency terminal presented =
       cashback = cashbackOf presented;
     })
 
-unfoldable pub standsFor : Manner → Sent → Command
-standsFor manner (names interface profile) = startSent interface (Selected profile 0)
-standsFor manner (brings interface terminal) = startSent interface (selects (manner .choice) (startBytes interface terminal))
-standsFor manner (first type amount currency terminal presented) = firstSent Undated type amount currency terminal presented
-standsFor manner (firstOn date type amount currency terminal presented) = firstSent (DatedOn date) type amount currency terminal presented
-standsFor manner (second type code issuer csu) = SecondCommand (record { requested = type; code = code; issuer = issuer; csu = csu })
-
-unfoldable pub allStandFor : Manner → List Sent → List Command
-allStandFor manner [] = []
-allStandFor manner (x ∷ xs) = standsFor manner x ∷ allStandFor manner xs
+unfoldable pub standsFor : Manner → Slots → Sent → Command
+standsFor manner slots (names interface profile) = startSent interface (Selected profile 0)
+standsFor manner slots (brings interface terminal) = startSent interface (selects (manner .choice) slots (startBytes interface terminal))
+standsFor manner slots (first type amount currency terminal presented) = firstSent Undated type amount currency terminal presented
+standsFor manner slots (firstOn date type amount currency terminal presented) = firstSent (DatedOn date) type amount currency terminal presented
+standsFor manner slots (second type code issuer csu) = SecondCommand (record { requested = type; code = code; issuer = issuer; csu = csu })
