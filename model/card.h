@@ -29,12 +29,6 @@ enum {
     VERSION_MAX = 5
 };
 
-/* Whether a CPACE file may test accumulators and counters. With 0 a check type
- * above 02 is refusal 12 in both families. */
-#ifndef SLOT_TESTS
-#define SLOT_TESTS 1
-#endif
-
 /* The decision bits (ADR) in house order; bits 0 to 4 are the history. */
 enum {
     LAST_ONLINE_NOT_COMPLETED = 1 << 0,
@@ -255,7 +249,7 @@ static inline bool is_cpace(const struct setup *setup)
 /* Whether a check type of the file means an accumulator or a counter. */
 static inline bool tests_slot(const struct setup *setup, uint8_t type)
 {
-    return SLOT_TESTS && is_cpace(setup) && type >= 0x80;
+    return is_cpace(setup) && type >= 0x80;
 }
 
 static inline bool has_all(uint8_t switches, unsigned wanted)

@@ -171,8 +171,7 @@ int main(int argc, char **argv)
 
     printf("| part | cause or branch | times reached |\n|---|---|---|\n");
     for (size_t i = 0; i < sizeof rows / sizeof *rows; i++)
-        if (SLOT_TESTS || strcmp(rows[i].part, "slot tests") != 0)
-            print_row(&rows[i]);
+        print_row(&rows[i]);
     print_cvr(0);
     print_cvr(1);
     printf("\n%" PRIu64 " papers, %" PRIu64 " of %" PRIu64 " reached\n", papers,
