@@ -1,14 +1,17 @@
 -- What a selection depends on: the entries that it visits, what these look at, and the slots that they test. Assumes nothing.
-use mathlib.Core.Path.{_≡_, refl, sym, ap, ap₂, _∙_}
-use mathlib.Core.Bool.{Bool, true, false, _&&_}
+use mathlib.Core.Path.{_≡_, refl, sym, ap, _∙_}
+use mathlib.Core.Bool.{false}
 use mathlib.Core.Logic.{inl, inr}
 use mathlib.Core.List.{List, [], _∷_, map}
 use Prim.Native.Nat.{ℕ, zero, suc, _-_}
 use native.Mathlib.Omega.{arith}
 use lib.ListN.{length, getD}
+use Rattle.fields.specs.Fields.{checkType}
 use Rattle.slot.specs.Slot.{testsSlot, valueOf}
 use Rattle.slot.specs.declared.Slots.{Slots}
 use Rattle.slot.specs.declared.Slot.{Slot}
+use Rattle.slot.specs.declared.Slot.the-variants.{Accumulator}
+use Rattle.slot.proofs.Facts.{to-three}
 use Rattle.entry.specs.Entry.{actionTaken}
 use Rattle.entry.specs.declared.Action.{Action}
 use Rattle.entry.specs.declared.Action.the-variants.{Profile, Move, Refused}
@@ -92,3 +95,7 @@ module _ (file : List ℕ) (n : ℕ) (d : List ℕ) (slots slots′ : Slots) whe
   pub cpa-reads-none : slots .testable ≡ false → slots′ .testable ≡ false
       → Same (selectionOf file n d slots) (selectionOf file n d slots′) (visited file n d slots) (visited file n d slots′)
   cpa-reads-none a b = only-tested (a ∙ sym b) (λ x t. absurd (cpa-tests-none a x t))
+
+  -- no check type names accumulator 4
+  pub fourth-untested : Tests file n d slots (Accumulator 4) → ⊥
+  fourth-untested t = omega (arith, to-three (checkType (entryAt file n (t .place))) 4 (t .names .2))
