@@ -1,24 +1,21 @@
 -- An entry that stands at a place is ill-formed, or all that one has which tests the data, or all that one has which tests a slot.
 -- Assumes nothing.
 use mathlib.Core.Path.{_≡_, refl, sym, ap, ap₂, _∙_}
-use mathlib.Core.Bool.{Bool, true, false, not, cond, _&&_}
+use mathlib.Core.Bool.{Bool, true, false}
 use mathlib.Core.Logic.{_⊎_, inl, inr}
 use mathlib.Core.List.{List}
 use Prim.Native.Nat.{ℕ, zero, suc, _+_, _*_, _-_, _/_, _%_, _≤_, _<_}
 use native.Mathlib.Nat.{div-div-eq-div-mul}
 use native.Mathlib.Decide.{decLe, ℕ-discrete}
 use native.Mathlib.Omega.{arith}
-use borrow.Author.Tests.{le-leb, lt-leb, eq-eqb, ne-eqb}
-use lib.Dec.{leb, eqb}
-use lib.ListN.{length, getD}
+use borrow.Author.Tests.{eq-eqb, ne-eqb}
+use lib.ListN.{length}
 use Rattle.wire.specs.Wire.{byte, isPair}
 use Rattle.digits.specs.Digits.{arePairs}
 use Rattle.fields.specs.Fields.{entryLength, position, blockLength, blocks, checkType}
-use Rattle.ranges.specs.Ranges.{all}
 use Rattle.ranges.proofs.Decides.{Decides, _and_, _with_, at-most, below, equal as equals, itself, stated, denied, each}
 use Rattle.slot.specs.Slot.{testsSlot, slotOf, blockFits, isSlotSound}
 use Rattle.slot.specs.declared.Slots.{Slots}
-use Rattle.slot.specs.declared.Slot.{Slot}
 use Rattle.slot.specs.declared.Slot.the-variants.{Accumulator, Counter}
 use Rattle.entry.specs.Entry.{isWellFormed}
 use Rattle.annex.specs.Annex.{Bytes, Digits, total, start, width, count, check, bit, OfAccumulator, OfCounter, OfSlot, IllFormed}

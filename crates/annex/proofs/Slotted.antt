@@ -1,6 +1,6 @@
 -- The test of an entry that is sound and tests a slot, by the file's bytes and by numbers, is one. Assumes nothing.
 use mathlib.Core.Path.{_≡_, refl, sym, ap, _∙_}
-use mathlib.Core.Bool.{Bool, true, false, not, cond, _&&_}
+use mathlib.Core.Bool.{Bool, true, false, not, cond}
 use mathlib.Core.Logic.{_⊎_, inl, inr}
 use mathlib.Core.List.{List}
 use Prim.Native.Nat.{ℕ, suc, _+_, _*_, _-_, _/_, _%_, _^_, _≤_, _<_, min}
@@ -8,22 +8,21 @@ use native.Mathlib.Nat.{min-eq-left, min-eq-right}
 use native.Mathlib.Decide.{decLe, ℕ-discrete}
 use native.Mathlib.Omega.{arith}
 use borrow.Author.Tests.{lt-ltb, le-ltb, eq-eqb, ne-eqb, ltb-true, ltb-false}
-use lib.Dec.{ltb, leb, eqb}
+use lib.Dec.{ltb}
 use lib.ListN.{length, getD}
 use Rattle.wire.specs.Wire.{byte}
 use Rattle.money.specs.Money.{max, stopped}
 use Rattle.digits.specs.Digits.{pairsValue}
 use Rattle.fields.specs.Fields.{position, checkType}
-use Rattle.ranges.proofs.Decides.{Decides, _and_, _with_, at-most, below, equal as equals, itself}
-use Rattle.slot.specs.Slot.{slotOf, addsTransaction, asksGreater, asksAmount, hasAmount, lacksAmount, slotValue, blockValue, slotPasses}
+use Rattle.ranges.proofs.Decides.{Decides, _and_, _with_, at-most, below}
+use Rattle.slot.specs.Slot.{slotOf, addsTransaction, asksGreater, hasAmount, lacksAmount, slotValue, blockValue, slotPasses}
 use Rattle.slot.specs.declared.Slots.{Slots}
-use Rattle.slot.specs.declared.Slot.the-variants.{Accumulator, Counter}
-use Rattle.annex.specs.Annex.{Digits, pair, amount, total, start, width, count, check, bit, OfAccumulator, OfCounter, OfSlot, WithAmount, Lacks}
+use Rattle.annex.specs.Annex.{Digits, pair, amount, total, start, width, check, bit, OfSlot, WithAmount, Lacks}
 use Rattle.annex.specs.Annex.{reaches-past, amount-nowhere, amount-past, amount-no-digits}
 use Rattle.annex.specs.Annex.{Compares, accumulator, accumulator-more, counter, counter-more}
 use Rattle.annex.specs.Annex.{Passes, equal, less, greater, slot-less, slot-greater}
-use Rattle.annex.proofs.Fields.{entry, inside, start-is, width-is, check-is, value-inside}
-use Rattle.annex.proofs.Form.{given, refuted, not-both, decided, digits-are, Block, amounts, counts, SlotWhole, accumulator-named, counter-named}
+use Rattle.annex.proofs.Fields.{entry, inside, start-is, check-is, value-inside}
+use Rattle.annex.proofs.Form.{given, refuted, decided, digits-are, Block, amounts, counts, SlotWhole, accumulator-named, counter-named}
 
 -- AN AMOUNT of six pairs of digits
 six-pairs : (a b c d e f : ℕ)

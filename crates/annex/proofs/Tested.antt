@@ -14,7 +14,7 @@ use Rattle.fields.specs.Fields.{blocks, checkType}
 use Rattle.slot.specs.declared.Slots.{Slots}
 use Rattle.entry.specs.Entry.{block, masked, isAnyOf, passes}
 use Rattle.entry.proofs.Compared.{maskedTo, masked-more, masked-small}
-use Rattle.annex.specs.Annex.{Bytes, total, start, width, count, value, check, bit, seen, Same, Smaller}
+use Rattle.annex.specs.Annex.{Bytes, total, start, width, count, value, check, seen, Same, Smaller}
 use Rattle.annex.specs.Annex.{Passes, equal, less, greater, slot-less, slot-greater}
 use Rattle.annex.proofs.Order.{Stand, same, smaller, larger, stand, same-number, smaller-number}
 use Rattle.annex.proofs.Fields.{entry, number-inside, start-is, width-is, count-is, check-is}

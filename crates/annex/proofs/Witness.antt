@@ -1,7 +1,7 @@
 -- One walk built by hand, from the bytes of a file and of the data: a block of three bytes that is not greater, three values of one byte
 -- of which none is equal, and a block of eight bytes that is less. Assumes nothing.
 use mathlib.Core.Path.{_≡_, refl}
-use mathlib.Core.Bool.{Bool, true, false, _&&_}
+use mathlib.Core.Bool.{Bool, true, _&&_}
 use mathlib.Core.List.{List, [], _∷_, _++_}
 use Prim.Native.Nat.{ℕ, zero, suc, _+_, _-_, _≤_, _<_}
 use native.Mathlib.Omega.{arith}

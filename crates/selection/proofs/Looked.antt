@@ -1,26 +1,25 @@
 -- What an entry does hangs on its stretch of the data and on the slot that it tests, and on nothing else. Assumes nothing.
 use mathlib.Core.Path.{_≡_, refl, sym, ap, ap₂, _∙_}
-use mathlib.Core.Bool.{Bool, true, false, cond, not, _&&_}
-use mathlib.Core.List.{List, []}
+use mathlib.Core.Bool.{Bool, true, false, not, _&&_}
+use mathlib.Core.List.{List}
 use Prim.Native.Nat.{ℕ, zero, suc, _+_, _*_, _-_, _≤_, _<_}
 use native.Mathlib.Nat.{min-le-right}
 use native.Mathlib.Omega.{arith}
-use lib.ListN.{length, take, drop, length-take, length-drop}
+use lib.ListN.{length, drop, length-take, length-drop}
 use lib.Seq.{getD-take, getD-drop, length-take-le}
 use lib.Dec.{ltb, leb, eqb}
-use lib.Bits.{bitAnd}
 use borrow.Author.Tests.{le-leb, lt-leb, eqb-true, ltb-true, ltb-false}
 use Rattle.wire.specs.Wire.{byte, number}
 use Rattle.wire.proofs.Pairs.{both}
 use Rattle.digits.specs.Digits.{arePairs, pairsValue}
 use Rattle.digits.proofs.Facts.{same-pairs, same-value}
 use Rattle.fields.specs.Fields.{entryLength, position, blockLength, blocks, checkType}
-use Rattle.slot.specs.Slot.{testsSlot, slotOf, addsTransaction, blockFits, isSlotSound, asksAmount, hasAmount, lacksAmount}
-use Rattle.slot.specs.Slot.{valueOf, withTransaction, slotValue, slotPasses}
+use Rattle.slot.specs.Slot.{testsSlot, slotOf, addsTransaction, blockFits, isSlotSound, hasAmount, lacksAmount}
+use Rattle.slot.specs.Slot.{valueOf, slotValue, slotPasses}
 use Rattle.slot.specs.declared.Slots.{Slots}
 use Rattle.slot.specs.declared.Slot.{Slot}
 use Rattle.slot.specs.declared.Slot.the-variants.{Accumulator, Counter}
-use Rattle.entry.specs.Entry.{bitMask, isWellFormed, reachesPast, masked, passes, dataAction, slotAction, actionTaken}
+use Rattle.entry.specs.Entry.{isWellFormed, reachesPast, masked, passes, dataAction, slotAction, actionTaken}
 use Rattle.entry.proofs.Facts.{has-position, has-length, same-test}
 use Rattle.selection.specs.Visits.{stretch, looked, Names}
 

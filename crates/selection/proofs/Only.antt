@@ -1,14 +1,17 @@
 -- What a selection depends on: the entries that it visits, what these look at, and the slots that they test. Assumes nothing.
-use mathlib.Core.Path.{_≡_, refl, sym, ap, ap₂, _∙_}
-use mathlib.Core.Bool.{Bool, true, false, _&&_}
+use mathlib.Core.Path.{_≡_, refl, sym, ap, _∙_}
+use mathlib.Core.Bool.{false}
 use mathlib.Core.Logic.{inl, inr}
 use mathlib.Core.List.{List, [], _∷_, map}
 use Prim.Native.Nat.{ℕ, zero, suc, _-_}
 use native.Mathlib.Omega.{arith}
 use lib.ListN.{length, getD}
+use Rattle.fields.specs.Fields.{checkType}
 use Rattle.slot.specs.Slot.{testsSlot, valueOf}
 use Rattle.slot.specs.declared.Slots.{Slots}
 use Rattle.slot.specs.declared.Slot.{Slot}
+use Rattle.slot.specs.declared.Slot.the-variants.{Accumulator}
+use Rattle.slot.proofs.Facts.{to-three}
 use Rattle.entry.specs.Entry.{actionTaken}
 use Rattle.entry.specs.declared.Action.{Action}
 use Rattle.entry.specs.declared.Action.the-variants.{Profile, Move, Refused}
@@ -23,7 +26,7 @@ all-map P [] h = tt
 all-map P (x ∷ xs) h = (h .0, all-map P xs (h .1))
 
 -- the same selection, by the same visits
-abbrev pub Same : (s s′ : Selection) (v v′ : List ℕ) → Type 0
+abbrev Same : (s s′ : Selection) (v v′ : List ℕ) → Type 0
 Same s s′ v v′ = (s ≡ s′) × (v ≡ v′)
 
 follow-alike : (P : ℕ → Type 0) (a : Action) (f g : ℕ → Selection) (v w : ℕ → List ℕ)
@@ -64,7 +67,7 @@ module _ (d d′ : List ℕ) (slots slots′ : Slots) (family : slots .testable 
   -- look at, and cards that agree in the slots that they test, give the same selection. So no other entry matters, nor any other byte.
   pub only-visited : (file file′ : List ℕ) (n : ℕ)
       → All (λ i. Alike (entryAt file n i) (entryAt file′ n i) d d′ slots slots′) (visited file n d slots)
-      → Same (selectionOf file n d slots) (selectionOf file′ n d′ slots′) (visited file n d slots) (visited file′ n d′ slots′)
+      → (selectionOf file n d slots ≡ selectionOf file′ n d′ slots′) × (visited file n d slots ≡ visited file′ n d′ slots′)
   unfolding selectionOf
   only-visited file file′ n w = alike-from 0 (entriesOf file n) (entriesOf file′ n) (entries-number n file ∙ sym (entries-number n file′)) w
 
@@ -72,16 +75,8 @@ all-among : (P : ℕ → Type 0) (xs : List ℕ) → ((i : ℕ) → Among i xs �
 all-among P [] h = tt
 all-among P (x ∷ xs) h = (h x (inl refl), all-among P xs (λ i a. h i (inr a)))
 
-module _ (file : List ℕ) (n : ℕ) (d : List ℕ) (slots slots′ : Slots) where
-  -- NO OTHER SLOT MATTERS: cards that agree in every slot that a selection tests give the same one
-  pub only-tested : slots .testable ≡ slots′ .testable → ((x : Slot) → Tests file n d slots x → valueOf slots x ≡ valueOf slots′ x)
-      → Same (selectionOf file n d slots) (selectionOf file n d slots′) (visited file n d slots) (visited file n d slots′)
-  only-tested family same =
-      only-visited d d slots slots′ family file file n
-      (all-among (λ i. Alike (entryAt file n i) (entryAt file n i) d d slots slots′) (visited file n d slots)
-      (λ i a. record { entry = refl; seen = refl; tested = λ x c. same x (record { place = i; visits = a; names = c }) }))
-
-  -- A CPA CARD'S ENTRIES TEST NO SLOT, so that its amounts and counts do not matter
+module _ (file : List ℕ) (n : ℕ) (d : List ℕ) (slots : Slots) where
+  -- A CPA CARD'S ENTRIES TEST NO SLOT
   pub cpa-tests-none : slots .testable ≡ false → (x : Slot) → Tests file n d slots x → ⊥
   unfolding testsSlot
   cpa-tests-none family x t =
@@ -89,6 +84,20 @@ module _ (file : List ℕ) (n : ℕ) (d : List ℕ) (slots slots′ : Slots) whe
       let z : _≡_ {A = ℕ} 0 1 = cc in
       omega arith
 
-  pub cpa-reads-none : slots .testable ≡ false → slots′ .testable ≡ false
-      → Same (selectionOf file n d slots) (selectionOf file n d slots′) (visited file n d slots) (visited file n d slots′)
-  cpa-reads-none a b = only-tested (a ∙ sym b) (λ x t. absurd (cpa-tests-none a x t))
+  -- no check type names accumulator 4
+  pub fourth-untested : Tests file n d slots (Accumulator 4) → ⊥
+  fourth-untested t = omega (arith, to-three (checkType (entryAt file n (t .place))) 4 (t .names .2))
+
+  module _ (slots′ : Slots) where
+    -- NO OTHER SLOT MATTERS: cards that agree in every slot that a selection tests give the same one, by the same visits
+    pub only-tested : slots .testable ≡ slots′ .testable → ((x : Slot) → Tests file n d slots x → valueOf slots x ≡ valueOf slots′ x)
+        → (selectionOf file n d slots ≡ selectionOf file n d slots′) × (visited file n d slots ≡ visited file n d slots′)
+    only-tested family same =
+        only-visited d d slots slots′ family file file n
+        (all-among (λ i. Alike (entryAt file n i) (entryAt file n i) d d slots slots′) (visited file n d slots)
+        (λ i a. record { entry = refl; seen = refl; tested = λ x c. same x (record { place = i; visits = a; names = c }) }))
+
+    -- so that of a CPA card no amount and no count matters
+    pub cpa-reads-none : slots .testable ≡ false → slots′ .testable ≡ false
+        → (selectionOf file n d slots ≡ selectionOf file n d slots′) × (visited file n d slots ≡ visited file n d slots′)
+    cpa-reads-none a b = only-tested (a ∙ sym b) (λ x t. absurd (cpa-tests-none a x t))

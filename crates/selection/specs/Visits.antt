@@ -1,7 +1,7 @@
 -- What a selection looks at: the entries that it visits, of the data what each of these extracts, and the slots that they test.
 use Prim.Native.Nat.{ℕ, zero, suc, _-_}
 use mathlib.Core.Path.{_≡_}
-use mathlib.Core.Bool.{Bool, true, cond, not, _&&_}
+use mathlib.Core.Bool.{true, cond, not, _&&_}
 use mathlib.Core.Logic.{_⊎_}
 use mathlib.Core.List.{List, [], _∷_, map}
 use lib.ListN.{getD, take, drop}
