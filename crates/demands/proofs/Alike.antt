@@ -9,7 +9,6 @@ use Rattle.wire.specs.Wire.{byte}
 use Rattle.cpace.specs.declared.Cvm.{Cvm}
 use Rattle.cpace.specs.declared.Cvm.the-variants.{OnlinePin, Signature, NoCvm}
 use Rattle.cpace.specs.Cpace.{closes}
-use Rattle.money.specs.declared.Converted.{Converted}
 use Rattle.refusal.specs.declared.Refusal.{Refusal}
 use Rattle.refusal.specs.declared.Refusal.the-variants.{OutOfTurn, BadType, OutOfRange}
 use Rattle.selection.specs.Selection.{visitsOf}
@@ -24,11 +23,10 @@ use Rattle.command.specs.declared.Second.{Second}
 use Rattle.command.specs.declared.Command.{Command}
 use Rattle.purchase.specs.declared.Timing.{Timing}
 use Rattle.purchase.specs.declared.Purchase.{Purchase}
-use Rattle.purchase.specs.Meter.{Meter, accumulator, counter, cyclic, MeterRule, ruleOf, valueOf, amountAt, countAt, cyclicAt, counterCap, worth, cyclicWorth}
-use Rattle.purchase.specs.Meter.{worthTo, isDateError, isOpen, takesUp, isTested}
+use Rattle.purchase.specs.Meter.{Meter, accumulator, counter, cyclic, amountAt, countAt, cyclicAt, counterCap, worth, cyclicWorth, isDateError, isOpen}
 use Rattle.meters.specs.declared.Change.the-variants.{Approve, SetToLimits, Clear}
-use Rattle.meters.specs.Meters.{Entry, moved, addition, offline, counts, amountMoved, applied}
-use Rattle.checks.specs.Checks.{exceeds, accumulatorsLower, accumulatorsUpper, countersLower, countersUpper, datingFlags, maximumExceeded, cashbackFound}
+use Rattle.meters.specs.Meters.{moved, offline, entered, amountMoved, applied}
+use Rattle.checks.specs.Checks.{exceedsLower, exceedsUpper, accumulatorsLower, accumulatorsUpper, countersLower, countersUpper, datingFlags, maximumExceeded, cashbackFound}
 use Rattle.checks.specs.Checks.{historyFlags, packed, decisionBits, meetsMask}
 use Rattle.state.specs.declared.History.{History}
 use Rattle.state.specs.declared.Answer.the-variants.{Given}
@@ -97,37 +95,24 @@ module _ (rules : Rules) (plain : Plain rules) where
       by Signature = refl
       by NoCvm = refl
 
-    takes-same : (meter : Meter) → takesUp rules other meter ≡ takesUp rules purchase meter
+    slot-same : (slot : ℕ) → isOpen rules other slot ≡ isOpen rules purchase slot
     unfolding isOpen
-    takes-same (accumulator i) = open-to i cvm ∙ sym (open-to i (purchase .cvm))
-    takes-same (counter i) = open-to (4 + i) cvm ∙ sym (open-to (4 + i) (purchase .cvm))
-    takes-same (cyclic i) = refl
-
-    worth-same : (meter : Meter) → worthTo rules other meter ≡ worthTo rules purchase meter
-    unfolding worth cyclicWorth
-    worth-same (accumulator i) = refl
-    worth-same (counter i) = refl
-    worth-same (cyclic i) = refl
-
-    tested-same : (meter : Meter) → isTested other meter ≡ isTested purchase meter
-    tested-same (accumulator i) = refl
-    tested-same (counter i) = refl
-    tested-same (cyclic i) = refl
+    slot-same slot = open-to slot cvm ∙ sym (open-to slot (purchase .cvm))
 
     module _ (place : Place) (values : Values) where
-      abbrev entry : Meter → Bool → Converted → List Entry
-      entry meter takes worth = cond (takes && counts (ruleOf rules place meter)) (addition worth) []
+      entered-same : (meter : Meter) → entered rules place (Approve other) meter ≡ entered rules place (Approve purchase) meter
+      unfolding worth cyclicWorth
+      entered-same (accumulator i) = simp (slot-same i)
+      entered-same (counter i) = simp (slot-same (4 + i))
+      entered-same (cyclic i) = refl
 
       approved-same : applied rules place values (Approve other) ≡ applied rules place values (Approve purchase)
       unfolding applied
       approved-same =
-          let entries : (meter : Meter) → entry meter (takesUp rules other meter) (worthTo rules other meter)
-          ≡ entry meter (takesUp rules purchase meter) (worthTo rules purchase meter) =
-          λ meter. ap₂ (entry meter) (takes-same meter) (worth-same meter) in
           λ k. record {
-            accumulators = four (λ i. amountMoved (amountAt values i) (entries (accumulator i) k));
-            counters = four (λ i. moved counterCap (countAt values i) (entries (counter i) k));
-            cyclic = two (λ i. amountMoved (cyclicAt values i) (entries (cyclic i) k));
+            accumulators = four (λ i. amountMoved (amountAt values i) (entered-same (accumulator i) k));
+            counters = four (λ i. moved counterCap (countAt values i) (entered-same (counter i) k));
+            cyclic = two (λ i. amountMoved (cyclicAt values i) (entered-same (cyclic i) k));
           }
 
       offline-same : (approves : Bool) → applied rules place values (offline approves other) ≡ applied rules place values (offline approves purchase)
@@ -144,27 +129,26 @@ module _ (rules : Rules) (plain : Plain rules) where
         by false false true = refl
         by false false false = approved-same
 
-      -- a meter against a limit of its rule
-      abbrev above : (MeterRule → ℕ) → Meter → (tested takes : Bool) → Converted → Bool
-      above limit meter tested takes worth =
-          let rule = ruleOf rules place meter in
-          tested && exceeds rule (takes && rule .include) worth (limit rule) (valueOf values meter)
+      lower-same : (meter : Meter) → exceedsLower rules place values other meter ≡ exceedsLower rules place values purchase meter
+      unfolding worth cyclicWorth
+      lower-same (accumulator i) = simp (slot-same i)
+      lower-same (counter i) = simp (slot-same (4 + i))
+      lower-same (cyclic i) = refl
+
+      upper-same : (meter : Meter) → exceedsUpper rules place values other meter ≡ exceedsUpper rules place values purchase meter
+      unfolding worth cyclicWorth
+      upper-same (accumulator i) = simp (slot-same i)
+      upper-same (counter i) = simp (slot-same (4 + i))
+      upper-same (cyclic i) = refl
 
       bits-same : (history : History) → decisionBits rules place values other history ≡ decisionBits rules place values purchase history
       unfolding decisionBits accumulatorsLower accumulatorsUpper countersLower countersUpper datingFlags maximumExceeded
       bits-same history =
-          let flag : (limit : MeterRule → ℕ) (meter : Meter)
-          → above limit meter (isTested other meter) (takesUp rules other meter) (worthTo rules other meter)
-          ≡ above limit meter (isTested purchase meter) (takesUp rules purchase meter) (worthTo rules purchase meter) =
-          λ limit meter k. above limit meter (tested-same meter k) (takes-same meter k) (worth-same meter k) in
-          let lower = flag (λ rule. rule .lower) in
-          let upper = flag (λ rule. rule .upper) in
-          let found : cashbackFound rules place other ≡ cashbackFound rules place purchase =
-          ap (λ checks. checks && cashback) (plain .unchecked place) ∙ sym (ap (λ checks. checks && purchase .cashback) (plain .unchecked place)) in
+          let found : cashbackFound rules place other ≡ cashbackFound rules place purchase = simp (plain .unchecked place) in
           λ k. packed
-          (historyFlags history ++ maximumExceeded rules place purchase ∷ four (λ i. lower (accumulator i) k)
-          ++ four (λ i. upper (accumulator i) k) ++ four (λ i. lower (counter i) k) ++ four (λ i. upper (counter i) k)
-          ++ (upper (cyclic 0) k ∷ upper (cyclic 1) k ∷ isDateError (purchase .timing) ∷ []) ++ found k ∷ [])
+          (historyFlags history ++ maximumExceeded rules place purchase ∷ four (λ i. lower-same (accumulator i) k)
+          ++ four (λ i. upper-same (accumulator i) k) ++ four (λ i. lower-same (counter i) k) ++ four (λ i. upper-same (counter i) k)
+          ++ (upper-same (cyclic 0) k ∷ upper-same (cyclic 1) k ∷ isDateError (purchase .timing) ∷ []) ++ found k ∷ [])
 
   -- ---- First
 
