@@ -72,7 +72,46 @@ static void take_date(struct card *card, const struct date *date)
     card->last = *date;
 }
 
-/* "Start and the checks": bits 5 to 24. The sums are not stopped, so that a
+/* Request Thirteen: the transaction's CVM by the terminal's CVM results (CPACE
+ * C.80). Of the first byte the method alone is asked, of the others only
+ * whether the last one is 00. */
+static uint8_t cvm_of(const uint8_t *results)
+{
+    if (results[2] != 0x00)
+        return NO_CVM;
+    switch (results[0] & 0x3F) {
+    case 0x02:
+        return ONLINE_PIN;
+    case 0x1E:
+        return SIGNATURE;
+    default:
+        return NO_CVM;
+    }
+}
+
+/* Six bytes that are not all zero, digits or not. */
+static bool is_cashback(const uint8_t *bytes)
+{
+    for (unsigned i = 0; i < 6; i++)
+        if (bytes[i] != 0)
+            return true;
+    return false;
+}
+
+/* What the switches of a slot come to in the open transaction. */
+static uint8_t accumulator_switches(const struct card *card, unsigned i)
+{
+    return gated(card->open.profile->accumulator[i].switches,
+                 card->setup.accumulator_control[i], card->open.cvm);
+}
+
+static uint8_t counter_switches(const struct card *card, unsigned i)
+{
+    return gated(card->open.profile->counter[i].switches,
+                 card->setup.counter_control[i], card->open.cvm);
+}
+
+/* "Start and the checks": bits 5 to 25. The sums are not stopped, so that a
  * full accumulator or counter still exceeds a limit at its maximum. Over
  * exceeds every limit, MAX too. With a date error no cyclic accumulator is
  * tested. */
@@ -93,7 +132,7 @@ static uint32_t check_limits(const struct card *card)
         if (!(rule->switches & ACTIVE))
             continue;
         const struct converted added = open->for_accumulator[i];
-        const bool included = rule->switches & INCLUDE;
+        const bool included = accumulator_switches(card, i) & INCLUDE;
         const bool over = included && added.how == OVER;
         uint64_t value = card->accumulator[i];
         if (included && added.how == CONVERTED)
@@ -109,7 +148,7 @@ static uint32_t check_limits(const struct card *card)
         if (!(rule->switches & ACTIVE))
             continue;
         unsigned value = card->counter[i];
-        if (rule->switches & INCLUDE)
+        if (counter_switches(card, i) & INCLUDE)
             value++;
         if (value > rule->lower)
             adr |= (uint32_t)COUNTER_LOWER << i;
@@ -117,6 +156,8 @@ static uint32_t check_limits(const struct card *card)
             adr |= (uint32_t)COUNTER_UPPER << i;
     }
 
+    if (open->cashback)
+        adr |= CASHBACK;
     if (open->date_error)
         return adr | DATE_ERROR;
     for (unsigned i = 0; i < card->setup.cyclics; i++) {
@@ -160,13 +201,13 @@ static void approve_offline(struct card *card)
     const struct profile *profile = open->profile;
 
     for (unsigned i = 0; i < ACCUMULATORS; i++)
-        if (counts_approvals(profile->accumulator[i].switches))
+        if (counts_approvals(accumulator_switches(card, i)))
             accumulate(&card->accumulator[i], &open->for_accumulator[i]);
     for (unsigned i = 0; i < card->setup.cyclics; i++)
         if (counts_approvals(profile->cyclic[i].switches) && !open->date_error)
             accumulate(&card->cyclic[i], &open->for_cyclic[i]);
     for (unsigned i = 0; i < COUNTERS; i++)
-        if (counts_approvals(profile->counter[i].switches))
+        if (counts_approvals(counter_switches(card, i)))
             count_one(&card->counter[i]);
 }
 
@@ -322,14 +363,15 @@ unsigned card_start(struct card *card, const struct start *start,
 {
     const struct profile *profile = card->setup.profile;
     const struct profile *end = profile + card->setup.profiles;
+    const bool cpace = is_cpace(&card->setup);
     uint8_t number;
 
-    if (!card->setup.selection.on) {
-        number = start->data[0];
-    } else if (!select_profile(&card->setup.selection, start, &number,
-                               visits)) {
+    if (cpace && start->data[0] > CONTACTLESS)
+        return 6;
+    if (!card->setup.selection.on)
+        number = start->data[cpace];
+    else if (!select_profile(card, start, &number, visits))
         return 12;
-    }
     while (profile < end && profile->number != number)
         profile++;
     if (profile == end)
@@ -362,6 +404,13 @@ unsigned card_first(struct card *card, const struct first *first,
     open->date_error = false;
     if (dated)
         take_date(card, &date);
+    open->cvm = 0;
+    open->cashback = false;
+    if (is_cpace(&card->setup)) {
+        open->cvm = cvm_of(first->cvm_results);
+        open->cashback = open->profile->cashback_check
+            && is_cashback(first->cashback);
+    }
     convert_amount(card, first->amount, first->currency);
     open->adr = card->history | check_limits(card);
     const unsigned type = decide(open->profile, open->adr, first);

@@ -25,7 +25,8 @@ enum {
     VERSION_SELECTION = 2, /* papers from this version on have it */
     VERSION_SYLLABUS = 3,
     VERSION_CYCLES = 4,
-    VERSION_MAX = 4
+    VERSION_FAMILY = 5,
+    VERSION_MAX = 5
 };
 
 /* The decision bits (ADR) in house order; bits 0 to 4 are the history. */
@@ -42,6 +43,7 @@ enum {
     COUNTER_UPPER = 1 << 18,
     CYCLIC_LIMIT = 1 << 22, /* cyclic accumulator 1; 2 follows */
     DATE_ERROR = 1 << 24,
+    CASHBACK = 1 << 25,
 
     ACCUMULATORS_LOWER = 15 * ACCUMULATOR_LOWER, /* all four */
     ACCUMULATORS_UPPER = 15 * ACCUMULATOR_UPPER,
@@ -50,9 +52,11 @@ enum {
 
     HISTORY = 5, /* how many bits */
     OLD_DECISIONS = 22, /* named in papers before VERSION_CYCLES */
-    DECISIONS = 25,
+    CYCLES_DECISIONS = 25, /* in those of VERSION_CYCLES */
+    DECISIONS = 26,
     HISTORY_BITS = (1 << HISTORY) - 1,
     OLD_ADR_BITS = (1 << OLD_DECISIONS) - 1,
+    CYCLES_ADR_BITS = (1 << CYCLES_DECISIONS) - 1,
     ADR_BITS = (1 << DECISIONS) - 1
 };
 
@@ -65,6 +69,21 @@ enum {
 
     ACCUMULATOR_SWITCHES = 7,
     COUNTER_SWITCHES = 15
+};
+
+/* The card families (request Thirteen), and the interfaces of the second. */
+enum { FAMILY_CPA = 0, FAMILY_CPACE = 1 };
+enum { CONTACT = 0, CONTACTLESS = 1 };
+
+/* How the cardholder was verified: a bit in the control of an accumulator or a
+ * counter, which is closed to a transaction whose bit it has. No command of
+ * ours verifies a PIN offline, so that bit is never asked for. */
+enum {
+    NO_CVM = 1,
+    SIGNATURE = 2,
+    ONLINE_PIN = 4,
+
+    CONTROL_BITS = 15
 };
 
 /* Kinds of record. */
@@ -101,6 +120,7 @@ struct profile {
     uint32_t online_mask, decline_mask, default_mask;
     uint16_t mta_currency;
     bool mta_on;
+    bool cashback_check;
     uint8_t number;
     uint8_t accumulator_sent; /* 0 for none, else 1 to 4 */
     uint8_t counter_sent[2];
@@ -140,6 +160,9 @@ struct setup {
     uint8_t profiles, conversions;
     uint8_t cyclics; /* none, or all: then First carries the date */
     uint8_t syllabus;
+    uint8_t family;
+    uint8_t accumulator_control[ACCUMULATORS]; /* of a CPACE card */
+    uint8_t counter_control[COUNTERS];
     uint8_t key_index;
     uint8_t pin_tries;
     bool authentication_required;
@@ -161,6 +184,8 @@ struct transaction {
     uint32_t adr;
     struct date date;
     bool date_error; /* it was earlier than the last date */
+    uint8_t cvm;     /* its bit in a control, 0 on a CPA card */
+    bool cashback;   /* and this profile checks it */
     uint8_t cvr[5];
 };
 
@@ -176,7 +201,8 @@ struct card {
     struct transaction open; /* points into `setup`: a card stays where it is */
 };
 
-/* The terminal's data; with selection off, the profile's number alone. */
+/* The terminal's data; with selection off, the profile's number alone. On a
+ * CPACE card the interface comes before either. */
 struct start {
     const uint8_t *data;
     size_t length;
@@ -188,6 +214,8 @@ struct first {
     uint8_t type;
     uint8_t terminal;
     const uint8_t *date; /* 3 bytes, where it carries one */
+    const uint8_t *cvm_results; /* 3 bytes, and */
+    const uint8_t *cashback;    /* 6 bytes, on a CPACE card */
 };
 
 struct second {
@@ -213,6 +241,17 @@ static inline bool is_unable(uint16_t code)
     return code == UNABLE_Y3 || code == UNABLE_Z3;
 }
 
+static inline bool is_cpace(const struct setup *setup)
+{
+    return setup->family == FAMILY_CPACE;
+}
+
+/* Whether a check type of the file means an accumulator or a counter. */
+static inline bool tests_slot(const struct setup *setup, uint8_t type)
+{
+    return is_cpace(setup) && type >= 0x80;
+}
+
 static inline bool has_all(uint8_t switches, unsigned wanted)
 {
     return (switches & wanted) == wanted;
@@ -221,6 +260,13 @@ static inline bool has_all(uint8_t switches, unsigned wanted)
 static inline bool counts_approvals(uint8_t switches)
 {
     return has_all(switches, ACTIVE | ALLOW);
+}
+
+/* The switches that hold for this transaction: closed to its CVM, a slot
+ * neither includes nor allows it. Declines are counted all the same. */
+static inline uint8_t gated(uint8_t switches, uint8_t control, uint8_t cvm)
+{
+    return (uint8_t)(control & cvm ? switches & ~(ALLOW | INCLUDE) : switches);
 }
 
 static inline bool counts_declines(uint8_t switches)
@@ -234,11 +280,10 @@ static inline bool counts_declines(uint8_t switches)
 bool card_set_up(struct card *card, unsigned version, const uint8_t *body,
                  size_t length);
 
-/* The profile that the file gives for the terminal's data, and how many
- * entries were visited; false is refusal 12. */
-bool select_profile(const struct selection *selection,
-                    const struct start *start, uint8_t *profile,
-                    unsigned *visits);
+/* The profile that the file gives for the terminal's data, the interface among
+ * them, and how many entries were visited; false is refusal 12. */
+bool select_profile(const struct card *card, const struct start *start,
+                    uint8_t *profile, unsigned *visits);
 
 /* With selection on it also says how many entries were visited. */
 unsigned card_start(struct card *card, const struct start *start,

@@ -1,6 +1,6 @@
 /* Papers made by hand, their lines worked out by hand from documents 01 and
  * 02: the printed sitting, the edges a) to l), CPA's examples of selection and
- * of cyclic accumulators, and what surrounds them. */
+ * of cyclic accumulators, CPACE's rules, and what surrounds them. */
 #include <stdio.h>
 #include <string.h>
 
@@ -835,6 +835,387 @@ static void cyclic_sittings(void)
            "11 9\n");
 }
 
+/* Request Thirteen --------------------------------------------------------- */
+
+/* These three bytes close accumulator 1 and counter 1, which have the same
+ * control, exactly if that has the bit. */
+static void cvm_case(uint32_t results, uint8_t bit)
+{
+    for (uint8_t control = 1; control <= 8; control <<= 1) {
+        lenient();
+        cpace();
+        setup.control[0] = control;
+        setup.control[4] = control;
+        begin();
+        cvm = results;
+        start(1);
+        first(TC, 7);
+        expect("a CVM", control == bit
+               ? "0 0\n1 0 1\n2 0 40 1 "
+                 IAD("9030000000", "000000000000", "0000")
+               : "0 0\n1 0 1\n2 0 40 1 "
+                 IAD("9030000000", "000000000007", "0100"));
+    }
+}
+
+static void cvms(void)
+{
+    static const uint32_t pin[] = {0x020000, 0x420300, 0xC20300};
+    static const uint32_t signature[] = {0x1E0300, 0xDE0000};
+    static const uint32_t none[] = {0x1F0300, 0x420302, 0x1E0001, 0x010302,
+                                    0x220000, 0x3E0000, 0x000000};
+
+    for (size_t i = 0; i < sizeof pin / sizeof *pin; i++)
+        cvm_case(pin[i], 4);
+    for (size_t i = 0; i < sizeof signature / sizeof *signature; i++)
+        cvm_case(signature[i], 2);
+    for (size_t i = 0; i < sizeof none / sizeof *none; i++)
+        cvm_case(none[i], 1);
+}
+
+static void cashbacks(void)
+{
+    static const uint64_t bytes[] = {0x000000000000, 0x000000000001,
+                                     0x010000000000, 0xFFFFFFFFFFFF};
+
+    for (size_t i = 0; i < sizeof bytes / sizeof *bytes; i++)
+        for (uint8_t checked = 0; checked < 2; checked++) {
+            lenient();
+            cpace();
+            profile->cashback = checked;
+            profile->decline = WITH_CASHBACK;
+            begin();
+            cashback = bytes[i];
+            start(1);
+            first(TC, 7);
+            expect("cashback", checked && i > 0
+                   ? "0 0\n1 0 1\n2 0 00 1 "
+                     IAD("8030000000", "000000000000", "0000")
+                   : "0 0\n1 0 1\n2 0 40 1 "
+                     IAD("9030000000", "000000000007", "0100"));
+        }
+
+    lenient(); /* checked again after Y3, by First's bytes */
+    cpace();
+    profile->cashback = 1;
+    profile->by_default = WITH_CASHBACK;
+    begin();
+    cashback = 0x000100000000;
+    start(1);
+    first(TC, 7);
+    start(1);
+    first_offline(TC, 7);
+    start(1);
+    first(ARQC, 7);
+    second(TC, Y3, ABSENT, 0);
+    cashback = 0;
+    start(1);
+    first(ARQC, 7);
+    second(TC, Z3, ABSENT, 0);
+    expect("cashback and Default",
+           "0 0\n"
+           "1 0 1\n"
+           "2 0 40 1 " IAD("9030000000", "000000000007", "0100")
+           "3 0 2\n"
+           "4 0 00 2 " IAD("8030000000", "000000000007", "0100")
+           "5 0 3\n"
+           "6 0 80 3 " IAD("A030000000", "000000000007", "0100")
+           "7 0 00 3 " IAD("2230000100", "000000000007", "0100")
+           "8 0 4\n"
+           "9 0 80 4 " IAD("A231000000", "000000000007", "0100")
+           "10 0 40 4 " IAD("6231000100", "000000000014", "0200"));
+}
+
+/* Everything is closed to the transaction: what is left out of it, and what is
+ * not. */
+static void closed(void)
+{
+    lenient();
+    cpace();
+    memset(setup.control, 15, sizeof setup.control);
+    setup.accumulator[0].value = 5000;
+    setup.counter[0] = 4;
+    profile->counter[0].switches = 15;
+    profile->counter[0].lower = 4;
+    profile->counter[0].upper = 9;
+    begin();
+    start(1);
+    first(TC, 6000); /* neither in the tests nor added */
+    start(1);
+    first(AAC, 6000); /* a decline counts */
+    start(1);
+    first(ARQC, 6000); /* 5 is above 4 */
+    second(TC, Y3, ABSENT, 0);
+    start(1);
+    first(ARQC, 6000);
+    second(TC, OTHER, VERIFIED, 0x83);
+    start(1);
+    first(ARQC, 6000);
+    second(AAC, OTHER, VERIFIED, 0x01);
+    start(1);
+    first(ARQC, 6000); /* the values exceed, closed or not */
+    second(AAC, OTHER, VERIFIED, 0x02);
+    expect("closed",
+           "0 0\n"
+           "1 0 1\n"
+           "2 0 40 1 " IAD("9030000000", "000000005000", "0400")
+           "3 0 2\n"
+           "4 0 00 2 " IAD("8030000000", "000000005000", "0500")
+           "5 0 3\n"
+           "6 0 80 3 " IAD("A030800000", "000000005000", "0500")
+           "7 0 40 3 " IAD("6230800100", "000000005000", "0500")
+           "8 0 4\n"
+           "9 0 80 4 " IAD("A231800000", "000000005000", "0500")
+           "10 0 40 4 " IAD("6031800000", "000000005000", "0500")
+           "11 0 5\n"
+           "12 0 80 5 " IAD("A030800000", "000000005000", "0500")
+           "13 0 00 5 " IAD("2030800000", "000000010000", "0900")
+           "14 0 6\n"
+           "15 0 80 6 " IAD("A030A00000", "000000010000", "0900")
+           "16 0 00 6 " IAD("2030A00000", "000000000000", "0000"));
+
+    at_rate(1, 3); /* over: neither exceeds nor stored */
+    cpace();
+    setup.control[0] = 1;
+    begin();
+    start(1);
+    first_in(TC, 1000000000, USD);
+    cvm = 0x020000;
+    start(1);
+    first_in(TC, 1000000000, USD);
+    expect("over, closed and open",
+           "0 0\n"
+           "1 0 1\n"
+           "2 0 40 1 " IAD("9030000000", "000000000000", "0100")
+           "3 0 2\n"
+           "4 0 40 2 " IAD("9030300000", "999999999999", "0200"));
+
+    lenient(); /* cyclic accumulators and the MTA have no control */
+    cyclic(0x050715, DAYS, FRI, DAYS, FRI);
+    cpace();
+    memset(setup.control, 15, sizeof setup.control);
+    profile->cyclic[0].switches = 7;
+    profile->cyclic[0].limit = 10;
+    profile->decline = CYCLIC_1 | MTA_EXCEEDED;
+    profile->mta_on = 1;
+    profile->mta_currency = EUR;
+    profile->mta = 8;
+    begin();
+    start(1);
+    first(TC, 9);
+    start(1);
+    first(TC, 8);
+    start(1);
+    first(TC, 3);
+    start(1);
+    first(TC, 2);
+    expect("closed, cyclic",
+           "0 0\n"
+           "1 0 1\n"
+           "2 0 00 1 " IAD("8030000000", "000000000000", "0000")
+           "3 0 2\n"
+           "4 0 40 2 " IAD("9030000000", "000000000000", "0000")
+           "5 0 3\n"
+           "6 0 00 3 " IAD("8030000000", "000000000000", "0000")
+           "7 0 4\n"
+           "8 0 40 4 " IAD("9030000000", "000000000000", "0000"));
+}
+
+/* A CPACE card's Start and First have their own lengths, with dates too. */
+static void cpace_lengths(void)
+{
+    static const uint8_t body[25] = {1, 0, 0, 0, 0, 0, 0, 0, 7, 9, 0x78, 0x22,
+                                     5, 7, 0x15};
+
+    for (unsigned dated = 0; dated < 2; dated++)
+        for (unsigned family = 0; family < 2; family++)
+            for (size_t length = 11; length <= 25; length++) {
+                lenient();
+                if (dated)
+                    cyclic(0x050715, DAYS, FRI, DAYS, FRI);
+                cpace();
+                setup.family = (uint8_t)family;
+                begin();
+                start(1);
+                draft_record(draft, 3, body, length);
+                expect("a First's length",
+                       length == 12 + 3 * dated + 9 * family
+                       ? "0 0\n1 0 1\n2 0 40 1 "
+                         IAD("9030000000", "000000000007", "0100")
+                       : "0 0\n1 0 1\n2 9\n");
+            }
+    for (unsigned family = 0; family < 2; family++)
+        for (size_t length = 0; length <= 3; length++) {
+            lenient();
+            cpace();
+            setup.family = (uint8_t)family;
+            begin();
+            draft_data(draft, (const uint8_t[]){!family, 1, 1}, length);
+            expect("a Start's length", length == 1 + family
+                   ? "0 0\n1 0 1\n" : "0 0\n1 9\n");
+        }
+}
+
+/* The interface comes before the profile, and its refusal before 3 and 4. */
+static void interfaces(void)
+{
+    lenient();
+    cpace();
+    profile->number = 2;
+    setup.atc = 65534;
+    begin();
+    for (interface = 0; interface < 4; interface++) {
+        start(2);
+        start(1);
+    }
+    start(2);
+    expect("interfaces",
+           "0 0\n"
+           "1 0 65535\n"
+           "2 3\n"
+           "3 4\n"
+           "4 3\n"
+           "5 6\n"
+           "6 6\n"
+           "7 6\n"
+           "8 6\n"
+           "9 6\n");
+}
+
+/* Entries that test a slot: accumulators 1000, 2000, 3000, 4000, counters 10,
+ * 20, 30, 255; positive is profile 2, negative profile 1. */
+static void slot_case(const char *entry, const char *data, unsigned refusal,
+                      bool positive)
+{
+    for (unsigned family = 0; family < 2; family++) {
+        selecting("01 02", &entry, 1);
+        cpace();
+        setup.family = (uint8_t)family;
+        for (unsigned p = 0; p < 2; p++) {
+            setup.profile[p].accumulator_sent = 0;
+            setup.profile[p].counter_sent[0] = 0;
+        }
+        for (unsigned i = 0; i < 4; i++) {
+            setup.accumulator[i].value = 1000 * (i + 1);
+            setup.counter[i] = (uint8_t)(i == 3 ? 255 : 10 * (i + 1));
+        }
+        const struct hex bytes = hex(data);
+        char lines[200];
+        begin();
+        draft_data(draft, bytes.at, bytes.length);
+        first(AAC, 0);
+        if (family == 0 || refusal > 0)
+            snprintf(lines, sizeof lines, "0 0\n1 %u\n2 2\n",
+                     family == 0 ? 12 : refusal);
+        else
+            snprintf(lines, sizeof lines,
+                     "0 0\n1 0 1 1\n2 0 00 1 "
+                     "0FA501803000000000000000000000000F%02d" ZEROS "\n",
+                     positive ? 2 : 1);
+        expect(entry, lines);
+    }
+}
+
+static void slot_tests(void)
+{
+    static const struct {
+        const char *entry;
+        unsigned refusal;
+        bool positive;
+    } cases[] = {
+        {"0C 00 06 01 000000000999 D1 02 01", 0, true}, /* greater */
+        {"0C 00 06 01 000000001000 D1 02 01", 0, false},
+        {"0C 00 06 01 000000001001 D0 02 01", 0, true}, /* less */
+        {"0C 00 06 01 000000001000 D0 02 01", 0, false},
+        {"0C FF 06 01 000000001999 E1 02 01", 0, true}, /* accumulators 2, 3 */
+        {"0C 09 06 01 000000003001 FC 02 01", 0, true},
+        {"0C 02 06 01 000000001004 D3 02 01", 0, true}, /* 1000 + 5 */
+        {"0C 02 06 01 000000001005 D3 02 01", 0, false},
+        {"0C 02 06 01 000000001006 D2 02 01", 0, true},
+        {"0C 02 06 01 000000001005 DE 02 01", 0, false},
+        {"0C 02 06 01 999999999999 F2 02 01", 0, true},
+        {"0C 03 06 01 000000001499 D3 02 01", 0, true}, /* 1000 + 500 */
+        {"0C 01 06 01 010000001000 D3 02 01", 0, false},
+        {"07 00 01 01 09 91 02 01", 0, true}, /* counters */
+        {"07 00 01 01 0A 91 02 01", 0, false},
+        {"07 00 01 01 0A 93 02 01", 0, true},
+        {"07 FF 01 01 15 A2 02 01", 0, false},
+        {"07 FF 01 01 16 A2 02 01", 0, true},
+        {"07 00 01 01 1F BC 02 01", 0, true},
+        {"07 00 01 01 FE 81 02 01", 0, true}, /* counter 4, stopped */
+        {"07 00 01 01 FF 83 02 01", 0, false},
+        {"07 00 01 01 FF 80 02 01", 0, false},
+        {"0C 00 06 01 000000001000 C1 02 01", 12, 0}, /* accumulator 0 */
+        {"06 00 06 00 D1 02 01", 12, 0},              /* n */
+        {"06 00 01 00 91 02 01", 12, 0},
+        {"08 00 01 02 09 09 91 02 01", 12, 0},
+        {"12 02 06 02 000000000000 000000000000 D1 02 01", 12, 0},
+        {"0B 00 06 01 0000000009 D1 02 01", 12, 0}, /* E */
+        {"0D 00 06 01 00000000000900 D1 02 01", 12, 0},
+        {"0B 00 05 01 0000000999 D1 02 01", 12, 0}, /* L */
+        {"0D 00 07 01 00000000000999 D1 02 01", 12, 0},
+        {"08 00 02 01 0009 91 02 01", 12, 0},
+        {"06 00 00 01 91 02 01", 12, 0},
+        {"0C 00 06 01 00000000099A D1 02 01", 12, 0}, /* digits */
+        {"0C 00 06 01 A00000000999 D0 02 01", 12, 0},
+        {"0C 00 06 01 000000000999 D3 02 01", 12, 0}, /* P */
+        {"0C 04 06 01 000000000999 D3 02 01", 12, 0},
+        {"0C FF 06 01 000000000999 D3 02 01", 12, 0},
+        {"07 00 01 01 09 7F 02 01", 12, 0}, /* below 80 */
+        {"07 01 01 01 09 00 02 01", 12, 0}};
+
+    for (size_t i = 0; i < sizeof cases / sizeof *cases; i++)
+        slot_case(cases[i].entry, "01 000000000005 00", cases[i].refusal,
+                  cases[i].positive);
+    slot_case("0C 02 06 01 000000000000 D3 02 01", "01 00000000000A", 12, 0);
+    slot_case("0C 02 06 01 000000000000 D3 02 01", "01 A00000000000", 12, 0);
+    slot_case("0C 02 06 01 000000000000 D3 02 01", "01 0000000000", 12, 0);
+    slot_case("0C 02 06 01 999999999999 F3 02 01", "01 999999999999", 0, 0);
+    slot_case("0C 02 06 01 999999999998 F3 02 01", "01 999999999999", 0, 1);
+    slot_case("0C 02 06 01 000000000000 D3 02 01", "02 00", 6, 0);
+    slot_case("08 01 01 02 FF 01 03 02 01", "01", 12, 0);
+}
+
+/* Request Thirteen's sittings of examples/. */
+static void cpace_sittings(void)
+{
+    cpace_sitting();
+    expect("CPACE",
+           "0 0\n"
+           "1 0 1\n"
+           "2 0 80 1 " IAD("A030000000", "000000000000", "0000")
+           "3 0 00 1 " IAD("2230000100", "000000000000", "0000")
+           "4 0 2\n"
+           "5 0 40 2 " IAD("9231000000", "000000000000", "0100")
+           "6 0 3\n"
+           "7 0 80 3 " IAD("A231200000", "000000000000", "0100")
+           "8 0 40 3 " IAD("6231200100", "000000006000", "0100")
+           "9 0 4\n"
+           "10 0 00 4 " IAD("8231300000", "000000006000", "0100")
+           "11 0 5\n"
+           "12 0 80 5 " IAD("A231200000", "000000006000", "0100")
+           "13 0 40 5 " IAD("6031200000", "000000006000", "0200")
+           "14 6\n");
+    interface_selection();
+    expect("interface and selection",
+           "0 0\n"
+           "1 0 1 1\n"
+           "2 0 40 1 " IAD("9030000000", "000000000600", "0100")
+           "3 0 2 3\n"
+           "4 0 40 2 " IAD("9030000000", "000000001000", "0200")
+           "5 0 3 2\n"
+           "6 0 40 3 0FA501903000000000000000100002000F02" ZEROS "\n"
+           "7 0 4 1\n"
+           "8 0 40 4 " IAD("9030000000", "000000001001", "0300")
+           "9 0 5 1\n"
+           "10 0 40 5 " IAD("9030000000", "000000001002", "0400")
+           "11 0 6 2\n"
+           "12 12\n"
+           "13 12\n"
+           "14 6\n"
+           "15 9\n");
+}
+
 /* CPA Annex I: what one purchase makes of the first cyclic accumulator. Profile
  * 2 declines above what it is to be, profile 3 above one less. */
 struct annex {
@@ -1008,7 +1389,7 @@ static void first_lengths(void)
     first(TC, 1);
     expect("04, undated", "0 0\n1 0 1\n2 0 40 1 "
                           IAD("9030000000", "000000000001", "0100"));
-    for (uint8_t version = 1; version <= 4; version++) {
+    for (uint8_t version = 1; version <= 5; version++) {
         setup.version = version;
         begin();
         start(1);
@@ -1024,12 +1405,13 @@ static void first_lengths(void)
     expect("dated, 12 bytes", "0 0\n1 0 1\n2 9\n");
 }
 
-/* Masks name bits 22 to 24 in version 04, and there only. */
+/* Masks name bits 22 to 24 from version 04 on, and 25 from version 05 on. */
 static void mask_bits(void)
 {
-    for (uint8_t version = 1; version <= 4; version++)
-        for (unsigned bit = 21; bit < 27; bit++) {
-            const bool named = bit < 22 || (version == 4 && bit < 25);
+    for (uint8_t version = 1; version <= 5; version++)
+        for (unsigned bit = 21; bit < 28; bit++) {
+            const bool named = bit < 22 || (version >= 4 && bit < 25)
+                || (version == 5 && bit == 25);
             lenient();
             setup.version = version;
             profile->decline = UINT32_C(1) << bit;
@@ -1117,6 +1499,49 @@ static void dated_tails(void)
 #undef ALL
 }
 
+/* Of the printed set-up with version 05's tail; a CPACE card's Start of one
+ * byte is 9. */
+static void family_tails(void)
+{
+    static const char *const cpa = "0 0\n1 0 1\n";
+    static const char *const cpace = "0 0\n1 9\n";
+    static const char *const refused = "0 1\n";
+    const struct {
+        const char *tail, *lines;
+    } cases[] = {
+        {"00", cpa},
+        {"", refused},
+        {"02", refused},
+        {"FF", refused},
+        {"00 00", refused},
+        {"01", refused},
+        {"00 00000000 00000000 00", refused},
+        {"01 00000000 00000000 00", cpace},
+        {"01 0F0F0F0F 0F0F0F0F 01", cpace},
+        {"02 00000000 00000000 00", refused},
+        {"01 00000000 00000000", refused},
+        {"01 00000000 00000000 00 00", refused},
+        {"01 10000000 00000000 00", refused},
+        {"01 00100000 00000000 00", refused},
+        {"01 00001000 00000000 00", refused},
+        {"01 00000010 00000000 00", refused},
+        {"01 00000000 10000000 00", refused},
+        {"01 00000000 00100000 00", refused},
+        {"01 00000000 00001000 00", refused},
+        {"01 00000000 00000010 00", refused},
+        {"01 00000000 00000000 02", refused},
+        {"01 00000000 00000000 FF", refused}};
+
+    for (size_t i = 0; i < sizeof cases / sizeof *cases; i++) {
+        char tail[100];
+        snprintf(tail, sizeof tail, "00 00 00 %s", cases[i].tail);
+        tail_case(5, tail, "", cases[i].lines);
+        if (*cases[i].tail)
+            tail_case(4, tail, "", refused);
+        tail_case(6, tail, "", "0 9\n");
+    }
+}
+
 static void tails(void)
 {
     static const struct {
@@ -1153,6 +1578,7 @@ static void tails(void)
     tail_case(3, "01 00", "", "0 1\n");
     tail_case(3, "00 FF", "", "0 1\n");
     dated_tails();
+    family_tails();
 }
 
 static void refusals(void)
@@ -1239,7 +1665,9 @@ static void papers(void)
     draft->bytes[0] = 4;
     expect("version 04 without a tail", "0 1\n");
     draft->bytes[0] = 5;
-    expect("version 05", "0 9\n");
+    expect("version 05 without a tail", "0 1\n");
+    draft->bytes[0] = 6;
+    expect("version 06", "0 9\n");
     begin();
     draft->length--;
     expect("set-up cut short", "0 9\n");
@@ -1309,6 +1737,13 @@ int main(void)
     over();
     counters();
     cyclic_sittings();
+    cpace_sittings();
+    cvms();
+    cashbacks();
+    closed();
+    cpace_lengths();
+    interfaces();
+    slot_tests();
     annex_i();
     cycles();
     no_days();

@@ -10,11 +10,13 @@
 static void damage_field(struct chance *chance, const struct draft_setup *setup,
                          struct draft *draft)
 {
-    const size_t count = setup->dated ? FIELDS : BASE_FIELDS;
-    const struct field *field = &fields()[below(chance, count)];
+    const struct field *field;
     unsigned place = 0;
 
-    if (field->part == IN_PROFILE || field->part == IN_LIMITS)
+    do {
+        field = &fields()[below(chance, FIELDS)];
+    } while (!has_field(setup, field));
+    if (is_of_profile(field))
         place = (unsigned)below(chance, setup->profiles);
     if (field->part == IN_CONVERSION) {
         if (setup->conversions == 0)
@@ -92,6 +94,22 @@ static void resize_setup(struct draft *draft, int more)
     put16(draft->bytes + 1, (unsigned)((int)length + more));
 }
 
+/* One of so many fields from this one on out of its range. */
+static void damage_one_of(struct chance *chance,
+                          const struct draft_setup *setup, struct draft *draft,
+                          size_t from, size_t count)
+{
+    const size_t which = below(chance, count);
+    const struct field *field = &fields()[from + which];
+    const unsigned any = (unsigned)below(chance, setup->profiles);
+    const unsigned place = is_of_profile(field) ? any : 0;
+    const unsigned bad = (unsigned)below(chance, bad_values(field));
+    const uint64_t out = bad_value(chance, field, setup->version, bad);
+
+    put_field(draft->bytes + field_offset(field, setup, place), field->width,
+              out);
+}
+
 /* The tail of version 04: its switch, one field out of range, or its length,
  * off by a field, by an accumulator or by a profile. */
 static void damage_cycles(struct chance *chance,
@@ -111,13 +129,28 @@ static void damage_cycles(struct chance *chance,
         resize_setup(draft, PICK(chance, sizes));
         return;
     }
-    const size_t which = below(chance, FIELDS - BASE_FIELDS);
-    const struct field *field = &fields()[BASE_FIELDS + which];
-    const unsigned place = (unsigned)below(chance, setup->profiles);
-    const unsigned bad = (unsigned)below(chance, bad_values(field));
-    const uint64_t out = bad_value(chance, field, setup->version, bad);
-    put_field(draft->bytes + field_offset(field, setup, place), field->width,
-              out);
+    damage_one_of(chance, setup, draft, BASE_FIELDS, CYCLES_FIELDS);
+}
+
+/* The tail of version 05: its family, one field out of range, or its length,
+ * off by a field, by the controls or by the switches. */
+static void damage_family(struct chance *chance,
+                          const struct draft_setup *setup, struct draft *draft)
+{
+    static const int sizes[] = {1, -1, 2, -2, 4, -4, 8, -8, 9, -9};
+    uint8_t *at = draft->bytes + SETUP_BODY + draft_setup_family(setup);
+    const uint8_t value = any_byte(chance);
+
+    if (percent(chance, 25) || !setup->family) {
+        *at = percent(chance, 50) ? 2 : value;
+        if (percent(chance, 50))
+            *at = !setup->family;
+    } else if (percent(chance, 40)) {
+        resize_setup(draft, PICK(chance, sizes));
+    } else {
+        damage_one_of(chance, setup, draft, BASE_FIELDS + CYCLES_FIELDS,
+                      FAMILY_FIELDS);
+    }
 }
 
 /* One byte of the tails that has a range or delimits: the syllabus, the switch,
@@ -130,6 +163,10 @@ static void damage_tail(struct chance *chance, const struct draft_setup *setup,
 
     if (setup->version < 2)
         return;
+    if (setup->version > 4 && percent(chance, 60)) {
+        damage_family(chance, setup, draft);
+        return;
+    }
     if (setup->version > 3 && percent(chance, 60)) {
         damage_cycles(chance, setup, draft);
         return;
@@ -158,7 +195,10 @@ static void damage_tail(struct chance *chance, const struct draft_setup *setup,
 static void damage_record(struct chance *chance,
                           const struct draft_setup *setup, struct draft *draft)
 {
-    const uint8_t sizes[] = {1, setup->dated ? 15 : 12, 8};
+    const bool dated = draft_is_dated(setup), cpace = draft_is_cpace(setup);
+    const uint8_t sizes[] = {cpace ? 2 : 1,
+                             (uint8_t)(12 + (dated ? 3 : 0) + (cpace ? 9 : 0)),
+                             8};
     uint8_t bytes[64];
     const size_t which = below(chance, draft->records + 1);
     const size_t place =
@@ -178,12 +218,15 @@ static void damage_record(struct chance *chance,
         bytes[2] = percent(chance, 50) ? 0 : (uint8_t)(5 + below(chance, 251));
         break;
     case 2: /* a body too short or too long */
-        length -= kind == 1 && percent(chance, 50) ? 3 : 1;
+        if (kind == 1 && percent(chance, 50))
+            length -= cpace && percent(chance, 70) ? 9 : 3;
+        else
+            length -= kind == 0 && percent(chance, 30) ? length : 1;
         break;
     case 3:
         length += 1 + below(chance, percent(chance, 50) ? 1 : 30);
         if (kind == 1 && percent(chance, 50))
-            length = sizes[kind] + 3;
+            length = (size_t)sizes[kind] + (percent(chance, 60) ? 3 : 9);
         break;
     default: /* a second set-up, of any length */
         bytes[2] = 1;
@@ -228,15 +271,19 @@ static void damage_bytes(struct chance *chance, struct draft *draft)
     }
 }
 
-void fill_up(struct draft *draft, bool dated, size_t length)
+void fill_up(struct draft *draft, const struct draft_setup *setup,
+             size_t length)
 {
-    const size_t size = dated ? 11 : 15;
+    static const uint8_t start[] = {CONTACT, 0};
+    const bool cpace = draft_is_cpace(setup);
+    const bool longer = draft_is_dated(setup) || cpace;
+    const size_t size = longer ? 11 : 15;
 
     assert(length >= draft->length + 56);
     while ((length - draft->length) % size != 0)
-        draft_start(draft, 0);
+        draft_data(draft, start, cpace ? 2 : 1);
     while (draft->length < length)
-        if (dated)
+        if (longer)
             draft_second(draft, TC, Y3, ABSENT, 0);
         else
             draft_first(draft, TC, 1, EUR, ONLINE_TERMINAL);
@@ -248,7 +295,7 @@ static void damage_size(struct chance *chance, const struct draft_setup *setup,
 {
     const size_t more = below(chance, 3);
 
-    fill_up(draft, setup->dated, PAPER + (more == 1));
+    fill_up(draft, setup, PAPER + (more == 1));
     if (more == 2) {
         const size_t count = 1 + below(chance, 40000);
         memset(draft->bytes + draft->length, 0, count);
@@ -259,8 +306,8 @@ static void damage_size(struct chance *chance, const struct draft_setup *setup,
 void damage(struct chance *chance, const struct draft_setup *setup,
             struct draft *draft)
 {
-    static const uint8_t versions[] = {0, 1, 2, 3, 4,
-                                       5, 0x10, 0x80, 0x81, 0xFF};
+    static const uint8_t versions[] = {0, 1, 2,    3,    4,   5,
+                                       6, 0x10, 0x80, 0x81, 0xFF};
     uint8_t tail[4];
     size_t place;
 

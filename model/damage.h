@@ -9,9 +9,10 @@
 void damage(struct chance *chance, const struct draft_setup *setup,
             struct draft *draft);
 
-/* Makes the paper exactly so long by records that can be read: Firsts, where
- * these are dated Seconds, and Starts of profile 0. Needs 56 bytes or more to
- * fill. */
-void fill_up(struct draft *draft, bool dated, size_t length);
+/* Makes the paper with this set-up exactly so long by records that can be read:
+ * Firsts, where these carry more than in version 01 Seconds, and Starts of
+ * profile 0. Needs 56 bytes or more to fill. */
+void fill_up(struct draft *draft, const struct draft_setup *setup,
+             size_t length);
 
 #endif

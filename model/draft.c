@@ -55,6 +55,28 @@ static uint8_t *put_cycles(const struct draft_setup *setup, uint8_t *at)
     return at;
 }
 
+static uint8_t *put_family(const struct draft_setup *setup, uint8_t *at)
+{
+    *at++ = setup->family;
+    if (!setup->family)
+        return at;
+    memcpy(at, setup->control, sizeof setup->control);
+    at += sizeof setup->control;
+    for (int p = 0; p < setup->profiles; p++)
+        *at++ = setup->profile[p].cashback;
+    return at;
+}
+
+bool draft_is_dated(const struct draft_setup *setup)
+{
+    return setup->version > 3 && setup->dated;
+}
+
+bool draft_is_cpace(const struct draft_setup *setup)
+{
+    return setup->version > 4 && setup->family == CPACE;
+}
+
 size_t draft_setup_body(const struct draft_setup *setup, uint8_t *body)
 {
     uint8_t *at = body;
@@ -116,6 +138,8 @@ size_t draft_setup_body(const struct draft_setup *setup, uint8_t *body)
         *at++ = setup->syllabus;
     if (setup->version > 3)
         at = put_cycles(setup, at);
+    if (setup->version > 4)
+        at = put_family(setup, at);
     return (size_t)(at - body);
 }
 
@@ -130,6 +154,14 @@ size_t draft_setup_cycles(const struct draft_setup *setup)
     const size_t file = setup->file.on ? 2 + setup->file.length : 1;
 
     return draft_setup_base(setup) + file + 1;
+}
+
+size_t draft_setup_family(const struct draft_setup *setup)
+{
+    const size_t limits = (size_t)SETUP_LIMITS * setup->profiles;
+
+    return draft_setup_cycles(setup)
+        + (setup->dated ? SETUP_CYCLES + limits : 1);
 }
 
 void draft_entry(struct draft_file *file, const uint8_t *entry, size_t length)
@@ -163,29 +195,50 @@ void draft_data(struct draft *draft, const uint8_t *data, size_t length)
     draft_record(draft, KIND_START, data, length);
 }
 
-void draft_first(struct draft *draft, uint8_t type, uint64_t amount,
-                 uint16_t currency, uint8_t terminal)
+static void put_first(struct draft *draft, uint8_t type, uint64_t amount,
+                      uint16_t currency, uint8_t terminal,
+                      const struct draft_more *more, bool dated, bool cpace)
 {
-    uint8_t body[12];
+    uint8_t body[24];
+    uint8_t *at = body + 12;
 
     body[0] = type;
     put64(body + 1, amount);
     put16(body + 9, currency);
     body[11] = terminal;
-    draft_record(draft, KIND_FIRST, body, sizeof body);
+    if (dated) {
+        put24(at, more->date);
+        at += 3;
+    }
+    if (cpace) {
+        put24(at, more->cvm);
+        put16(at + 3, more->cashback >> 32 & 0xFFFF);
+        put32(at + 5, more->cashback & 0xFFFFFFFF);
+        at += 9;
+    }
+    draft_record(draft, KIND_FIRST, body, (size_t)(at - body));
+}
+
+void draft_first(struct draft *draft, uint8_t type, uint64_t amount,
+                 uint16_t currency, uint8_t terminal)
+{
+    put_first(draft, type, amount, currency, terminal, NULL, false, false);
 }
 
 void draft_dated_first(struct draft *draft, uint8_t type, uint64_t amount,
                        uint16_t currency, uint8_t terminal, uint32_t date)
 {
-    uint8_t body[15];
+    const struct draft_more more = {.date = date};
 
-    body[0] = type;
-    put64(body + 1, amount);
-    put16(body + 9, currency);
-    body[11] = terminal;
-    put24(body + 12, date);
-    draft_record(draft, KIND_FIRST, body, sizeof body);
+    put_first(draft, type, amount, currency, terminal, &more, true, false);
+}
+
+void draft_first_for(struct draft *draft, const struct draft_setup *setup,
+                     uint8_t type, uint64_t amount, uint16_t currency,
+                     uint8_t terminal, const struct draft_more *more)
+{
+    put_first(draft, type, amount, currency, terminal, more,
+              draft_is_dated(setup), draft_is_cpace(setup));
 }
 
 void draft_second(struct draft *draft, uint8_t type, uint16_t code,

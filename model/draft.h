@@ -18,6 +18,13 @@ enum { EUR = 0x0978, USD = 0x0840 };
 enum { ONLINE_TERMINAL = 0x22, OFFLINE_TERMINAL = 0x23 };
 enum { Y3 = 0x5933, Z3 = 0x5A33, OTHER = 0x3030 };
 enum { ABSENT = 0, VERIFIED = 1, FAILED = 2 };
+enum { CPA = 0, CPACE = 1 };
+enum { CONTACT = 0, CONTACTLESS = 1 };
+
+/* CVM results of the three bytes that a CPACE First carries, as a terminal
+ * has them, and the bits of a control that they ask. */
+enum { BY_PIN = 0x420300, BY_SIGNATURE = 0x1E0300, BY_NOTHING = 0x1F0300 };
+enum { FOR_NOTHING = 1, FOR_SIGNATURE = 2, FOR_PIN = 4, FOR_OFFLINE_PIN = 8 };
 
 /* Bits of a mask: those that are asked for by name. */
 enum {
@@ -29,11 +36,14 @@ enum {
     CYCLIC_1 = 1 << 22, /* the limit of cyclic accumulator 1 */
     CYCLIC_2 = 1 << 23,
     PAST_DATE = 1 << 24,
+    WITH_CASHBACK = 1 << 25,
 
     BITS = 22,
     ALL_BITS = (1 << BITS) - 1,
-    BITS_04 = 25, /* from version 04 on */
-    ALL_BITS_04 = (1 << BITS_04) - 1
+    BITS_04 = 25, /* in version 04 */
+    ALL_BITS_04 = (1 << BITS_04) - 1,
+    BITS_05 = 26, /* from version 05 on */
+    ALL_BITS_05 = (1 << BITS_05) - 1
 };
 
 /* Kinds of cycle, and days that a week begins with. */
@@ -51,8 +61,9 @@ enum {
     FILE_ROOM = 8192,
     SETUP_CYCLES = 28, /* the tail of version 04, dated, without its limits */
     SETUP_LIMITS = 18, /* of a profile in it */
+    SETUP_FAMILY = 9,  /* the tail of version 05, CPACE, without its switches */
     SETUP_ROOM = SETUP_BASE + 2 + FILE_ROOM + 1 + SETUP_CYCLES
-        + 5 * SETUP_LIMITS
+        + 5 * SETUP_LIMITS + SETUP_FAMILY + 5
 };
 
 struct draft_profile {
@@ -73,6 +84,7 @@ struct draft_profile {
         uint8_t switches;
         uint64_t limit;
     } cyclic[2];
+    uint8_t cashback; /* is checked */
 };
 
 /* Profile selection: a switch, the number of entries, and the entries, each
@@ -109,6 +121,15 @@ struct draft_setup {
         uint64_t amount;
         uint8_t kind, first_day;
     } cyclic[2];
+    uint8_t family;         /* from version 05 on, and if it is CPACE: */
+    uint8_t control[8];     /* of the accumulators, then of the counters */
+};
+
+/* What a First has behind its terminal type, where the set-up asks for it. */
+struct draft_more {
+    uint32_t date;
+    uint32_t cvm; /* as 0x1F0300 */
+    uint64_t cashback;
 };
 
 struct draft {
@@ -129,14 +150,22 @@ void draft_first(struct draft *draft, uint8_t type, uint64_t amount,
                  uint16_t currency, uint8_t terminal);
 void draft_dated_first(struct draft *draft, uint8_t type, uint64_t amount,
                        uint16_t currency, uint8_t terminal, uint32_t date);
+void draft_first_for(struct draft *draft, const struct draft_setup *setup,
+                     uint8_t type, uint64_t amount, uint16_t currency,
+                     uint8_t terminal, const struct draft_more *more);
 void draft_second(struct draft *draft, uint8_t type, uint16_t code,
                   uint8_t issuer_data, uint32_t csu);
 
-/* The body alone, and where its tails and that of version 04 begin; all return
- * a length. */
+/* Whether its Firsts carry a date, and whether it is a CPACE card's. */
+bool draft_is_dated(const struct draft_setup *setup);
+bool draft_is_cpace(const struct draft_setup *setup);
+
+/* The body alone, and where its tails, that of version 04 and that of version
+ * 05 begin; all return a length. */
 size_t draft_setup_body(const struct draft_setup *setup, uint8_t *body);
 size_t draft_setup_base(const struct draft_setup *setup);
 size_t draft_setup_cycles(const struct draft_setup *setup);
+size_t draft_setup_family(const struct draft_setup *setup);
 
 /* The next entry of a file, its length before it; it may be ill-formed. */
 void draft_entry(struct draft_file *file, const uint8_t *entry, size_t length);

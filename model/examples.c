@@ -101,3 +101,90 @@ void refused_dates(void)
     start(1);
     draft_first(draft, TC, 1, EUR, ONLINE_TERMINAL);
 }
+
+static void pay(uint8_t by, uint32_t results, uint64_t amount)
+{
+    interface = by;
+    cvm = results;
+    start(1);
+    first(TC, amount);
+}
+
+/* Document 01's set-up: accumulator 1 is closed to no CVM, counter 1 to online
+ * PIN and to signature. */
+void cpace_sitting(void)
+{
+    draft_printed_setup(&setup);
+    cpace();
+    setup.profile[0].online |= WITH_CASHBACK;
+    setup.profile[0].cashback = 1;
+    setup.profile[0].counter[0].switches = 7;
+    setup.control[0] = FOR_NOTHING;
+    setup.control[4] = FOR_PIN | FOR_SIGNATURE;
+    begin();
+    cashback = 1;
+    pay(CONTACT, BY_NOTHING, 1);
+    second(AAC, Z3, ABSENT, 0);
+    cashback = 0;
+    pay(CONTACT, BY_NOTHING, 6000);
+    pay(CONTACTLESS, BY_PIN, 6000);
+    second(TC, Y3, ABSENT, 0);
+    pay(CONTACTLESS, BY_SIGNATURE, 6000);
+    pay(CONTACTLESS, BY_SIGNATURE + 2, 6000); /* 1E0302: not successful */
+    second(TC, OTHER, VERIFIED, 0x83);
+    interface = 2;
+    start(1);
+}
+
+/* Start by the interface alone, the terminal's data empty. */
+static void start_by(uint8_t by)
+{
+    draft_data(draft, &by, 1);
+}
+
+/* Contactless, with the amount as the terminal's data, and the First of it. */
+static void tap(const uint8_t *data, uint64_t amount)
+{
+    draft_data(draft, data, 7);
+    first(TC, amount);
+}
+
+void interface_selection(void)
+{
+    static const uint8_t entries[][12] = {
+        {1, 1, 2, 0xFF, 0x01, 0, 0x81, 1}, /* contactless? */
+        {2, 6, 1, 0, 0, 0, 0, 0x10, 0x00, 0xD3, 2, 0x81}, /* above 1000? */
+        {0, 1, 1, 2, 0x91, 2, 1}};         /* counter 1 above 2? */
+    static const uint8_t lengths[] = {8, 12, 7};
+    struct draft_profile *profile = &setup.profile[0];
+
+    draft_printed_setup(&setup);
+    profiles_blank(2);
+    cpace();
+    profile->accumulator[0].switches = 3;
+    profile->accumulator[0].lower = MOST;
+    profile->accumulator[0].upper = MOST;
+    profile->counter[0].switches = 3;
+    profile->counter[0].lower = 255;
+    profile->counter[0].upper = 255;
+    for (unsigned i = 0; i < 2; i++) {
+        setup.profile[i].accumulator_sent = 1;
+        setup.profile[i].counter_sent[0] = 1;
+    }
+    for (unsigned i = 0; i < 3; i++)
+        draft_entry(&setup.file, entries[i], lengths[i]);
+    begin();
+    start_by(CONTACT);
+    first(TC, 600);
+    tap((const uint8_t[]){1, 0, 0, 0, 0, 0x04, 0x00}, 400);
+    tap((const uint8_t[]){1, 0, 0, 0, 0, 0, 0x01}, 1);
+    for (unsigned i = 0; i < 2; i++) {
+        start_by(CONTACT);
+        first(TC, 1);
+    }
+    draft_data(draft, (const uint8_t[]){1, 0, 0, 0, 0, 0, 0}, 7);
+    start_by(CONTACTLESS);
+    draft_data(draft, (const uint8_t[]){1, 0, 0, 0, 0, 0, 0x0A}, 7);
+    start_by(2);
+    draft_data(draft, NULL, 0);
+}

@@ -1,4 +1,4 @@
-/* The papers of version 04 in examples/, command by command. */
+/* The papers of versions 04 and 05 in examples/, command by command. */
 #ifndef MODEL_EXAMPLES_H
 #define MODEL_EXAMPLES_H
 
@@ -13,5 +13,11 @@ void date_error(void);
 
 /* Firsts that are refused begin no cycle. */
 void refused_dates(void);
+
+/* A CPACE card: cashback, and slots that are closed to a CVM. */
+void cpace_sitting(void);
+
+/* A CPACE card whose file asks for the interface and for what it has spent. */
+void interface_selection(void);
 
 #endif

@@ -80,8 +80,34 @@ const struct field *fields(void)
         add(IN_LIMITS, 9 * i, 1, 0, 7);
         add(IN_LIMITS, 9 * i + 1, 8, 0, MOST);
     }
+
+    assert(filled == BASE_FIELDS + CYCLES_FIELDS);
+    add(IN_FAMILY, 0, 1, 0, 1);
+    for (size_t i = 0; i < 8; i++) /* controls */
+        add(IN_FAMILY, 1 + i, 1, 0, 15);
+    add(IN_CHECKS, 0, 1, 0, 1); /* cashback */
     assert(filled == FIELDS);
     return table;
+}
+
+bool has_field(const struct draft_setup *setup, const struct field *field)
+{
+    switch (field->part) {
+    case IN_CYCLES:
+    case IN_LIMITS:
+        return draft_is_dated(setup);
+    case IN_FAMILY:
+    case IN_CHECKS:
+        return draft_is_cpace(setup);
+    default:
+        return true;
+    }
+}
+
+bool is_of_profile(const struct field *field)
+{
+    return field->part == IN_PROFILE || field->part == IN_LIMITS
+        || field->part == IN_CHECKS;
 }
 
 unsigned bad_values(const struct field *field)
@@ -96,6 +122,14 @@ unsigned bad_values(const struct field *field)
     }
 }
 
+/* The highest mask of a version. */
+static uint64_t named_bits(unsigned version)
+{
+    if (version < 4)
+        return ALL_BITS;
+    return version < 5 ? ALL_BITS_04 : ALL_BITS_05;
+}
+
 uint64_t bad_value(struct chance *chance, const struct field *field,
                    unsigned version, unsigned which)
 {
@@ -105,8 +139,7 @@ uint64_t bad_value(struct chance *chance, const struct field *field,
         return not_day[which];
     switch (which) {
     case 0:
-        return 1 + (field->kind == MASK && version > 3 ? ALL_BITS_04
-                                                       : field->high);
+        return 1 + (field->kind == MASK ? named_bits(version) : field->high);
     case 1:
         return field->width == 8 ? UINT64_MAX
                                  : (UINT64_C(1) << 8 * field->width) - 1;
@@ -130,9 +163,13 @@ size_t field_offset(const struct field *field, const struct draft_setup *setup,
             + (size_t)SETUP_CONVERSION * place;
     case IN_CYCLES:
         return offset + draft_setup_cycles(setup);
-    default:
+    case IN_LIMITS:
         return offset + draft_setup_cycles(setup) + SETUP_CYCLES
             + (size_t)SETUP_LIMITS * place;
+    case IN_FAMILY:
+        return offset + draft_setup_family(setup);
+    default:
+        return offset + draft_setup_family(setup) + SETUP_FAMILY + place;
     }
 }
 

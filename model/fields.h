@@ -12,7 +12,9 @@ struct field {
         IN_PROFILE,
         IN_CONVERSION,
         IN_CYCLES, /* the tail of version 04, dated */
-        IN_LIMITS  /* a profile's in it */
+        IN_LIMITS, /* a profile's in it */
+        IN_FAMILY, /* the tail of version 05, CPACE */
+        IN_CHECKS  /* a profile's in it */
     } part;
     size_t offset; /* in its part */
     unsigned width;
@@ -20,14 +22,21 @@ struct field {
     uint64_t low, high; /* of a number or a mask */
 };
 
-/* Those of every set-up come first. */
+/* Those of every set-up come first, then those of version 04, of 05. */
 enum {
     BASE_FIELDS = 3 + 8 + (3 + 1 + 3 + 12 + 4 + 3) + 4,
-    FIELDS = BASE_FIELDS + 2 + 8 + 4
+    CYCLES_FIELDS = 2 + 8 + 4,
+    FAMILY_FIELDS = 1 + 8 + 1,
+    FIELDS = BASE_FIELDS + CYCLES_FIELDS + FAMILY_FIELDS
 };
 
 /* All of them; filled at the first call. */
 const struct field *fields(void);
+
+/* Whether this set-up has the field, a profile's or a conversion's if it has
+ * any of these; and whether each profile has its own. */
+bool has_field(const struct draft_setup *setup, const struct field *field);
+bool is_of_profile(const struct field *field);
 
 /* How many values outside its range there are to try, and one of them, in a
  * paper of this version. */

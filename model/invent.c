@@ -307,6 +307,84 @@ static uint8_t invent_action(struct chance *chance,
     return (uint8_t)(0x81 + below(chance, left < 4 ? left : 4));
 }
 
+/* Twelve digits in six bytes. */
+static void put_amount(uint8_t *at, uint64_t amount)
+{
+    for (int i = 5; i >= 0; i--) {
+        at[i] = (uint8_t)(amount % 100 / 10 << 4 | amount % 10);
+        amount /= 100;
+    }
+}
+
+/* A value just beside this one, or itself. */
+static uint64_t beside(struct chance *chance, uint64_t value, uint64_t most)
+{
+    const uint64_t off = below(chance, 3);
+
+    if (off == 0)
+        return value > 0 ? value - 1 : value;
+    return off == 1 && value < most ? value + 1 : value;
+}
+
+/* Makes an entry that tests a slot unsound. */
+static void spoil_slot_entry(struct chance *chance, uint8_t *entry,
+                             size_t *length)
+{
+    const size_t place = below(chance, *length);
+
+    switch (below(chance, 4)) {
+    case 0:
+        *length += percent(chance, 50) ? 1 : (size_t)-1;
+        break;
+    case 1:
+        entry[2] = (uint8_t)below(chance, 4);
+        break;
+    case 2:
+        entry[1] = percent(chance, 50) ? 6 : 1;
+        break;
+    default:
+        entry[place] = any_byte(chance);
+        break;
+    }
+}
+
+/* On a CPACE card: an accumulator or a counter against its value in the set-up,
+ * or another. */
+static size_t invent_slot_entry(struct chance *chance,
+                                const struct world *world,
+                                const struct draft_setup *setup, uint8_t *entry)
+{
+    const bool accumulator = percent(chance, 60);
+    const unsigned which = (unsigned)below(chance, 4);
+    uint8_t type = (uint8_t)(0x80 | which << 4 | (any_byte(chance) & 3));
+    size_t at = 3;
+
+    if (percent(chance, 20))
+        type |= any_byte(chance) & 0x0C;
+    entry[0] = (uint8_t)(percent(chance, 80) ? 2 : below(chance, 5));
+    entry[2] = 1;
+    if (accumulator) {
+        const unsigned slot = which == 0 && percent(chance, 90) ? 1 : which;
+        uint64_t value = invent_value(chance, world);
+        if (slot > 0 && percent(chance, 40))
+            value = beside(chance, setup->accumulator[slot - 1].value, MOST);
+        entry[1] = 6;
+        put_amount(entry + at, value);
+        at += 6;
+        type = (uint8_t)((type & ~0x30) | 0x40 | slot << 4);
+    } else {
+        const unsigned slot = which == 0 ? 3 : which - 1;
+        const uint64_t near = beside(chance, setup->counter[slot], 255);
+        entry[1] = 1;
+        entry[at] = invent_count(chance);
+        if (percent(chance, 60))
+            entry[at] = (uint8_t)near;
+        at++;
+    }
+    entry[at++] = type;
+    return at;
+}
+
 /* Makes an entry ill-formed in one of the ways there are. */
 static void spoil_entry(struct chance *chance, uint8_t *entry, size_t *length)
 {
@@ -347,6 +425,15 @@ static void invent_entry(struct chance *chance, const struct world *world,
     const size_t blocks = 2 + below(chance, percent(chance, 70) ? 2 : 5);
     size_t at = 3;
 
+    if (draft_is_cpace(setup) && percent(chance, 45)) {
+        at = invent_slot_entry(chance, world, setup, entry);
+        entry[at++] = invent_action(chance, setup, left);
+        entry[at++] = invent_action(chance, setup, left);
+        if (percent(chance, 4))
+            spoil_slot_entry(chance, entry, &at);
+        draft_entry(&setup->file, entry, at);
+        return;
+    }
     entry[0] = (uint8_t)position;
     entry[1] = (uint8_t)width;
     entry[2] = (uint8_t)blocks;
@@ -355,6 +442,8 @@ static void invent_entry(struct chance *chance, const struct world *world,
     for (size_t i = 0; i < (blocks - 1) * width; i++)
         entry[at++] = invent_octet(chance);
     entry[at++] = (uint8_t)below(chance, 3);
+    if (setup->version > 4 && percent(chance, 2)) /* in a CPA paper, 12 */
+        entry[at - 1] = 0x80 | any_byte(chance);
     entry[at++] = invent_action(chance, setup, left);
     entry[at++] = invent_action(chance, setup, left);
     if (percent(chance, 3))
@@ -369,6 +458,8 @@ static void invent_file(struct chance *chance, struct world *world,
     uint8_t room[256] = {0};
 
     world->data = 1 + below(chance, 6);
+    if (draft_is_cpace(setup)) /* the interface and an amount */
+        world->data = 7 + below(chance, 3);
     if (percent(chance, 3))
         entries = 0;
     if (percent(chance, 2))
@@ -409,11 +500,13 @@ static uint32_t invent_last(struct chance *chance)
     }
 }
 
-/* One of the mask's bits is in the main of those that version 04 names. */
-static uint32_t invent_mask_04(struct chance *chance, unsigned none)
+/* A mask of bits that a later version names, too. One of them is in the main
+ * of those between these. */
+static uint32_t invent_late_mask(struct chance *chance, unsigned from,
+                                 unsigned bits, unsigned none)
 {
-    const uint32_t bit = CYCLIC_1 << below(chance, 3);
-    const uint32_t mask = invent_mask(chance, BITS_04, none);
+    const uint32_t bit = UINT32_C(1) << (from + below(chance, bits - from));
+    const uint32_t mask = invent_mask(chance, bits, none);
 
     switch (below(chance, 4)) {
     case 0:
@@ -448,20 +541,89 @@ void invent_cycles(struct chance *chance, struct world *world,
             profile->cyclic[j].switches = plain ? 7 : switches;
             profile->cyclic[j].limit = invent_value(chance, world);
         }
-        profile->online = invent_mask_04(chance, 50);
-        profile->decline = invent_mask_04(chance, 60);
-        profile->by_default = invent_mask_04(chance, 40);
+        profile->online = invent_late_mask(chance, BITS, BITS_04, 50);
+        profile->decline = invent_late_mask(chance, BITS, BITS_04, 60);
+        profile->by_default = invent_late_mask(chance, BITS, BITS_04, 40);
     }
+}
+
+/* Bits of it that are asked, or all, or none. */
+static uint8_t invent_control(struct chance *chance)
+{
+    const uint8_t any = any_byte(chance) & 15;
+
+    switch (below(chance, 6)) {
+    case 0:
+        return 0;
+    case 1:
+        return 15;
+    case 2:
+        return any;
+    default:
+        return (uint8_t)(1 << below(chance, 3));
+    }
+}
+
+/* Bit 25 is often alone; all others stay as they are if it is not drawn. */
+static void invent_cashback_mask(struct chance *chance, uint32_t *mask)
+{
+    switch (below(chance, 6)) {
+    case 0:
+        *mask = WITH_CASHBACK;
+        break;
+    case 1:
+        *mask |= WITH_CASHBACK;
+        break;
+    default:
+        break;
+    }
+}
+
+void invent_family(struct chance *chance, struct draft_setup *setup)
+{
+    setup->version = 5;
+    setup->family = CPACE;
+    for (unsigned i = 0; i < 8; i++)
+        setup->control[i] = invent_control(chance);
+    for (unsigned i = 0; i < setup->profiles; i++) {
+        struct draft_profile *profile = &setup->profile[i];
+        profile->cashback = percent(chance, 60);
+        invent_cashback_mask(chance, &profile->online);
+        invent_cashback_mask(chance, &profile->decline);
+        invent_cashback_mask(chance, &profile->by_default);
+    }
+}
+
+/* Version 05: three in four of its cards are CPACE. */
+static void invent_version_05(struct chance *chance, struct world *world,
+                              struct draft_setup *setup)
+{
+    const bool family = percent(chance, 75);
+    const bool selects = percent(chance, 45);
+    const bool dated = percent(chance, 35);
+
+    setup->syllabus = percent(chance, 75);
+    if (dated)
+        invent_cycles(chance, world, setup);
+    if (family)
+        invent_family(chance, setup);
+    setup->version = 5;
+    if (selects)
+        invent_file(chance, world, setup);
 }
 
 void invent_version(struct chance *chance, struct world *world,
                     struct draft_setup *setup)
 {
-    if (percent(chance, 35))
+    if (percent(chance, 25))
         return;
-    setup->version = (uint8_t)(2 + below(chance, 4));
-    if (setup->version == 5)
-        setup->version = 4;
+    setup->version = (uint8_t)(2 + below(chance, 6)); /* 04 and 05 twice */
+    if (setup->version > 5)
+        setup->version -= 2;
+    if (setup->version == 5) {
+        invent_version_05(chance, world, setup);
+        return;
+    }
     if (percent(chance, setup->version > 3 ? 30 : 70))
         invent_file(chance, world, setup);
     if (setup->version > 2)
@@ -470,9 +632,19 @@ void invent_version(struct chance *chance, struct world *world,
         invent_cycles(chance, world, setup);
 }
 
-/* The terminal's data, now and then shorter or longer than the rule. */
+static uint8_t invent_interface(struct chance *chance)
+{
+    static const uint8_t above[] = {2, 2, 3, 0x80, 0xFF};
+    const uint8_t bad = PICK(chance, above);
+    const uint8_t good = (uint8_t)below(chance, 2);
+
+    return percent(chance, 4) ? bad : good;
+}
+
+/* The terminal's data, now and then shorter or longer than the rule; on a CPACE
+ * card the interface first, and in the main an amount behind it. */
 static void invent_data(struct chance *chance, const struct world *world,
-                        struct draft *draft)
+                        const struct draft_setup *setup, struct draft *draft)
 {
     uint8_t data[300];
     size_t length = world->data;
@@ -483,6 +655,12 @@ static void invent_data(struct chance *chance, const struct world *world,
         length = below(chance, sizeof data);
     for (size_t i = 0; i < length; i++)
         data[i] = invent_octet(chance);
+    if (draft_is_cpace(setup)) {
+        const uint64_t amount = invent_amount(chance, world);
+        data[0] = invent_interface(chance);
+        if (length > 6 && percent(chance, 97))
+            put_amount(data + 1, amount);
+    }
     draft_data(draft, data, length);
 }
 
@@ -491,7 +669,7 @@ static void invent_start(struct chance *chance, const struct world *world,
                          bool tidy)
 {
     if (setup->file.on) {
-        invent_data(chance, world, draft);
+        invent_data(chance, world, setup, draft);
         return;
     }
     const size_t place = below(chance, setup->profiles);
@@ -501,6 +679,12 @@ static void invent_start(struct chance *chance, const struct world *world,
         number = any_byte(chance);
     if (!tidy && percent(chance, 2))
         number = 0;
+    if (draft_is_cpace(setup)) {
+        const uint8_t by = invent_interface(chance);
+        const uint8_t both[] = {tidy ? by & 1 : by, number};
+        draft_data(draft, both, sizeof both);
+        return;
+    }
     draft_start(draft, number);
 }
 
@@ -585,6 +769,38 @@ static uint32_t invent_date(struct chance *chance, struct world *world,
     return date;
 }
 
+/* CVM results: in the main one of the methods that count, with any condition
+ * and any of the two high bits, successful or not. */
+static uint32_t invent_cvm(struct chance *chance)
+{
+    static const uint8_t methods[] = {0x02, 0x02, 0x1E, 0x1E, 0x1F,
+                                      0x1F, 0x01, 0x00, 0x22, 0x3E};
+    static const uint8_t high[] = {0x00, 0x00, 0x40, 0x80, 0xC0};
+    static const uint8_t results[] = {0x00, 0x00, 0x00, 0x00, 0x01,
+                                      0x02, 0x02, 0x80};
+    uint32_t method = PICK(chance, methods);
+    const uint32_t bits = PICK(chance, high);
+    const uint32_t condition = any_byte(chance);
+    const uint32_t result = PICK(chance, results);
+
+    if (percent(chance, 5))
+        method = any_byte(chance);
+    return (method | bits) << 16 | condition << 8 | result;
+}
+
+/* None, as often as some; one byte of it alone, or any six. */
+static uint64_t invent_cashback(struct chance *chance)
+{
+    const unsigned byte = (unsigned)below(chance, 6);
+    const uint64_t any = draw(chance);
+
+    if (percent(chance, 50))
+        return 0;
+    if (percent(chance, 60))
+        return (any & 0xFF) << 8 * byte;
+    return any >> 16;
+}
+
 /* Returns the type asked for. */
 static uint8_t invent_first(struct chance *chance, struct world *world,
                             const struct draft_setup *setup,
@@ -596,6 +812,7 @@ static uint8_t invent_first(struct chance *chance, struct world *world,
     uint64_t amount = invent_amount(chance, world);
     uint16_t currency = world->currency[0];
     const uint8_t terminal = invent_terminal(chance);
+    struct draft_more more = {0};
 
     if (percent(chance, 50))
         currency = PICK(chance, world->currency);
@@ -614,14 +831,16 @@ static uint8_t invent_first(struct chance *chance, struct world *world,
         const unsigned digit = (unsigned)below(chance, 4);
         currency = bad_currency(chance, digit);
     }
-    if (!setup->dated) {
-        draft_first(draft, type, amount, currency, terminal);
-        return type;
+    if (setup->dated) {
+        more.date = invent_date(chance, world, tidy);
+        if (world->in_error && percent(chance, 40))
+            type = ARQC;
     }
-    const uint32_t date = invent_date(chance, world, tidy);
-    if (world->in_error && percent(chance, 40))
-        type = ARQC;
-    draft_dated_first(draft, type, amount, currency, terminal, date);
+    if (draft_is_cpace(setup)) {
+        more.cvm = invent_cvm(chance);
+        more.cashback = invent_cashback(chance);
+    }
+    draft_first_for(draft, setup, type, amount, currency, terminal, &more);
     return type;
 }
 

@@ -31,6 +31,9 @@ void invent_version(struct chance *chance, struct world *world,
 void invent_cycles(struct chance *chance, struct world *world,
                    struct draft_setup *setup);
 
+/* Version 05, CPACE; behind invent_cycles, if that is asked for. */
+void invent_family(struct chance *chance, struct draft_setup *setup);
+
 /* So many commands. Tidy ones are in range and in turn as far as the card
  * decides so; the others stray now and then. */
 void invent_commands(struct chance *chance, struct world *world,

@@ -43,6 +43,19 @@ static void begin_dated(unsigned profiles)
     invent_commands(&chance, &world, &setup, draft, 3, true);
 }
 
+/* The same with a set-up of version 05, CPACE, dated or not. */
+static void begin_cpace(unsigned profiles, bool dated)
+{
+    struct world world;
+
+    invent_setup(&chance, &world, &setup, profiles, 6);
+    if (dated)
+        invent_cycles(&chance, &world, &setup);
+    invent_family(&chance, &setup);
+    begin();
+    invent_commands(&chance, &world, &setup, draft, 3, true);
+}
+
 /* Each field just out of range, in the first to the last of its kind. */
 static void fields_out_of_range(void)
 {
@@ -54,15 +67,17 @@ static void fields_out_of_range(void)
             const unsigned profiles = 1 + turn % 4;
             const unsigned conversions = 1 + turn % 5;
             unsigned place = 0;
-            if (field->part == IN_PROFILE || field->part == IN_LIMITS)
+            if (is_of_profile(field))
                 place = profiles - 1;
             if (field->part == IN_CONVERSION)
                 place = conversions - 1;
             if (i < BASE_FIELDS)
                 begin_any(profiles,
                           field->part == IN_CONVERSION ? conversions : 0);
-            else
+            else if (i < BASE_FIELDS + CYCLES_FIELDS)
                 begin_dated(profiles);
+            else
+                begin_cpace(profiles, turn & 1);
             const uint64_t value =
                 bad_value(&chance, field, setup.version, which);
             put_field(draft->bytes + field_offset(field, &setup, place),
@@ -191,7 +206,7 @@ static void raw(const uint8_t *bytes, size_t count)
 
 static void papers_unreadable(void)
 {
-    static const uint8_t versions[] = {0, 5, 0xFF};
+    static const uint8_t versions[] = {0, 6, 0xFF};
     static const uint8_t cut[] = {1, 0, 0xA0, 1};
     static const uint8_t kinds[] = {0, 2, 3, 4, 5, 0xFF};
 
@@ -285,7 +300,7 @@ static void papers_large(void)
     for (size_t length = PAPER; length <= PAPER + 1; length++) {
         draft_printed_setup(&setup);
         begin();
-        fill_up(draft, false, length);
+        fill_up(draft, &setup, length);
         emit();
     }
 }
@@ -1076,4 +1091,5 @@ void listed_papers(uint64_t seed, void (*then)(struct draft *draft))
     listed_cycles();
     listed_dates();
     listed_bounds();
+    listed_cpace();
 }

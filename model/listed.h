@@ -26,6 +26,9 @@ void listed_closing(void);
 void listed_cycles(void);
 void listed_dates(void);
 
+/* CPACE cards. */
+void listed_cpace(void);
+
 /* Every version and kind that is none, and the largest of everything. */
 void listed_bounds(void);
 

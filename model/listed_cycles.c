@@ -792,11 +792,11 @@ static void tails(void)
         }
 }
 
-/* The tail of version 04 in papers of versions 02 to 05; that of 03 in 04. */
+/* The tail of version 04 in papers of versions 02 to 06; that of 03 in 04. */
 static void other_versions(void)
 {
     for (uint8_t dated = 0; dated < 2; dated++)
-        for (uint8_t version = 2; version <= 5; version++) {
+        for (uint8_t version = 2; version <= 6; version++) {
             draft_printed_setup(&setup);
             cyclic(FRIDAY, DAYS, FRI, WEEKS, MON);
             setup.dated = dated;

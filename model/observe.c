@@ -1,6 +1,8 @@
 #include "observe.h"
 
 #include <assert.h>
+#include <inttypes.h>
+#include <stdio.h>
 #include <string.h>
 
 #include "bytes.h"
@@ -64,11 +66,12 @@ static void observe_setup(const struct setup *setup, unsigned version)
     if (version < VERSION_SELECTION)
         reached(SETUP_TAKEN + 0);
     else
-        reached(SETUP_TAKEN + 1 + 2 * (version - VERSION_SELECTION) + on
-                + 2 * (setup->cyclics > 0));
-    reached_if(version == VERSION_SYLLABUS, SYLLABUS_TAKEN + setup->syllabus);
-    reached_if(version > VERSION_SYLLABUS,
-               SYLLABUS_TAKEN + 2 + setup->syllabus);
+        reached(SETUP_TAKEN + 1
+                + setup_kind(version, on, setup->cyclics > 0,
+                             is_cpace(setup)));
+    reached_if(version >= VERSION_SYLLABUS,
+               SYLLABUS_TAKEN + 2 * (version - VERSION_SYLLABUS)
+                   + setup->syllabus);
     for (unsigned i = 0; i < setup->cyclics; i++) {
         const struct cyclic *cyclic = &setup->cyclic[i];
         const unsigned place = 7 * i + cyclic->first_day;
@@ -151,16 +154,53 @@ static bool observe_test(const uint8_t *entry, const uint8_t *data)
     return observe_order(type, values, width, masked, value);
 }
 
-static bool ill_formed(const uint8_t *at)
+/* Twelve digits, as text reads them; false if one is none. */
+static bool observe_digits(const uint8_t *at, uint64_t *value)
+{
+    char text[13];
+    int used = 0;
+
+    for (unsigned i = 0; i < 6; i++)
+        snprintf(text + 2 * i, 3, "%02X", at[i]);
+    return sscanf(text, "%12" SCNu64 "%n", value, &used) == 1 && used == 12;
+}
+
+/* Which slot a check type from 80 on means: accumulators 0 to 3, of which it
+ * cannot name the last, counters 4 to 7; none, 8. */
+static unsigned slot_of(uint8_t type)
+{
+    static const uint8_t counters[] = {7, 4, 5, 6};
+    static const uint8_t accumulators[] = {8, 0, 1, 2};
+
+    return (type & 0x40 ? accumulators : counters)[(type & 0x30) / 0x10];
+}
+
+/* An entry that tests a slot, sound but for what it takes from the data. */
+static bool ill_formed_slot(const uint8_t *at)
+{
+    uint64_t block;
+    const unsigned slot = slot_of(at[4 + at[2]]);
+
+    if (slot == 8)
+        return true;
+    return slot < 4 ? at[2] != 6 || !observe_digits(at + 4, &block)
+                    : at[2] != 1;
+}
+
+static bool ill_formed(const struct setup *setup, const uint8_t *at)
 {
     const unsigned blocks = at[0] < 6 ? 0 : (unsigned)at[2] * at[3];
 
-    return at[0] != blocks + 6 || blocks == 0 || at[3] < 2 || at[1] == 0
-        || at[4 + blocks] > 2;
+    if (at[0] != blocks + 6)
+        return true;
+    if (tests_slot(setup, at[4 + blocks]))
+        return at[3] != 1 || ill_formed_slot(at);
+    return blocks == 0 || at[3] < 2 || at[1] == 0 || at[4 + blocks] > 2;
 }
 
 /* At an entry with so many left, itself included. */
-static void observe_move(const uint8_t *at, unsigned left, unsigned move)
+static void observe_move(const struct setup *setup, const uint8_t *at,
+                         unsigned left, unsigned move)
 {
     static const unsigned place[] = {0, 0, 1};
 
@@ -168,12 +208,12 @@ static void observe_move(const uint8_t *at, unsigned left, unsigned move)
     reached_if(move + 1 == left, MOVE_TO_LAST);
     for (unsigned i = 1; i < move; i++) {
         at += 1 + at[0];
-        reached_if(ill_formed(at), UNVISITED_BAD + 0);
+        reached_if(ill_formed(setup, at), UNVISITED_BAD + 0);
     }
 }
 
-static void observe_selected(const uint8_t *at, unsigned left, unsigned visits,
-                             uint8_t untaken)
+static void observe_selected(const struct setup *setup, const uint8_t *at,
+                             unsigned left, unsigned visits, uint8_t untaken)
 {
     if (visits < 3)
         reached(VISITS + visits - 1);
@@ -185,44 +225,139 @@ static void observe_selected(const uint8_t *at, unsigned left, unsigned visits,
     reached_if(untaken > 0x80 && untaken - 0x80u >= left, ACTION_UNTAKEN + 3);
     for (; left > 1; left--) {
         at += 1 + at[0];
-        reached_if(ill_formed(at), UNVISITED_BAD + 1);
+        reached_if(ill_formed(setup, at), UNVISITED_BAD + 1);
     }
 }
 
+/* What a slot is worth in the test; false for refusal 12. */
+static bool observe_value(const struct card *before, const uint8_t *at,
+                          const struct start *start, uint64_t *value)
+{
+    const uint8_t type = at[4 + at[2]];
+    const unsigned slot = slot_of(type);
+    const uint64_t most = slot < 4 ? AMOUNT_MAX : COUNTER_MAX;
+    uint64_t added = type >> 1 & 1;
+
+    if (slot < 4 && added > 0)
+        if (at[1] == 0 || at[1] + 5u > start->length
+            || !observe_digits(start->data + at[1] - 1, &added))
+            return false;
+    *value = slot < 4 ? before->accumulator[slot] : before->counter[slot - 4];
+    reached_if(added > most - *value,
+               SLOT_STOPPED + (slot < 4 ? slot : slot - 1));
+    *value = added > most - *value ? most : *value + added;
+    return true;
+}
+
+/* An entry that tests a slot; false for refusal 12. */
+static bool observe_slot(const struct card *before, const uint8_t *at,
+                         const struct start *start, bool *positive)
+{
+    static const unsigned rows[] = {SLOT_LESS, SLOT_GREATER, SLOT_SUM_LESS,
+                                    SLOT_SUM_GREATER};
+    const uint8_t type = at[4 + at[2]];
+    const unsigned slot = slot_of(type);
+    const unsigned place = slot < 4 ? slot : slot - 1; /* 4 has no name */
+    const size_t position = at[1], end = position + at[2] - 1u;
+    const bool reads = slot < 4 && type & 2;
+    uint64_t value, block = at[4];
+
+    if (!observe_value(before, at, start, &value))
+        return false;
+    if (slot < 4)
+        observe_digits(at + 4, &block);
+    reached(rows[type & 3] + 3 * place
+            + (value < block ? 0 : 1 + (value > block)));
+    reached_if(type & 0x0C, SLOT_UNASKED + (type >> 2 & 3u) - 1);
+    if (reads) {
+        reached_if(end == start->length, SLOT_TO_END);
+        reached_if(position == 1, SLOT_INTERFACE);
+    } else {
+        reached_if(position == 0, SLOT_P + (slot < 4 ? 0 : 2));
+        reached_if(position > 0 && end > start->length,
+                   SLOT_P + (slot < 4 ? 1 : 3));
+    }
+    *positive = type & 1 ? block < value : value < block;
+    return true;
+}
+
 /* Walks the file; the number that it gives, 0 for refusal 12. */
-static uint8_t observe_file(const struct selection *selection,
+static uint8_t observe_file(const struct card *before,
                             const struct start *start)
 {
-    const uint8_t *at = selection->file;
-    unsigned left = selection->entries;
+    const struct setup *setup = &before->setup;
+    const uint8_t *at = setup->selection.file;
+    unsigned left = setup->selection.entries;
 
     if (left == 0)
         return 0;
     observe_data(start->length);
     for (unsigned visits = 1;; visits++) {
-        if (ill_formed(at))
+        if (ill_formed(setup, at))
             return 0;
         const size_t from = at[1] - 1u, width = at[2];
-        if (from + width > start->length)
-            return 0;
-        reached_if(from + width == start->length, DATA_TO_END);
-        const bool positive = observe_test(at, start->data + from);
         const uint8_t *actions = at + 5 + width * at[3];
+        bool positive;
+        if (tests_slot(setup, actions[-1])) {
+            if (!observe_slot(before, at, start, &positive))
+                return 0;
+        } else {
+            if (from + width > start->length)
+                return 0;
+            reached_if(from + width == start->length, DATA_TO_END);
+            reached_if(is_cpace(setup) && from == 0,
+                       INTERFACE_READ + start->data[0]);
+            positive = observe_test(at, start->data + from);
+        }
         const uint8_t action = actions[!positive];
         if (action == 0x00 || action == 0x80 || action == 0x7F)
             return 0;
         if (action < 0x80) {
-            observe_selected(at, left, visits, actions[positive]);
+            observe_selected(setup, at, left, visits, actions[positive]);
             return action;
         }
         const unsigned move = action & 0x7F;
         if (move >= left)
             return 0;
-        observe_move(at, left, move);
+        observe_move(setup, at, left, move);
         left -= move;
         for (unsigned i = 0; i < move; i++)
             at += 1 + at[0];
     }
+}
+
+static bool has_profile(const struct setup *setup, uint8_t number)
+{
+    for (unsigned i = 0; i < setup->profiles; i++)
+        if (setup->profile[i].number == number)
+            return true;
+    return false;
+}
+
+/* An interface that is none, and what a card would say that did not look at
+ * it; of that nothing is counted. */
+static void observe_interface(const struct card *before,
+                              const struct start *start)
+{
+    static uint64_t counts[REACHED_ALL];
+    const struct setup *setup = &before->setup;
+    const bool selects = setup->selection.on;
+    uint8_t number = selects ? 0 : start->data[1];
+
+    reached(START_REFUSED_6 + (start->data[0] > 2));
+    reached_if(before->due != NOTHING_DUE,
+               START_REFUSED_6_OPEN + (unsigned)before->due - 1);
+    if (selects) {
+        memcpy(counts, reached_count, sizeof counts);
+        number = observe_file(before, start);
+        memcpy(reached_count, counts, sizeof counts);
+    }
+    if (selects && number == 0)
+        reached(START_REFUSED_6_OF + 0);
+    else if (!has_profile(setup, number))
+        reached(START_REFUSED_6_OF + 1);
+    else
+        reached_if(before->atc == ATC_MAX, START_REFUSED_6_OF + 2);
 }
 
 static void observe_start(const struct card *before, const struct card *after,
@@ -235,8 +370,13 @@ static void observe_start(const struct card *before, const struct card *after,
     const unsigned due = (unsigned)before->due;
     uint8_t number = 0;
 
+    if (is_cpace(setup) && start->data[0] > CONTACTLESS) {
+        assert(refusal == 6);
+        observe_interface(before, start);
+        return;
+    }
     if (selects)
-        number = observe_file(&setup->selection, start);
+        number = observe_file(before, start);
     assert((selects && number == 0) == (refusal == 12));
     switch (refusal) {
     case 12:
@@ -256,6 +396,8 @@ static void observe_start(const struct card *before, const struct card *after,
         break;
     default:
         reached(START_DONE + due);
+        reached_if(is_cpace(setup),
+                   START_INTERFACE + start->data[0] + 2 * selects);
         reached(START_PROFILE
                 + (unsigned)(after->open.profile - after->setup.profile));
         reached_if(after->atc == ATC_MAX, START_LAST);
@@ -389,6 +531,181 @@ static void observe_count(unsigned row, unsigned switches, unsigned value,
     reached_if(!included && exceeds, COUNT_LEFT_OUT + row);
 }
 
+/* Whether a slot, accumulators 0 to 3, counters 4 to 7, is closed to the
+ * transaction. */
+static bool is_closed(const struct setup *setup, const struct transaction *open,
+                      unsigned slot)
+{
+    if (!is_cpace(setup))
+        return false;
+    return (slot < 4 ? setup->accumulator_control[slot]
+                     : setup->counter_control[slot - 4]) & open->cvm;
+}
+
+/* Its switches, less those that the gate takes away. */
+static unsigned switches_of(const struct card *before,
+                            const struct transaction *open, unsigned slot)
+{
+    const struct profile *profile = open->profile;
+    unsigned on = slot < 4 ? profile->accumulator[slot].switches
+                           : profile->counter[slot - 4].switches;
+
+    if (is_closed(&before->setup, open, slot))
+        on &= ACTIVE | INCLUDE_DECLINES;
+    return on;
+}
+
+static bool all_closed(const struct setup *setup,
+                       const struct transaction *open)
+{
+    bool all = true;
+
+    for (unsigned slot = 0; slot < 8; slot++)
+        all = all && is_closed(setup, open, slot);
+    return all;
+}
+
+/* What a closed slot's tests leave out, and what they do not. */
+static void observe_closed_tests(const struct card *before,
+                                 const struct transaction *open)
+{
+    for (unsigned i = 0; i < ACCUMULATORS; i++) {
+        const struct accumulator_rule *rule = &open->profile->accumulator[i];
+        const struct converted added = open->for_accumulator[i];
+        const uint64_t value = before->accumulator[i];
+        const uint64_t limits[] = {rule->lower, rule->upper};
+        if (!is_closed(&before->setup, open, i) || !(rule->switches & ACTIVE))
+            continue;
+        for (unsigned j = 0; j < 2; j++) {
+            const unsigned row = 4 * j + i;
+            const bool included = rule->switches & INCLUDE
+                && value <= limits[j];
+            reached_if(value > limits[j], GATE_VALUE + row);
+            reached_if(included && added.how == OVER, GATE_OVER + row);
+            reached_if(included && added.how == CONVERTED
+                       && value + added.amount > limits[j], GATE_SUM + row);
+        }
+    }
+    for (unsigned i = 0; i < COUNTERS; i++) {
+        const struct counter_rule *rule = &open->profile->counter[i];
+        const unsigned value = before->counter[i];
+        const unsigned limits[] = {rule->lower, rule->upper};
+        if (!is_closed(&before->setup, open, 4 + i)
+            || !(rule->switches & ACTIVE))
+            continue;
+        for (unsigned j = 0; j < 2; j++) {
+            const unsigned row = 8 + 4 * j + i;
+            reached_if(value > limits[j], GATE_VALUE + row);
+            reached_if(rule->switches & INCLUDE && value == limits[j],
+                       GATE_SUM + row);
+        }
+    }
+    reached_if(all_closed(&before->setup, open) && open->adr & MTA_EXCEEDED,
+               GATE_MTA);
+}
+
+/* Slots that do not take an approval or order 11 up as they are closed, and
+ * cyclic accumulators that do all the same. */
+static void observe_closed_growth(const struct card *before,
+                                  const struct transaction *open,
+                                  unsigned where)
+{
+    for (unsigned i = 0; i < 8; i++) {
+        const unsigned on = i < 4 ? open->profile->accumulator[i].switches
+                                  : open->profile->counter[i - 4].switches;
+        const struct converted one = {CONVERTED, 1};
+        const struct converted added = i < 4 ? open->for_accumulator[i] : one;
+        const bool full = i < 4 ? before->accumulator[i] == AMOUNT_MAX
+                                : before->counter[i - 4] == COUNTER_MAX;
+        if (!is_closed(&before->setup, open, i))
+            continue;
+        reached_if(counts_approvals((uint8_t)on) && !full
+                   && (added.how == OVER
+                       || (added.how == CONVERTED && added.amount > 0)),
+                   GATE_ADDS + 3 * i + where);
+    }
+    for (unsigned i = 0; i < before->setup.cyclics; i++)
+        reached_if(all_closed(&before->setup, open) && !open->date_error
+                   && counts_approvals(open->profile->cyclic[i].switches)
+                   && open->for_cyclic[i].how == CONVERTED
+                   && open->for_cyclic[i].amount > 0,
+                   GATE_CYCLIC + 2 * i + 1);
+}
+
+/* The CVM of the results, as C.80 lists them, and the slots that it meets. */
+static void observe_cvm(const struct card *before,
+                        const struct transaction *open,
+                        const struct first *first)
+{
+    const uint8_t *results = first->cvm_results;
+    const unsigned low = results[0] % 0x40u;
+    const bool done = results[2] == 0;
+    const bool pin = low == 0x02, signature = low == 0x1E;
+    const unsigned is = done && pin ? 2 : done && signature ? 1 : 0;
+
+    assert(open->cvm == 1u << is);
+    if (is > 0) {
+        const unsigned row = CVM_UNASKED + (is == 2 ? 0 : 3);
+        reached(CVM_IS + (is == 1));
+        reached_if(results[0] & 0x80, row + 0);
+        reached_if(results[0] & 0x40, row + 1);
+        reached_if(results[1] > 0, row + 2);
+    } else if (pin || signature) {
+        reached(CVM_IS + 3 + signature);
+    } else if (low == 0x01 || (low >= 0x03 && low <= 0x05)) {
+        reached(CVM_IS + 5); /* by the terminal's word */
+    } else if (low == 0x22 || low == 0x3E) {
+        reached(CVM_IS + 6);
+    } else {
+        reached(CVM_IS + (low == 0x1F ? 2 : 7));
+    }
+    for (unsigned i = 0; i < 8; i++) {
+        const unsigned control = i < 4
+            ? before->setup.accumulator_control[i]
+            : before->setup.counter_control[i - 4];
+        const unsigned on = i < 4 ? open->profile->accumulator[i].switches
+                                  : open->profile->counter[i - 4].switches;
+        if (!(on & ACTIVE))
+            continue;
+        if (control >> is & 1)
+            reached(GATE_CLOSED + 3 * i + is);
+        else
+            reached_if(control & 7, GATE_OPEN + i);
+        reached_if(control == 8, GATE_OFFLINE + i);
+    }
+}
+
+static void observe_cashback(const struct transaction *open,
+                             const struct first *first, unsigned gives)
+{
+    const uint8_t *bytes = first->cashback;
+    unsigned some = 0;
+    bool digits = true;
+
+    for (unsigned i = 0; i < 6; i++) {
+        some += bytes[i] > 0;
+        digits = digits && bytes[i] % 16 < 10 && bytes[i] < 0xA0;
+    }
+    assert(!(open->adr & CASHBACK)
+           == (some == 0 || !open->profile->cashback_check));
+    if (!open->profile->cashback_check) {
+        reached_if(some > 0, CASHBACK_UNCHECKED);
+        return;
+    }
+    if (some == 0) {
+        reached(CASHBACK_IS + 0);
+        return;
+    }
+    if (some == 1)
+        reached(CASHBACK_IS + (bytes[5] > 0 ? 1 : bytes[0] > 0 ? 2 : 3));
+    else
+        reached(CASHBACK_IS + 4);
+    reached_if(!digits, CASHBACK_IS + 5);
+    reached_if(bytes[0] & 0x80, CASHBACK_IS + 6);
+    reached(CASHBACK_GIVES + gives);
+    reached_if(open->date_error, CASHBACK_ERROR);
+}
+
 /* The cyclic amounts are those that are tested. */
 static void observe_checks(const struct card *before,
                            const struct transaction *open,
@@ -396,6 +713,7 @@ static void observe_checks(const struct card *before,
 {
     const struct profile *profile = open->profile;
 
+    observe_closed_tests(before, open);
     if (!profile->mta_on)
         reached(MTA_IS_OFF);
     else if (open->for_mta.how == NO_ENTRY)
@@ -408,20 +726,25 @@ static void observe_checks(const struct card *before,
         reached(MTA_KEPT + (open->for_mta.amount == profile->mta));
     for (unsigned i = 0; i < ACCUMULATORS; i++) {
         const struct accumulator_rule *rule = &profile->accumulator[i];
-        observe_limit(i, rule->switches, before->accumulator[i],
-                      open->for_accumulator[i], rule->lower);
-        observe_limit(i + 4, rule->switches, before->accumulator[i],
+        const unsigned on = switches_of(before, open, i);
+        observe_limit(i, on, before->accumulator[i], open->for_accumulator[i],
+                      rule->lower);
+        observe_limit(i + 4, on, before->accumulator[i],
                       open->for_accumulator[i], rule->upper);
     }
     for (unsigned i = 0; i < COUNTERS; i++) {
         const struct counter_rule *rule = &profile->counter[i];
-        observe_count(i, rule->switches, before->counter[i], rule->lower);
-        observe_count(i + 4, rule->switches, before->counter[i], rule->upper);
+        const unsigned on = switches_of(before, open, 4 + i);
+        observe_count(i, on, before->counter[i], rule->lower);
+        observe_count(i + 4, on, before->counter[i], rule->upper);
     }
     for (unsigned i = 0; i < before->setup.cyclics && !open->date_error; i++) {
         const struct cyclic_rule *rule = &profile->cyclic[i];
         observe_limit(8 + i, rule->switches, cyclic[i], open->for_cyclic[i],
                       rule->limit);
+        reached_if(all_closed(&before->setup, open) && cyclic[i] <= rule->limit
+                   && open->adr & (uint32_t)CYCLIC_LIMIT << i,
+                   GATE_CYCLIC + 2 * i);
     }
 }
 
@@ -454,8 +777,9 @@ static void observe_approval(const struct card *before,
 {
     bool grows = false;
 
+    observe_closed_growth(before, open, where);
     for (unsigned i = 0; i < ACCUMULATORS; i++)
-        if (observe_growth(i, open->profile->accumulator[i].switches,
+        if (observe_growth(i, switches_of(before, open, i),
                            before->accumulator[i], open->for_accumulator[i]))
             grows = true;
     reached_if(open->date_error && grows, ERROR_GROWS + where);
@@ -471,7 +795,7 @@ static void observe_approval(const struct card *before,
                        ERROR_UNCOUNTED + 3 * i + where);
     }
     for (unsigned i = 0; i < COUNTERS; i++) {
-        const unsigned on = open->profile->counter[i].switches;
+        const unsigned on = switches_of(before, open, 4 + i);
         if (!(on & ACTIVE))
             reached(COUNT_UNTOUCHED + i);
         else if (!(on & ALLOW))
@@ -512,6 +836,8 @@ static void observe_decline(const struct card *before,
             reached(DECLINE_STOPPED + row);
         } else {
             reached(DECLINE_ADDED + row);
+            reached_if(is_closed(&before->setup, open, 4 + i),
+                       GATE_DECLINES + row);
             reached_if(value == COUNTER_MAX - 1, DECLINE_TO_255 + row);
             reached_if(!second && value == rule->lower
                        && !(open->adr & COUNTERS_LOWER), DECLINE_PASSES + 0);
@@ -546,15 +872,25 @@ static void observe_update(const struct card *before,
         const bool active = profile->accumulator[i].switches & ACTIVE;
         const uint64_t value = before->accumulator[i];
         const uint64_t upper = profile->accumulator[i].upper;
+        const bool closed = active && is_closed(&before->setup, open, i);
         if (order == 1 && value != upper)
             reached((active ? ORDER_UPPER : ORDER_UPPER_INACTIVE) + i);
         if (order == 2 && value != 0)
             reached((active ? ORDER_ZERO : ORDER_ZERO_INACTIVE) + i);
+        reached_if(closed && order == 1 && value != upper,
+                   GATE_ORDERED + 2 * i);
+        reached_if(closed && order == 2 && value != 0,
+                   GATE_ORDERED + 2 * i + 1);
     }
     for (unsigned i = 0; i < COUNTERS; i++) {
         const bool active = profile->counter[i].switches & ACTIVE;
         const uint8_t value = before->counter[i];
         const uint8_t upper = profile->counter[i].upper;
+        const bool closed = active && is_closed(&before->setup, open, 4 + i);
+        reached_if(closed && order == 1 && value != upper,
+                   GATE_ORDERED + 8 + 2 * i);
+        reached_if(closed && order == 2 && value != 0,
+                   GATE_ORDERED + 8 + 2 * i + 1);
         if (order == 1 && value != upper)
             reached((active ? ORDER_UPPER_COUNTER
                             : ORDER_UPPER_COUNTER_INACTIVE) + i);
@@ -895,6 +1231,12 @@ static void observe_first(const struct card *before, const struct card *after,
     for (unsigned i = 0; i < CYCLICS && given != TC; i++)
         assert(after->cyclic[i] == cyclic[i]);
     observe_amount(&before->setup, open->profile, first);
+    if (is_cpace(&before->setup)) {
+        observe_cvm(before, open, first);
+        observe_cashback(open, first, gives(first, given));
+    } else {
+        assert(!(open->adr & CASHBACK));
+    }
     observe_checks(before, open, cyclic);
     observe_decision(open, first, given);
     if (given == AAC)
@@ -984,6 +1326,7 @@ static void observe_unable(const struct card *before,
     const struct profile *profile = open->profile;
 
     observe_checks(before, open, before->cyclic);
+    reached_if(open->adr & CASHBACK, CASHBACK_UNABLE + (given == AAC));
     reached_if(open->date_error, ERROR_UNABLE + (given == AAC));
     if (given == TC) {
         observe_approval(before, open, before->cyclic, AT_UNABLE);
@@ -1046,8 +1389,12 @@ static void observe_second(const struct card *before, const struct card *after,
     else
         reached_if(given == AAC && counts_any_decline(open->profile),
                    DECLINE_ONLINE + second->issuer_data);
-    if (!is_unable(second->code) && second->issuer_data == ISSUER_VERIFIED)
+    if (!is_unable(second->code) && second->issuer_data == ISSUER_VERIFIED) {
         observe_update(before, open, second->csu[1] & 3);
+        reached_if((second->csu[1] & 3) == 3
+                   && all_closed(&before->setup, open),
+                   GATE_ORDER_11 + (given == TC));
+    }
     if (open->date_error)
         observe_recovery(before, open, second, given);
     assert(after->last.number

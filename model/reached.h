@@ -34,6 +34,44 @@
     "1 Fri|1 Sat|1 Sun|1 Mon|1 Tue|1 Wed|1 Thu|"                               \
     "2 Fri|2 Sat|2 Sun|2 Mon|2 Tue|2 Wed|2 Thu"
 
+/* Accumulators 1 to 4 and counters 1 to 4 of a CPACE card. */
+#define GATED_SLOTS "accumulator 1|2|3|4|counter 1|2|3|4"
+#define CLOSED_SLOTS                                                           \
+    "accumulator 1 none|1 signature|1 PIN|2 none|2 signature|2 PIN|"           \
+    "3 none|3 signature|3 PIN|4 none|4 signature|4 PIN|"                       \
+    "counter 1 none|1 signature|1 PIN|2 none|2 signature|2 PIN|"               \
+    "3 none|3 signature|3 PIN|4 none|4 signature|4 PIN"
+#define GATED_LIMITS                                                           \
+    "accumulator 1 lower|2 lower|3 lower|4 lower|"                             \
+    "1 upper|2 upper|3 upper|4 upper|"                                         \
+    "counter 1 lower|2 lower|3 lower|4 lower|"                                 \
+    "1 upper|2 upper|3 upper|4 upper"
+#define GATED_GROWTH                                                           \
+    "accumulator 1 First|1 Y3 or Z3|1 order 11|2 First|2 Y3 or Z3|"            \
+    "2 order 11|3 First|3 Y3 or Z3|3 order 11|4 First|4 Y3 or Z3|"             \
+    "4 order 11|counter 1 First|1 Y3 or Z3|1 order 11|2 First|"                \
+    "2 Y3 or Z3|2 order 11|3 First|3 Y3 or Z3|3 order 11|4 First|"             \
+    "4 Y3 or Z3|4 order 11"
+#define GATED_ORDERS                                                           \
+    "accumulator 1 order 01|1 order 10|2 order 01|2 order 10|"                 \
+    "3 order 01|3 order 10|4 order 01|4 order 10|"                             \
+    "counter 1 order 01|1 order 10|2 order 01|2 order 10|"                     \
+    "3 order 01|3 order 10|4 order 01|4 order 10"
+
+/* What an entry can test, and how that stands to its block. */
+#define SLOT_ORDERS                                                            \
+    "accumulator 1 below|1 equal|1 above|2 below|2 equal|2 above|"             \
+    "3 below|3 equal|3 above|counter 1 below|1 equal|1 above|"                 \
+    "2 below|2 equal|2 above|3 below|3 equal|3 above|"                         \
+    "4 below|4 equal|4 above"
+
+/* In the order of setup_kind. */
+#define SETUP_KINDS                                                            \
+    "02 off|02 on|03 off|03 on|"                                               \
+    "04 off|04 on|04 off, dated|04 on, dated|"                                 \
+    "05 CPA off|05 CPA on|05 CPA off, dated|05 CPA on, dated|"                 \
+    "05 CPACE off|05 CPACE on|05 CPACE off, dated|05 CPACE on, dated"
+
 /* What has a value and grows by amounts, and its limits. */
 #define SLOTS "1|2|3|4|cyclic 1|cyclic 2"
 #define LIMITS                                                                 \
@@ -43,7 +81,7 @@
 #define REACHED_LIST(X)                                                        \
     X(PAPER_EMPTY, 1, "refusal 9", "paper empty", "")                          \
     X(PAPER_LONG, 1, "refusal 9", "paper over 65,536 bytes", "")               \
-    X(PAPER_VERSION, 2, "refusal 9", "version unknown", "00|above 04")         \
+    X(PAPER_VERSION, 2, "refusal 9", "version unknown", "00|above 05")         \
     X(PAPER_BARE, 1, "refusal 9", "set-up missing: no record at all", "")      \
     X(SETUP_MISSING, 3, "refusal 9",                                           \
       "set-up missing, first record of another kind",                          \
@@ -58,11 +96,14 @@
     X(KIND_NONE, 2, "refusal 9", "no kind (length 0)", "record 0|later")       \
     X(KIND_ZERO, 2, "refusal 9", "kind 0", "record 0|later")                   \
     X(KIND_ABOVE, 2, "refusal 9", "kind above 4", "record 0|later")            \
-    X(START_LENGTH, 2, "refusal 9", "Start's body length, selection off",      \
-      "short|long")                                                            \
-    X(FIRST_LENGTH, 6, "refusal 9", "First's body length",                     \
-      "undated, short|undated, long|undated, 15|"                              \
-      "dated, short|dated, 12|dated, long")                                    \
+    X(START_LENGTH, 6, "refusal 9", "Start's body length",                     \
+      "off, 0|off, above 1|CPACE off, 0|CPACE off, 1|CPACE off, above 2|"      \
+      "CPACE on, 0")                                                           \
+    X(FIRST_LENGTH, 20, "refusal 9", "First's body length",                    \
+      "12: 15|12: 21|12: 24|12: below|12: another|"                            \
+      "15: 12|15: 21|15: 24|15: below|15: another|"                            \
+      "21: 12|21: 15|21: 24|21: below|21: another|"                            \
+      "24: 12|24: 15|24: 21|24: below|24: another")                            \
     X(SECOND_LENGTH, 2, "refusal 9", "Second's body length", "short|long")     \
                                                                                \
     X(BODY_HEAD, 1, "refusal 1", "body under 52 bytes", "")                    \
@@ -81,12 +122,12 @@
     X(BAD_VALUE, 4, "refusal 1", "value of accumulator above MAX", "#1")       \
     X(BAD_NUMBER, 2, "refusal 1", "profile number", "0|above 124")             \
     X(BAD_NUMBER_TWICE, 1, "refusal 1", "profile number twice", "")            \
-    X(BAD_ONLINE, 2, "refusal 1", "Online mask has an unnamed bit",            \
-      "01 to 03|04")                                                           \
-    X(BAD_DECLINE, 2, "refusal 1", "Decline mask has an unnamed bit",          \
-      "01 to 03|04")                                                           \
-    X(BAD_DEFAULT, 2, "refusal 1", "Default mask has an unnamed bit",          \
-      "01 to 03|04")                                                           \
+    X(BAD_ONLINE, 3, "refusal 1", "Online mask has an unnamed bit",            \
+      "01 to 03|04|05")                                                        \
+    X(BAD_DECLINE, 3, "refusal 1", "Decline mask has an unnamed bit",          \
+      "01 to 03|04|05")                                                        \
+    X(BAD_DEFAULT, 3, "refusal 1", "Default mask has an unnamed bit",          \
+      "01 to 03|04|05")                                                        \
     X(BAD_MTA_ON, 1, "refusal 1", "MTA on above 1", "")                        \
     X(BAD_MTA_CURRENCY, 4, "refusal 1", "MTA's currency, digit", "#1")         \
     X(BAD_MTA, 1, "refusal 1", "MTA above MAX", "")                            \
@@ -140,15 +181,21 @@
       "#1")                                                                    \
     X(BAD_LIMITS_AT, 4, "refusal 1", "the fault is in the limits of profile",  \
       "#1")                                                                    \
-    X(TAIL_LONG, 8, "refusal 1", "bytes left over behind the tail, selection", \
-      "02 off|02 on|03 off|03 on|"                                             \
-      "04 off|04 on|04 off, dated|04 on, dated")                               \
+    X(FAMILY_MISSING, 1, "refusal 1", "no family", "")                         \
+    X(BAD_FAMILY, 2, "refusal 1", "family", "2|above")                         \
+    X(FAMILY_SHORT, 2, "refusal 1", "CPACE, the tail ends too early",          \
+      "within the controls|within the switches")                               \
+    X(BAD_CONTROL, 8, "refusal 1", "control above 15",                         \
+      "accumulator 1|2|3|4|counter 1|2|3|4")                                   \
+    X(BAD_CASHBACK, 4, "refusal 1", "cashback check above 1, profile", "#1")   \
+    X(TAIL_LONG, 16, "refusal 1",                                              \
+      "bytes left over behind the tail, selection",                            \
+      SETUP_KINDS)                                                             \
                                                                                \
-    X(SETUP_TAKEN, 9, "set-up", "taken, of version, selection",                \
-      "01|02 off|02 on|03 off|03 on|"                                          \
-      "04 off|04 on|04 off, dated|04 on, dated")                               \
-    X(SYLLABUS_TAKEN, 4, "set-up", "taken, syllabus",                          \
-      "0 in 03|1 in 03|0 in 04|1 in 04")                                       \
+    X(SETUP_TAKEN, 17, "set-up", "taken, of version, selection",               \
+      "01|" SETUP_KINDS)                                                       \
+    X(SYLLABUS_TAKEN, 6, "set-up", "taken, syllabus",                          \
+      "0 in 03|1 in 03|0 in 04|1 in 04|0 in 05|1 in 05")                       \
     X(DAY_TAKEN, 14, "set-up", "taken, days from, cyclic accumulator",         \
       FIRST_DAYS)                                                              \
     X(WEEK_TAKEN, 14, "set-up", "taken, weeks from, cyclic accumulator",       \
@@ -165,7 +212,7 @@
     X(ENTRY_BLOCKS, 2, "refusal 12", "n under 2", "#0")                        \
     X(ENTRY_WIDTH, 1, "refusal 12", "L is 0", "")                              \
     X(ENTRY_MISMATCH, 2, "refusal 12", "E is not nL + 6", "less|more")         \
-    X(ENTRY_TYPE, 2, "refusal 12", "check type", "3|above")                    \
+    X(ENTRY_TYPE, 3, "refusal 12", "check type", "3|4 to 7F|80 and above")     \
     X(ENTRY_POSITION, 1, "refusal 12", "P is 0", "")                           \
     X(ENTRY_PAST, 2, "refusal 12", "reaches past the data", "no data|some")    \
     X(FAULT_VISITED, 2, "refusal 12", "the fault is in the entry visited",     \
@@ -180,6 +227,8 @@
                                                                                \
     X(DATA_LENGTH, 4, "selection", "length of the terminal's data",            \
       "0|1|2 to 255|256 and more")                                             \
+    X(INTERFACE_READ, 2, "selection", "the stretch begins with the interface", \
+      "contact|contactless")                                                   \
     X(DATA_TO_END, 1, "selection", "the stretch ends with the data", "")       \
     X(MATCH_WITH, 3, "selection", "match", "the first value|a later one|none") \
     X(LESS_THAN, 3, "selection", "less than", "less|equal|greater")            \
@@ -211,6 +260,40 @@
       "3: the profile found is not in the set-up",                             \
       "7D|7E|another")                                                         \
                                                                                \
+    X(SLOT_BLOCKS, 2, "slot tests", "12: n is not 1", "0|above")               \
+    X(SLOT_NONE, 1, "slot tests", "12: accumulator 0", "")                     \
+    X(SLOT_WIDTH, 4, "slot tests", "12: L",                                    \
+      "accumulator, under 6|accumulator, above|counter, 0|counter, above 1")   \
+    X(SLOT_BLOCK, 1, "slot tests", "12: the block is not of digits", "")       \
+    X(SLOT_POSITION, 1, "slot tests", "12: an amount at P 0", "")              \
+    X(SLOT_PAST, 1, "slot tests", "12: an amount that reaches past the data",  \
+      "")                                                                      \
+    X(SLOT_AMOUNT, 1, "slot tests", "12: an amount that is not of digits", "") \
+    X(SLOT_LESS, 21, "slot tests", "less than the block, value", SLOT_ORDERS)  \
+    X(SLOT_GREATER, 21, "slot tests", "greater than the block, value",         \
+      SLOT_ORDERS)                                                             \
+    X(SLOT_SUM_LESS, 21, "slot tests",                                         \
+      "less than the block, with this transaction",                            \
+      SLOT_ORDERS)                                                             \
+    X(SLOT_SUM_GREATER, 21, "slot tests",                                      \
+      "greater than the block, with this transaction",                         \
+      SLOT_ORDERS)                                                             \
+    X(SLOT_STOPPED, 7, "slot tests", "the sum is stopped",                     \
+      "accumulator 1|2|3|counter 1|2|3|4")                                     \
+    X(SLOT_UNASKED, 3, "slot tests", "b4 and b3 have no effect", "01|10|11")   \
+    X(SLOT_P, 4, "slot tests", "P has no effect",                              \
+      "accumulator, 0|accumulator, past the data|counter, 0|"                  \
+      "counter, past the data")                                                \
+    X(SLOT_TO_END, 1, "slot tests", "the amount ends with the data", "")       \
+    X(SLOT_INTERFACE, 1, "slot tests", "the amount begins with the interface", \
+      "")                                                                      \
+                                                                               \
+    X(START_REFUSED_6, 2, "Start", "6: interface", "2|above")                  \
+    X(START_REFUSED_6_OF, 3, "Start", "6 where another applies too", "12|3|4") \
+    X(START_REFUSED_6_OPEN, 2, "Start", "6, the transaction stays open",       \
+      "First due|Second due")                                                  \
+    X(START_INTERFACE, 4, "Start", "done, CPACE",                              \
+      "contact, selection off|contactless, off|contact, on|contactless, on")   \
     X(START_REFUSED_3, 1, "Start", "3: profile not in the set-up", "")         \
     X(START_REFUSED_4, 1, "Start", "4: ATC 65,535", "")                        \
     X(START_REFUSED_3_OF_4, 1, "Start", "3 where 4 applies too", "")           \
@@ -259,7 +342,7 @@
     X(MTA_BROKEN, 1, "First", "MTA on, exceeded", "")                          \
     X(MTA_OVER, 2, "First", "MTA on, exceeded as the amount is over",          \
       "MTA under MAX|MTA is MAX")                                              \
-    X(ADR_SET, 25, "First", "ADR bit set", "#0")                               \
+    X(ADR_SET, 26, "First", "ADR bit set", "#0")                               \
     X(FIRST_AAC_ASKED, 1, "First", "AAC: requested", "")                       \
     X(FIRST_AAC_DECLINE, 2, "First", "AAC, ADR meets Decline",                 \
       "TC requested|ARQC requested")                                           \
@@ -283,9 +366,9 @@
     X(FIRST_ONLINE_DEFAULT, 1, "First",                                        \
       "TC: any other terminal, though ADR meets Default",                      \
       "")                                                                      \
-    X(BY_DECLINE, 25, "First", "AAC by Decline, by one bit alone", "#0")       \
-    X(BY_ONLINE, 25, "First", "ARQC by Online, by one bit alone", "#0")        \
-    X(BY_DEFAULT, 25, "First", "AAC by Default, by one bit alone", "#0")       \
+    X(BY_DECLINE, 26, "First", "AAC by Decline, by one bit alone", "#0")       \
+    X(BY_ONLINE, 26, "First", "ARQC by Online, by one bit alone", "#0")        \
+    X(BY_DEFAULT, 26, "First", "AAC by Default, by one bit alone", "#0")       \
                                                                                \
     X(DATE_IS, 4, "date", "against the last one",                              \
       "before|the same|the next day|later")                                    \
@@ -347,6 +430,39 @@
       "absent, required|absent, AAC requested|Y3 or Z3, TC|Y3 or Z3, AAC")     \
     X(ERROR_AGAIN, 2, "date error", "the same date next time",                 \
       "recovered, so in order|not recovered, so in error")                     \
+                                                                               \
+    X(CVM_IS, 8, "CVM", "by the results",                                      \
+      "online PIN|signature|no CVM: 1F|PIN, r3 not 00|"                        \
+      "signature, r3 not 00|offline PIN|22 or 3E|another")                     \
+    X(CVM_UNASKED, 6, "CVM", "results that are not asked",                     \
+      "PIN, b8|PIN, b7|PIN, r2|signature, b8|signature, b7|signature, r2")     \
+    X(GATE_CLOSED, 24, "CVM", "closed, active slot", CLOSED_SLOTS)             \
+    X(GATE_OPEN, 8, "CVM", "open though closed to another CVM", GATED_SLOTS)   \
+    X(GATE_OFFLINE, 8, "CVM", "open though closed to offline PIN",             \
+      GATED_SLOTS)                                                             \
+    X(GATE_SUM, 16, "CVM", "closed, the sum alone would exceed", GATED_LIMITS) \
+    X(GATE_VALUE, 16, "CVM", "closed, the value exceeds all the same",         \
+      GATED_LIMITS)                                                            \
+    X(GATE_OVER, 8, "CVM", "closed, over would exceed",                        \
+      "1 lower|2 lower|3 lower|4 lower|1 upper|2 upper|3 upper|4 upper")       \
+    X(GATE_ADDS, 24, "CVM", "closed, so not added", GATED_GROWTH)              \
+    X(GATE_ORDER_11, 2, "CVM", "closed, order 11, answered", "AAC|TC")         \
+    X(GATE_ORDERED, 16, "CVM", "closed, ordered all the same", GATED_ORDERS)   \
+    X(GATE_DECLINES, 8, "CVM", "closed, the decline is counted, counter",      \
+      "First 1|First 2|First 3|First 4|Second 1|Second 2|Second 3|Second 4")   \
+    X(GATE_MTA, 1, "CVM", "all closed, the MTA is exceeded", "")               \
+    X(GATE_CYCLIC, 4, "CVM", "all closed, cyclic accumulator",                 \
+      "1 exceeds by its sum|1 grows|2 exceeds by its sum|2 grows")             \
+                                                                               \
+    X(CASHBACK_IS, 7, "cashback", "checked, bytes",                            \
+      "none|the last alone|the first alone|another alone|several|not digits|"  \
+      "b8 of the first")                                                       \
+    X(CASHBACK_UNCHECKED, 1, "cashback", "the profile does not check it", "")  \
+    X(CASHBACK_GIVES, 4, "cashback", "checked, First gives",                   \
+      "AAC, requested|AAC|ARQC|TC")                                            \
+    X(CASHBACK_UNABLE, 2, "cashback", "checked again after Y3 or Z3",          \
+      "TC|AAC")                                                                \
+    X(CASHBACK_ERROR, 1, "cashback", "with a date error", "")                  \
                                                                                \
     X(TEST_INACTIVE, 10, "tests",                                              \
       "inactive though value exceeds, accumulator",                            \
@@ -447,7 +563,7 @@
     X(UNABLE_CSU, 1, "Second", "unable, CSU not zero has no effect", "")       \
     X(UNABLE_AAC_ASKED, 1, "Second", "unable, AAC: requested", "")             \
     X(UNABLE_AAC_DEFAULT, 1, "Second", "unable, AAC: ADR meets Default", "")   \
-    X(UNABLE_BY_DEFAULT, 25, "Second",                                         \
+    X(UNABLE_BY_DEFAULT, 26, "Second",                                         \
       "unable, AAC by Default, by one bit alone",                              \
       "#0")                                                                    \
     X(UNABLE_TC, 1, "Second", "unable, TC", "")                                \
@@ -531,12 +647,40 @@ static inline bool fault(unsigned cause)
     return false;
 }
 
-/* How a First's length is wrong, in a set-up with the date or without. */
-static inline unsigned bad_first(size_t length, bool dated)
+/* Which kind of set-up this is: versions 02 and 03 with selection off or on,
+ * version 04 with that and dated or not, version 05 with all that, and CPA or
+ * CPACE. */
+static inline unsigned setup_kind(unsigned version, bool on, bool dated,
+                                  bool cpace)
 {
-    if (dated)
-        return length == 12 ? 4 : length < 15 ? 3 : 5;
-    return length == 15 ? 2 : length > 12;
+    const unsigned from = version < 5 ? 2 * (version - 2) : 8;
+
+    return from + on + 2 * dated + 4 * cpace;
+}
+
+/* How a Start's length is wrong. */
+static inline unsigned bad_start(size_t length, bool on, bool cpace)
+{
+    if (on)
+        return 5;
+    if (cpace)
+        return length > 1 ? 4 : 2 + (unsigned)length;
+    return length > 0;
+}
+
+/* How a First's length is wrong: that of another set-up, below or above. */
+static inline unsigned bad_first(size_t length, bool dated, bool cpace)
+{
+    static const uint8_t lengths[] = {12, 15, 21, 24};
+    const unsigned right = dated + 2u * cpace;
+    unsigned other = 0;
+
+    for (unsigned i = 0; i < 4; i++) {
+        if (length == lengths[i])
+            return 5 * right + other;
+        other += i != right;
+    }
+    return 5 * right + 3 + (length > lengths[right]);
 }
 
 /* How three bytes that are no day fail, in the order of NOT_DAYS. */

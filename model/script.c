@@ -6,6 +6,9 @@ static struct draft paper;
 struct draft *const draft = &paper;
 struct draft_setup setup;
 uint32_t today;
+uint8_t interface;
+uint32_t cvm;
+uint64_t cashback;
 
 static void (*emit_paper)(struct draft *draft);
 
@@ -27,7 +30,12 @@ void begin(void)
 
 void start(uint8_t byte)
 {
-    draft_start(draft, byte);
+    const uint8_t both[] = {interface, byte};
+
+    if (draft_is_cpace(&setup))
+        draft_data(draft, both, sizeof both);
+    else
+        draft_start(draft, byte);
 }
 
 void first(uint8_t type, uint64_t amount)
@@ -54,10 +62,9 @@ void first_on(uint32_t date, uint8_t type, uint64_t amount)
 void first_at(uint8_t type, uint64_t amount, uint16_t currency,
               uint8_t terminal)
 {
-    if (setup.version > 3 && setup.dated)
-        draft_dated_first(draft, type, amount, currency, terminal, today);
-    else
-        draft_first(draft, type, amount, currency, terminal);
+    const struct draft_more more = {today, cvm, cashback};
+
+    draft_first_for(draft, &setup, type, amount, currency, terminal, &more);
 }
 
 void second(uint8_t type, uint16_t code, uint8_t data, unsigned status)
@@ -79,6 +86,18 @@ void cyclic(uint32_t last, uint8_t kind_1, uint8_t first_day_1, uint8_t kind_2,
         setup.cyclic[i].currency = EUR;
         setup.cyclic[i].amount = 0;
     }
+}
+
+void cpace(void)
+{
+    setup.version = 5;
+    setup.family = CPACE;
+    memset(setup.control, 0, sizeof setup.control);
+    for (unsigned i = 0; i < 5; i++)
+        setup.profile[i].cashback = 0;
+    interface = CONTACT;
+    cvm = BY_NOTHING;
+    cashback = 0;
 }
 
 void printed_sitting(void)

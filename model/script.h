@@ -15,12 +15,17 @@ void emit(void);
 /* The paper so far has the set-up and no command. */
 void begin(void);
 
-/* Start by one byte: the profile's number, or all of the terminal's data. */
+/* Start by one byte: the profile's number, or all of the terminal's data. On a
+ * CPACE card the interface comes before it. */
+extern uint8_t interface;
 void start(uint8_t byte);
 
 /* First in EUR where one can go online; elsewhere; in another currency. Where
- * the set-up is dated they carry `today`; `first_on` sets it. */
+ * the set-up is dated they carry `today`; `first_on` sets it. On a CPACE card
+ * they carry the CVM results and the cashback. */
 extern uint32_t today;
+extern uint32_t cvm;
+extern uint64_t cashback;
 void first(uint8_t type, uint64_t amount);
 void first_offline(uint8_t type, uint64_t amount);
 void first_in(uint8_t type, uint64_t amount, uint16_t currency);
@@ -35,6 +40,11 @@ void second(uint8_t type, uint16_t code, uint8_t data, unsigned status);
  * version 04, and nothing asks about them yet. */
 void cyclic(uint32_t last, uint8_t kind_1, uint8_t first_day_1, uint8_t kind_2,
             uint8_t first_day_2);
+
+/* The set-up becomes version 05 and CPACE, all controls 0 and no cashback
+ * check; what the commands carry besides becomes contact, no CVM and no
+ * cashback. */
+void cpace(void);
 
 /* Document 01's sitting: its set-up, its commands. */
 void printed_sitting(void);

@@ -9,14 +9,17 @@ enum {
     PROFILE_BYTES = 107,
     CONVERSION_BYTES = 7,
     CYCLES_BYTES = 27, /* behind the switch, without the limits */
-    LIMITS_BYTES = 18  /* of a profile */
+    LIMITS_BYTES = 18, /* of a profile */
+    CONTROLS_BYTES = ACCUMULATORS + COUNTERS
 };
 
 static bool read_profile(struct profile *profile, unsigned version,
                          const uint8_t *at)
 {
-    const bool cycles = version >= VERSION_CYCLES;
-    const uint32_t named = cycles ? ADR_BITS : OLD_ADR_BITS;
+    const unsigned later =
+        (version >= VERSION_CYCLES) + (version >= VERSION_FAMILY);
+    const uint32_t named = later == 0 ? OLD_ADR_BITS
+        : later == 1 ? CYCLES_ADR_BITS : ADR_BITS;
 
     profile->number = at[0];
     if (profile->number == 0)
@@ -28,11 +31,11 @@ static bool read_profile(struct profile *profile, unsigned version,
     profile->decline_mask = get32(at + 5);
     profile->default_mask = get32(at + 9);
     if (profile->online_mask > named)
-        return fault(BAD_ONLINE + cycles);
+        return fault(BAD_ONLINE + later);
     if (profile->decline_mask > named)
-        return fault(BAD_DECLINE + cycles);
+        return fault(BAD_DECLINE + later);
     if (profile->default_mask > named)
-        return fault(BAD_DEFAULT + cycles);
+        return fault(BAD_DEFAULT + later);
 
     if (at[13] > 1)
         return fault(BAD_MTA_ON);
@@ -202,6 +205,45 @@ static bool read_cycles(struct card *card, const uint8_t **place,
     return true;
 }
 
+/* The family, 0 or 1; if 1, the controls of the accumulators and the counters,
+ * and whether each profile checks cashback. */
+static bool read_family(struct setup *setup, const uint8_t **place,
+                        const uint8_t *end)
+{
+    const uint8_t *at = *place;
+
+    if (at == end)
+        return fault(FAMILY_MISSING);
+    if (*at > FAMILY_CPACE)
+        return fault(BAD_FAMILY + (*at > 2));
+    setup->family = *at++;
+    *place = at;
+    if (setup->family == FAMILY_CPA)
+        return true;
+
+    if (end - at < CONTROLS_BYTES)
+        return fault(FAMILY_SHORT + 0);
+    if (end - at < CONTROLS_BYTES + setup->profiles)
+        return fault(FAMILY_SHORT + 1);
+    for (unsigned i = 0; i < ACCUMULATORS; i++) {
+        setup->accumulator_control[i] = *at++;
+        if (setup->accumulator_control[i] > CONTROL_BITS)
+            return fault(BAD_CONTROL + i);
+    }
+    for (unsigned i = 0; i < COUNTERS; i++) {
+        setup->counter_control[i] = *at++;
+        if (setup->counter_control[i] > CONTROL_BITS)
+            return fault(BAD_CONTROL + ACCUMULATORS + i);
+    }
+    for (unsigned i = 0; i < setup->profiles; i++) {
+        if (*at > 1)
+            return fault(BAD_CASHBACK + i);
+        setup->profile[i].cashback_check = *at++;
+    }
+    *place = at;
+    return true;
+}
+
 bool card_set_up(struct card *card, unsigned version, const uint8_t *body,
                  size_t length)
 {
@@ -281,8 +323,12 @@ bool card_set_up(struct card *card, unsigned version, const uint8_t *body,
     setup->cyclics = 0;
     if (version >= VERSION_CYCLES && !read_cycles(card, &at, body + length))
         return false;
+    setup->family = FAMILY_CPA;
+    if (version >= VERSION_FAMILY && !read_family(setup, &at, body + length))
+        return false;
     if (at != body + length)
-        return fault(TAIL_LONG + setup->selection.on + 2 * (setup->cyclics > 0)
-                     + 2 * (version - VERSION_SELECTION));
+        return fault(TAIL_LONG + setup_kind(version, setup->selection.on,
+                                            setup->cyclics > 0,
+                                            is_cpace(setup)));
     return true;
 }

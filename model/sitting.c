@@ -3,7 +3,15 @@
 #include "bytes.h"
 #include "reached.h"
 
-enum { START_BYTES = 1, FIRST_BYTES = 12, DATE_BYTES = 3, SECOND_BYTES = 8 };
+enum {
+    INTERFACE_BYTES = 1,
+    PROFILE_BYTES = 1,
+    FIRST_BYTES = 12,
+    DATE_BYTES = 3,
+    CVM_BYTES = 3,
+    CASHBACK_BYTES = 6,
+    SECOND_BYTES = 8
+};
 
 static unsigned unreadable(unsigned cause)
 {
@@ -122,6 +130,7 @@ struct start read_start(const struct record *record)
 struct first read_first(const struct record *record)
 {
     const uint8_t *body = record->body;
+    const uint8_t *end = body + record->length;
 
     return (struct first){
         .type = body[0],
@@ -129,6 +138,8 @@ struct first read_first(const struct record *record)
         .currency = get16(body + 9),
         .terminal = body[11],
         .date = body + FIRST_BYTES,
+        .cvm_results = end - CASHBACK_BYTES - CVM_BYTES,
+        .cashback = end - CASHBACK_BYTES,
     };
 }
 
@@ -144,6 +155,22 @@ struct second read_second(const struct record *record)
     };
 }
 
+/* Whether a Start is as long as the set-up has it. */
+static bool fits_start(const struct setup *setup, size_t length)
+{
+    const size_t before = is_cpace(setup) ? INTERFACE_BYTES : 0;
+
+    if (setup->selection.on)
+        return length >= before;
+    return length == before + PROFILE_BYTES;
+}
+
+static size_t first_length(const struct setup *setup)
+{
+    return FIRST_BYTES + (setup->cyclics > 0 ? DATE_BYTES : 0)
+        + (is_cpace(setup) ? CVM_BYTES + CASHBACK_BYTES : 0);
+}
+
 /* Answers a command record; *rest is what follows the 0 of a done one. */
 static unsigned command(struct card *card, const struct record *record,
                         char **rest)
@@ -154,8 +181,10 @@ static unsigned command(struct card *card, const struct record *record,
     switch (record->kind) {
     case KIND_START: {
         const bool selects = card->setup.selection.on;
-        if (!selects && record->length != START_BYTES)
-            return unreadable(START_LENGTH + (record->length > START_BYTES));
+        if (!fits_start(&card->setup, record->length))
+            return unreadable(START_LENGTH
+                              + bad_start(record->length, selects,
+                                          is_cpace(&card->setup)));
         const struct start start = read_start(record);
         unsigned visits;
         refusal = card_start(card, &start, &visits);
@@ -170,10 +199,11 @@ static unsigned command(struct card *card, const struct record *record,
         return 0;
     }
     case KIND_FIRST: {
-        const bool dated = card->setup.cyclics > 0;
-        const size_t length = FIRST_BYTES + (dated ? DATE_BYTES : 0);
-        if (record->length != length)
-            return unreadable(FIRST_LENGTH + bad_first(record->length, dated));
+        if (record->length != first_length(&card->setup))
+            return unreadable(FIRST_LENGTH
+                              + bad_first(record->length,
+                                          card->setup.cyclics > 0,
+                                          is_cpace(&card->setup)));
         const struct first first = read_first(record);
         refusal = card_first(card, &first, &answer);
         break;

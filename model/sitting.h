@@ -30,7 +30,8 @@ void sitting_open(struct sitting *sitting, const uint8_t *paper, size_t length);
 size_t sitting_line(struct sitting *sitting, char *line);
 
 /* The record that begins here, and what a body says; it is whole and of the
- * right kind and length. A First's date is behind the rest. */
+ * right kind and length. A First's date is behind the rest, what a CPACE card
+ * asks for at its end. */
 struct record record_at(const uint8_t *at);
 struct start read_start(const struct record *record);
 struct first read_first(const struct record *record);

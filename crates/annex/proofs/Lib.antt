@@ -1,8 +1,10 @@
+pub mod Fields
+pub mod Form
+pub mod Judged
 pub mod Order
 pub mod Places
-pub mod Form
+pub mod Samples
+pub mod Slotted
 pub mod Tested
-pub mod Judged
 pub mod Walked
 pub mod Witness
-pub mod Samples

@@ -1,4 +1,4 @@
--- The comparison of an entry that is not ill-formed, by the file's bytes and by numbers, is one. Assumes nothing.
+-- The comparison of an entry that is sound and tests the data, by the file's bytes and by numbers, is one. Assumes nothing.
 use mathlib.Core.Path.{_≡_, refl, sym, ap, _∙_}
 use mathlib.Core.Bool.{Bool, true, false, _||_}
 use mathlib.Core.Logic.{_⊎_, inl, inr}
@@ -10,13 +10,17 @@ use native.Mathlib.Omega.{arith}
 use borrow.Author.Tests.{lt-ltb, le-ltb, eq-eqb, ne-eqb}
 use lib.Dec.{ltb, eqb}
 use Rattle.wire.specs.Wire.{number}
-use Rattle.entry.specs.Entry.{blocks, block, checkType, masked, isAnyOf, passes}
+use Rattle.fields.specs.Fields.{blocks, checkType}
+use Rattle.slot.specs.declared.Slots.{Slots}
+use Rattle.entry.specs.Entry.{block, masked, isAnyOf, passes}
 use Rattle.entry.proofs.Compared.{maskedTo, masked-more, masked-small}
-use Rattle.annex.specs.Annex.{Bytes, total, start, width, count, value, check, seen, Same, Smaller, Passes, equal, less, greater}
+use Rattle.annex.specs.Annex.{Bytes, total, start, width, count, value, check, seen, Same, Smaller}
+use Rattle.annex.specs.Annex.{Passes, equal, less, greater, slot-less, slot-greater}
 use Rattle.annex.proofs.Order.{Stand, same, smaller, larger, stand, same-number, smaller-number}
-use Rattle.annex.proofs.Form.{given, entry, number-inside, start-is, width-is, count-is, check-is, Whole}
+use Rattle.annex.proofs.Fields.{entry, number-inside, start-is, width-is, count-is, check-is}
+use Rattle.annex.proofs.Form.{given, Whole}
 
-module _ (file : List ℕ) (at : ℕ) (w : Whole file at) (d : List ℕ) (fs : Bytes file) (ds : Bytes d) where
+module _ (file : List ℕ) (at : ℕ) (w : Whole file at) (slots : Slots) (d : List ℕ) (fs : Bytes file) (ds : Bytes d) where
   abbrev e : List ℕ
   e = entry file at
 
@@ -89,18 +93,18 @@ module _ (file : List ℕ) (at : ℕ) (w : Whole file at) (d : List ℕ) (fs : B
       or-right true b t = refl
       or-right false b t = t
 
-  any-or : check file at ≡ 0 → (m i : ℕ) → 1 ≤ i → i + m ≤ count file at → Passes file at d ⊎ (isAnyOf (masked e d) e i m ≡ false)
+  any-or : check file at ≡ 0 → (m i : ℕ) → 1 ≤ i → i + m ≤ count file at → Passes file at slots d ⊎ (isAnyOf (masked e d) e i m ≡ false)
   unfolding isAnyOf
   any-or c zero i l h = inr refl
   any-or c (suc m) i l h = by (how i (omega arith)) (any-or c m (suc i) (omega arith) (omega arith))
     where
-      next : (masked e d ≡ block e i → ⊥) → Passes file at d ⊎ (isAnyOf (masked e d) e (suc i) m ≡ false)
-          → Passes file at d ⊎ ((eqb (masked e d) (block e i) || isAnyOf (masked e d) e (suc i) m) ≡ false)
+      next : (masked e d ≡ block e i → ⊥) → Passes file at slots d ⊎ (isAnyOf (masked e d) e (suc i) m ≡ false)
+          → Passes file at slots d ⊎ ((eqb (masked e d) (block e i) || isAnyOf (masked e d) e (suc i) m) ≡ false)
       next n (inl p) = inl p
       next n (inr f) = inr (simp (ne-eqb (masked e d) (block e i) n, f))
 
-      by : Stand (width file at) (seen file at d) (value file at i) → Passes file at d ⊎ (isAnyOf (masked e d) e (suc i) m ≡ false)
-          → Passes file at d ⊎ ((eqb (masked e d) (block e i) || isAnyOf (masked e d) e (suc i) m) ≡ false)
+      by : Stand (width file at) (seen file at d) (value file at i) → Passes file at slots d ⊎ (isAnyOf (masked e d) e (suc i) m ≡ false)
+          → Passes file at slots d ⊎ ((eqb (masked e d) (block e i) || isAnyOf (masked e d) e (suc i) m) ≡ false)
       by (same s) r = inl (equal i c l (omega arith) s)
       by (smaller s) r = next (λ z. omega (arith, less-is i (omega arith) s)) r
       by (larger s) r = next (λ z. omega (arith, greater-is i (omega arith) s)) r
@@ -122,7 +126,7 @@ module _ (file : List ℕ) (at : ℕ) (w : Whole file at) (d : List ℕ) (fs : B
       simp (ne-eqb (checkType e) 0 (λ z. n (sym check-now ∙ z)), ne-eqb (checkType e) 1 (λ z. m (sym check-now ∙ z))) (h two)))
 
   -- an entry that passes by the file's bytes passes the test
-  pub holds : Passes file at d → passes e d ≡ true
+  pub holds : Passes file at slots d → passes e d ≡ true
   holds (equal i c l h s) =
       passes-as true
       (λ z. any-holds (blocks e - 1) 1 i l (omega (arith, count-is file at (w .six))) (same-is i h s))
@@ -132,10 +136,12 @@ module _ (file : List ℕ) (at : ℕ) (w : Whole file at) (d : List ℕ) (fs : B
       passes-as true (λ z. absurd (omega arith)) (λ z. lt-ltb _ _ (less-is 1 one-there s)) (λ z. absurd (omega arith))
   holds (greater c s) =
       passes-as true (λ z. absurd (omega arith)) (λ z. absurd (omega arith)) (λ z. lt-ltb _ _ (greater-is 1 one-there s))
+  holds (slot-less v b o t k h) = absurd (omega (arith, o .1, w .known))
+  holds (slot-greater v b o t k h) = absurd (omega (arith, o .1, w .known))
 
   -- and one that does not
   abbrev pub Tested : Type 0
-  Tested = Passes file at d ⊎ (passes e d ≡ false)
+  Tested = Passes file at slots d ⊎ (passes e d ≡ false)
 
   pub tested : Tested
   tested =
@@ -145,7 +151,7 @@ module _ (file : List ℕ) (at : ℕ) (w : Whole file at) (d : List ℕ) (fs : B
       (λ o. is-less o (how 1 one-there))
       (λ m. is-greater (omega (arith, w .known)) (how 1 one-there)))
     where
-      none-equal : check file at ≡ 0 → Passes file at d ⊎ (isAnyOf (masked e d) e 1 (blocks e - 1) ≡ false) → Tested
+      none-equal : check file at ≡ 0 → Passes file at slots d ⊎ (isAnyOf (masked e d) e 1 (blocks e - 1) ≡ false) → Tested
       none-equal c (inl p) = inl p
       none-equal c (inr f) = inr (passes-as false (λ z. f) (λ z. absurd (omega arith)) (λ z. absurd (omega arith)))
 

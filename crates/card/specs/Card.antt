@@ -1,4 +1,4 @@
--- The card: a ruling, then a performance (document 01, "Refusal numbers", "Start and the checks"; document 02, Three and Five).
+-- The card: a ruling, then a performance (document 01, "Refusal numbers", "Start and the checks"; document 02, Three, Five and Thirteen).
 use Prim.Native.Nat.{ℕ, _+_}
 use mathlib.Core.Bool.{Bool, true, false, cond, _&&_}
 use lib.Dec.{eqb, ltb, leb}
@@ -49,14 +49,17 @@ pub data Ruling (A : Type 0) : Type 0 where
   refuse : Refusal → Ruling A
   take : A → Ruling A
 
--- Start: 12, then 3, then 4
+-- Start: 6 for an interface above 1, then 12, then 3, then 4
 abbrev pub ruleOpening : ℕ → Found → Ruling Place
 ruleOpening atc Nothing = refuse UnknownProfile
 ruleOpening atc (At place) = cond (eqb atc 65535) (refuse AtcUsedUp) (take place)
 
-abbrev pub ruleStart : Rules → ℕ → Selection → Ruling Place
-ruleStart rules atc NoneSelected = refuse NotSelected
-ruleStart rules atc (Selected profile visits) = ruleOpening atc (findProfile rules profile)
+abbrev pub ruleChosen : Rules → ℕ → Selection → Ruling Place
+ruleChosen rules atc NoneSelected = refuse NotSelected
+ruleChosen rules atc (Selected profile visits) = ruleOpening atc (findProfile rules profile)
+
+abbrev pub ruleStart : Rules → ℕ → Start → Ruling Place
+ruleStart rules atc start = cond (ltb 1 (start .interface)) (refuse OutOfRange) (ruleChosen rules atc (start .chosen))
 
 -- First: 2, 5, 6, and 13 for a date that isn't a calendar day
 abbrev pub isDated : When → Bool
@@ -107,7 +110,7 @@ openingStep rules state profile visits =
 
 unfoldable pub startStep : Rules → State → Start → Outcome
 startStep rules state start =
-    carried state (startPerformed state (visitsOf (start .chosen))) (ruleStart rules (state .atc) (start .chosen))
+    carried state (startPerformed state (visitsOf (start .chosen))) (ruleStart rules (state .atc) start)
 
 unfoldable pub firstTaken : Rules → State → First → Place → Outcome
 firstTaken rules state first place = carried state (firstPerformed rules state first) (ruleFirstFields first place)

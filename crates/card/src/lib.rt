@@ -79,6 +79,9 @@ fn open_profile(words: &Words, state: State, profile: u8, visits: u8) -> Outcome
 fn answer_start(words: &Words, state: State, start: Start) -> Outcome
     ensures { λ r. ⌜ r ≡ startStep (rulesOf (now (words .entry))) state start ⌝ }
 {
+    if 1 < start.interface {
+        return refuse(state, Refusal::OutOfRange);
+    }
     let chosen = start.chosen;
     match chosen {
         Selection::NotSelected => refuse(state, Refusal::NotSelected),

@@ -15,7 +15,7 @@ use Rattle.rules.proofs.Places.{each, both}
 use Rattle.purchase.specs.declared.Purchase.{Purchase}
 use Rattle.purchase.specs.Meter.{Meter, accumulator, counter, cyclic, IsMeter, isDateError}
 use Rattle.state.specs.declared.History.{History}
-use Rattle.checks.specs.Checks.{bit, packed, meetsMask, lowerBit, upperBit, exceedsLower, exceedsUpper, maximumExceeded}
+use Rattle.checks.specs.Checks.{bit, packed, meetsMask, lowerBit, upperBit, exceedsLower, exceedsUpper, maximumExceeded, cashbackFound}
 use Rattle.checks.specs.Checks.{accumulatorsLower, accumulatorsUpper, countersLower, countersUpper, datingFlags, decisionFlags, decisionBits}
 
 -- bit k of a number
@@ -70,7 +70,7 @@ module _ (rules : Rules) (place : Place) (values : Values) (purchase : Purchase)
   abbrev Upper : ℕ → Meter → Type 0
   Upper adr meter = bitOf (upperBit meter) adr ≡ bit (exceedsUpper rules place values purchase meter)
 
-  -- document 01's list of the decision bits, with request Five's; no bit stands above 24
+  -- document 01's list of the decision bits, with those of requests Five and Thirteen; no bit stands above 25
   pub record HouseOrder (adr : ℕ) : Type 0 where
     pub uncompleted : bitOf 0 adr ≡ bit (history .uncompleted)
     pub online : bitOf 1 adr ≡ bit (history .online)
@@ -81,7 +81,8 @@ module _ (rules : Rules) (place : Place) (values : Values) (purchase : Purchase)
     pub lower : (meter : Meter) → IsMeter meter → bitOf (lowerBit meter) adr ≡ bit (exceedsLower rules place values purchase meter)
     pub upper : (meter : Meter) → IsMeter meter → bitOf (upperBit meter) adr ≡ bit (exceedsUpper rules place values purchase meter)
     pub date-error : bitOf 24 adr ≡ bit (isDateError (purchase .timing))
-    pub rest : adr < 2 ^ 25
+    pub cashback : bitOf 25 adr ≡ bit (cashbackFound rules place purchase)
+    pub rest : adr < 2 ^ 26
 
   abbrev Adr : ℕ
   Adr = packed (decisionFlags rules place values purchase history)
@@ -114,5 +115,6 @@ module _ (rules : Rules) (place : Place) (values : Values) (purchase : Purchase)
         lower = lower-bits;
         upper = upper-bits;
         date-error = flag 24;
+        cashback = flag 25;
         rest = packed-small (decisionFlags rules place values purchase history);
       }

@@ -107,13 +107,13 @@ module _ (limit value : ℕ) (include : Bool) (worth : Converted) where
   within-kept w = rw (le-ltb limit value (w .alone)) (kept limit value include worth (w .together) (w .not-over))
 
 -- of a meter: one that is active is tested, any other exceeds no limit
-module _ (rule : MeterRule) (worth : Converted) (limit value : ℕ) where
-  pub active-exceeds : rule .active ≡ true → exceeds rule worth limit value ≡ valueExceeds limit value (rule .include) worth
+module _ (rule : MeterRule) (include : Bool) (worth : Converted) (limit value : ℕ) where
+  pub active-exceeds : rule .active ≡ true → exceeds rule include worth limit value ≡ valueExceeds limit value include worth
   active-exceeds e = simp e
 
-  pub inactive-exceeds : rule .active ≡ false → exceeds rule worth limit value ≡ false
+  pub inactive-exceeds : rule .active ≡ false → exceeds rule include worth limit value ≡ false
   inactive-exceeds e = simp e
 
   -- an active one that doesn't exceed a limit is within it
-  pub active-within : rule .active ≡ true → exceeds rule worth limit value ≡ false → Within limit value (rule .include) worth
-  active-within active e = kept-within limit value (rule .include) worth (sym (active-exceeds active) ∙ e)
+  pub active-within : rule .active ≡ true → exceeds rule include worth limit value ≡ false → Within limit value include worth
+  active-within active e = kept-within limit value include worth (sym (active-exceeds active) ∙ e)

@@ -1,4 +1,4 @@
--- The tests and the decision bits (document 01, "Start and the checks"; document 02, Five).
+-- The tests and the decision bits (document 01, "Start and the checks"; document 02, Five and Thirteen).
 use Prim.Native.Nat.{ℕ, _+_, _*_}
 use mathlib.Core.Bool.{Bool, true, false, not, _&&_, _||_}
 use mathlib.Core.List.{List, [], _∷_, _++_}
@@ -10,9 +10,9 @@ use Rattle.money.specs.Money.{convertOf}
 use Rattle.rules.specs.declared.Place.{Place}
 use Rattle.rules.specs.declared.CyclicRule.{CyclicRule}
 use Rattle.rules.specs.declared.Values.{Values}
-use Rattle.rules.specs.Rules.{Rules, four, profileAt}
+use Rattle.rules.specs.Rules.{Rules, four, profileAt, checksCashback}
 use Rattle.purchase.specs.declared.Purchase.{Purchase}
-use Rattle.purchase.specs.Meter.{Meter, accumulator, counter, cyclic, MeterRule, ruleOf, valueOf, worthTo, takesPart, isDateError}
+use Rattle.purchase.specs.Meter.{Meter, accumulator, counter, cyclic, MeterRule, ruleOf, valueOf, worthTo, takesUp, isTested, isDateError}
 use Rattle.state.specs.declared.History.{History}
 
 -- a value and what a purchase is worth exceed a limit; the sum isn't stopped, and over exceeds every limit (request Four)
@@ -21,26 +21,28 @@ sumExceeds limit value (Amount more) = ltb limit (value + more .0)
 sumExceeds limit value Over = true
 sumExceeds limit value NoEntry = false
 
--- a value exceeds a limit, or, with "include this transaction", the sum does
+-- a value exceeds a limit, or, where the purchase is in the test, the sum does
 abbrev pub valueExceeds : (limit value : ℕ) (include : Bool) → Converted → Bool
 valueExceeds limit value include worth = ltb limit value || (include && sumExceeds limit value worth)
 
--- a meter is tested if it is active and takes part in the transaction
-abbrev pub isTested : MeterRule → Bool
-isTested rule = rule .active
+-- the purchase is in the test of a meter that takes it up and has "include this transaction"
+abbrev pub isIncluded : Rules → Purchase → Meter → MeterRule → Bool
+isIncluded rules purchase meter rule = takesUp rules purchase meter && rule .include
 
-abbrev pub exceeds : MeterRule → Converted → (limit value : ℕ) → Bool
-exceeds rule worth limit value = isTested rule && valueExceeds limit value (rule .include) worth
+abbrev pub exceeds : MeterRule → (include : Bool) → Converted → (limit value : ℕ) → Bool
+exceeds rule include worth limit value = rule .active && valueExceeds limit value include worth
 
 abbrev pub exceedsLower : Rules → Place → Values → Purchase → Meter → Bool
 exceedsLower rules place values purchase meter =
     let rule = ruleOf rules place meter in
-    takesPart purchase meter && exceeds rule (worthTo rules purchase meter) (rule .lower) (valueOf values meter)
+    isTested purchase meter
+    && exceeds rule (isIncluded rules purchase meter rule) (worthTo rules purchase meter) (rule .lower) (valueOf values meter)
 
 abbrev pub exceedsUpper : Rules → Place → Values → Purchase → Meter → Bool
 exceedsUpper rules place values purchase meter =
     let rule = ruleOf rules place meter in
-    takesPart purchase meter && exceeds rule (worthTo rules purchase meter) (rule .upper) (valueOf values meter)
+    isTested purchase meter
+    && exceeds rule (isIncluded rules purchase meter rule) (worthTo rules purchase meter) (rule .upper) (valueOf values meter)
 
 -- the bits of a meter: the accumulators' lower limits from 6 on and upper ones from 10 on, the counters' from 14 and from 18 on; a cyclic
 -- accumulator's one limit from 22 on
@@ -85,6 +87,10 @@ maximumExceeded rules place purchase =
     maximum .on
     && spentExceeds (maximum .amount .0) (convertOf (purchase .amount) (purchase .currency) (maximum .currency) (rules .rates))
 
+-- bit 25: the profile checks cashback, and there is some
+abbrev pub cashbackFound : Rules → Place → Purchase → Bool
+cashbackFound rules place purchase = checksCashback rules place && purchase .cashback
+
 -- bits 0 to 4 copy the history
 abbrev pub historyFlags : History → List Bool
 historyFlags history = history .uncompleted ∷ history .online ∷ history .failed ∷ history .unable ∷ history .missing ∷ []
@@ -94,7 +100,7 @@ abbrev pub decisionFlags : Rules → Place → Values → Purchase → History �
 decisionFlags rules place values purchase history =
     historyFlags history ++ maximumExceeded rules place purchase ∷ accumulatorsLower rules place values purchase
     ++ accumulatorsUpper rules place values purchase ++ countersLower rules place values purchase ++ countersUpper rules place values purchase
-    ++ datingFlags rules place values purchase
+    ++ datingFlags rules place values purchase ++ cashbackFound rules place purchase ∷ []
 
 -- flags as a number, bit 0 first
 abbrev pub bit : Bool → ℕ
@@ -109,8 +115,9 @@ unfoldable pub decisionBits : Rules → Place → Values → Purchase → Histor
 decisionBits rules place values purchase history = packed (decisionFlags rules place values purchase history)
 
 -- the limits that a meter exceeds: bit 0 the lower, bit 4 the upper
-abbrev pub limitBits : MeterRule → Converted → ℕ → ℕ
-limitBits rule worth value = bit (exceeds rule worth (rule .lower) value) + bit (exceeds rule worth (rule .upper) value) * 16
+abbrev pub limitBits : MeterRule → (include : Bool) → Converted → ℕ → ℕ
+limitBits rule include worth value =
+    bit (exceeds rule include worth (rule .lower) value) + bit (exceeds rule include worth (rule .upper) value) * 16
 
 -- that a cyclic accumulator exceeds its limit, where it takes part
 abbrev pub cyclicExceeds : CyclicRule → Converted → ℕ → Bool

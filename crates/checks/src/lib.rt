@@ -1,12 +1,12 @@
 // The tests of document 01, "Start and the checks", and the decision bits (ADR).
 ghost use mathlib.Core.Path.{_≡_};
-ghost use mathlib.Core.Bool.{cond};
-ghost use Prim.Native.Nat.{_+_, _*_, _≤_};
+ghost use mathlib.Core.Bool.{cond, _&&_};
+ghost use Prim.Native.Nat.{_+_, _*_, _≤_, _<_};
 ghost use lib.Dec.{ltb};
 ghost use Rattle.money.specs.declared.Converted.the-variants.{NoEntry};
 ghost use Rattle.rules.specs.Rules.{rulesOf, cyclicRule};
-ghost use Rattle.purchase.specs.Meter.{accumulator, counter, ruleOf, worth, cyclicWorth, once};
-ghost use Rattle.checks.specs.Checks.{bit, packed, limitBits, accumulatorBits, counterBits, cyclicExceeds, datingBits, maximumExceeded, historyFlags, decisionBits, meetsMask};
+ghost use Rattle.purchase.specs.Meter.{accumulator, counter, ruleOf, worth, cyclicWorth, once, isOpen};
+ghost use Rattle.checks.specs.Checks.{bit, packed, limitBits, accumulatorBits, counterBits, cyclicExceeds, datingBits, maximumExceeded, cashbackFound, historyFlags, decisionBits, meetsMask, isIncluded};
 use money::AccumulatorAmount;
 use money::Converted;
 use purchase::Purchase;
@@ -18,7 +18,7 @@ use state::History;
 
 // Of the decision bits, from bit 0 upward: 0 to 4 copy the history, 5 is the MTA, from 6 and from 14
 // on stand the limits that the four accumulators and the four counters exceed, 22 and 23 are the two
-// cyclic accumulators' limits and 24 a date error.
+// cyclic accumulators' limits, 24 a date error and 25 a cashback.
 const MAXIMUM: u32 = 32;
 
 const ACCUMULATORS: u32 = 64;
@@ -26,6 +26,8 @@ const ACCUMULATORS: u32 = 64;
 const COUNTERS: u32 = 16_384;
 
 const DATING: u32 = 4_194_304;
+
+const CASHBACK: u32 = 33_554_432;
 
 // Their groups of four.
 pub const ACCUMULATORS_LOWER: u32 = 0x3C0;
@@ -61,16 +63,19 @@ fn limits_exceeded(lower: u64, upper: u64, value: u64, more: u64) -> u8
     bit(sum_exceeds(lower, value, more)) + bit(sum_exceeds(upper, value, more)) * 16
 }
 
-// What the tests of accumulator i + 1 add to its value: the purchase, with "include this
-// transaction".
+// What the tests of accumulator i + 1 add to its value: the purchase, with "include this transaction"
+// and where the slot takes it up.
 fn included(words: &Words, purchase: Purchase, i: usize, include: bool) -> Converted
-    ensures { λ r. ⌜ r ≡ cond include (worth (rulesOf (now (words .entry))) purchase i) NoEntry ⌝ }
+    ensures { λ r. ⌜ r ≡ cond (isOpen (rulesOf (now (words .entry))) purchase i && include)
+        (worth (rulesOf (now (words .entry))) purchase i) NoEntry ⌝ }
 {
-    if include {
-        purchase::worth(words, purchase, i)
-    } else {
-        Converted::NoEntry
+    if !include {
+        return Converted::NoEntry;
     }
+    if purchase::is_open(words, purchase, i) {
+        return purchase::worth(words, purchase, i);
+    }
+    Converted::NoEntry
 }
 
 // The limits that accumulator i + 1 exceeds: bit 0 the lower, bit 4 the upper. An amount that is
@@ -83,6 +88,7 @@ fn test_accumulator(
     purchase: Purchase,
 ) -> u8
     ensures { λ r. ⌜ (r ≡ limitBits (ruleOf (rulesOf (now (words .entry))) place (accumulator i))
+        (isIncluded (rulesOf (now (words .entry))) purchase (accumulator i) (ruleOf (rulesOf (now (words .entry))) place (accumulator i)))
         (worth (rulesOf (now (words .entry))) purchase i) (value .0)) × (r ≤ 17) ⌝ }
 {
     let rule = rules::accumulator_rule(words, place, i);
@@ -96,15 +102,29 @@ fn test_accumulator(
     }
 }
 
+// What the tests of counter i + 1 add to its value: 1 for a purchase that is included likewise.
+fn one_included(words: &Words, purchase: Purchase, i: usize, include: bool) -> u8
+    requires { ⌜ i < 4 ⌝ }
+    ensures { λ r. ⌜ (r ≡ bit (isOpen (rulesOf (now (words .entry))) purchase (4 + i) && include)) × (r ≤ 1) ⌝ }
+{
+    if !include {
+        return 0;
+    }
+    bit(purchase::is_open(words, purchase, 4 + i))
+}
+
 // The limits that counter i + 1 exceeds. A purchase adds 1.
-fn test_counter(words: &Words, place: Place, i: usize, value: u8) -> u8
-    ensures { λ r. ⌜ (r ≡ limitBits (ruleOf (rulesOf (now (words .entry))) place (counter i)) once value) × (r ≤ 17) ⌝ }
+fn test_counter(words: &Words, place: Place, i: usize, value: u8, purchase: Purchase) -> u8
+    requires { ⌜ i < 4 ⌝ }
+    ensures { λ r. ⌜ (r ≡ limitBits (ruleOf (rulesOf (now (words .entry))) place (counter i))
+        (isIncluded (rulesOf (now (words .entry))) purchase (counter i) (ruleOf (rulesOf (now (words .entry))) place (counter i)))
+        once value) × (r ≤ 17) ⌝ }
 {
     let rule = rules::counter_rule(words, place, i);
     if !rule.active {
         return 0;
     }
-    let sum = value as u16 + bit(rule.include) as u16;
+    let sum = value as u16 + one_included(words, purchase, i, rule.include) as u16;
     bit((rule.lower as u16) < sum) + bit((rule.upper as u16) < sum) * 16
 }
 
@@ -123,10 +143,10 @@ fn test_counters(words: &Words, place: Place, values: Values, purchase: Purchase
     ensures { λ r. ⌜ r ≡ counterBits (rulesOf (now (words .entry))) place values purchase ⌝ }
 {
     let counts = values.counters;
-    test_counter(words, place, 0, counts[0])
-        + test_counter(words, place, 1, counts[1]) * 2
-        + test_counter(words, place, 2, counts[2]) * 4
-        + test_counter(words, place, 3, counts[3]) * 8
+    test_counter(words, place, 0, counts[0], purchase)
+        + test_counter(words, place, 1, counts[1], purchase) * 2
+        + test_counter(words, place, 2, counts[2], purchase) * 4
+        + test_counter(words, place, 3, counts[3], purchase) * 8
 }
 
 // Cyclic accumulator i + 1 exceeds its limit, with a purchase whose date is in order.
@@ -185,6 +205,13 @@ fn exceeds_maximum(words: &Words, place: Place, purchase: Purchase) -> bool
     }
 }
 
+// The profile checks cashback, and there is some.
+fn finds_cashback(words: &Words, place: Place, purchase: Purchase) -> bool
+    ensures { λ r. ⌜ r ≡ cashbackFound (rulesOf (now (words .entry))) place purchase ⌝ }
+{
+    rules::checks_cashback(words, place) & purchase.cashback
+}
+
 fn history_bits(history: History) -> u8
     ensures { λ r. ⌜ (r ≡ packed (historyFlags history)) × (r ≤ 31) ⌝ }
 {
@@ -210,6 +237,7 @@ pub fn decision_bits(
         + test_accumulators(words, place, values, purchase) as u32 * ACCUMULATORS
         + test_counters(words, place, values, purchase) as u32 * COUNTERS
         + test_dating(words, place, values, purchase) as u32 * DATING
+        + bit(finds_cashback(words, place, purchase)) as u32 * CASHBACK
 }
 
 // Some bit is in both.

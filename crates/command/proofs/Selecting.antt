@@ -6,12 +6,12 @@ use Prim.Native.Nat.{ℕ, _≤_}
 use native.Mathlib.Omega.{arith}
 use borrow.Author.Tests.{leb-true}
 use lib.Dec.{leb}
+use Rattle.slot.specs.declared.Slots.{Slots}
 use Rattle.shape.specs.declared.Selecting.{Selecting}
 use Rattle.shape.specs.declared.Selecting.the-variants.{Off, On}
 use Rattle.shape.specs.declared.Dating.{Dating}
-use Rattle.command.specs.declared.Command.the-variants.{Start as StartCommand}
-use Rattle.command.specs.declared.ReadCommand.the-variants.{Taken}
-use Rattle.command.specs.Command.{commandOf, selectingOf, isSelecting, selectedIn, readBy}
+use Rattle.shape.specs.declared.Family.{Family}
+use Rattle.command.specs.Command.{commandOf, startSelected, selectingOf, isSelecting, selectedIn, readBy}
 
 -- what two tests say where both hold
 pub both : (a b c d : ℕ) → (leb a b && leb c d) ≡ true → (a ≤ b) × (c ≤ d)
@@ -21,14 +21,20 @@ both a b c d e = by (leb a b) (leb c d) refl refl e where
   by true false h k e = let z : _≡_ {A = ℕ} 0 1 = cc in (omega arith, omega arith)
   by false q h k e = let z : _≡_ {A = ℕ} 0 1 = cc in (omega arith, omega arith)
 
-pub selected : (selecting : Selecting) (dating : Dating) (paper : List ℕ) (kind : ℕ) (body : List ℕ) → isSelecting selecting kind ≡ true
-    → readBy selecting dating paper kind body ≡ Taken (StartCommand (record { chosen = selectedIn selecting paper body }))
-unfolding selectingOf
-selected Off dating paper kind body e = absurd (let z : _≡_ {A = ℕ} 0 1 = cc in omega arith)
-selected (On start end entries) dating paper kind body e = rw e
+module _ (selecting : Selecting) (dating : Dating) (family : Family) (slots : Slots) (paper : List ℕ) (kind : ℕ) (body : List ℕ) where
+  pub selected : isSelecting selecting kind ≡ true
+      → readBy selecting dating family slots paper kind body ≡ startSelected family (selectedIn selecting slots paper body) body
+  unfolding selectingOf
+  selected e = by selecting e where
+    by : (selecting : Selecting) → isSelecting selecting kind ≡ true
+        → readBy selecting dating family slots paper kind body ≡ startSelected family (selectedIn selecting slots paper body) body
+    by Off e = absurd (let z : _≡_ {A = ℕ} 0 1 = cc in omega arith)
+    by (On start end entries) e = rw e
 
-pub unselected : (selecting : Selecting) (dating : Dating) (paper : List ℕ) (kind : ℕ) (body : List ℕ) → isSelecting selecting kind ≡ false
-    → readBy selecting dating paper kind body ≡ commandOf dating kind body
-unfolding selectingOf
-unselected Off dating paper kind body e = refl
-unselected (On start end entries) dating paper kind body e = rw e
+  pub unselected : isSelecting selecting kind ≡ false → readBy selecting dating family slots paper kind body ≡ commandOf dating family kind body
+  unfolding selectingOf
+  unselected e = by selecting e where
+    by : (selecting : Selecting) → isSelecting selecting kind ≡ false
+        → readBy selecting dating family slots paper kind body ≡ commandOf dating family kind body
+    by Off e = refl
+    by (On start end entries) e = rw e

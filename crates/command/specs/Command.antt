@@ -1,13 +1,19 @@
--- The commands of a paper (document 01, "The paper" and "Refusal numbers"; document 02, Three and Five).
-use Prim.Native.Nat.{ℕ, _-_}
-use mathlib.Core.Bool.{Bool, false, cond, _&&_}
-use mathlib.Core.List.{List, []}
-use lib.ListN.{length, take, drop}
+-- The commands of a paper (document 01, "The paper" and "Refusal numbers"; document 02, Three, Five and Thirteen).
+use Prim.Native.Nat.{ℕ, _+_, _-_}
+use mathlib.Core.Bool.{Bool, true, false, cond, _&&_}
+use mathlib.Core.List.{List, [], _∷_}
+use lib.ListN.{length, getD, take, drop}
 use lib.Dec.{eqb, leb}
 use Rattle.wire.specs.Wire.{byte, number}
 use Rattle.calendar.specs.Calendar.{dateAt}
+use Rattle.cpace.specs.declared.Cvm.{Cvm}
+use Rattle.cpace.specs.declared.Cvm.the-variants.{NoCvm}
+use Rattle.cpace.specs.Cpace.{cvmAt, cashbackAt}
 use Rattle.refusal.specs.declared.Refusal.the-variants.{Unreadable}
 use Rattle.refusal.specs.Refusal.{refusalNumber}
+use Rattle.money.specs.declared.AccumulatorAmount.{AccumulatorAmount}
+use Rattle.rules.specs.declared.Values.{Values}
+use Rattle.slot.specs.declared.Slots.{Slots}
 use Rattle.selection.specs.declared.Selection.{Selection}
 use Rattle.selection.specs.declared.Selection.the-variants.{Selected, NotSelected}
 use Rattle.selection.specs.Selection.{selectionOf}
@@ -15,6 +21,8 @@ use Rattle.shape.specs.declared.Selecting.{Selecting}
 use Rattle.shape.specs.declared.Selecting.the-variants.{Off, On}
 use Rattle.shape.specs.declared.Dating.{Dating}
 use Rattle.shape.specs.declared.Dating.the-variants.{Off as DatesOff, On as DatesOn}
+use Rattle.shape.specs.declared.Family.{Family}
+use Rattle.shape.specs.declared.Family.the-variants.{Cpa, Cpace}
 use Rattle.shape.specs.declared.Shape.{Shape}
 use Rattle.command.specs.declared.Start.{Start}
 use Rattle.command.specs.declared.When.{When}
@@ -25,27 +33,56 @@ use Rattle.command.specs.declared.Command.the-variants.{Start as StartCo
 use Rattle.command.specs.declared.ReadCommand.{ReadCommand}
 use Rattle.command.specs.declared.ReadCommand.the-variants.{Taken, Refused}
 
--- profile (1): named, with no entry visited
-unfoldable pub startOf : List ℕ → Start
-startOf body = record { chosen = Selected (byte body 0) 0 }
+abbrev pub isCpace : Family → Bool
+isCpace Cpa = false
+isCpace (Cpace start end) = true
 
--- type (1), amount (8), currency (2), terminal type (1); where the paper is dated, the date (3)
-abbrev pub firstLength : Dating → ℕ
-firstLength DatesOff = 12
-firstLength (DatesOn start end) = 15
+-- the interface: a CPACE Start's first byte; a CPA card does not ask it
+abbrev pub interfaceOf : Family → List ℕ → ℕ
+interfaceOf Cpa body = 0
+interfaceOf (Cpace start end) body = byte body 0
+
+-- profile (1), to a CPACE card interface (1) and profile (1): named, with no entry visited
+abbrev pub startLength : Family → ℕ
+startLength Cpa = 1
+startLength (Cpace start end) = 2
+
+abbrev pub profileNamed : Family → List ℕ → ℕ
+profileNamed Cpa body = byte body 0
+profileNamed (Cpace start end) body = byte body 1
+
+unfoldable pub startOf : Family → List ℕ → Start
+startOf family body = record { interface = interfaceOf family body; chosen = Selected (profileNamed family body) 0 }
+
+-- type (1), amount (8), currency (2), terminal type (1); where the paper is dated, the date (3); to a CPACE card, CVM results (3) and cashback (6)
+abbrev pub plainLength : Dating → ℕ
+plainLength DatesOff = 12
+plainLength (DatesOn start end) = 15
+
+abbrev pub firstLength : Dating → Family → ℕ
+firstLength dating family = cond (isCpace family) (plainLength dating + 9) (plainLength dating)
 
 abbrev pub whenOf : Dating → List ℕ → When
 whenOf DatesOff body = Undated
 whenOf (DatesOn start end) body = DatedOn (dateAt body 12)
 
-unfoldable pub firstOf : Dating → List ℕ → First
-firstOf dating body =
+-- to a CPA card every transaction is one with no CVM and no cashback
+abbrev pub cvmOf : Dating → Family → List ℕ → Cvm
+cvmOf dating family body = cond (isCpace family) (cvmAt body (plainLength dating)) NoCvm
+
+abbrev pub cashbackOf : Dating → Family → List ℕ → Bool
+cashbackOf dating family body = cond (isCpace family) (cashbackAt body (plainLength dating + 3)) false
+
+unfoldable pub firstOf : Dating → Family → List ℕ → First
+firstOf dating family body =
     record {
       requested = byte body 0;
       amount = record { 0 = number body 1 8 };
       currency = number body 9 2;
       terminal = byte body 11;
       when = whenOf dating body;
+      cvm = cvmOf dating family body;
+      cashback = cashbackOf dating family body;
     }
 
 -- type (1), response code (2), issuer data (1), CSU (4)
@@ -53,16 +90,22 @@ unfoldable pub secondOf : List ℕ → Second
 secondOf body = record { requested = byte body 0; code = number body 1 2; issuer = byte body 3; csu = number body 4 4 }
 
 -- kinds 2, 3 and 4, each with its body's length; any other is unreadable
-unfoldable pub commandOf : Dating → (kind : ℕ) → List ℕ → ReadCommand
-commandOf dating kind body =
-    cond (eqb kind 2 && eqb (length body) 1) (Taken (StartCommand (startOf body)))
-    (cond (eqb kind 3 && eqb (length body) (firstLength dating)) (Taken (FirstCommand (firstOf dating body)))
+unfoldable pub commandOf : Dating → Family → (kind : ℕ) → List ℕ → ReadCommand
+commandOf dating family kind body =
+    cond (eqb kind 2 && eqb (length body) (startLength family)) (Taken (StartCommand (startOf family body)))
+    (cond (eqb kind 3 && eqb (length body) (firstLength dating family)) (Taken (FirstCommand (firstOf dating family body)))
     (cond (eqb kind 4 && eqb (length body) 8) (Taken (SecondCommand (secondOf body))) (Refused Unreadable)))
 
--- where profiles are selected a Start's body is the terminal's data, of any length
-unfoldable pub selectingOf : Dating → (file : List ℕ) (entries kind : ℕ) (body : List ℕ) → ReadCommand
-selectingOf dating file entries kind body =
-    cond (eqb kind 2) (Taken (StartCommand (record { chosen = selectionOf file entries body }))) (commandOf dating kind body)
+-- where profiles are selected a Start's body is the terminal's data, of any length, and to a CPACE card the interface (1) before it: the file
+-- reads both
+unfoldable pub startSelected : Family → Selection → List ℕ → ReadCommand
+startSelected family chosen body =
+    cond (isCpace family && eqb (length body) 0) (Refused Unreadable)
+    (Taken (StartCommand (record { interface = interfaceOf family body; chosen = chosen })))
+
+unfoldable pub selectingOf : Dating → Family → Slots → (file : List ℕ) (entries kind : ℕ) (body : List ℕ) → ReadCommand
+selectingOf dating family slots file entries kind body =
+    cond (eqb kind 2) (startSelected family (selectionOf file entries body slots) body) (commandOf dating family kind body)
 
 -- a file that does not lie in the paper is empty
 abbrev pub fileIn : (paper : List ℕ) (start end : ℕ) → List ℕ
@@ -73,17 +116,32 @@ abbrev pub isSelecting : Selecting → (kind : ℕ) → Bool
 isSelecting Off kind = false
 isSelecting (On start end entries) kind = eqb kind 2
 
-abbrev pub selectedIn : Selecting → (paper terminal : List ℕ) → Selection
-selectedIn Off paper terminal = NotSelected
-selectedIn (On start end entries) paper terminal = selectionOf (fileIn paper start end) entries terminal
+abbrev pub selectedIn : Selecting → Slots → (paper terminal : List ℕ) → Selection
+selectedIn Off slots paper terminal = NotSelected
+selectedIn (On start end entries) slots paper terminal = selectionOf (fileIn paper start end) entries terminal slots
 
--- THE COMMAND IN A RECORD OF A PAPER, by the paper's shape
-abbrev pub readBy : Selecting → Dating → (paper : List ℕ) (kind : ℕ) (body : List ℕ) → ReadCommand
-readBy Off dating paper kind body = commandOf dating kind body
-readBy (On start end entries) dating paper kind body = selectingOf dating (fileIn paper start end) entries kind body
+-- what the file's entries may test: a CPACE card's accumulators and counters, as they are
+abbrev pub amountAt : List AccumulatorAmount → ℕ → ℕ
+amountAt amounts i = getD amounts i (record { 0 = 0 }) .0
 
-unfoldable pub commandIn : Shape → (paper : List ℕ) (kind : ℕ) (body : List ℕ) → ReadCommand
-commandIn shape paper kind body = readBy (shape .selecting) (shape .dating) paper kind body
+unfoldable pub slotsOf : Family → Values → Slots
+slotsOf family values =
+    let amounts = values .accumulators in
+    record {
+      testable = isCpace family;
+      amounts = amountAt amounts 0 ∷ amountAt amounts 1 ∷ amountAt amounts 2 ∷ amountAt amounts 3 ∷ [];
+      counts = values .counters;
+    }
+
+-- THE COMMAND IN A RECORD OF A PAPER, by the paper's shape and the card's present values
+abbrev pub readBy : Selecting → Dating → Family → Slots → (paper : List ℕ) (kind : ℕ) (body : List ℕ) → ReadCommand
+readBy Off dating family slots paper kind body = commandOf dating family kind body
+readBy (On start end entries) dating family slots paper kind body =
+    selectingOf dating family slots (fileIn paper start end) entries kind body
+
+unfoldable pub commandIn : Shape → Values → (paper : List ℕ) (kind : ℕ) (body : List ℕ) → ReadCommand
+commandIn shape values paper kind body =
+    readBy (shape .selecting) (shape .dating) (shape .family) (slotsOf (shape .family) values) paper kind body
 
 abbrev pub readNumber : ReadCommand → ℕ
 readNumber (Taken command) = 0

@@ -1,13 +1,19 @@
 // Commands out of record bodies. What a command says is judged by the card.
 ghost use mathlib.Core.Path.{_≡_};
-ghost use Rattle.command.specs.Command.{startOf, firstLength, whenOf, firstOf, secondOf, commandOf, isSelecting, selectedIn, commandIn};
+ghost use Prim.Native.Nat.{_≤_};
+ghost use Rattle.command.specs.Command.{isCpace, interfaceOf, startLength, profileNamed, startOf, plainLength, firstLength, whenOf, cvmOf, cashbackOf};
+ghost use Rattle.command.specs.Command.{firstOf, secondOf, commandOf, slotsOf, isSelecting, selectedIn, startSelected, commandIn};
 use calendar::Date;
+use cpace::Cvm;
 use money::TransactionAmount;
 use refusal::Refusal;
+use rules::Values;
 use selection::Selection;
 use shape::Dating;
+use shape::Family;
 use shape::Selecting;
 use shape::Shape;
+use slot::Slots;
 
 const START: u8 = 2;
 
@@ -15,8 +21,10 @@ const FIRST: u8 = 3;
 
 const SECOND: u8 = 4;
 
-// The profile that was named, with no entry visited, or what selection gave.
+// The interface, 0 contact or 1 contactless, which a CPA card does not ask; the profile that was named,
+// with no entry visited, or what selection gave.
 pub struct Start {
+    pub interface: u8,
     pub chosen: Selection,
 }
 
@@ -26,12 +34,15 @@ pub enum When {
     On(Date),
 }
 
+// To a CPA card every transaction is one with no CVM and no cashback.
 pub struct First {
     pub amount: TransactionAmount,
     pub currency: u16,
     pub requested: u8,
     pub terminal: u8,
     pub when: When,
+    pub cvm: Cvm,
+    pub cashback: bool,
 }
 
 // The response code has more room than its two bytes: a Second of eight bytes would be moved as one
@@ -54,26 +65,73 @@ pub enum ReadCommand {
     Refused(Refusal),
 }
 
-// Profile.
-fn read_start(body: &[u8]) -> Start
-    ensures { λ r. ⌜ r ≡ startOf (now (body .entry)) ⌝ }
+fn is_cpace(family: Family) -> bool
+    ensures { λ r. ⌜ r ≡ isCpace family ⌝ }
+{
+    match family {
+        Family::Cpa => false,
+        Family::Cpace { .. } => true,
+    }
+}
+
+// The interface, a CPACE Start's first byte.
+fn interface_of(family: Family, body: &[u8]) -> u8
+    ensures { λ r. ⌜ r ≡ interfaceOf family (now (body .entry)) ⌝ }
+{
+    match family {
+        Family::Cpa => 0,
+        Family::Cpace { .. } => wire::byte_at(body, 0),
+    }
+}
+
+// The profile, and before it a CPACE card's interface.
+fn start_length(family: Family) -> usize
+    ensures { λ r. ⌜ r ≡ startLength family ⌝ }
+{
+    match family {
+        Family::Cpa => 1,
+        Family::Cpace { .. } => 2,
+    }
+}
+
+// The profile, behind a CPACE card's interface.
+fn profile_named(family: Family, body: &[u8]) -> u8
+    ensures { λ r. ⌜ r ≡ profileNamed family (now (body .entry)) ⌝ }
+{
+    match family {
+        Family::Cpa => wire::byte_at(body, 0),
+        Family::Cpace { .. } => wire::byte_at(body, 1),
+    }
+}
+
+fn read_start(family: Family, body: &[u8]) -> Start
+    ensures { λ r. ⌜ r ≡ startOf family (now (body .entry)) ⌝ }
 {
     Start {
+        interface: interface_of(family, body),
         chosen: Selection::Selected {
-            profile: wire::byte_at(body, 0),
+            profile: profile_named(family, body),
             visits: 0,
         },
     }
 }
 
 // 12 bytes, and the date's 3 where the paper is dated.
-fn first_length(dating: Dating) -> usize
-    ensures { λ r. ⌜ r ≡ firstLength dating ⌝ }
+fn plain_length(dating: Dating) -> usize
+    ensures { λ r. ⌜ (r ≡ plainLength dating) × (r ≤ 15) ⌝ }
 {
     match dating {
         Dating::Off => 12,
         Dating::On { .. } => 15,
     }
+}
+
+// These, and the 9 bytes of a CPACE card's CVM results and cashback.
+fn first_length(dating: Dating, family: Family) -> usize
+    ensures { λ r. ⌜ r ≡ firstLength dating family ⌝ }
+{
+    let plain = plain_length(dating);
+    if is_cpace(family) { plain + 9 } else { plain }
 }
 
 fn read_when(dating: Dating, body: &[u8]) -> When
@@ -85,9 +143,28 @@ fn read_when(dating: Dating, body: &[u8]) -> When
     }
 }
 
-// Type, amount (8), currency (2), terminal type, and the date (3) where the paper is dated.
-fn read_first(dating: Dating, body: &[u8]) -> First
-    ensures { λ r. ⌜ r ≡ firstOf dating (now (body .entry)) ⌝ }
+fn read_cvm(dating: Dating, family: Family, body: &[u8]) -> Cvm
+    ensures { λ r. ⌜ r ≡ cvmOf dating family (now (body .entry)) ⌝ }
+{
+    if is_cpace(family) {
+        return cpace::cvm_at(body, plain_length(dating));
+    }
+    Cvm::NoCvm
+}
+
+fn read_cashback(dating: Dating, family: Family, body: &[u8]) -> bool
+    ensures { λ r. ⌜ r ≡ cashbackOf dating family (now (body .entry)) ⌝ }
+{
+    if is_cpace(family) {
+        return cpace::has_cashback(body, plain_length(dating) + 3);
+    }
+    false
+}
+
+// Type, amount (8), currency (2), terminal type, the date (3) where the paper is dated, and CVM
+// results (3) and cashback (6) where the card is a CPACE one.
+fn read_first(dating: Dating, family: Family, body: &[u8]) -> First
+    ensures { λ r. ⌜ r ≡ firstOf dating family (now (body .entry)) ⌝ }
 {
     First {
         amount: TransactionAmount(wire::u64_at(body, 1)),
@@ -95,6 +172,8 @@ fn read_first(dating: Dating, body: &[u8]) -> First
         requested: wire::byte_at(body, 0),
         terminal: wire::byte_at(body, 11),
         when: read_when(dating, body),
+        cvm: read_cvm(dating, family, body),
+        cashback: read_cashback(dating, family, body),
     }
 }
 
@@ -112,14 +191,14 @@ fn read_second(body: &[u8]) -> Second
 
 // The command in a record of a kind, or refusal 9 for an unknown kind, a repeated set-up or a body
 // of another length.
-fn read_command(dating: Dating, kind: u8, body: &[u8]) -> ReadCommand
-    ensures { λ r. ⌜ r ≡ commandOf dating kind (now (body .entry)) ⌝ }
+fn read_command(dating: Dating, family: Family, kind: u8, body: &[u8]) -> ReadCommand
+    ensures { λ r. ⌜ r ≡ commandOf dating family kind (now (body .entry)) ⌝ }
 {
-    if (kind == START) & (body.len() == 1) {
-        return ReadCommand::Taken(Command::Start(read_start(body)));
+    if (kind == START) & (body.len() == start_length(family)) {
+        return ReadCommand::Taken(Command::Start(read_start(family, body)));
     }
-    if (kind == FIRST) & (body.len() == first_length(dating)) {
-        return ReadCommand::Taken(Command::First(read_first(dating, body)));
+    if (kind == FIRST) & (body.len() == first_length(dating, family)) {
+        return ReadCommand::Taken(Command::First(read_first(dating, family, body)));
     }
     if (kind == SECOND) & (body.len() == 8) {
         return ReadCommand::Taken(Command::Second(read_second(body)));
@@ -137,10 +216,23 @@ fn selects(selecting: Selecting, kind: u8) -> bool
     }
 }
 
+// What the file's entries may test: a CPACE card's accumulators and counters, as they are.
+fn slots_of(family: Family, values: Values) -> Slots
+    ensures { λ r. ⌜ r ≡ slotsOf family values ⌝ }
+{
+    let amounts = values.accumulators;
+    let counts = values.counters;
+    Slots {
+        testable: is_cpace(family),
+        amounts: [amounts[0].0, amounts[1].0, amounts[2].0, amounts[3].0],
+        counts,
+    }
+}
+
 // What the paper's file selects for the terminal's data. A file that does not lie in the paper is
 // empty.
-fn select_profile(selecting: Selecting, paper: &[u8], data: &[u8]) -> Selection
-    ensures { λ r. ⌜ r ≡ selectedIn selecting (now (paper .entry)) (now («data» .entry)) ⌝ }
+fn select_profile(selecting: Selecting, slots: Slots, paper: &[u8], data: &[u8]) -> Selection
+    ensures { λ r. ⌜ r ≡ selectedIn selecting slots (now (paper .entry)) (now («data» .entry)) ⌝ }
 {
     match selecting {
         Selecting::Off => Selection::NotSelected,
@@ -150,22 +242,43 @@ fn select_profile(selecting: Selecting, paper: &[u8], data: &[u8]) -> Selection
             entries,
         } => {
             if (start <= end) & (end <= paper.len()) {
-                return selection::select(&paper[start..end], entries, data);
+                return selection::select(&paper[start..end], entries, data, slots);
             }
-            selection::select(&paper[..0], entries, data)
+            selection::select(&paper[..0], entries, data, slots)
         }
     }
 }
 
-// The command in a record of a paper, by the paper's shape.
-pub fn read_record(shape: Shape, paper: &[u8], kind: u8, body: &[u8]) -> ReadCommand
-    ensures { λ r. ⌜ r ≡ commandIn shape (now (paper .entry)) kind (now (body .entry)) ⌝ }
+// A Start that selects its profile: the terminal's data, of any length, before which a CPACE card's
+// interface stands. Both together are what the file reads.
+fn read_selecting(
+    family: Family,
+    selecting: Selecting,
+    values: Values,
+    paper: &[u8],
+    body: &[u8],
+) -> ReadCommand
+    ensures { λ r. ⌜ r ≡ startSelected family (selectedIn selecting (slotsOf family values) (now (paper .entry)) (now (body .entry))) (now (body .entry)) ⌝ }
+{
+    if is_cpace(family) & (body.len() == 0) {
+        return ReadCommand::Refused(Refusal::Unreadable);
+    }
+    let chosen = select_profile(selecting, slots_of(family, values), paper, body);
+    ReadCommand::Taken(Command::Start(Start {
+        interface: interface_of(family, body),
+        chosen,
+    }))
+}
+
+// The command in a record of a paper, by the paper's shape and the card's present values.
+pub fn read_record(shape: Shape, values: Values, paper: &[u8], kind: u8, body: &[u8]) -> ReadCommand
+    ensures { λ r. ⌜ r ≡ commandIn shape values (now (paper .entry)) kind (now (body .entry)) ⌝ }
 {
     let selecting = shape.selecting;
     let dating = shape.dating;
+    let family = shape.family;
     if selects(selecting, kind) {
-        let chosen = select_profile(selecting, paper, body);
-        return ReadCommand::Taken(Command::Start(Start { chosen }));
+        return read_selecting(family, selecting, values, paper, body);
     }
-    read_command(dating, kind, body)
+    read_command(dating, family, kind, body)
 }

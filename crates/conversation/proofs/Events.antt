@@ -50,7 +50,7 @@ module _ (rules : Rules) (shape : Shape) (paper : List ℕ) where
         let i = inside paper at kind start end e in
         let grows = i .grows in
         let fits = i .fits in
-        let ends = record-end state end (commandIn shape paper kind (part paper start end)) in
+        let ends = record-end state end (commandIn shape (state .values) paper kind (part paper start end)) in
         (omega arith, omega arith)
 
   at-end : (state : State) (at : ℕ) → length paper ≤ at → takenOf rules shape state paper at ≡ record { state = state; at = at; event = End }

@@ -10,7 +10,7 @@ use Rattle.setup.specs.Setup.{readSetup, noCard, wordsAfter}
 use Rattle.shape.specs.declared.Shape.{Shape}
 use Rattle.shape.specs.declared.ReadShape.{ReadShape}
 use Rattle.shape.specs.declared.ReadShape.the-variants.{Taken as ShapeTaken, Refused as ShapeRefused}
-use Rattle.shape.specs.Shape.{based, basePart, cyclesPart, shapeOf, shapeAt}
+use Rattle.shape.specs.Shape.{based, basePart, cyclesPart, familyPart, shapeOf, shapeAt}
 use Rattle.paper.specs.declared.Next.{Next}
 use Rattle.paper.specs.declared.Next.the-variants.{Record, Fault, End as PaperEnd}
 use Rattle.paper.specs.declared.Opened.{Opened}
@@ -37,7 +37,7 @@ answeredBy rules state end (CommandTaken command) =
 abbrev pub nextTaken : Rules → Shape → State → (paper : List ℕ) (at : ℕ) → Next → Taken
 nextTaken rules shape state paper at PaperEnd = record { state = state; at = at; event = End }
 nextTaken rules shape state paper at Fault = record { state = state; at = at; event = Refused Unreadable }
-nextTaken rules shape state paper at (Record kind start end) = answeredBy rules state end (commandIn shape paper kind (part paper start end))
+nextTaken rules shape state paper at (Record kind start end) = answeredBy rules state end (commandIn shape (state .values) paper kind (part paper start end))
 
 unfoldable pub takenOf : Rules → Shape → State → (paper : List ℕ) (at : ℕ) → Taken
 takenOf rules shape state paper at = nextTaken rules shape state paper at (nextAt paper at)
@@ -50,15 +50,17 @@ abbrev pub setUpEvent : SetupAnswer → Event
 setUpEvent Done = SetUp
 setUpEvent (SetupRefused refusal) = Refused refusal
 
-unfoldable pub baseBegun : Shape → (base cycles : List ℕ) (end : ℕ) → Begun
-baseBegun shape base cycles end =
-    let read = readSetup base cycles (shape .unnamed) in
+unfoldable pub baseBegun : Shape → (base cycles family : List ℕ) (end : ℕ) → Begun
+baseBegun shape base cycles family end =
+    let read = readSetup base cycles family (shape .unnamed) in
     record { shape = shape; state = freshState (read .fresh); at = end; event = setUpEvent (read .answer) }
 
--- it has the shape of its version, with its body at a place of the paper, a base, and where dates are on a tail of cyclic accumulators
+-- it has the shape of its version, with its body at a place of the paper, a base, where dates are on a tail of cyclic accumulators, and a CPACE
+-- card's tail
 abbrev pub shapedBegun : (body : List ℕ) (place end : ℕ) → ReadShape → Begun
 shapedBegun body place end (ShapeRefused refusal) = refusedAt refusal end
-shapedBegun body place end (ShapeTaken shape) = baseBegun (shapeAt place shape) (basePart shape body) (cyclesPart (shape .dating) body) end
+shapedBegun body place end (ShapeTaken shape) =
+    baseBegun (shapeAt place shape) (basePart shape body) (cyclesPart (shape .dating) body) (familyPart (shape .family) body) end
 
 unfoldable pub setupBegun : (version : ℕ) (body : List ℕ) (place end : ℕ) → Begun
 setupBegun version body place end = shapedBegun body place end (shapeOf version body)
@@ -74,7 +76,7 @@ begunOf paper = openedBegun paper (openPaper paper)
 abbrev pub shapedWords : (words body : List ℕ) → ReadShape → List ℕ
 shapedWords words body (ShapeRefused refusal) = words
 shapedWords words body (ShapeTaken shape) =
-    wordsAfter words (basePart shape body) (cyclesPart (shape .dating) body) (shape .syllabus) (shape .unnamed)
+    wordsAfter words (basePart shape body) (cyclesPart (shape .dating) body) (familyPart (shape .family) body) (shape .syllabus) (shape .unnamed)
 
 unfoldable pub setupWords : (words : List ℕ) (version : ℕ) (body : List ℕ) → List ℕ
 setupWords words version body = shapedWords words body (shapeOf version body)

@@ -5,7 +5,7 @@ ghost use Prim.Native.Nat.{_+_, _<_, _^_};
 ghost use lib.ListN.{length};
 ghost use Rattle.rules.specs.Rules.{rulesOf};
 ghost use Rattle.setup.specs.Setup.{wordsAfter};
-ghost use Rattle.shape.specs.Shape.{cyclesPart, Lies, Spans, selectingAt, datingAt, shapeAt};
+ghost use Rattle.shape.specs.Shape.{cyclesPart, familyPart, Lies, Spans, Holds, selectingAt, datingAt, familyAt, shapeAt};
 ghost use Rattle.shape.specs.declared.ReadShape.the-variants.{Taken as ShapeTaken};
 ghost use Rattle.shape.proofs.Inside.{Inside};
 ghost use Rattle.conversation.specs.Conversation.{answeredBy, takenOf, setUpEvent, refusedAt, baseBegun, shapedBegun, shapedWords};
@@ -18,6 +18,7 @@ use refusal::Refusal;
 use rules::Words;
 use setup::SetupAnswer;
 use shape::Dating;
+use shape::Family;
 use shape::ReadShape;
 use shape::Selecting;
 use shape::Shape;
@@ -88,7 +89,8 @@ pub fn take(words: &Words, shape: Shape, state: State, paper: &[u8], at: usize) 
             event: Event::Refused(Refusal::Unreadable),
         },
         Next::Record { kind, start, end } => {
-            let read = command::read_record(shape, paper, kind, &paper[start..end]);
+            let values = state.values;
+            let read = command::read_record(shape, values, paper, kind, &paper[start..end]);
             answer(words, state, read, end)
         }
     }
@@ -114,6 +116,7 @@ fn refuse(refusal: Refusal, at: usize) -> Begun
             selecting: Selecting::Off,
             syllabus: 0,
             dating: Dating::Off,
+            family: Family::Cpa,
             unnamed: 4_194_304,
         },
         state: card::fresh_card(none),
@@ -122,12 +125,21 @@ fn refuse(refusal: Refusal, at: usize) -> Begun
     }
 }
 
-// The set-up's base and the tail with its cyclic accumulators, read into lent words.
-fn take_base(shape: Shape, base: &[u8], cycles: &[u8], end: usize, words: &mut Words) -> Begun
-    ensures { λ r. ⌜ (r ≡ baseBegun shape (now (base .entry)) (now (cycles .entry)) end)
-        × (now (words .exit) ≡ wordsAfter (now (words .entry)) (now (base .entry)) (now (cycles .entry)) (shape .syllabus) (shape .unnamed)) ⌝ }
+// The set-up's base, the tail with its cyclic accumulators and that with a CPACE card's controls, read
+// into lent words.
+fn take_base(
+    shape: Shape,
+    base: &[u8],
+    cycles: &[u8],
+    family: &[u8],
+    end: usize,
+    words: &mut Words,
+) -> Begun
+    ensures { λ r. ⌜ (r ≡ baseBegun shape (now (base .entry)) (now (cycles .entry)) (now (family .entry)) end)
+        × (now (words .exit) ≡ wordsAfter (now (words .entry)) (now (base .entry)) (now (cycles .entry)) (now (family .entry))
+        (shape .syllabus) (shape .unnamed)) ⌝ }
 {
-    let read = setup::read_setup(base, cycles, shape.syllabus, shape.unnamed, words);
+    let read = setup::read_setup(base, cycles, family, shape.syllabus, shape.unnamed, words);
     let fresh = read.fresh;
     let answer = read.answer;
     Begun {
@@ -157,7 +169,7 @@ fn select_in(selecting: Selecting, place: usize, bytes: usize) -> Selecting
     }
 }
 
-// The tail's places likewise.
+// The places of the tail with dates likewise.
 fn date_in(dating: Dating, place: usize, bytes: usize) -> Dating
     requires { ⌜ Spans dating bytes × (place + bytes < 2 ^ 63) ⌝ }
     ensures { λ r. ⌜ r ≡ datingAt place dating ⌝ }
@@ -165,6 +177,20 @@ fn date_in(dating: Dating, place: usize, bytes: usize) -> Dating
     match dating {
         Dating::Off => Dating::Off,
         Dating::On { start, end } => Dating::On {
+            start: place + start,
+            end: place + end,
+        },
+    }
+}
+
+// And those of a CPACE card's tail.
+fn family_in(family: Family, place: usize, bytes: usize) -> Family
+    requires { ⌜ Holds family bytes × (place + bytes < 2 ^ 63) ⌝ }
+    ensures { λ r. ⌜ r ≡ familyAt place family ⌝ }
+{
+    match family {
+        Family::Cpa => Family::Cpa,
+        Family::Cpace { start, end } => Family::Cpace {
             start: place + start,
             end: place + end,
         },
@@ -180,11 +206,14 @@ fn place_in(shape: Shape, place: usize, bytes: usize) -> Shape
     let selecting = select_in(read, place, bytes);
     let dates = shape.dating;
     let dating = date_in(dates, place, bytes);
+    let kind = shape.family;
+    let family = family_in(kind, place, bytes);
     Shape {
         base: shape.base,
         selecting,
         syllabus: shape.syllabus,
         dating,
+        family,
         unnamed: shape.unnamed,
     }
 }
@@ -200,7 +229,18 @@ fn cycles_in(dating: Dating, body: &[u8]) -> &[u8]
     }
 }
 
-// A set-up of this shape: its base, and its tail with dates where there is one.
+// A CPACE card's tail, no byte of a CPA one.
+fn controls_in(family: Family, body: &[u8]) -> &[u8]
+    requires { ⌜ Holds family (length (now body)) ⌝ }
+    ensures { λ r. ⌜ now r ≡ familyPart family (now (body .entry)) ⌝ }
+{
+    match family {
+        Family::Cpa => &body[..0],
+        Family::Cpace { start, end } => &body[start..end],
+    }
+}
+
+// A set-up of this shape: its base, its tail with dates where there is one, and a CPACE card's.
 fn take_shaped(shape: Shape, body: &[u8], place: usize, end: usize, words: &mut Words) -> Begun
     requires { ⌜ Inside shape (length (now body)) × (place + length (now body) < 2 ^ 63) ⌝ }
     ensures { λ r. ⌜ (r ≡ shapedBegun (now (body .entry)) place end (ShapeTaken shape))
@@ -210,7 +250,9 @@ fn take_shaped(shape: Shape, body: &[u8], place: usize, end: usize, words: &mut 
     let base = shape.base;
     let dating = shape.dating;
     let cycles = cycles_in(dating, body);
-    take_base(placed, &body[..base], cycles, end, words)
+    let family = shape.family;
+    let controls = controls_in(family, body);
+    take_base(placed, &body[..base], cycles, controls, end, words)
 }
 
 // The set-up: its shape is read, and then what it says, or refused.

@@ -18,15 +18,15 @@ use Rattle.rules.specs.declared.Place.the-variants.{One, Two, Three, Four}
 use Rattle.rules.specs.declared.Cycle.{Cycle}
 use Rattle.rules.specs.declared.CyclicRule.{CyclicRule}
 use Rattle.rules.specs.Rules.{Profile, two, blankProfile, blankAccumulator, blankCounter, blankCycle, blankCyclic, indexOf, profileAt}
-use Rattle.rules.specs.Rules.{currencyAt, accumulatorRule, counterRule, cycleOf, cyclicRule}
-use Rattle.rules.proofs.Places.{four-at, two-at}
+use Rattle.rules.specs.Rules.{currencyAt, accumulatorRule, counterRule, cycleOf, cyclicRule, controlAt, checksCashback}
+use Rattle.rules.proofs.Places.{four-at, two-at, eight-at}
 use Rattle.ranges.proofs.Accepted.{Accepted, accepted, CyclesAccepted, cycles-accepted}
 use Rattle.setup.specs.Setup.{rateIn, accumulatorIn, counterIn, profileIn, cycleIn, cyclicIn, rulesIn, isAccepted}
 use Rattle.purchase.specs.declared.Purchase.{Purchase}
 use Rattle.purchase.specs.Meter.{Meter, accumulator, counter, cyclic, IsMeter, MeterRule, accumulating, counting, cycling, ruleOf, worth, cyclicWorth}
 use Rattle.purchase.specs.Meter.{worthTo as cardWorth}
 use Rattle.meters.specs.Meters.{addition}
-use Rattle.demands.specs.Setup.{Setup, byteAt, numberAt, AcceptedSetup}
+use Rattle.demands.specs.Setup.{Setup, byteAt, numberAt, familyByte, AcceptedSetup}
 use Rattle.demands.specs.Conversation.{rulesBy}
 use Rattle.demands.specs.Audit.{placeFrom, placeOf, Conversion, comesTo, over, none, whole, upToMax, byEntry, converted, adds}
 use Rattle.demands.specs.Audit.{isActive, isAllowed, isIncluded, countsDeclines, upperOf, worthTo}
@@ -41,8 +41,8 @@ fits good = accepted _ _ (good .taken)
 pub fits-tail : {setup : Setup} → AcceptedSetup setup → CyclesAccepted (setup .tail)
 fits-tail good = cycles-accepted _ (good .tail-taken)
 
-pub both-fit : {setup : Setup} → AcceptedSetup setup → isAccepted (setup .bytes) (setup .tail) (setup .unnamed) ≡ true
-both-fit good = simp (good .taken, good .tail-taken)
+pub all-fit : {setup : Setup} → AcceptedSetup setup → isAccepted (setup .bytes) (setup .tail) (setup .family) (setup .unnamed) ≡ true
+all-fit good = simp (good .taken, good .tail-taken, good .family-taken)
 
 -- the profile at a place of the rules stands at an offset in the bytes
 pub record Stands (setup : Setup) (place : Place) (at : ℕ) : Type 0 where
@@ -85,6 +85,19 @@ module _ (setup : Setup) (place : Place) (at : ℕ) (stands : Stands setup place
       ap (λ rules. getD rules i blankCyclic) (four-at each [] (indexOf place) (below-four place))
       ∙ two-at (λ k. cyclicIn (setup .tail) (28 + 18 * indexOf place + 9 * k)) blankCyclic i l
       ∙ ap (λ j. cyclicIn (setup .tail) (28 + 18 * j + 9 * i)) before
+
+  -- whether it checks cashback stands behind the same of those before it
+  pub cashback-is : checksCashback (rulesBy setup) place ≡ eqb (familyByte setup (9 + (at - 52) / 107)) 1
+  unfolding rulesIn
+  cashback-is =
+      let before : indexOf place ≡ (at - 52) / 107 = omega (arith, stands .offset) in
+      four-at (λ j. eqb (familyByte setup (9 + j)) 1) false (indexOf place) (below-four place)
+      ∙ ap (λ j. eqb (familyByte setup (9 + j)) 1) before
+
+-- the control of a slot
+pub control-is : (setup : Setup) (i : ℕ) → i < 8 → controlAt (rulesBy setup) i ≡ familyByte setup (1 + i)
+unfolding rulesIn
+control-is setup i l = eight-at (λ j. familyByte setup (1 + j)) 0 i l
 
 -- the rule of a meter as the auditor reads it
 abbrev pub ruleRead : Setup → ℕ → Meter → MeterRule

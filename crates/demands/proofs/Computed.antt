@@ -12,7 +12,8 @@ use Rattle.money.specs.Money.{rateFor, rounded, scaled, convertOf}
 use Rattle.iad.specs.Iad.{pairsOf, iadBytes}
 use Rattle.ranges.specs.Ranges.{isSetup, hasLength, isHead, areAccumulators, isAccumulator, areProfiles, isProfileOrAbsent, isProfile}
 use Rattle.ranges.specs.Ranges.{areMasks, isMaximumAmount, areAccumulatorRules, isAccumulatorRule, areCounterRules, areSent}
-use Rattle.ranges.specs.Ranges.{isCycle, isCyclicRule, areCyclicRules, areCycles, areNumbersApart, profileNumber, areConversions, isConversionOrAbsent, isConversion, conversionPair, arePairsApart}
+use Rattle.ranges.specs.Ranges.{isCycle, isCyclicRule, areCyclicRules, areCycles, isFamily, areNumbersApart, profileNumber, areConversions}
+use Rattle.ranges.specs.Ranges.{isConversionOrAbsent, isConversion, conversionPair, arePairsApart}
 use Rattle.rules.specs.declared.Place.{Place}
 use Rattle.rules.specs.declared.Values.{Values}
 use Rattle.rules.specs.Rules.{Rules, findProfile}
@@ -20,7 +21,7 @@ use Rattle.setup.specs.Setup.{rateIn, accumulatorIn, counterIn, profileIn, cycl
 use Rattle.command.specs.declared.First.{First}
 use Rattle.command.specs.declared.Command.{Command}
 use Rattle.purchase.specs.declared.Purchase.{Purchase}
-use Rattle.purchase.specs.Meter.{worth, cyclicWorth, Meter}
+use Rattle.purchase.specs.Meter.{worth, cyclicWorth, isOpen, Meter}
 use Rattle.meters.specs.Meters.{applied}
 use Rattle.state.specs.declared.History.{History}
 use Rattle.checks.specs.Checks.{accumulatorsLower, accumulatorsUpper, countersLower, countersUpper, datingFlags, maximumExceeded, decisionBits}
@@ -38,7 +39,7 @@ use Rattle.demands.specs.Audit.{placeOf, converted, named, dealing, inFo
 use Rattle.demands.specs.Past.{past, atcBy}
 use Rattle.demands.specs.Due.{due}
 
--- the ranges of a set-up's base, of its tail, and the calendar
+-- the ranges of a set-up's base and of its tails, and the calendar
 unfoldable pub inRange : List ℕ → (unnamed : ℕ) → Bool
 unfolding isSetup hasLength isHead areAccumulators isAccumulator number areProfiles isProfileOrAbsent isProfile areMasks isMaximumAmount
 inRange s unnamed = isSetup s unnamed
@@ -48,7 +49,7 @@ unfolding inRange areAccumulatorRules isAccumulatorRule areCounterRules areSent 
 inRanges s unnamed = inRange s unnamed
 
 unfoldable pub tailInRanges : List ℕ → Bool
-unfolding areCycles isCycle areCyclicRules isCyclicRule dateAt isDay hasDay
+unfolding areCycles isCycle areCyclicRules isCyclicRule isFamily dateAt isDay hasDay
 tailInRanges t = areCycles t
 
 unfoldable pub begunBy : Period → (first : ℕ) → (last date : Date) → Bool
@@ -70,7 +71,7 @@ decoded setup = rulesBy setup
 
 -- what a purchase is worth, and what the values become
 unfoldable pub worthIn : Rules → Purchase → ℕ → Converted
-unfolding worth cyclicWorth convertOf rateFor rounded scaled applied ordered
+unfolding worth cyclicWorth isOpen convertOf rateFor rounded scaled applied ordered
 worthIn rules purchase i = worth rules purchase i
 
 -- the tests, the decision and what goes out

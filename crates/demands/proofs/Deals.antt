@@ -48,7 +48,7 @@ use Rattle.demands.specs.Conversation.{Exchange, Sitting, after, run, ru
 use Rattle.demands.specs.Audit.{capOf, timed, latest, recovered, brought, bought, lastDate, Dealing, dealing, inForce, begun as entersBegun}
 use Rattle.demands.proofs.Step.{Did, refused-it, started-it, took-first, took-second}
 use Rattle.demands.proofs.Run.{Ruled, ruled-keeps, did-by, tail-stays}
-use Rattle.demands.proofs.Bytes.{fits-tail, both-fit}
+use Rattle.demands.proofs.Bytes.{fits-tail, all-fit}
 use Rattle.demands.proofs.Dated.{Lasting, a-day, none-yet, OnDay, timing-is, on-day, still-lasting, last-is, begun-moves}
 
 -- what an open ARQC remembers of its purchase
@@ -223,7 +223,7 @@ module _ (setup : Setup) (good : AcceptedSetup setup) where
 
   pub begin-deals : Deals setup (sat setup [])
   unfolding run freshState readSetup freshIn dealing inForce dateAt
-  begin-deals = rw (both-fit good) (record { last-date-is = refl; lasting = begin-lasting; error-day = tt; remembers = tt })
+  begin-deals = rw (all-fit good) (record { last-date-is = refl; lasting = begin-lasting; error-day = tt; remembers = tt })
 
   module _ (commands : List Command) where
     pub always-deals : Deals setup (sat setup commands)

@@ -19,20 +19,22 @@ use Rattle.setup.specs.Setup.{profileIn}
 use Rattle.purchase.specs.declared.Timing.{Timing}
 use Rattle.purchase.specs.declared.Timing.the-variants.{Undated, InOrder, DateError}
 use Rattle.purchase.specs.declared.Purchase.{Purchase}
-use Rattle.purchase.specs.Meter.{Meter, accumulator, counter, cyclic, IsMeter, MeterRule, ruleOf, valueOf, takesPart, isDateError, worthTo as cardWorth}
+use Rattle.purchase.specs.Meter.{Meter, accumulator, counter, cyclic, IsMeter, MeterRule, ruleOf, valueOf, isTested, isDateError}
+use Rattle.purchase.specs.Meter.{takesUp as cardTakesUp, worthTo as cardWorth}
 use Rattle.state.specs.declared.History.{History}
 use Rattle.checks.specs.Checks.{bit, packed, sumExceeds, spentExceeds, exceedsLower, exceedsUpper, exceeds as cardExceeds, maximumExceeded}
-use Rattle.checks.specs.Checks.{accumulatorsLower, accumulatorsUpper, countersLower, countersUpper, datingFlags, decisionBits, decisionFlags, meetsMask}
+use Rattle.checks.specs.Checks.{accumulatorsLower, accumulatorsUpper, countersLower, countersUpper, datingFlags, cashbackFound, decisionBits}
+use Rattle.checks.specs.Checks.{decisionFlags, meetsMask}
 use Rattle.state.specs.declared.Kind.{Kind}
 use Rattle.state.specs.declared.Kind.the-variants.{Aac, Tc, Arqc}
 use Rattle.first.specs.First.{decision, isOfflineOnly}
 use Rattle.demands.specs.Setup.{Setup, byteAt, numberAt, AcceptedSetup}
 use Rattle.demands.specs.Conversation.{rulesBy}
-use Rattle.demands.specs.Audit.{takesUp}
-use Rattle.demands.specs.Decision.{exceedsWith, exceeds, exceedsMta, eachOf, aboveLower, aboveUpper, isError, flags, meets, Decides}
+use Rattle.demands.specs.Audit.{takesPart}
+use Rattle.demands.specs.Decision.{exceedsWith, exceeds, exceedsMta, eachOf, aboveLower, aboveUpper, isError, findsCashback, flags, meets, Decides}
 use Rattle.demands.specs.Decision.{aac-requested, meets-decline, arqc-requested, meets-default, offline-approves, meets-online, online-approves}
-use Rattle.demands.proofs.Bytes.{Stands, profile-is, ruleRead, rule-read, asRead, converts-to, worth-read}
-use Rattle.demands.proofs.Moves.{takes-part}
+use Rattle.demands.proofs.Bytes.{Stands, profile-is, cashback-is, ruleRead, rule-read, asRead, converts-to, worth-read}
+use Rattle.demands.proofs.Moves.{takes-part, takes-up}
 
 -- ---- a mask that is met
 
@@ -94,14 +96,17 @@ module _ (setup : Setup) (good : AcceptedSetup setup) (place : Place) (at : ℕ)
 
   -- a meter exceeds a limit of its rule by the card as by the bytes
   meter-flag : (limit : MeterRule → ℕ) (meter : Meter) → IsMeter meter
-      → (takesPart purchase meter
-      && cardExceeds (ruleOf rules place meter) (cardWorth rules purchase meter) (limit (ruleOf rules place meter)) (value meter))
+      → (isTested purchase meter
+      && cardExceeds (ruleOf rules place meter) (cardTakesUp rules purchase meter && ruleOf rules place meter .include)
+      (cardWorth rules purchase meter) (limit (ruleOf rules place meter)) (value meter))
       ≡ exceeds setup at purchase (value meter) (limit (ruleRead setup at meter)) meter
   meter-flag limit meter l =
       let read = ruleRead setup at meter in
-      ap₂ (λ part (rule : MeterRule). part && cardExceeds rule (cardWorth rules purchase meter) (limit rule) (value meter)) (takes-part purchase meter)
-      (rule-read setup place at stands meter l)
-      ∙ ap (λ b. takesUp purchase meter && (read .active && (ltb (limit read) (value meter) || (read .include && b))))
+      ap₂ (λ part (rule : MeterRule).
+      part && cardExceeds rule (cardTakesUp rules purchase meter && rule .include) (cardWorth rules purchase meter) (limit rule) (value meter))
+      (takes-part purchase meter) (rule-read setup place at stands meter l)
+      ∙ ap₂ (λ up b. takesPart purchase meter && (read .active && (ltb (limit read) (value meter) || (up && read .include && b))))
+      (takes-up setup purchase meter l)
       (sum-is (limit read) (value meter) (cardWorth rules purchase meter)
       ∙ ap (exceedsWith (limit read) (value meter)) (worth-read setup good purchase small meter l))
 
@@ -149,9 +154,12 @@ module _ (setup : Setup) (good : AcceptedSetup setup) (place : Place) (at : ℕ)
       λ i l. meter-flag (λ rule. rule .upper) (cyclic i) l in
       simp (upper 0 (omega arith), upper 1 (omega arith), error-is (purchase .timing))
 
+  cashback-flag : cashbackFound rules place purchase ≡ findsCashback setup at purchase
+  cashback-flag = ap (λ checks. checks && purchase .cashback) (cashback-is setup place at stands)
+
   flags-are : (history : History) → decisionFlags rules place values purchase history ≡ flags setup at purchase value history
   unfolding flags
-  flags-are history = simp (mta-flag, accumulators-lower, accumulators-upper, counters-lower, counters-upper, dating)
+  flags-are history = simp (mta-flag, accumulators-lower, accumulators-upper, counters-lower, counters-upper, dating, cashback-flag)
 
   pub adr-is : (history : History) → decisionBits rules place values purchase history ≡ packed (flags setup at purchase value history)
   unfolding decisionBits

@@ -4,6 +4,7 @@ use mathlib.Core.List.{List, [], _∷_, _++_}
 use Prim.Native.Nat.{ℕ, _^_}
 use lib.Dec.{T, eqb}
 use lib.ListN.{replicate}
+use Rattle.cpace.specs.declared.Cvm.the-variants.{NoCvm}
 use Rattle.selection.specs.declared.Selection.the-variants.{Selected}
 use Rattle.command.specs.declared.When.the-variants.{Undated}
 use Rattle.command.specs.declared.Command.{Command}
@@ -26,16 +27,26 @@ body value switches lower =
     record {
       bytes = zeros 3 ++ 1 ∷ zeros 44 ++ value ∷ zeros 3 ++ 1 ∷ zeros 91 ++ switches ∷ lower ∷ 255 ∷ zeros 9 ++ 0 ∷ 1 ∷ 0 ∷ [];
       tail = [];
+      family = [];
       syllabus = 0;
       unnamed = 2 ^ 22;
     }
 
 abbrev start : Command
-start = StartCommand (record { chosen = Selected 1 0 })
+start = StartCommand (record { interface = 0; chosen = Selected 1 0 })
 
 -- an AAC requested
 abbrev first : Command
-first = FirstCommand (record { amount = record { 0 = 1 }; currency = 0x0978; requested = 0; terminal = 0x22; when = Undated })
+first =
+    FirstCommand (record {
+      amount = record { 0 = 1 };
+      currency = 0x0978;
+      requested = 0;
+      terminal = 0x22;
+      when = Undated;
+      cvm = NoCvm;
+      cashback = false;
+    })
 
 abbrev outcome : Setup → Outcome
 outcome setup = next setup (start ∷ []) first

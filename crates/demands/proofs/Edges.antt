@@ -7,9 +7,10 @@ use Rattle.money.specs.declared.Converted.{Converted}
 use Rattle.money.specs.declared.Converted.the-variants.{Amount, Over, NoEntry}
 use Rattle.money.specs.declared.Rates.{Rates}
 use Rattle.money.specs.Money.{max, blank, convertOf}
+use Rattle.cpace.specs.declared.Cvm.the-variants.{NoCvm}
 use Rattle.rules.specs.declared.Place.the-variants.{One}
 use Rattle.rules.specs.declared.Values.{Values}
-use Rattle.rules.specs.Rules.{Rules, two, four, blankAccumulator, blankCounter, blankProfile, blankCycle, blankCyclic}
+use Rattle.rules.specs.Rules.{Rules, two, four, eight, blankAccumulator, blankCounter, blankProfile, blankCycle, blankCyclic}
 use Rattle.purchase.specs.declared.Timing.the-variants.{Undated}
 use Rattle.purchase.specs.declared.Purchase.{Purchase}
 use Rattle.purchase.specs.Meter.{amountAt, countAt}
@@ -62,6 +63,8 @@ card upper =
           ∷ [];
       cycles = two (λ i. blankCycle);
       cyclicRules = four (λ j. two (λ i. blankCyclic));
+      controls = eight (λ i. 0);
+      cashbacks = four (λ j. false);
     }
 
 abbrev values : ℕ → ℕ → Values
@@ -69,7 +72,7 @@ values amount count =
     record { accumulators = four (λ i. record { 0 = amount }); counters = four (λ i. count); cyclic = two (λ i. record { 0 = 0 }) }
 
 abbrev purchase : ℕ → Purchase
-purchase amount = record { amount = record { 0 = amount }; currency = 1; timing = Undated }
+purchase amount = record { amount = record { 0 = amount }; currency = 1; timing = Undated; cvm = NoCvm; cashback = false }
 
 abbrev clear : History
 clear = record { uncompleted = false; online = false; failed = false; unable = false; missing = false }

@@ -22,5 +22,6 @@ pub mod Answers
 pub mod Sendable
 pub mod Edges
 pub mod Selected
+pub mod Alike
 pub mod Samples
 pub mod Declines

@@ -1,4 +1,4 @@
--- Demand 3, the upper limit: no offline approval under a guarding profile leaves the value above that profile's upper limit.
+-- Demand 3, the upper limit: on a CPA card no offline approval under a guarding profile leaves the value above that profile's upper limit.
 -- Assumes nothing.
 use mathlib.Core.Path.{_≡_, refl, sym, ap, _∙_, subst}
 use mathlib.Core.Bool.{Bool, true, false, cond, not, _&&_, _||_}
@@ -24,7 +24,8 @@ use Rattle.command.specs.declared.Command.{Command}
 use Rattle.command.specs.declared.Command.the-variants.{Start as StartCommand, First as FirstCommand, Second as SecondCommand}
 use Rattle.purchase.specs.declared.Timing.{Timing}
 use Rattle.purchase.specs.declared.Purchase.{Purchase}
-use Rattle.purchase.specs.Meter.{Meter, accumulator, counter, cyclic, IsMeter, MeterRule, ruleOf, valueOf, worthTo, takesPart, capOf as cap}
+use Rattle.purchase.specs.Meter.{Meter, accumulator, counter, cyclic, IsMeter, MeterRule, ruleOf, valueOf, worthTo, capOf as cap}
+use Rattle.purchase.specs.Meter.{takesUp as cardTakesUp}
 use Rattle.meters.specs.declared.Change.the-variants.{Approve}
 use Rattle.meters.specs.Meters.{add, moved, addition, offline, applied, entered as entriesOf}
 use Rattle.meters.proofs.Ledger.{applied-moves}
@@ -44,16 +45,16 @@ use Rattle.first.specs.First.{decision, purchaseOf, firstKind, firstPerformed, 
 use Rattle.state.specs.State.{unableIn}
 use Rattle.second.specs.Second.{isUnable, unableBits, unablePerformed, secondPerformed, closed}
 use Rattle.card.specs.Card.{isDated}
-use Rattle.demands.specs.Setup.{Setup, numberAt, AcceptedSetup}
+use Rattle.demands.specs.Setup.{Setup, numberAt, IsCpa, AcceptedSetup}
 use Rattle.demands.specs.Conversation.{Exchange, Sitting, after, told, rulesBy, sat, next}
-use Rattle.demands.specs.Audit.{isOn, isActive, isIncluded, upperOf, approves, takesUp, named, bought, dealing, inForce, placeBy}
+use Rattle.demands.specs.Audit.{isOn, isActive, isIncluded, upperOf, approves, takesPart, named, bought, dealing, inForce, placeBy}
 use Rattle.demands.specs.Guards.{upperBit, Guards}
 use Rattle.demands.proofs.Refusal.{never}
 use Rattle.demands.proofs.Step.{Did, refused-it, started-it, took-first, took-second}
-use Rattle.demands.proofs.Run.{Ruled, always-ruled, did-by}
+use Rattle.demands.proofs.Run.{Ruled, always-ruled, did-by, family-stays}
 use Rattle.demands.proofs.Bytes.{Stands, profile-is, ruleRead, rule-read}
 use Rattle.demands.proofs.Deals.{Remembers, Deals, brought-as, always-deals}
-use Rattle.demands.proofs.Moves.{takes-part}
+use Rattle.demands.proofs.Moves.{takes-part, takes-up, takes-all}
 use Rattle.demands.proofs.Total.{Agrees, Holding, always}
 
 -- ---- what an approval adds stays within a limit that the value, with the amount, is within
@@ -83,7 +84,8 @@ unmet : (k adr mask : ℕ) (flag : Bool) → bitOf k adr ≡ bit flag → isOn m
 unmet k adr mask false e m q = refl
 unmet k adr mask true e m q = absurd (never (sym q ∙ meets-at k adr mask e (eqb-true _ _ m)))
 
-module _ (setup : Setup) (place : Place) (at : ℕ) (stands : Stands setup place at) (values : Values) (history : History) (purchase : Purchase) where
+module _ (setup : Setup) (place : Place) (at : ℕ) (stands : Stands setup place at) (values : Values) (history : History) (purchase : Purchase)
+    (cpa : IsCpa setup) where
   abbrev rules : Rules
   rules = rulesBy setup
 
@@ -100,14 +102,16 @@ module _ (setup : Setup) (place : Place) (at : ℕ) (stands : Stands setup place
     unmet-within : takesPart purchase meter ≡ true → (mask : ℕ) → isOn mask (2 ^ upperFlag meter) ≡ true → meetsMask adr mask ≡ false
         → moved (cap meter) (valueOf values meter) (entriesOf rules place (Approve purchase) meter) ≤ upperOf setup at meter
     unmet-within takes mask on q =
+        let up : cardTakesUp rules purchase meter ≡ true = takes-up setup purchase meter l ∙ takes-all setup purchase cpa meter ∙ takes in
         let active' : rule .active ≡ true = ap (λ (r : MeterRule). r .active) is ∙ active in
-        let included' : rule .include ≡ true = ap (λ (r : MeterRule). r .include) is ∙ included in
+        let included' : (cardTakesUp rules purchase meter && rule .include) ≡ true = rw up (ap (λ (r : MeterRule). r .include) is ∙ included) in
         let flag = house-order rules place values purchase history .upper meter l in
         let unset = unmet (upperFlag meter) adr mask (exceedsUpper rules place values purchase meter) flag on q in
-        let w = active-within rule (worthTo rules purchase meter) (rule .upper) (valueOf values meter) active' (rw takes at unset) in
+        let w = active-within rule _ (worthTo rules purchase meter) (rule .upper) (valueOf values meter) active'
+        (rw (takes-part purchase meter ∙ takes) at unset) in
         subst (λ upper. moved (cap meter) (valueOf values meter) (entriesOf rules place (Approve purchase) meter) ≤ upper)
         (ap (λ (r : MeterRule). r .upper) is)
-        (approval-within (cap meter) (rule .upper) (valueOf values meter) (takesPart purchase meter && (rule .active && rule .allow))
+        (approval-within (cap meter) (rule .upper) (valueOf values meter) (cardTakesUp rules purchase meter && (rule .active && rule .allow))
         (worthTo rules purchase meter) (w .alone) (λ more. w .together more included') (w .not-over included'))
 
   -- an approval while a mask that holds the upper limit's bit isn't met
@@ -132,7 +136,8 @@ tc-unmet requested bits masks terminal e = by (eqb requested 0) (meetsMask bits 
   by false false rest e = refl
 
 module _ (setup : Setup) (sitting : Sitting) (ruled : Ruled setup sitting) (deals : Deals setup sitting) (holding : Holding setup sitting)
-    (meter : Meter) (l : IsMeter meter) (guards : Guards (inForce setup (sitting .log)) (placeBy setup (sitting .log)) meter) where
+    (cpa : IsCpa (inForce setup (sitting .log))) (meter : Meter) (l : IsMeter meter)
+    (guards : Guards (inForce setup (sitting .log)) (placeBy setup (sitting .log)) meter) where
   abbrev log : List Exchange
   log = sitting .log
 
@@ -148,15 +153,15 @@ module _ (setup : Setup) (sitting : Sitting) (ruled : Ruled setup sitting) (deal
   abbrev at : ℕ
   at = placeBy setup log
 
-  -- if an answer approves a purchase that the meter takes up, the value is within
+  -- if an answer approves a purchase in which the meter takes part, the value is within
   abbrev Within : Command → Outcome → Type 0
   Within command outcome =
-      approves command (outcome .answer) ≡ true → takesUp (bought setup (after sitting command outcome .log)) meter ≡ true
+      approves command (outcome .answer) ≡ true → takesPart (bought setup (after sitting command outcome .log)) meter ≡ true
       → valueOf (outcome .state .values) meter ≤ upperOf now at meter
 
   -- the card's purchase is the auditor's
-  takes-as : {purchase said : Purchase} → purchase ≡ said → takesUp said meter ≡ true → takesPart purchase meter ≡ true
-  takes-as {purchase} is takes = takes-part purchase meter ∙ ap (λ p. takesUp p meter) is ∙ takes
+  takes-as : {purchase said : Purchase} → purchase ≡ said → takesPart said meter ≡ true → takesPart purchase meter ≡ true
+  takes-as is takes = ap (λ p. takesPart p meter) is ∙ takes
 
   module _ (first : First) (small : first .amount .0 ≤ max) (day : isDated (first .when) ≡ true) where
     abbrev begun : State
@@ -172,7 +177,7 @@ module _ (setup : Setup) (sitting : Sitting) (ruled : Ruled setup sitting) (deal
     concluded-within place stands limits cvr Tc is e takes =
         let mask : profileAt card-rules place .masks .decline ≡ numberAt now (at + 5) 4 =
         ap (λ (p : Profile). p .masks .decline) (profile-is now place at stands) in
-        approved-within now place at stands (begun .values) (begun .history) (purchaseOf first timing) meter l (guards .active) (guards .included)
+        approved-within now place at stands (begun .values) (begun .history) (purchaseOf first timing) cpa meter l (guards .active) (guards .included)
         (takes-as (brought-as setup sitting ruled deals first small day) takes)
         (profileAt card-rules place .masks .decline) (rw mask (guards .decline))
         (tc-unmet (first .requested) _ (profileAt card-rules place .masks) (first .terminal) is)
@@ -195,7 +200,7 @@ module _ (setup : Setup) (sitting : Sitting) (ruled : Ruled setup sitting) (deal
         let place = pending .place in
         let mask : profileAt card-rules place .masks .default ≡ numberAt now (at + 9) 4 =
         ap (λ (p : Profile). p .masks .default) (profile-is now place at stands) in
-        approved-within now place at stands (state .values) (unableIn (pending .history)) (pending .purchase) meter l (guards .active) (guards .included)
+        approved-within now place at stands (state .values) (unableIn (pending .history)) (pending .purchase) cpa meter l (guards .active) (guards .included)
         (takes-as purchase-is takes)
         (profileAt card-rules place .masks .default) (rw mask (guards .default)) (neither (eqb (second .requested) 0) _ q)
       where
@@ -223,14 +228,15 @@ module _ (setup : Setup) (sitting : Sitting) (ruled : Ruled setup sitting) (deal
   did-within (took-second second pending is type issuer) =
       second-within second pending (subst (Agrees now (named log)) is (holding .agrees)) (subst (Remembers (bought setup log)) is (deals .remembers) .0)
 
--- DEMAND 3, THE UPPER LIMIT, which is the one in force: of a cyclic accumulator, for approvals without a date error
-pub limit : (setup : Setup) → AcceptedSetup setup → (commands : List Command) (command : Command) (meter : Meter) → IsMeter meter
+-- DEMAND 3, THE UPPER LIMIT of a CPA card, which is the one in force: of a cyclic accumulator, for approvals without a date error
+pub limit : (setup : Setup) → AcceptedSetup setup → IsCpa setup → (commands : List Command) (command : Command) (meter : Meter) → IsMeter meter
     → Guards (inForce setup (sat setup commands .log)) (placeBy setup (sat setup commands .log)) meter
     → approves command (next setup commands command .answer) ≡ true
-    → takesUp (bought setup (told (sat setup commands) command .log)) meter ≡ true
+    → takesPart (bought setup (told (sat setup commands) command .log)) meter ≡ true
     → valueOf (next setup commands command .state .values) meter
     ≤ upperOf (inForce setup (sat setup commands .log)) (placeBy setup (sat setup commands .log)) meter
-limit setup good commands command meter l guards =
+limit setup good cpa commands command meter l guards =
     let sitting = sat setup commands in
     let ruled = always-ruled setup good commands in
-    did-within setup sitting ruled (always-deals setup good commands) (always setup good commands) meter l guards (did-by setup sitting ruled command)
+    did-within setup sitting ruled (always-deals setup good commands) (always setup good commands) (family-stays setup (sitting .log) ∙ cpa) meter l guards
+    (did-by setup sitting ruled command)

@@ -36,7 +36,7 @@ use Rattle.demands.specs.Audit.{inForce}
 use Rattle.demands.specs.Past.{past, atcBy, Says}
 use Rattle.demands.proofs.Step.{Did, refused-it, started-it, took-first, took-second}
 use Rattle.demands.proofs.Run.{ruled-keeps, always-ruled, did-by}
-use Rattle.demands.proofs.Bytes.{both-fit}
+use Rattle.demands.proofs.Bytes.{all-fit}
 use Rattle.demands.proofs.Dated.{same-history, same-atc}
 
 pub record Recalls (setup : Setup) (sitting : Sitting) : Type 0 where
@@ -151,7 +151,7 @@ module _ (setup : Setup) (sitting : Sitting) (recalls : Recalls setup sitting) w
 module _ (setup : Setup) where
   pub begin-recalls : AcceptedSetup setup → Recalls setup (sat setup [])
   unfolding run freshState freshIn readSetup past atcBy
-  begin-recalls good = rw (both-fit good) (record { history-is = refl; atc-is = refl })
+  begin-recalls good = rw (all-fit good) (record { history-is = refl; atc-is = refl })
 
   module _ (good : AcceptedSetup setup) (commands : List Command) where
     recalled : Recalls setup (sat setup commands)

@@ -39,7 +39,7 @@ use Rattle.state.specs.declared.State.{State}
 use Rattle.state.specs.declared.Outcome.{Outcome}
 use Rattle.first.specs.First.{firstPerformed}
 use Rattle.second.specs.Second.{secondPerformed}
-use Rattle.card.specs.Card.{Ruling, refuse, take, ruleStart, ruleOpening, isDated, ruleFirst, ruleSecond, carried, startPerformed, startStep}
+use Rattle.card.specs.Card.{Ruling, refuse, take, ruleStart, ruleChosen, ruleOpening, isDated, ruleFirst, ruleSecond, carried, startPerformed, startStep}
 use Rattle.card.specs.Card.{firstStep, secondStep, stepOf, answerNumber}
 use Rattle.demands.proofs.Found.{Holds, Known, known, below-four}
 use Rattle.demands.specs.Setup.{Setup, AcceptedSetup}
@@ -53,7 +53,7 @@ use Rattle.demands.proofs.Bytes.{fits, number-in, number-out}
 use Rattle.demands.proofs.Ends.{accepted-in-kind, first-concludes, second-closes, due-is}
 use Rattle.demands.proofs.Past.{atc}
 use Rattle.demands.specs.Rows.{InSetup, InRules, NoStart, NoArqc, Unselected, NoDay}
-use Rattle.demands.specs.Rows.{StartRow, not-selected, not-in-setup, used-up, FirstRow, no-start, type-three}
+use Rattle.demands.specs.Rows.{StartRow, no-interface, not-selected, not-in-setup, used-up, FirstRow, no-start, type-three}
 use Rattle.demands.specs.Rows.{above-max, not-digits, not-a-day, SecondRow, no-arqc, type-two, issuer-data, Applies, rank, Numbered, done, refused}
 
 -- what is taken is answered, and no answer to it is a refusal
@@ -65,12 +65,12 @@ taken command k = record { is = accepted-in-kind command _ k }
 
 -- ---- a ruling refuses with the first number that applies, and takes where none does
 
-abbrev First-of : (ℕ → Type 0) → ℕ → Type 0
-First-of applies n = applies n × ((m : ℕ) → rank m < rank n → applies m → ⊥)
+abbrev First-of : Command → (ℕ → Type 0) → ℕ → Type 0
+First-of command applies n = applies n × ((m : ℕ) → rank command m < rank command n → applies m → ⊥)
 
-abbrev Ruled : {A : Type 0} → (ℕ → Type 0) → Ruling A → Type 0
-Ruled applies (refuse refusal) = First-of applies (refusalNumber refusal)
-Ruled applies (take what) = (m : ℕ) → applies m → ⊥
+abbrev Ruled : Command → {A : Type 0} → (ℕ → Type 0) → Ruling A → Type 0
+Ruled command applies (refuse refusal) = First-of command applies (refusalNumber refusal)
+Ruled command applies (take what) = (m : ℕ) → applies m → ⊥
 
 pub never : false ≡ true → ⊥
 never e = let z : _≡_ {A = ℕ} 0 1 = cc in omega arith
@@ -78,31 +78,56 @@ never e = let z : _≡_ {A = ℕ} 0 1 = cc in omega arith
 pub in-rules : (rules : Rules) (number : ℕ) (place : Place) → Holds rules number place → InRules rules number
 in-rules rules number place h = record { index = indexOf place; below = below-four place; some = h .some; its = h .its }
 
-opening-ruled : (rules : Rules) (atc : ℕ) (start : Start) → (Unselected (start .chosen) → ⊥)
-    → (found : Found) → Known rules (profileOf (start .chosen)) found
-    → Ruled (StartRow (InRules rules) atc start) (ruleOpening atc found)
-opening-ruled rules atc start selected Nothing missing = (
-  not-in-setup refl (λ i. missing (i .some) (i .index) (i .below) (i .its)),
-  λ m l. elim [ not-selected n h ↦ selected h | not-in-setup n h ↦ omega (arith, ap rank n) | used-up n h ↦ omega (arith, ap rank n) ],
-)
-opening-ruled rules atc start selected (At place) holds = by (eqb atc 65535) refl where
-  there : InRules rules (profileOf (start .chosen))
-  there = in-rules rules (profileOf (start .chosen)) place holds
+module _ (rules : Rules) (atc : ℕ) (start : Start) where
+  abbrev Row : ℕ → Type 0
+  Row = StartRow (InRules rules) atc start
 
-  by : (b : Bool) → eqb atc 65535 ≡ b → Ruled (StartRow (InRules rules) atc start) (cond b (refuse AtcUsedUp) (take place))
-  by true e = (
-    used-up refl (eqb-true _ _ e),
-    λ m l. elim [ not-selected n h ↦ selected h | not-in-setup n h ↦ h there | used-up n h ↦ omega (arith, ap rank n) ],
-  )
-  by false e = λ m. elim [ not-selected n h ↦ selected h | not-in-setup n h ↦ h there | used-up n h ↦ eqb-false _ _ e h ]
+  abbrev place-of : ℕ → ℕ
+  place-of = rank (StartCommand start)
 
-start-ruled : (rules : Rules) (atc : ℕ) (start : Start) → Ruled (StartRow (InRules rules) atc start) (ruleStart rules atc (start .chosen))
-start-ruled rules atc start = by (start .chosen) refl where
-  by : (chosen : Selection) → start .chosen ≡ chosen → Ruled (StartRow (InRules rules) atc start) (ruleStart rules atc chosen)
-  by NoneSelected is = (not-selected refl (subst Unselected (sym is) tt), λ m l. absurd (omega arith))
-  by (Selected profile visits) is =
-      subst (λ c. Ruled (StartRow (InRules rules) atc start) (ruleOpening atc (findProfile rules (profileOf c)))) is
-      (opening-ruled rules atc start (λ h. subst Unselected is h) (findProfile rules (profileOf (start .chosen))) (known rules (profileOf (start .chosen))))
+  -- of Start no row comes before 12 where its interface is in range, before 3 none where a profile was selected, before 4 none where it is known
+  start-least : {m : ℕ} → Row m → start .interface ≤ 1
+      → (1 ≤ place-of m)
+      × ((Unselected (start .chosen) → ⊥) → (3 ≤ place-of m) × (InRules rules (profileOf (start .chosen)) → 4 ≤ place-of m))
+  start-least (no-interface n h) i = absurd (omega arith)
+  start-least (not-selected n h) i = (omega (arith, ap place-of n), λ selected. absurd (selected h))
+  start-least (not-in-setup n h) i = (omega (arith, ap place-of n), λ selected. (omega (arith, ap place-of n), λ there. absurd (h there)))
+  start-least (used-up n h) i = (omega (arith, ap place-of n), λ selected. (omega (arith, ap place-of n), λ there. omega (arith, ap place-of n)))
+
+  module _ (near : start .interface ≤ 1) where
+    opening-ruled : (Unselected (start .chosen) → ⊥) → (found : Found) → Known rules (profileOf (start .chosen)) found
+        → Ruled (StartCommand start) Row (ruleOpening atc found)
+    opening-ruled selected Nothing missing = (
+      not-in-setup refl (λ i. missing (i .some) (i .index) (i .below) (i .its)),
+      λ m l row. omega (arith, start-least row near .1 selected .0),
+    )
+    opening-ruled selected (At place) holds = by (eqb atc 65535) refl where
+      there : InRules rules (profileOf (start .chosen))
+      there = in-rules rules (profileOf (start .chosen)) place holds
+
+      by : (b : Bool) → eqb atc 65535 ≡ b → Ruled (StartCommand start) Row (cond b (refuse AtcUsedUp) (take place))
+      by true e = (used-up refl (eqb-true _ _ e), λ m l row. omega (arith, start-least row near .1 selected .1 there))
+      by false e =
+          λ m.
+          elim [
+            | no-interface n h ↦ omega arith
+            | not-selected n h ↦ selected h
+            | not-in-setup n h ↦ h there
+            | used-up n h ↦ eqb-false _ _ e h
+          ]
+
+    chosen-ruled : (chosen : Selection) → start .chosen ≡ chosen → Ruled (StartCommand start) Row (ruleChosen rules atc chosen)
+    chosen-ruled NoneSelected is = (not-selected refl (subst Unselected (sym is) tt), λ m l row. omega (arith, start-least row near .0))
+    chosen-ruled (Selected profile visits) is =
+        subst (λ c. Ruled (StartCommand start) Row (ruleOpening atc (findProfile rules (profileOf c)))) is
+        (opening-ruled (λ h. subst Unselected is h) (findProfile rules (profileOf (start .chosen))) (known rules (profileOf (start .chosen))))
+
+  start-ruled : Ruled (StartCommand start) Row (ruleStart rules atc start)
+  start-ruled = by (ltb 1 (start .interface)) refl where
+    by : (b : Bool) → ltb 1 (start .interface) ≡ b
+        → Ruled (StartCommand start) Row (cond b (refuse OutOfRange) (ruleChosen rules atc (start .chosen)))
+    by true e = (no-interface refl (ltb-true _ _ e), λ m l. absurd (omega arith))
+    by false e = chosen-ruled (ltb-false _ _ e) (start .chosen) refl
 
 -- a date is one of the almanac's days or none
 day-there : (when : When) → isDated when ≡ true → NoDay when → ⊥
@@ -121,24 +146,21 @@ record Fielded (first : First) : Type 0 where
   digits : Currency (first .currency)
 
 first-least : {due : Due} {first : First} {m : ℕ} → FirstRow due first m
-    → (2 ≤ rank m) × ((NoStart due → ⊥) → (5 ≤ rank m) × (first .requested ≤ 2 → 6 ≤ rank m) × (Fielded first → 13 ≤ rank m))
-first-least (no-start n h) = (omega (arith, ap rank n), λ begun. absurd (begun h))
-first-least (type-three n h) = (omega (arith, ap rank n), λ begun. (omega (arith, ap rank n), λ t. omega arith, λ f. omega (arith, f .type)))
-first-least (above-max n h) =
-    (omega (arith, ap rank n), λ begun. (omega (arith, ap rank n), λ t. omega (arith, ap rank n), λ f. omega (arith, f .amount)))
-first-least (not-digits n h) =
-    (omega (arith, ap rank n), λ begun. (omega (arith, ap rank n), λ t. omega (arith, ap rank n), λ f. absurd (h (f .digits))))
-first-least (not-a-day n h) =
-    (omega (arith, ap rank n), λ begun. (omega (arith, ap rank n), λ t. omega (arith, ap rank n), λ f. omega (arith, ap rank n)))
+    → (2 ≤ m) × ((NoStart due → ⊥) → (5 ≤ m) × (first .requested ≤ 2 → 6 ≤ m) × (Fielded first → 13 ≤ m))
+first-least (no-start n h) = (omega arith, λ begun. absurd (begun h))
+first-least (type-three n h) = (omega arith, λ begun. (omega arith, λ t. omega arith, λ f. omega (arith, f .type)))
+first-least (above-max n h) = (omega arith, λ begun. (omega arith, λ t. omega arith, λ f. omega (arith, f .amount)))
+first-least (not-digits n h) = (omega arith, λ begun. (omega arith, λ t. omega arith, λ f. absurd (h (f .digits))))
+first-least (not-a-day n h) = (omega arith, λ begun. (omega arith, λ t. omega arith, λ f. omega arith))
 
-first-ruled : (phase : Phase) (first : First) → Ruled (FirstRow (dueIn phase) first) (ruleFirst phase first)
+first-ruled : (phase : Phase) (first : First) → Ruled (FirstCommand first) (FirstRow (dueIn phase) first) (ruleFirst phase first)
 first-ruled Idle first = (no-start refl tt, λ m l row. omega (arith, first-least row .0))
 first-ruled (Asked pending) first = (no-start refl tt, λ m l row. omega (arith, first-least row .0))
 first-ruled (Opened place) first = by-type (ltb 2 (first .requested)) refl where
   opened : ⊥ → ⊥
   opened none = none
 
-  by-day : Fielded first → (d : Bool) → isDated (first .when) ≡ d → Ruled (FirstRow aFirst first) (cond d (take place) (refuse NotADay))
+  by-day : Fielded first → (d : Bool) → isDated (first .when) ≡ d → Ruled (FirstCommand first) (FirstRow aFirst first) (cond d (take place) (refuse NotADay))
   by-day f true e =
       λ m.
       elim [
@@ -151,18 +173,18 @@ first-ruled (Opened place) first = by-type (ltb 2 (first .requested)) refl where
   by-day f false e = (not-a-day refl (no-day (first .when) e), λ m l row. omega (arith, first-least row .1 opened .2 f))
 
   by-currency : first .requested ≤ 2 → first .amount .0 ≤ max → (c : Bool) → isCurrency (first .currency) ≡ c
-      → Ruled (FirstRow aFirst first) (cond c (cond (isDated (first .when)) (take place) (refuse NotADay)) (refuse OutOfRange))
+      → Ruled (FirstCommand first) (FirstRow aFirst first) (cond c (cond (isDated (first .when)) (take place) (refuse NotADay)) (refuse OutOfRange))
   by-currency t a true e = by-day (record { type = t; amount = a; digits = currency (first .currency) .0 e }) (isDated (first .when)) refl
   by-currency t a false e =
       (not-digits refl (λ c. never (sym e ∙ currency (first .currency) .1 c)), λ m l row. omega (arith, first-least row .1 opened .1 t))
 
   by-amount : first .requested ≤ 2 → (a : Bool) → leb (first .amount .0) max ≡ a
-      → Ruled (FirstRow aFirst first)
+      → Ruled (FirstCommand first) (FirstRow aFirst first)
       (cond (a && isCurrency (first .currency)) (cond (isDated (first .when)) (take place) (refuse NotADay)) (refuse OutOfRange))
   by-amount t true e = by-currency t (leb-true _ _ e) (isCurrency (first .currency)) refl
   by-amount t false e = (above-max refl (leb-false _ _ e), λ m l row. omega (arith, first-least row .1 opened .1 t))
 
-  by-type : (b : Bool) → ltb 2 (first .requested) ≡ b → Ruled (FirstRow aFirst first)
+  by-type : (b : Bool) → ltb 2 (first .requested) ≡ b → Ruled (FirstCommand first) (FirstRow aFirst first)
       (cond b (refuse BadType) (cond (leb (first .amount .0) max && isCurrency (first .currency))
       (cond (isDated (first .when)) (take place) (refuse NotADay)) (refuse OutOfRange)))
   by-type true e = (type-three refl (ltb-true _ _ e), λ m l row. omega (arith, first-least row .1 opened .0))
@@ -170,24 +192,24 @@ first-ruled (Opened place) first = by-type (ltb 2 (first .requested)) refl where
 
 -- of Second likewise
 second-least : {due : Due} {second : Second} {m : ℕ} → SecondRow due second m
-    → (2 ≤ rank m) × ((NoArqc due → ⊥) → 5 ≤ rank m) × ((NoArqc due → ⊥) → second .requested ≤ 1 → 6 ≤ rank m)
-second-least (no-arqc n h) = (omega (arith, ap rank n), λ begun. absurd (begun h), λ begun t. absurd (begun h))
-second-least (type-two n h) = (omega (arith, ap rank n), λ begun. omega (arith, ap rank n), λ begun t. omega arith)
-second-least (issuer-data n h) = (omega (arith, ap rank n), λ begun. omega (arith, ap rank n), λ begun t. omega (arith, ap rank n))
+    → (2 ≤ m) × ((NoArqc due → ⊥) → 5 ≤ m) × ((NoArqc due → ⊥) → second .requested ≤ 1 → 6 ≤ m)
+second-least (no-arqc n h) = (omega arith, λ begun. absurd (begun h), λ begun t. absurd (begun h))
+second-least (type-two n h) = (omega arith, λ begun. omega arith, λ begun t. omega arith)
+second-least (issuer-data n h) = (omega arith, λ begun. omega arith, λ begun t. omega arith)
 
-second-ruled : (phase : Phase) (second : Second) → Ruled (SecondRow (dueIn phase) second) (ruleSecond phase second)
+second-ruled : (phase : Phase) (second : Second) → Ruled (SecondCommand second) (SecondRow (dueIn phase) second) (ruleSecond phase second)
 second-ruled Idle second = (no-arqc refl tt, λ m l row. omega (arith, second-least row .0))
 second-ruled (Opened place) second = (no-arqc refl tt, λ m l row. omega (arith, second-least row .0))
 second-ruled (Asked pending) second = by-type (ltb 1 (second .requested)) refl where
   by-issuer : second .requested ≤ 1 → (b : Bool) → ltb 2 (second .issuer) ≡ b
-      → Ruled (SecondRow aSecond second) (cond b (refuse OutOfRange) (take pending))
+      → Ruled (SecondCommand second) (SecondRow aSecond second) (cond b (refuse OutOfRange) (take pending))
   by-issuer t true e = (issuer-data refl (ltb-true _ _ e), λ m l row. omega (arith, second-least row .2 (λ none. none) t))
   by-issuer t false e =
       let i = ltb-false 2 (second .issuer) e in
       λ m. elim [ no-arqc n h ↦ h | type-two n h ↦ omega arith | issuer-data n h ↦ omega arith ]
 
   by-type : (b : Bool) → ltb 1 (second .requested) ≡ b
-      → Ruled (SecondRow aSecond second) (cond b (refuse BadType) (cond (ltb 2 (second .issuer)) (refuse OutOfRange) (take pending)))
+      → Ruled (SecondCommand second) (SecondRow aSecond second) (cond b (refuse BadType) (cond (ltb 2 (second .issuer)) (refuse OutOfRange) (take pending)))
   by-type true e = (type-two refl (ltb-true _ _ e), λ m l row. omega (arith, second-least row .1 (λ none. none)))
   by-type false e = by-issuer (ltb-false _ _ e) (ltb 2 (second .issuer)) refl
 
@@ -199,7 +221,7 @@ module _ (rules : Rules) (state : State) (command : Command) {A : Type 0} (perfo
   number-of (Started atc visits) e = refl
   number-of (Given kind atc iad) e = refl
 
-  numbers : (ruling : Ruling A) → Ruled (Applies (InRules rules) (state .atc) (dueIn (state .phase)) command) ruling
+  numbers : (ruling : Ruling A) → Ruled command (Applies (InRules rules) (state .atc) (dueIn (state .phase)) command) ruling
       → Numbered (InRules rules) (state .atc) (dueIn (state .phase)) command (answerNumber (carried state perform ruling .answer))
   numbers (refuse refusal) h = refused (h .0) (h .1)
   numbers (take what) h = done (number-of (perform what .answer) (answers what .is)) h
@@ -224,7 +246,7 @@ pub refusal-keeps : (rules : Rules) (state : State) (command : Command) (refusal
 unfolding stepOf startStep firstStep secondStep
 refusal-keeps rules state (StartCommand start) =
     keeps rules state (StartCommand start) (startPerformed state (visitsOf (start .chosen))) (start-taken rules state start)
-    (ruleStart rules (state .atc) (start .chosen))
+    (ruleStart rules (state .atc) start)
 refusal-keeps rules state (FirstCommand first) =
     keeps rules state (FirstCommand first) (firstPerformed rules state first) (first-taken rules state first) (ruleFirst (state .phase) first)
 refusal-keeps rules state (SecondCommand second) =
@@ -236,7 +258,7 @@ pub numbered-by-state : (rules : Rules) (state : State) (command : Command)
 unfolding stepOf startStep firstStep secondStep
 numbered-by-state rules state (StartCommand start) =
     numbers rules state (StartCommand start) (startPerformed state (visitsOf (start .chosen))) (start-taken rules state start)
-    (ruleStart rules (state .atc) (start .chosen)) (start-ruled rules (state .atc) start)
+    (ruleStart rules (state .atc) start) (start-ruled rules (state .atc) start)
 numbered-by-state rules state (FirstCommand first) =
     numbers rules state (FirstCommand first) (firstPerformed rules state first) (first-taken rules state first) (ruleFirst (state .phase) first)
     (first-ruled (state .phase) first)
@@ -267,7 +289,12 @@ module _ (setup : Setup) (good : AcceptedSetup setup) where
 module _ (P Q : ℕ → Type 0) (atc : ℕ) (due : Due) where
   row : ((n : ℕ) → Q n → P n) → (command : Command) (n : ℕ) → Applies P atc due command n → Applies Q atc due command n
   row from (StartCommand start) n =
-      elim [ not-selected e h ↦ not-selected e h | not-in-setup e h ↦ not-in-setup e (λ q. h (from _ q)) | used-up e h ↦ used-up e h ]
+      elim [
+        | no-interface e h ↦ no-interface e h
+        | not-selected e h ↦ not-selected e h
+        | not-in-setup e h ↦ not-in-setup e (λ q. h (from _ q))
+        | used-up e h ↦ used-up e h
+      ]
   row from (FirstCommand first) n = λ a. a
   row from (SecondCommand second) n = λ a. a
 
@@ -318,10 +345,11 @@ in-kind rules state command = by (did rules state command) where
   by (took-first first place is type small day) e = first-concludes rules state first place .in-kind
   by (took-second second pending is type issuer) e = second-closes rules state second pending .in-kind
 
--- no row has the number 0, and two others that stand alike in the order are one
+-- no row has a number below 2, and two that stand alike in the order are one
 module _ (Known : ℕ → Type 0) (atc : ℕ) (due : Due) where
-  some-number : (command : Command) (n : ℕ) → Applies Known atc due command n → 0 < n
-  some-number (StartCommand start) n = elim [ not-selected e h ↦ omega arith | not-in-setup e h ↦ omega arith | used-up e h ↦ omega arith ]
+  some-number : (command : Command) (n : ℕ) → Applies Known atc due command n → 1 < n
+  some-number (StartCommand start) n =
+      elim [ no-interface e h ↦ omega arith | not-selected e h ↦ omega arith | not-in-setup e h ↦ omega arith | used-up e h ↦ omega arith ]
   some-number (FirstCommand first) n =
       elim [
         | no-start e h ↦ omega arith
@@ -332,13 +360,21 @@ module _ (Known : ℕ → Type 0) (atc : ℕ) (due : Due) where
       ]
   some-number (SecondCommand second) n = elim [ no-arqc e h ↦ omega arith | type-two e h ↦ omega arith | issuer-data e h ↦ omega arith ]
 
-one-rank : (n m : ℕ) → 0 < n → 0 < m → rank n ≡ rank m → n ≡ m
-one-rank n m h k = by (eqb n 12) refl (eqb m 12) refl where
-  by : (a : Bool) → eqb n 12 ≡ a → (b : Bool) → eqb m 12 ≡ b → cond a 0 n ≡ cond b 0 m → n ≡ m
-  by true e true f r = eqb-true n 12 e ∙ sym (eqb-true m 12 f)
-  by true e false f r = omega arith
-  by false e true f r = omega arith
-  by false e false f r = r
+one-rank : (command : Command) (n m : ℕ) → 1 < n → 1 < m → rank command n ≡ rank command m → n ≡ m
+one-rank (StartCommand start) n m h k = by (eqb n 6) refl (eqb n 12) refl (eqb m 6) refl (eqb m 12) refl where
+  by : (a : Bool) → eqb n 6 ≡ a → (b : Bool) → eqb n 12 ≡ b → (c : Bool) → eqb m 6 ≡ c → (d : Bool) → eqb m 12 ≡ d
+      → cond a 0 (cond b 1 n) ≡ cond c 0 (cond d 1 m) → n ≡ m
+  by true p b q true r d s e = eqb-true n 6 p ∙ sym (eqb-true m 6 r)
+  by false p true q false r true s e = eqb-true n 12 q ∙ sym (eqb-true m 12 s)
+  by false p false q false r false s e = e
+  by true p b q false r true s e = omega arith
+  by true p b q false r false s e = omega arith
+  by false p true q true r d s e = omega arith
+  by false p true q false r false s e = omega arith
+  by false p false q true r d s e = omega arith
+  by false p false q false r true s e = omega arith
+one-rank (FirstCommand first) n m h k = λ e. e
+one-rank (SecondCommand second) n m h k = λ e. e
 
 -- AND NO OTHER NUMBER IS
 pub only-number : (Known : ℕ → Type 0) (atc : ℕ) (due : Due) (command : Command) (n m : ℕ)
@@ -346,10 +382,12 @@ pub only-number : (Known : ℕ → Type 0) (atc : ℕ) (due : Due) (command : Co
 only-number Known atc due command n m (done p f) (done q g) = p ∙ sym q
 only-number Known atc due command n m (done p f) (refused a g) = absurd (f m a)
 only-number Known atc due command n m (refused a f) (done q g) = absurd (g n a)
-only-number Known atc due command n m (refused a f) (refused b g) = by (ltb (rank n) (rank m)) refl (ltb (rank m) (rank n)) refl where
-  by : (x : Bool) → ltb (rank n) (rank m) ≡ x → (y : Bool) → ltb (rank m) (rank n) ≡ y → n ≡ m
-  by true e y k = absurd (g n (ltb-true _ _ e) a)
-  by false e true k = absurd (f m (ltb-true _ _ k) b)
-  by false e false k =
-      one-rank n m (some-number Known atc due command n a) (some-number Known atc due command m b)
-      (le-antisymm (ltb-false (rank m) (rank n) k) (ltb-false (rank n) (rank m) e))
+only-number Known atc due command n m (refused a f) (refused b g) =
+    by (ltb (rank command n) (rank command m)) refl (ltb (rank command m) (rank command n)) refl
+  where
+    by : (x : Bool) → ltb (rank command n) (rank command m) ≡ x → (y : Bool) → ltb (rank command m) (rank command n) ≡ y → n ≡ m
+    by true e y k = absurd (g n (ltb-true _ _ e) a)
+    by false e true k = absurd (f m (ltb-true _ _ k) b)
+    by false e false k =
+        one-rank command n m (some-number Known atc due command n a) (some-number Known atc due command m b)
+        (le-antisymm (ltb-false (rank command m) (rank command n) k) (ltb-false (rank command n) (rank command m) e))

@@ -14,7 +14,7 @@ use Rattle.demands.specs.Setup.{Setup, byteAt, AcceptedSetup}
 use Rattle.demands.specs.Conversation.{Exchange, Sitting, outcomeOf, told, run, satBy, rulesBy, sat, satOver}
 use Rattle.demands.specs.Audit.{writtenBy, inForce}
 use Rattle.demands.proofs.Step.{Did, did}
-use Rattle.demands.proofs.Bytes.{both-fit}
+use Rattle.demands.proofs.Bytes.{all-fit}
 
 pub run-keeps : (P : Sitting → Type 0) → ((sitting : Sitting) → P sitting → (command : Command) → P (told sitting command))
     → (sitting : Sitting) → P sitting → (commands : List Command) → P (run sitting commands)
@@ -58,7 +58,7 @@ did-by setup sitting ruled command =
     let rules = rulesBy (inForce setup (sitting .log)) in
     subst (λ these. Did rules (sitting .state) command (stepOf these (sitting .state) command)) (sym (ruled .rules-are)) (did rules (sitting .state) command)
 
--- what no command writes stays: the PIN's byte, and the tail with the cyclic accumulators
+-- what no command writes stays: the PIN's byte, the tail with the cyclic accumulators, and the family's
 module _ {A : Type 0} (part : Setup → A)
     (unwritten : (command : Command) (answer : Answer) (before : Setup) → part (writtenBy command answer before) ≡ part before) where
   stays : (setup : Setup) (log : List Exchange) → part (inForce setup log) ≡ part setup
@@ -80,9 +80,17 @@ tail-stays = stays (λ setup. setup .tail) unwritten where
   unwritten (FirstCommand first) answer before = refl
   unwritten (SecondCommand second) answer before = refl
 
+pub family-stays : (setup : Setup) (log : List Exchange) → inForce setup log .family ≡ setup .family
+family-stays = stays (λ setup. setup .family) unwritten where
+  unwritten : (command : Command) (answer : Answer) (before : Setup) → writtenBy command answer before .family ≡ before .family
+  unwritten (StartCommand start) answer before = refl
+  unwritten (FirstCommand first) answer before = refl
+  unwritten (SecondCommand second) answer before = refl
+
 -- OVER THE WORDS THAT A CARD WAS LENT, whatever they held, the conversation is the one over the set-up's bytes
 pub heard-over-words : (setup : Setup) → AcceptedSetup setup → (words : List ℕ) → length words ≡ wordCount → (commands : List Command)
     → satOver words setup commands ≡ sat setup commands
 heard-over-words setup good words size commands =
     ap (λ rules. satBy rules setup commands)
-    (faithful (setup .bytes) (setup .tail) (good .bytes) (good .tail-bytes) (setup .syllabus) (setup .unnamed) words size (both-fit good))
+    (faithful (setup .bytes) (setup .tail) (setup .family) (good .bytes) (good .tail-bytes) (good .family-bytes) (setup .syllabus) (setup .unnamed) words size
+    (all-fit good))

@@ -6,6 +6,8 @@ use mathlib.Core.List.{List, [], _∷_, _++_}
 use Prim.Native.Nat.{ℕ, _+_}
 use lib.Dec.{T, eqb}
 use Rattle.calendar.specs.declared.Date.{Date}
+use Rattle.cpace.specs.declared.Cvm.{Cvm}
+use Rattle.cpace.specs.declared.Cvm.the-variants.{OnlinePin, Signature, NoCvm}
 use Rattle.iad.specs.Iad.{isCvr, isWritable}
 use Rattle.ranges.specs.Ranges.{isSetup}
 use Rattle.setup.specs.Setup.{isAccepted}
@@ -15,7 +17,10 @@ use Rattle.state.specs.declared.Answer.the-variants.{Refused, Started, Given}
 use Rattle.state.specs.declared.Kind.{Kind}
 use Rattle.state.specs.declared.Kind.the-variants.{Aac, Tc, Arqc}
 use Rattle.cryptogram.specs.Cryptogram.{kindCode}
+use Rattle.selection.specs.declared.Selection.{Selection}
+use Rattle.selection.specs.declared.Selection.the-variants.{Selected, NotSelected}
 use Rattle.command.specs.declared.When.{When}
+use Rattle.command.specs.declared.When.the-variants.{Undated}
 use Rattle.command.specs.declared.Command.{Command}
 use Rattle.command.specs.declared.Command.the-variants.{Start as StartCommand, First as FirstCommand, Second as SecondCommand}
 use Rattle.card.specs.Card.{answerNumber}
@@ -27,9 +32,9 @@ use Rattle.demands.specs.Past.{past, atcBy}
 use Rattle.demands.specs.Due.{Due, nothing, aFirst, aSecond, due, dueIn}
 use Rattle.demands.specs.Verification.{sentOf}
 use Rattle.demands.proofs.Computed.{computed}
-use Rattle.demands.proofs.Sittings.{counting, limiting, defaulting, full, sending, spending, weekly}
+use Rattle.demands.proofs.Sittings.{counting, limiting, defaulting, full, sending, spending, weekly, dual}
 use Rattle.demands.proofs.Sittings.{start, first, firstOn, second, unable, after, onDay, approvals, limits, resets, answered, online, buy, late}
-use Rattle.demands.proofs.Sittings.{week, weeks, years}
+use Rattle.demands.proofs.Sittings.{week, weeks, years, firstBy, pay, payOnline}
 
 abbrev same : Bool → Bool → Bool
 same true b = b
@@ -118,6 +123,19 @@ unfoldable pub numbers : When → (amount requested number : ℕ) → Bool
 numbers when amount requested number =
     eqb (answerNumber (next (spending 1 7 0 100) (start 1 ∷ []) (firstOn when amount 0x0978 requested) .answer)) number
 
+-- what First answers to a CPACE card, requested a TC
+unfoldable pub answersBy : Setup → Cvm → (cashback : Bool) → (amount : ℕ) → Kind → Bool
+answersBy setup cvm cashback amount kind = isOf (next setup (start 1 ∷ []) (firstBy cvm cashback Undated amount 0x0978 1) .answer) kind
+
+-- and Second after Y3
+unfoldable pub closesBy : Setup → (cashback : Bool) → Kind → Bool
+closesBy setup cashback kind = isOf (next setup (pay NoCvm cashback 2) unable .answer) kind
+
+-- the number of a Start's answer
+unfoldable pub opensAs : (interface : ℕ) → Selection → (number : ℕ) → Bool
+opensAs interface chosen number =
+    eqb (answerNumber (next (dual 0 0 1 6 1) [] (StartCommand (record { interface = interface; chosen = chosen })) .answer)) number
+
 -- `gives`: what the newest answer sends, and what the auditor finds
 abbrev isSending : Setup → List Exchange → Answer → Bool
 isSending setup log (Refused refusal) = false
@@ -147,7 +165,7 @@ writes n = not (isSetup (sending n .bytes) (sending n .unnamed)) || canWrite (ne
 
 abbrev areSetups : List Setup → Bool
 areSetups [] = true
-areSetups (setup ∷ setups) = isAccepted (setup .bytes) (setup .tail) (setup .unnamed) && areSetups setups
+areSetups (setup ∷ setups) = isAccepted (setup .bytes) (setup .tail) (setup .family) (setup .unnamed) && areSetups setups
 
 pub record Samples : Type 0 where
   pub accepted : T (areSetups (counting ∷ limiting 1 0x07 0xD0 ∷ limiting 1 0x17 0x70 ∷ limiting 5 0x17 0x70 ∷ defaulting ∷ full ∷ sending 124 ∷ []))
@@ -216,10 +234,35 @@ pub record Samples : Type 0 where
   pub no-leap-day : T (numbers (onDay 0x01 0x02 0x29) 1 1 13 && numbers (onDay 0x10 0x02 0x29) 1 1 13)
   pub no-digits : T (numbers (onDay 0x0A 0x01 0x01) 1 1 13 && numbers (onDay 0x00 0x01 0x0A) 1 1 13)
   pub thirteen-last : T (numbers (onDay 0x00 0x02 0x30) 1_000_000_000_000 1 6 && numbers (onDay 0x00 0x02 0x30) 1 3 5)
+  pub dual-accepted : T (areSetups (dual 0 0 1 6 1 ∷ dual 0x17 0x70 1 6 1 ∷ dual 0 0 15 15 0 ∷ dual 0 0 1 6 0 ∷ []))
+  -- accumulator 1 is closed to no CVM, counter 1 to online PIN and signature: a purchase counts in the other alone, at First and after Y3
+  pub closed-uncounted : T (agrees (dual 0 0 1 6 1) (pay NoCvm false 1))
+  pub closed-after-unable : T (agrees (dual 0 0 1 6 1) (payOnline OnlinePin false unable) && agrees (dual 0 0 1 6 1) (payOnline Signature false unable))
+  -- 6000 is above the lower limit of the one that is open, and not tested in the one that is closed, whose value is
+  pub open-tested : T (answersBy (dual 0 0 1 6 1) OnlinePin false 6000 Arqc)
+  pub closed-untested : T (answersBy (dual 0 0 1 6 1) NoCvm false 6000 Tc)
+  pub closed-value-tested : T (answersBy (dual 0x17 0x70 1 6 1) NoCvm false 1 Arqc)
+  -- MTA is tested where all is closed
+  pub maximum-tested : T (answersBy (dual 0 0 15 15 0) NoCvm false 9001 Arqc)
+  -- an offline decline counts in a closed counter, at First and after Y3
+  pub closed-declines : T (agrees (dual 0 0 1 6 1) (pay Signature false 0) && agrees (dual 0 0 1 6 1) (payOnline Signature true unable))
+  -- an ARQC adds nothing; order 11 adds to what is open alone, and so it does where the issuer declines; orders 01 and 10 reach what is closed
+  pub asked-uncounted : T (agrees (dual 0 0 1 6 1) (pay NoCvm false 2))
+  pub closed-unordered : T (agrees (dual 0 0 1 6 1) (payOnline NoCvm false (second 0x83)))
+  pub declined-ordered : T (agrees (dual 0 0 1 6 1) (payOnline NoCvm false (second 0x03)))
+  pub closed-limited : T (agrees (dual 0 0 1 6 1) (payOnline NoCvm false (second 0x01)))
+  pub closed-reset : T (agrees (dual 0x17 0x70 1 6 1) (payOnline NoCvm false (second 0x82)))
+  -- cashback goes online, unless it isn't checked or there is none; after Y3 it is declined
+  pub cashback-online : T (answersBy (dual 0 0 1 6 1) NoCvm true 1 Arqc)
+  pub cashback-unchecked : T (answersBy (dual 0 0 1 6 0) NoCvm true 1 Tc)
+  pub no-cashback : T (answersBy (dual 0 0 1 6 1) NoCvm false 1 Tc)
+  pub cashback-again : T (closesBy (dual 0 0 1 6 1) true Aac && closesBy (dual 0 0 1 6 1) false Tc)
+  -- 6 before 12 and before 3
+  pub six-first : T (opensAs 2 NotSelected 6 && opensAs 2 (Selected 9 0) 6 && opensAs 1 NotSelected 12 && opensAs 1 (Selected 9 0) 3)
 
 pub samples : Samples
-unfolding counting limiting defaulting full sending spending weekly approvals limits resets answered online buy late week weeks years agrees duly kindly answersTo
-    answersOn showsOn numbers sends writes isWritable isCvr computed
+unfolding counting limiting defaulting full sending spending weekly dual approvals limits resets answered online buy late week weeks years pay payOnline agrees
+    duly kindly answersTo answersOn showsOn numbers answersBy closesBy opensAs sends writes isWritable isCvr computed
 samples =
     record {
       accepted = tt;
@@ -273,4 +316,22 @@ samples =
       no-leap-day = tt;
       no-digits = tt;
       thirteen-last = tt;
+      dual-accepted = tt;
+      closed-uncounted = tt;
+      closed-after-unable = tt;
+      open-tested = tt;
+      closed-untested = tt;
+      closed-value-tested = tt;
+      maximum-tested = tt;
+      closed-declines = tt;
+      asked-uncounted = tt;
+      closed-unordered = tt;
+      declined-ordered = tt;
+      closed-limited = tt;
+      closed-reset = tt;
+      cashback-online = tt;
+      cashback-unchecked = tt;
+      no-cashback = tt;
+      cashback-again = tt;
+      six-first = tt;
     }

@@ -1,36 +1,42 @@
 -- The demands where profiles are selected: they read on from the profile that selection over the file's bytes gives. Assumes nothing.
 use mathlib.Core.Path.{_≡_, refl, ap}
-use mathlib.Core.Bool.{Bool, true, false}
-use mathlib.Core.List.{List}
-use Prim.Native.Nat.{ℕ, _≤_}
+use mathlib.Core.Bool.{Bool, true, false, cond}
+use mathlib.Core.List.{List, [], _∷_}
+use Prim.Native.Nat.{ℕ, suc, _≤_}
 use native.Mathlib.Omega.{arith}
-use lib.Dec.{eqb}
+use borrow.Author.Tests.{ne-eqb}
+use lib.Dec.{eqb, ltb}
+use lib.ListN.{length}
 use Rattle.rules.specs.declared.Found.{Found}
 use Rattle.rules.specs.declared.Found.the-variants.{At, Nothing}
 use Rattle.rules.specs.Rules.{Rules, findProfile}
+use Rattle.slot.specs.declared.Slots.{Slots}
 use Rattle.selection.specs.declared.Selection.{Selection}
 use Rattle.selection.specs.declared.Selection.the-variants.{Selected, NotSelected}
 use Rattle.selection.specs.Selection.{selectionOf, profileOf, visitsOf}
 use Rattle.shape.specs.declared.Dating.{Dating}
+use Rattle.shape.specs.declared.Family.the-variants.{Cpa, Cpace}
+use Rattle.refusal.specs.declared.Refusal.the-variants.{OutOfRange}
 use Rattle.command.specs.declared.First.{First}
+use Rattle.command.specs.declared.Command.{Command}
 use Rattle.command.specs.declared.ReadCommand.the-variants.{Taken}
-use Rattle.command.specs.Command.{selectingOf}
+use Rattle.command.specs.Command.{startSelected, selectingOf}
 use Rattle.state.specs.declared.Answer.{Answer}
 use Rattle.state.specs.declared.Answer.the-variants.{Refused, Started, Given}
 use Rattle.state.specs.declared.Kind.{Kind}
 use Rattle.state.specs.declared.State.{State}
 use Rattle.iad.specs.declared.Iad.{Iad}
-use Rattle.card.specs.Card.{ruleStart, ruleOpening, carried, startPerformed, startStep, stepOf}
+use Rattle.card.specs.Card.{refuse, ruleChosen, ruleOpening, carried, startPerformed, startStep, stepOf}
 use Rattle.state.specs.declared.Outcome.{Outcome}
-use Rattle.demands.specs.Setup.{Setup, AcceptedSetup}
+use Rattle.demands.specs.Setup.{Setup, IsCpa, AcceptedSetup}
 use Rattle.purchase.specs.Meter.{Meter, IsMeter, valueOf}
 use Rattle.demands.specs.Ledger.{owed}
 use Rattle.demands.specs.Conversation.{Sitting, outcomeOf, told, sat}
-use Rattle.demands.specs.Audit.{capOf, startOf, approves, upperOf, takesUp, brought, bought, lastDate, inForce, placeBy, ledger, tested}
+use Rattle.demands.specs.Audit.{capOf, startOf, approves, upperOf, takesPart, brought, bought, lastDate, inForce, placeBy, ledger, tested}
 use Rattle.demands.specs.Guards.{Guards}
 use Rattle.demands.specs.Past.{past}
 use Rattle.demands.specs.Decision.{flags, FirstAnswers}
-use Rattle.demands.specs.Selecting.{Said, start, first, heard, allHeard}
+use Rattle.demands.specs.Selecting.{Said, start, startOn, first, slotsBy, selecting, heard, allHeard}
 use Rattle.demands.proofs.Total.{total}
 use Rattle.demands.proofs.Limit.{limit}
 use Rattle.demands.proofs.First.{first-answers}
@@ -49,17 +55,23 @@ isStart (Started atc visits) = 1
 isStart (Given kind atc iad) = 0
 
 module _ (file : List ℕ) (entries : ℕ) where
-  -- A START'S RECORD IS HEARD AS SELECTION OVER THE FILE'S BYTES
-  pub heard-as-read : (dating : Dating) (terminal : List ℕ) → selectingOf dating file entries 2 terminal ≡ Taken (heard file entries (start terminal))
-  unfolding selectingOf
-  heard-as-read dating terminal = refl
+  -- A START'S RECORD IS HEARD AS SELECTION OVER THE FILE'S BYTES, of a CPA card and of a CPACE one
+  pub heard-as-read : (dating : Dating) (slots : Slots) (terminal : List ℕ)
+      → selectingOf dating Cpa slots file entries 2 terminal ≡ Taken (heard file entries slots (start terminal))
+  unfolding selectingOf startSelected
+  heard-as-read dating slots terminal = refl
+
+  pub heard-on-interface : (dating : Dating) (slots : Slots) (from to interface : ℕ) (terminal : List ℕ)
+      → selectingOf dating (Cpace from to) slots file entries 2 (interface ∷ terminal) ≡ Taken (heard file entries slots (startOn interface terminal))
+  unfolding selectingOf startSelected
+  heard-on-interface dating slots from to interface terminal = rw (ne-eqb (suc (length terminal)) 0 (λ e. omega arith))
 
   -- AN ACCEPTED START OPENS THE PROFILE SELECTED, AND SAYS HOW MANY ENTRIES WERE VISITED
-  pub start-selected : (rules : Rules) (state : State) (terminal : List ℕ) (atc visits : ℕ)
-      → stepOf rules state (heard file entries (start terminal)) .answer ≡ Started atc visits
-      → selectionOf file entries terminal ≡ Selected (profileOf (selectionOf file entries terminal)) visits
+  pub start-selected : (rules : Rules) (state : State) (slots : Slots) (interface : ℕ) (read : List ℕ) (atc visits : ℕ)
+      → stepOf rules state (selecting file entries slots interface read) .answer ≡ Started atc visits
+      → selectionOf file entries read slots ≡ Selected (profileOf (selectionOf file entries read slots)) visits
   unfolding stepOf startStep visitsIn isStart
-  start-selected rules state terminal atc visits = by (selectionOf file entries terminal) where
+  start-selected rules state slots interface read atc visits = on (ltb 1 interface) (selectionOf file entries read slots) where
     opened : (profile seen : ℕ) (found : Found) (b : Bool) → eqb (state .atc) 65535 ≡ b
         → carried state (startPerformed state seen) (ruleOpening (state .atc) found) .answer ≡ Started atc visits
         → Selected profile seen ≡ Selected profile visits
@@ -67,38 +79,51 @@ module _ (file : List ℕ) (entries : ℕ) where
     opened profile seen (At place) true h e = let z = ap isStart (rw h at e) in absurd (omega arith)
     opened profile seen (At place) false h e = ap (Selected profile) (ap visitsIn (rw h at e))
 
-    by : (chosen : Selection) → carried state (startPerformed state (visitsOf chosen)) (ruleStart rules (state .atc) chosen) .answer ≡ Started atc visits
+    by : (chosen : Selection) → carried state (startPerformed state (visitsOf chosen)) (ruleChosen rules (state .atc) chosen) .answer ≡ Started atc visits
         → chosen ≡ Selected (profileOf chosen) visits
     by NotSelected e = let z = ap isStart e in absurd (omega arith)
     by (Selected profile seen) e = opened profile seen (findProfile rules profile) (eqb (state .atc) 65535) refl e
 
+    on : (b : Bool) (chosen : Selection)
+        → carried state (startPerformed state (visitsOf chosen)) (cond b (refuse OutOfRange) (ruleChosen rules (state .atc) chosen)) .answer
+        ≡ Started atc visits
+        → chosen ≡ Selected (profileOf chosen) visits
+    on true chosen e = let z = ap isStart e in absurd (omega arith)
+    on false chosen e = by chosen e
+
   module _ (setup : Setup) (good : AcceptedSetup setup) (said : List Said) where
-    -- the conversation so far, and what one thing more that is said comes to
+    -- the commands heard so far, the conversation, and what one thing more that is said comes to
+    abbrev pub commands-so-far : List Command
+    commands-so-far = allHeard file entries setup (sat setup []) said
+
     abbrev pub sat-so-far : Sitting
-    sat-so-far = sat setup (allHeard file entries said)
+    sat-so-far = sat setup commands-so-far
+
+    abbrev pub heard-now : Said → Command
+    heard-now now = heard file entries (slotsBy setup (sat-so-far .log)) now
 
     abbrev pub next-heard : Said → Outcome
-    next-heard now = outcomeOf sat-so-far (heard file entries now)
+    next-heard now = outcomeOf sat-so-far (heard-now now)
 
     -- DEMAND 3, THE TOTAL, WITH PROFILES SELECTED
     pub selected-total : (meter : Meter) → IsMeter meter
         → valueOf (sat-so-far .state .values) meter ≡ owed (capOf meter) (startOf setup meter) (ledger setup meter (sat-so-far .log))
-    selected-total = total setup good (allHeard file entries said)
+    selected-total = total setup good commands-so-far
 
-    -- DEMAND 3, THE UPPER LIMIT, for the profile that selection opened
-    pub selected-limit : (now : Said) (meter : Meter) → IsMeter meter
+    -- DEMAND 3, THE UPPER LIMIT of a CPA card, for the profile that selection opened
+    pub selected-limit : IsCpa setup → (now : Said) (meter : Meter) → IsMeter meter
         → Guards (inForce setup (sat-so-far .log)) (placeBy setup (sat-so-far .log)) meter
-        → approves (heard file entries now) (next-heard now .answer) ≡ true
-        → takesUp (bought setup (told sat-so-far (heard file entries now) .log)) meter ≡ true
+        → approves (heard-now now) (next-heard now .answer) ≡ true
+        → takesPart (bought setup (told sat-so-far (heard-now now) .log)) meter ≡ true
         → valueOf (next-heard now .state .values) meter ≤ upperOf (inForce setup (sat-so-far .log)) (placeBy setup (sat-so-far .log)) meter
-    selected-limit now = limit setup good (allHeard file entries said) (heard file entries now)
+    selected-limit cpa now = limit setup good cpa commands-so-far (heard-now now)
 
     -- DEMAND 2: WHAT FIRST AND SECOND ANSWER
     pub selected-first : (f : First) (kind : Kind) (atc : ℕ) (iad : Iad) → next-heard (first f) .answer ≡ Given kind atc iad
         → FirstAnswers (inForce setup (sat-so-far .log)) (placeBy setup (sat-so-far .log)) f
         (flags (inForce setup (sat-so-far .log)) (placeBy setup (sat-so-far .log)) (brought (lastDate setup (sat-so-far .log)) f)
         (tested setup (sat-so-far .log) f) (past setup (sat-so-far .log))) kind
-    selected-first = first-answers setup good (allHeard file entries said)
+    selected-first = first-answers setup good commands-so-far
 
-    pub selected-gives : (now : Said) → Gives setup (sat-so-far .log) (heard file entries now) (next-heard now)
-    selected-gives now = gives setup good (allHeard file entries said) (heard file entries now)
+    pub selected-gives : (now : Said) → Gives setup (sat-so-far .log) (heard-now now) (next-heard now)
+    selected-gives now = gives setup good commands-so-far (heard-now now)

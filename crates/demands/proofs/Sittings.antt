@@ -1,7 +1,10 @@
 -- Set-ups and commands of a few sittings, for the rows of Samples and the premises of Witness. Assumes nothing.
+use mathlib.Core.Bool.{Bool, false}
 use mathlib.Core.List.{List, [], _∷_, _++_}
 use Prim.Native.Nat.{ℕ, _*_, _^_}
 use lib.ListN.{replicate}
+use Rattle.cpace.specs.declared.Cvm.{Cvm}
+use Rattle.cpace.specs.declared.Cvm.the-variants.{NoCvm}
 use Rattle.selection.specs.declared.Selection.the-variants.{Selected}
 use Rattle.command.specs.declared.When.{When}
 use Rattle.command.specs.declared.When.the-variants.{Undated, On}
@@ -16,7 +19,7 @@ zeros n = replicate n 0
 
 -- of version 01
 abbrev pub setupOf : List ℕ → Setup
-setupOf body = record { bytes = body; tail = []; syllabus = 0; unnamed = 2 ^ 22 }
+setupOf body = record { bytes = body; tail = []; family = []; syllabus = 0; unnamed = 2 ^ 22 }
 
 -- p profiles, c conversions, ATC 0; accumulators in 0978 from a number below 65536, in 0840 from 0, in 0978 from 7
 abbrev pub head : (p c high low : ℕ) → List ℕ
@@ -85,6 +88,7 @@ datedOf month day cycles rules =
     record {
       bytes = head 2 0 0 0 ++ datedProfile 1 ++ datedProfile 2;
       tail = 1 ∷ 0x00 ∷ month ∷ day ∷ cycles ++ rules;
+      family = [];
       syllabus = 0;
       unnamed = 2 ^ 25;
     }
@@ -102,15 +106,45 @@ weekly =
     datedOf 0x01 0x01 (cycle 0 9 2 3 ++ cycle 0 9 2 2)
     (cyclicRule 7 0xFF 0xFF ++ cyclicRule 7 0xFF 0xFF ++ cyclicRule 7 0xFF 0xFF ++ cyclicRule 7 0xFF 0xFF)
 
+-- ---- set-ups of a CPACE card, of version 05
+
+-- accumulator 1 from a number, 5000 and 10000, and counter 1, 255, with declines: both count and are tested with the purchase; Online MTA, 9000,
+-- accumulator 1's lower limit and cashback; Decline its upper limit; Default that and cashback; a control of each, and the cashback switch
+unfoldable pub dual : (high low control control' cashback : ℕ) → Setup
+dual high low control control' cashback =
+    let masks : List ℕ = 0x02 ∷ 0 ∷ 0 ∷ 0x60 ∷ 0 ∷ 0 ∷ 0x04 ∷ 0 ∷ 0x02 ∷ 0 ∷ 0x04 ∷ 0 ∷ [] in
+    let maximum : List ℕ = 1 ∷ 0x09 ∷ 0x78 ∷ zeros 6 ++ 0x23 ∷ 0x28 ∷ [] in
+    record {
+      bytes = head 1 0 high low ++ 1 ∷ masks ++ maximum ++ rule 7 0x13 0x88 0x27 0x10 ++ zeros 51 ++ 15 ∷ 255 ∷ 255 ∷ zeros 9 ++ 1 ∷ 1 ∷ 0 ∷ [];
+      tail = [];
+      family = 1 ∷ control ∷ zeros 3 ++ control' ∷ zeros 3 ++ cashback ∷ [];
+      syllabus = 0;
+      unnamed = 2 ^ 26;
+    }
+
 -- ---- sittings
 
+abbrev pub startOn : (interface n : ℕ) → Command
+startOn interface n = StartCommand (record { interface = interface; chosen = Selected n 0 })
+
 abbrev pub start : ℕ → Command
-start n = StartCommand (record { chosen = Selected n 0 })
+start n = startOn 0 n
 
 -- requested 0 AAC, 1 TC, 2 ARQC
+abbrev pub firstBy : Cvm → (cashback : Bool) → When → (amount currency requested : ℕ) → Command
+firstBy cvm cashback when amount currency requested =
+    FirstCommand (record {
+      amount = record { 0 = amount };
+      currency = currency;
+      requested = requested;
+      terminal = 0x22;
+      when = when;
+      cvm = cvm;
+      cashback = cashback;
+    })
+
 abbrev pub firstOn : When → (amount currency requested : ℕ) → Command
-firstOn when amount currency requested =
-    FirstCommand (record { amount = record { 0 = amount }; currency = currency; requested = requested; terminal = 0x22; when = when })
+firstOn when amount currency requested = firstBy NoCvm false when amount currency requested
 
 abbrev pub first : (amount currency requested : ℕ) → Command
 first amount currency requested = firstOn Undated amount currency requested
@@ -175,3 +209,12 @@ weeks = inJanuary 0x02 ++ inJanuary 0x03 ++ inJanuary 0x09 ++ inJanuary 0x10
 -- 30 in July 2000 and 1 in July 2001
 unfoldable pub years : List Command
 years = start 1 ∷ firstOn (onDay 0x00 0x07 0x15) 30 0x0978 1 ∷ start 1 ∷ firstOn (onDay 0x01 0x07 0x15) 1 0x0978 1 ∷ []
+
+-- ---- to a CPACE card
+
+-- a purchase of 4000 by its CVM, with cashback or without; and one that goes online, and a Second
+unfoldable pub pay : Cvm → (cashback : Bool) → (requested : ℕ) → List Command
+pay cvm cashback requested = start 1 ∷ firstBy cvm cashback Undated 4000 0x0978 requested ∷ []
+
+unfoldable pub payOnline : Cvm → (cashback : Bool) → Command → List Command
+payOnline cvm cashback command = pay cvm cashback 2 ++ command ∷ []

@@ -27,7 +27,7 @@ use Rattle.state.specs.declared.State.{State}
 use Rattle.state.specs.declared.Outcome.{Outcome}
 use Rattle.first.specs.First.{firstPerformed}
 use Rattle.second.specs.Second.{secondPerformed}
-use Rattle.card.specs.Card.{refuse, take, ruleStart, ruleOpening, isDated, ruleFirst, ruleSecond, carried, refused, startPerformed, startStep}
+use Rattle.card.specs.Card.{refuse, take, ruleChosen, ruleOpening, isDated, ruleFirst, ruleSecond, carried, refused, startPerformed, startStep}
 use Rattle.card.specs.Card.{firstStep, secondStep, stepOf}
 use Rattle.demands.proofs.Found.{Holds, Known, known}
 
@@ -51,13 +51,19 @@ module _ (rules : Rules) (state : State) where
     by true = refused-it AtcUsedUp
     by false = started-it start place holds
 
-  start-did : (start : Start) (chosen : Selection) → start .chosen ≡ chosen
-      → Did rules state (StartCommand start) (carried state (startPerformed state (visitsOf chosen)) (ruleStart rules (state .atc) chosen))
-  start-did start None is = refused-it NotSelected
-  start-did start (Selected profile visits) is =
+  chosen-did : (start : Start) (chosen : Selection) → start .chosen ≡ chosen
+      → Did rules state (StartCommand start) (carried state (startPerformed state (visitsOf chosen)) (ruleChosen rules (state .atc) chosen))
+  chosen-did start None is = refused-it NotSelected
+  chosen-did start (Selected profile visits) is =
       subst (λ c. Did rules state (StartCommand start)
       (carried state (startPerformed state (visitsOf c)) (ruleOpening (state .atc) (findProfile rules (profileOf c))))) is
       (opening-did start (findProfile rules (profileOf (start .chosen))) (known rules (profileOf (start .chosen))))
+
+  start-did : (start : Start) (b : Bool)
+      → Did rules state (StartCommand start) (carried state (startPerformed state (visitsOf (start .chosen)))
+      (cond b (refuse OutOfRange) (ruleChosen rules (state .atc) (start .chosen))))
+  start-did start true = refused-it OutOfRange
+  start-did start false = chosen-did start (start .chosen) refl
 
   first-did : (first : First) (phase : Phase) → state .phase ≡ phase
       → Did rules state (FirstCommand first) (carried state (firstPerformed rules state first) (ruleFirst phase first))
@@ -89,6 +95,6 @@ module _ (rules : Rules) (state : State) where
 
   pub did : (command : Command) → Did rules state command (stepOf rules state command)
   unfolding stepOf startStep firstStep secondStep
-  did (StartCommand start) = start-did start (start .chosen) refl
+  did (StartCommand start) = start-did start (ltb 1 (start .interface))
   did (FirstCommand first) = first-did first (state .phase) refl
   did (SecondCommand second) = second-did second (state .phase) refl

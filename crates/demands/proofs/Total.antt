@@ -55,7 +55,7 @@ use Rattle.demands.proofs.Step.{Did, refused-it, started-it, took-first
 use Rattle.demands.proofs.Run.{Ruled, ruled-keeps, did-by}
 use Rattle.demands.proofs.Owed.{Fair, nothing, starts, grows}
 use Rattle.demands.proofs.Found.{below-four}
-use Rattle.demands.proofs.Bytes.{fits, fits-tail, both-fit, Stands, stands-at}
+use Rattle.demands.proofs.Bytes.{fits, fits-tail, all-fit, Stands, stands-at}
 use Rattle.demands.proofs.Dated.{begun-fair}
 use Rattle.demands.proofs.Deals.{Remembers, Deals, brought-as, begun-then, did-deals, begin-deals}
 use Rattle.demands.proofs.Moves.{approved-moves, declined-moves, ordered-moves, counted-fair, declined-fair, ordered-fair}
@@ -282,7 +282,7 @@ module _ (setup : Setup) where
   pub begin-holds : AcceptedSetup setup → Holding setup (sat setup [])
   unfolding run freshState readSetup ledger
   begin-holds good =
-      rw (both-fit good)
+      rw (all-fit good)
       (record { agrees = tt; values = λ meter l. fresh meter l ∙ starts (capOf meter) (startOf setup meter) (start-within setup good meter l) })
 
   pub always : AcceptedSetup setup → (commands : List Command) → Holding setup (sat setup commands)

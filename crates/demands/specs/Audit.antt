@@ -1,6 +1,6 @@
 -- What an auditor reads off the conversation with the set-up in hand, and no card: the ledger of one accumulator, counter or cyclic
 -- accumulator. Each offset and each rule is spelled from document 01 ("The paper", "First: the answer", "Second: the answer", "Numbers")
--- and request Five, dates by the almanac; nothing here knows of a card's state, of its step or of the rules that it decoded.
+-- and requests Five, dates by the almanac, and Thirteen; nothing here knows of a card's state, of its step or of the rules that it decoded.
 use Prim.Native.Nat.{ℕ, zero, suc, _+_, _-_, _*_, _/_, _%_, _^_}
 use mathlib.Core.Bool.{Bool, true, false, cond, not, _&&_, _||_}
 use mathlib.Core.List.{List, [], _∷_, _++_}
@@ -10,6 +10,8 @@ use Rattle.calendar.specs.declared.Date.{Date}
 use Rattle.calendar.specs.declared.Period.{Period}
 use Rattle.calendar.specs.declared.Period.the-variants.{Day, Week, Month}
 use Rattle.calendar.specs.Almanac.{civilOf, ordinal, isNew}
+use Rattle.cpace.specs.declared.Cvm.{Cvm}
+use Rattle.cpace.specs.declared.Cvm.the-variants.{OnlinePin, Signature, NoCvm}
 use Rattle.selection.specs.Selection.{profileOf}
 use Rattle.command.specs.declared.When.{When}
 use Rattle.command.specs.declared.When.the-variants.{Undated as NoDate, On}
@@ -23,7 +25,7 @@ use Rattle.purchase.specs.declared.Timing.{Timing}
 use Rattle.purchase.specs.declared.Timing.the-variants.{Undated, InOrder, DateError}
 use Rattle.purchase.specs.declared.Purchase.{Purchase}
 use Rattle.meters.specs.Meters.{Entry, put, add}
-use Rattle.demands.specs.Setup.{Setup, byteAt, numberAt, tailByte, tailNumber}
+use Rattle.demands.specs.Setup.{Setup, byteAt, numberAt, tailByte, tailNumber, familyByte}
 use Rattle.purchase.specs.Meter.{Meter, accumulator, counter, cyclic}
 use Rattle.demands.specs.Ledger.{owed}
 use Rattle.demands.specs.Conversation.{Exchange}
@@ -156,7 +158,14 @@ timed last (On date) = cond (isLate last date) (DateError date) InOrder
 
 -- the purchase that a First brings, after the last date
 abbrev pub brought : (last : Date) → First → Purchase
-brought last first = record { amount = first .amount; currency = first .currency; timing = timed last (first .when) }
+brought last first =
+    record {
+      amount = first .amount;
+      currency = first .currency;
+      timing = timed last (first .when);
+      cvm = first .cvm;
+      cashback = first .cashback;
+    }
 
 -- the purchase that the last accepted First brought
 abbrev pub boughtBy : Command → Answer → (last : Date) → Purchase → Purchase
@@ -221,7 +230,7 @@ pub record Dealing : Type 0 where
 unfoldable pub dealing : Setup → List Exchange → Dealing
 dealing setup [] =
     record {
-      purchase = record { amount = record { 0 = 0 }; currency = 0; timing = Undated };
+      purchase = record { amount = record { 0 = 0 }; currency = 0; timing = Undated; cvm = NoCvm; cashback = false };
       last = record { year = tailByte setup 1; month = tailByte setup 2; day = tailByte setup 3 };
     }
 dealing setup (exchange ∷ older) =
@@ -243,21 +252,38 @@ approves (StartCommand start) answer = false
 approves (FirstCommand first) answer = isTc answer
 approves (SecondCommand second) answer = couldNotGoOnline (second .code) && isTc answer
 
--- a cyclic accumulator takes up only a purchase whose date is in order
+-- a cyclic accumulator takes part only where the purchase's date is in order
 abbrev pub isTimely : Timing → Bool
 isTimely Undated = false
 isTimely InOrder = true
 isTimely (DateError date) = false
 
-abbrev pub takesUp : Purchase → Meter → Bool
-takesUp purchase (accumulator i) = true
-takesUp purchase (counter i) = true
-takesUp purchase (cyclic i) = isTimely (purchase .timing)
+abbrev pub takesPart : Purchase → Meter → Bool
+takesPart purchase (accumulator i) = true
+takesPart purchase (counter i) = true
+takesPart purchase (cyclic i) = isTimely (purchase .timing)
 
--- each active accumulator with "allow accumulation" grows by the converted amount, each active counter with "allow counting" by 1
+-- the bit of a CVM in a control (8, offline PIN, is never asked)
+abbrev pub cvmBit : Cvm → ℕ
+cvmBit OnlinePin = 4
+cvmBit Signature = 2
+cvmBit NoCvm = 1
+
+-- a control closes its slot to a purchase whose CVM's bit is on in it
+abbrev pub isClosed : (control : ℕ) → Purchase → Bool
+isClosed control purchase = isOn control (cvmBit (purchase .cvm))
+
+-- a meter takes a purchase up unless it is closed to it: a CPACE card's four accumulators have their controls at 1, its four counters at 5
+abbrev pub takesUp : Setup → Purchase → Meter → Bool
+takesUp setup purchase (accumulator i) = not (isClosed (familyByte setup (1 + i)) purchase)
+takesUp setup purchase (counter i) = not (isClosed (familyByte setup (5 + i)) purchase)
+takesUp setup purchase (cyclic i) = isTimely (purchase .timing)
+
+-- each active accumulator with "allow accumulation" that takes the purchase up grows by the converted amount, each active counter with "allow
+-- counting" by 1
 abbrev pub counted : Setup → (profile : ℕ) → Purchase → Meter → List Entry
 counted setup profile purchase meter =
-    cond (takesUp purchase meter && (isActive setup profile meter && isAllowed setup profile meter)) (adds (worthTo setup purchase meter)) []
+    cond (takesUp setup purchase meter && (isActive setup profile meter && isAllowed setup profile meter)) (adds (worthTo setup purchase meter)) []
 
 -- AAC at First, or at Second after Y3 or Z3: each active counter with both "allow counting" and "include offline declines" grows by 1
 abbrev pub declined : Setup → (profile : ℕ) → Meter → List Entry

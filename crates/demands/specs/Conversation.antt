@@ -43,11 +43,11 @@ run sitting (command ∷ commands) = run (told sitting command) commands
 -- a card as reading a set-up makes it, over a list of commands, by these rules
 abbrev pub satBy : Rules → Setup → List Command → Sitting
 satBy rules setup commands =
-    run (record { rules = rules; state = freshState (readSetup (setup .bytes) (setup .tail) (setup .unnamed) .fresh); log = [] }) commands
+    run (record { rules = rules; state = freshState (readSetup (setup .bytes) (setup .tail) (setup .family) (setup .unnamed) .fresh); log = [] }) commands
 
 -- by the rules that stand in the set-up's bytes
 abbrev pub rulesBy : Setup → Rules
-rulesBy setup = rulesIn (setup .bytes) (setup .tail) (setup .syllabus)
+rulesBy setup = rulesIn (setup .bytes) (setup .tail) (setup .family) (setup .syllabus)
 
 abbrev pub sat : Setup → List Command → Sitting
 sat setup commands = satBy (rulesBy setup) setup commands
@@ -55,7 +55,7 @@ sat setup commands = satBy (rulesBy setup) setup commands
 -- by those that stand in the words that it was lent, once it has read the set-up
 abbrev pub satOver : (words : List ℕ) → Setup → List Command → Sitting
 satOver words setup commands =
-    satBy (rulesOf (wordsAfter words (setup .bytes) (setup .tail) (setup .syllabus) (setup .unnamed))) setup commands
+    satBy (rulesOf (wordsAfter words (setup .bytes) (setup .tail) (setup .family) (setup .syllabus) (setup .unnamed))) setup commands
 
 -- what one command more comes to
 abbrev pub next : Setup → List Command → Command → Outcome

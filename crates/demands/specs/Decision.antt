@@ -1,7 +1,7 @@
--- The checks and First's decision as document 01 states them ("Start and the checks", "First: the answer"), from the set-up, the
--- values and the history; nothing here knows of a card's step or of the rules that it decoded.
+-- The checks and First's decision as document 01 states them ("Start and the checks", "First: the answer"), with requests Five and Thirteen,
+-- from the set-up, the values and the history; nothing here knows of a card's step or of the rules that it decoded.
 use mathlib.Core.Path.{_≡_}
-use Prim.Native.Nat.{ℕ, _+_, _/_, _≤_}
+use Prim.Native.Nat.{ℕ, _+_, _-_, _/_, _≤_}
 use mathlib.Core.Bool.{Bool, true, false, _&&_, _||_}
 use mathlib.Core.List.{List, [], _∷_, _++_}
 use lib.Dec.{ltb, eqb}
@@ -12,9 +12,10 @@ use Rattle.purchase.specs.declared.Timing.the-variants.{Undated, InOrder, DateE
 use Rattle.purchase.specs.declared.Purchase.{Purchase}
 use Rattle.state.specs.declared.Kind.{Kind}
 use Rattle.state.specs.declared.Kind.the-variants.{Aac, Tc, Arqc}
-use Rattle.demands.specs.Setup.{Setup, byteAt, numberAt}
+use Rattle.demands.specs.Setup.{Setup, byteAt, numberAt, familyByte}
 use Rattle.purchase.specs.Meter.{Meter, accumulator, counter, cyclic}
-use Rattle.demands.specs.Audit.{isOn, ruleAt, isActive, isIncluded, takesUp, upperOf, Conversion, comesTo, over, none, converted, worthTo}
+use Rattle.demands.specs.Audit.{isOn, ruleAt, isActive, isIncluded, takesPart, takesUp, upperOf, Conversion, comesTo, over, none, converted}
+use Rattle.demands.specs.Audit.{worthTo}
 
 abbrev pub lowerOf : Setup → (profile : ℕ) → Meter → ℕ
 lowerOf setup profile (accumulator i) = numberAt setup (ruleAt profile (accumulator i) + 1) 8
@@ -28,12 +29,13 @@ exceedsWith limit value over = true
 exceedsWith limit value none = false
 
 -- one that is active exceeds a limit if its value does, or, with "include this transaction" and an amount that converts, if value plus
--- converted amount does. A counter likewise, with 1 added. A cyclic accumulator likewise, but not in a date error.
+-- converted amount does, unless it is closed to the purchase. A counter likewise, with 1 added. A cyclic accumulator likewise, but not in a date
+-- error.
 abbrev pub exceeds : Setup → (profile : ℕ) → Purchase → (value limit : ℕ) → Meter → Bool
 exceeds setup profile purchase value limit meter =
-    takesUp purchase meter
+    takesPart purchase meter
     && (isActive setup profile meter
-    && (ltb limit value || (isIncluded setup profile meter && exceedsWith limit value (worthTo setup purchase meter))))
+    && (ltb limit value || (takesUp setup purchase meter && isIncluded setup profile meter && exceedsWith limit value (worthTo setup purchase meter))))
 
 -- MTA is on (13) and the amount, converted to its currency (14), exceeds it (16); without a conversion it doesn't
 abbrev pub exceedsMta : Setup → (profile : ℕ) → Purchase → Bool
@@ -54,7 +56,11 @@ isError Undated = false
 isError InOrder = false
 isError (DateError date) = true
 
--- house order, bit 0 upward; the cyclic accumulators and the date error at the end
+-- the profile checks cashback (at 9 and 1 for each profile before it in the tail of version 05) and the purchase has some
+abbrev pub findsCashback : Setup → (profile : ℕ) → Purchase → Bool
+findsCashback setup profile purchase = eqb (familyByte setup (9 + (profile - 52) / 107)) 1 && purchase .cashback
+
+-- house order, bit 0 upward; the cyclic accumulators, the date error and cashback at the end
 unfoldable pub flags : Setup → (profile : ℕ) → Purchase → (Meter → ℕ) → History → List Bool
 flags setup profile purchase value history =
     history .uncompleted ∷ history .online ∷ history .failed ∷ history .unable ∷ history .missing ∷ exceedsMta setup profile purchase
@@ -62,7 +68,9 @@ flags setup profile purchase value history =
     ++ eachOf accumulator (aboveUpper setup profile purchase value)
     ++ eachOf counter (aboveLower setup profile purchase value)
     ++ eachOf counter (aboveUpper setup profile purchase value)
-    ++ aboveUpper setup profile purchase value (cyclic 0) ∷ aboveUpper setup profile purchase value (cyclic 1) ∷ isError (purchase .timing) ∷ []
+    ++ aboveUpper setup profile purchase value (cyclic 0) ∷ aboveUpper setup profile purchase value (cyclic 1) ∷ isError (purchase .timing)
+    ∷ findsCashback setup profile purchase
+    ∷ []
 
 -- some flag that is set has its bit in the mask
 abbrev pub meets : List Bool → ℕ → Bool

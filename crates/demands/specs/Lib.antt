@@ -10,3 +10,4 @@ pub mod Due
 pub mod Decision
 pub mod Verification
 pub mod Selecting
+pub mod Alike

@@ -2,6 +2,8 @@
 use Prim.Native.Nat.{ℕ}
 use mathlib.Core.List.{List, [], _∷_, _++_}
 use lib.ListN.{replicate}
+use mathlib.Core.Bool.{false}
+use Rattle.cpace.specs.declared.Cvm.the-variants.{NoCvm}
 use Rattle.refusal.specs.Refusal.{refusalNumber}
 use Rattle.iad.specs.Iad.{iadBytes}
 use Rattle.command.specs.declared.When.the-variants.{Undated}
@@ -36,11 +38,20 @@ unfoldable pub body : List ℕ
 body = head ++ profileHead ++ accumulators ++ counters
 
 abbrev pub start : Command
-start = StartCommand (record { chosen = Selected 1 0 })
+start = StartCommand (record { interface = 0; chosen = Selected 1 0 })
 
 -- TC requested, in 0978, terminal 22 hex
 abbrev pub first : ℕ → Command
-first amount = FirstCommand (record { amount = record { 0 = amount }; currency = 0x0978; requested = 1; terminal = 0x22; when = Undated })
+first amount =
+    FirstCommand (record {
+      amount = record { 0 = amount };
+      currency = 0x0978;
+      requested = 1;
+      terminal = 0x22;
+      when = Undated;
+      cvm = NoCvm;
+      cashback = false;
+    })
 
 -- TC requested after Y3, issuer data 0, CSU zeros
 abbrev pub second : Command

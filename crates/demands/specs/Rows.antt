@@ -1,4 +1,4 @@
--- Document 01's table of refusal numbers, with document 02's 12 and 13, row by row, for the three commands: when a number applies, by which profiles
+-- Document 01's table of refusal numbers, with document 02's 12, 13 and a Start's 6, row by row, for the three commands: when a number applies, by which profiles
 -- are known, the ATC and what is due.
 use mathlib.Core.Path.{_≡_}
 use mathlib.Core.Bool.{cond}
@@ -51,6 +51,7 @@ Unselected (Selected profile visits) = ⊥
 Unselected NotSelected = Unit
 
 pub data StartRow (Known : ℕ → Type 0) (atc : ℕ) (start : Start) (n : ℕ) : Type 0 where
+  no-interface : n ≡ 6 → 1 < start .interface → StartRow Known atc start n
   not-selected : n ≡ 12 → Unselected (start .chosen) → StartRow Known atc start n
   not-in-setup : n ≡ 3 → (Known (profileOf (start .chosen)) → ⊥) → StartRow Known atc start n
   used-up : n ≡ 4 → atc ≡ 65535 → StartRow Known atc start n
@@ -78,12 +79,14 @@ Applies Known atc due (StartCommand start) n = StartRow Known atc start n
 Applies Known atc due (FirstCommand first) n = FirstRow due first n
 Applies Known atc due (SecondCommand second) n = SecondRow due second n
 
--- where several apply: Start 12, 3, 4; First 2, 5, 6, 13; Second 2, 5, 6. So 12 comes first, and otherwise the least
-abbrev pub rank : ℕ → ℕ
-rank n = cond (eqb n 12) 0 n
+-- where several apply: Start 6, 12, 3, 4; First 2, 5, 6, 13; Second 2, 5, 6. So of Start 6 comes first, then 12, and otherwise the least
+abbrev pub rank : Command → ℕ → ℕ
+rank (StartCommand start) n = cond (eqb n 6) 0 (cond (eqb n 12) 1 n)
+rank (FirstCommand first) n = n
+rank (SecondCommand second) n = n
 
 -- 0 where no row applies; where several apply, the first
 pub data Numbered (Known : ℕ → Type 0) (atc : ℕ) (due : Due) (command : Command) (n : ℕ) : Type 0 where
   done : n ≡ 0 → ((m : ℕ) → Applies Known atc due command m → ⊥) → Numbered Known atc due command n
-  refused : Applies Known atc due command n → ((m : ℕ) → rank m < rank n → Applies Known atc due command m → ⊥)
+  refused : Applies Known atc due command n → ((m : ℕ) → rank command m < rank command n → Applies Known atc due command m → ⊥)
       → Numbered Known atc due command n

@@ -1,23 +1,56 @@
--- What is said to a card whose profiles are selected (document 02, Three): a Start brings the terminal's data, and the profile is the one that
--- selection over the file's bytes gives.
+-- What is said to a card whose profiles are selected (document 02, Three and Thirteen): a Start brings the terminal's data, to a CPACE card behind
+-- the interface, and the profile is the one that selection over the file's bytes gives; a CPACE card's entries may test what its accumulators and
+-- counters hold, which an auditor reads off the conversation.
 use Prim.Native.Nat.{ℕ}
-use mathlib.Core.List.{List, map}
+use mathlib.Core.Bool.{not}
+use mathlib.Core.List.{List, [], _∷_}
+use lib.Dec.{eqb}
+use lib.ListN.{length}
+use Rattle.slot.specs.declared.Slots.{Slots}
 use Rattle.selection.specs.Selection.{selectionOf}
+use Rattle.purchase.specs.Meter.{accumulator, counter}
 use Rattle.command.specs.declared.First.{First}
 use Rattle.command.specs.declared.Second.{Second}
 use Rattle.command.specs.declared.Command.{Command}
 use Rattle.command.specs.declared.Command.the-variants.{Start as StartCommand, First as FirstCommand, Second as SecondCommand}
+use Rattle.demands.specs.Setup.{Setup}
+use Rattle.demands.specs.Conversation.{Exchange, Sitting, told}
+use Rattle.demands.specs.Audit.{audited}
 
 pub data Said : Type 0 where
   start : (terminal : List ℕ) → Said
+  startOn : (interface : ℕ) (terminal : List ℕ) → Said
   first : First → Said
   second : Second → Said
 
-module _ (file : List ℕ) (entries : ℕ) where
-  abbrev pub heard : Said → Command
-  heard (start terminal) = StartCommand (record { chosen = selectionOf file entries terminal })
-  heard (first f) = FirstCommand f
-  heard (second s) = SecondCommand s
+-- what a CPACE card's entries may test: its accumulators and counters after the conversation so far
+abbrev pub slotsBy : Setup → List Exchange → Slots
+slotsBy setup log =
+    record {
+      testable = not (eqb (length (setup .family)) 0);
+      amounts =
+          audited setup log (accumulator 0) ∷ audited setup log (accumulator 1) ∷ audited setup log (accumulator 2)
+          ∷ audited setup log (accumulator 3)
+          ∷ [];
+      counts =
+          audited setup log (counter 0) ∷ audited setup log (counter 1) ∷ audited setup log (counter 2) ∷ audited setup log (counter 3) ∷ [];
+    }
 
-  abbrev pub allHeard : List Said → List Command
-  allHeard said = map heard said
+module _ (file : List ℕ) (entries : ℕ) where
+  -- a Start on an interface, with the bytes that the file reads
+  abbrev pub selecting : Slots → (interface : ℕ) (read : List ℕ) → Command
+  selecting slots interface read = StartCommand (record { interface = interface; chosen = selectionOf file entries read slots })
+
+  -- a CPA card's has none, which stands as 0; a CPACE card's is the first byte that the file reads
+  abbrev pub heard : Slots → Said → Command
+  heard slots (start terminal) = selecting slots 0 terminal
+  heard slots (startOn interface terminal) = selecting slots interface (interface ∷ terminal)
+  heard slots (first f) = FirstCommand f
+  heard slots (second s) = SecondCommand s
+
+  -- one thing after the other, each heard by what the card holds when it comes
+  unfoldable pub allHeard : Setup → Sitting → List Said → List Command
+  allHeard setup sitting [] = []
+  allHeard setup sitting (now ∷ said) =
+      let command = heard (slotsBy setup (sitting .log)) now in
+      command ∷ allHeard setup (told sitting command) said

@@ -10,7 +10,8 @@ use lib.Bits.{bitAnd, and-block, and-lt}
 use lib.Dec.{ltb, eqb}
 use borrow.Author.Tests.{lt-ltb, le-ltb, eq-eqb, ne-eqb, ltb-true, ltb-false}
 use Rattle.wire.specs.Wire.{byte, number}
-use Rattle.entry.specs.Entry.{position, blockLength, blockPlace, block, masked, isAnyOf, orderOf, isLess, isEqual, isGreater}
+use Rattle.fields.specs.Fields.{position, blockLength, blockPlace}
+use Rattle.entry.specs.Entry.{block, masked, isAnyOf, orderOf, isLess, isEqual, isGreater}
 use Rattle.entry.specs.declared.Order.{Order}
 use Rattle.entry.specs.declared.Order.the-variants.{Less, Equal, Greater}
 

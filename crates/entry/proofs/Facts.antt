@@ -3,14 +3,15 @@ use mathlib.Core.Path.{_≡_, refl, sym}
 use mathlib.Core.Bool.{Bool, true, false, cond, _&&_}
 use mathlib.Core.List.{List}
 use Prim.Native.Nat.{ℕ, _+_, _*_, _-_, _≤_, _<_}
-use native.Mathlib.Nat.{mul-le-mul}
 use native.Mathlib.Omega.{arith}
 use lib.ListN.{length}
 use lib.Dec.{ltb, leb, eqb}
 use borrow.Author.Tests.{lt-ltb, le-ltb, ltb-true, ltb-false, eqb-false}
 use Rattle.wire.proofs.Pairs.{both}
-use Rattle.entry.specs.Entry.{position, blockLength, blocks, blocksEnd, checkType, positiveAction, negativeAction}
-use Rattle.entry.specs.Entry.{isWhole, isWellFormed, reachesPast, passes, actionOf, actionTaken}
+use Rattle.fields.specs.Fields.{position, blockLength, blocks, blocksEnd, checkType, positiveAction, negativeAction}
+use Rattle.slot.specs.Slot.{testsSlot, isSlotSound, lacksAmount, slotPasses}
+use Rattle.slot.specs.declared.Slots.{Slots}
+use Rattle.entry.specs.Entry.{isWhole, isWellFormed, reachesPast, passes, actionOf, dataAction, slotAction, actionTaken}
 use Rattle.entry.specs.declared.Action.the-variants.{Profile, Move, Refused}
 
 module _ (e : List ℕ) (h : isWellFormed e ≡ true) where
@@ -38,9 +39,6 @@ past-test e d p l hp hl = rw (← hp, ← hl) (same-test (length d + 1) (p + l) 
 pub ends : (e : List ℕ) (r : ℕ) → r ≡ blocksEnd e → r + 2 ≡ blocks e * blockLength e + 6
 ends e r h = omega arith
 
-pub product : (a b : ℕ) → a < 256 → b < 256 → a * b ≤ 65025
-product a b ha hb = mul-le-mul {n₁ = a} {m₁ = b} {n₂ = 255} {m₂ = 255} (omega arith) (omega arith)
-
 -- a move is one entry at least
 by-tests : (a m : ℕ) (s t u v : Bool) → ltb a 128 ≡ s → eqb a 128 ≡ v
     → cond s (cond t Refused (cond u Refused (Profile a))) (cond v Refused (Move (a - 128))) ≡ Move m → 1 ≤ m
@@ -63,6 +61,10 @@ by-form true true a m e = let z : _≡_ {A = ℕ} 0 1 = cc in omega arith
 by-form true false a m e = action-moves a m e
 by-form false t a m e = let z : _≡_ {A = ℕ} 0 1 = cc in omega arith
 
-pub moves-down : (e d : List ℕ) (m : ℕ) → actionTaken e d ≡ Move m → 1 ≤ m
-unfolding actionTaken
-moves-down e d m h = by-form (isWellFormed e) (reachesPast e d) (cond (passes e d) (positiveAction e) (negativeAction e)) m h
+pub moves-down : (e d : List ℕ) (slots : Slots) (m : ℕ) → actionTaken e d slots ≡ Move m → 1 ≤ m
+unfolding actionTaken dataAction slotAction
+moves-down e d slots m h = by (testsSlot e slots) h
+  where
+    by : (t : Bool) → cond t (slotAction e d slots) (dataAction e d) ≡ Move m → 1 ≤ m
+    by true h = by-form (isSlotSound e) (lacksAmount e d) (cond (slotPasses e d slots) (positiveAction e) (negativeAction e)) m h
+    by false h = by-form (isWellFormed e) (reachesPast e d) (cond (passes e d) (positiveAction e) (negativeAction e)) m h

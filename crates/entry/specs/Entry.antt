@@ -1,50 +1,25 @@
--- One Profile Selection Entry (CPA Annex A, A1 and A2): its bytes, its test, its action.
+-- One Profile Selection Entry (CPA Annex A, A1 and A2; CPACE C.45): its test of the data, its action.
 use Prim.Native.Nat.{ℕ, zero, suc, _+_, _*_, _-_}
 use mathlib.Core.Bool.{Bool, true, false, cond, _&&_, _||_}
 use mathlib.Core.List.{List}
 use lib.ListN.{length}
 use lib.Dec.{ltb, leb, eqb}
 use lib.Bits.{bitAnd}
-use Rattle.wire.specs.Wire.{byte, number}
+use Rattle.wire.specs.Wire.{number}
+use Rattle.fields.specs.Fields.{entryLength, position, blockLength, blocks, blockPlace, checkType, positiveAction, negativeAction}
+use Rattle.slot.specs.Slot.{testsSlot, isSlotSound, lacksAmount, slotPasses}
+use Rattle.slot.specs.declared.Slots.{Slots}
 use Rattle.entry.specs.declared.Action.{Action}
 use Rattle.entry.specs.declared.Action.the-variants.{Profile, Move, Refused}
 use Rattle.entry.specs.declared.Order.{Order}
 use Rattle.entry.specs.declared.Order.the-variants.{Less, Equal, Greater}
 
--- TABLE A-1, in its order
-abbrev pub entryLength : List ℕ → ℕ
-entryLength e = byte e 0
-
-abbrev pub position : List ℕ → ℕ
-position e = byte e 1
-
-abbrev pub blockLength : List ℕ → ℕ
-blockLength e = byte e 2
-
-abbrev pub blocks : List ℕ → ℕ
-blocks e = byte e 3
-
--- the blocks follow one another: block 0 is the bit mask, block i is comparison value i
-abbrev pub blockPlace : List ℕ → ℕ → ℕ
-blockPlace e i = 4 + i * blockLength e
-
+-- the first of the blocks is the bit mask, block i is comparison value i
 abbrev pub bitMask : List ℕ → ℕ
 bitMask e = number e 4 (blockLength e)
 
 unfoldable pub block : List ℕ → ℕ → ℕ
 block e i = number e (blockPlace e i) (blockLength e)
-
-abbrev pub blocksEnd : List ℕ → ℕ
-blocksEnd e = blockPlace e (blocks e)
-
-abbrev pub checkType : List ℕ → ℕ
-checkType e = byte e (blocksEnd e)
-
-abbrev pub positiveAction : List ℕ → ℕ
-positiveAction e = byte e (blocksEnd e + 1)
-
-abbrev pub negativeAction : List ℕ → ℕ
-negativeAction e = byte e (blocksEnd e + 2)
 
 -- all of it is there, and its lengths fit: E >= 6, n >= 2, E = n x L + 6
 abbrev pub isWhole : List ℕ → Bool
@@ -87,12 +62,19 @@ actionOf a =
     (cond (eqb a 0) Refused (cond (eqb a 127) Refused (Profile a)))
     (cond (eqb a 128) Refused (Move (a - 128)))
 
--- what a visited entry does
-unfoldable pub actionTaken : List ℕ → List ℕ → Action
-actionTaken e d =
-    cond (isWellFormed e)
-    (cond (reachesPast e d) Refused (actionOf (cond (passes e d) (positiveAction e) (negativeAction e))))
-    Refused
+-- the action that a test leads to
+abbrev pub actionAfter : List ℕ → (passed : Bool) → Action
+actionAfter e passed = actionOf (cond passed (positiveAction e) (negativeAction e))
+
+-- WHAT A VISITED ENTRY DOES: one that tests the data, and one that tests an accumulator or a counter
+unfoldable pub dataAction : List ℕ → List ℕ → Action
+dataAction e d = cond (isWellFormed e) (cond (reachesPast e d) Refused (actionAfter e (passes e d))) Refused
+
+unfoldable pub slotAction : List ℕ → List ℕ → Slots → Action
+slotAction e d slots = cond (isSlotSound e) (cond (lacksAmount e d) Refused (actionAfter e (slotPasses e d slots))) Refused
+
+unfoldable pub actionTaken : List ℕ → List ℕ → Slots → Action
+actionTaken e d slots = cond (testsSlot e slots) (slotAction e d slots) (dataAction e d)
 
 -- how two numbers stand
 unfoldable pub orderOf : ℕ → ℕ → Order

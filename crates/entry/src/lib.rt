@@ -1,10 +1,15 @@
-// One entry of the Profile Selection File of CPA Annex A: it tests a stretch of the terminal's data, and
-// its action names a profile or moves down some entries.
+// One entry of the Profile Selection File of CPA Annex A: it tests a stretch of the terminal's data, in a
+// CPACE card also an accumulator or a counter, and its action names a profile or moves down some entries.
+use fields::block_place;
+use fields::blocks_end;
+use fields::check_type;
+use slot::Slots;
 use wire::byte_at;
 ghost use mathlib.Core.Path.{_≡_};
 ghost use Prim.Native.Nat.{_-_, _<_};
-ghost use Rattle.entry.specs.Entry.{position, blocks, blockPlace, blocksEnd, checkType, positiveAction, negativeAction, isWellFormed};
-ghost use Rattle.entry.specs.Entry.{reachesPast, masked, block, orderOf, isLess, isEqual, isGreater, isAnyOf, passes, actionOf, actionTaken};
+ghost use Rattle.fields.specs.Fields.{position, blocks};
+ghost use Rattle.entry.specs.Entry.{isWellFormed, reachesPast, masked, block, orderOf, isLess, isEqual, isGreater, isAnyOf, passes};
+ghost use Rattle.entry.specs.Entry.{actionOf, actionAfter, dataAction, slotAction, actionTaken};
 
 // What an action byte says. No action is zero, and profile 7F is none.
 pub enum Action {
@@ -49,38 +54,7 @@ fn is_greater(order: Order) -> bool
     }
 }
 
-// Where block i starts; block 0 is the bit mask.
-fn block_place(entry: &[u8], i: u8) -> usize
-    ensures { λ r. ⌜ (r ≡ blockPlace (now (entry .entry)) i) × (r < 65536) ⌝ }
-{
-    4 + i as usize * byte_at(entry, 2) as usize
-}
-
-// Where the blocks end, and the check type and the two actions stand.
-fn blocks_end(entry: &[u8]) -> usize
-    ensures { λ r. ⌜ (r ≡ blocksEnd (now (entry .entry))) × (r < 65536) ⌝ }
-{
-    block_place(entry, byte_at(entry, 3))
-}
-
-fn check_type(entry: &[u8]) -> u8
-    ensures { λ r. ⌜ r ≡ checkType (now (entry .entry)) ⌝ }
-{
-    byte_at(entry, blocks_end(entry))
-}
-
-fn positive_action(entry: &[u8]) -> u8
-    ensures { λ r. ⌜ r ≡ positiveAction (now (entry .entry)) ⌝ }
-{
-    byte_at(entry, blocks_end(entry) + 1)
-}
-
-fn negative_action(entry: &[u8]) -> u8
-    ensures { λ r. ⌜ r ≡ negativeAction (now (entry .entry)) ⌝ }
-{
-    byte_at(entry, blocks_end(entry) + 2)
-}
-
+// All of it is there, n is 2 at least, the check type is known, and L and P are not 0.
 fn is_well_formed(entry: &[u8]) -> bool
     ensures { λ r. ⌜ r ≡ isWellFormed (now (entry .entry)) ⌝ }
 {
@@ -172,9 +146,19 @@ fn read_action(action: u8) -> Action
     Action::Move(action - 128)
 }
 
-// What a visited entry does: only the action that its test leads to is judged.
-pub fn take_action(entry: &[u8], data: &[u8]) -> Action
-    ensures { λ r. ⌜ r ≡ actionTaken (now (entry .entry)) (now («data» .entry)) ⌝ }
+// The action that a test leads to; the other one is not judged.
+fn act_on(entry: &[u8], passed: bool) -> Action
+    ensures { λ r. ⌜ r ≡ actionAfter (now (entry .entry)) passed ⌝ }
+{
+    if passed {
+        return read_action(fields::positive_action(entry));
+    }
+    read_action(fields::negative_action(entry))
+}
+
+// What an entry does that tests the terminal's data.
+fn data_action(entry: &[u8], data: &[u8]) -> Action
+    ensures { λ r. ⌜ r ≡ dataAction (now (entry .entry)) (now («data» .entry)) ⌝ }
 {
     if !is_well_formed(entry) {
         return Action::Refused;
@@ -182,8 +166,28 @@ pub fn take_action(entry: &[u8], data: &[u8]) -> Action
     if reaches_past(entry, data) {
         return Action::Refused;
     }
-    if passes_test(entry, data) {
-        return read_action(positive_action(entry));
+    act_on(entry, passes_test(entry, data))
+}
+
+// What an entry does that tests an accumulator or a counter.
+fn slot_action(entry: &[u8], data: &[u8], slots: Slots) -> Action
+    ensures { λ r. ⌜ r ≡ slotAction (now (entry .entry)) (now («data» .entry)) slots ⌝ }
+{
+    if !slot::is_sound(entry) {
+        return Action::Refused;
     }
-    read_action(negative_action(entry))
+    if slot::lacks_amount(entry, data) {
+        return Action::Refused;
+    }
+    act_on(entry, slot::passes(entry, data, slots))
+}
+
+// What a visited entry does.
+pub fn take_action(entry: &[u8], data: &[u8], slots: Slots) -> Action
+    ensures { λ r. ⌜ r ≡ actionTaken (now (entry .entry)) (now («data» .entry)) slots ⌝ }
+{
+    if slot::tests_slot(entry, slots) {
+        return slot_action(entry, data, slots);
+    }
+    data_action(entry, data)
 }

@@ -79,7 +79,8 @@ concluded rules state place purchase limits cvr kind =
     cond (isArqc kind) (asked rules state place purchase limits cvr) (settled rules state place cvr kind (offline (isTc kind) purchase))
 
 abbrev pub purchaseOf : First → Timing → Purchase
-purchaseOf first timing = record { amount = first .amount; currency = first .currency; timing = timing }
+purchaseOf first timing =
+    record { amount = first .amount; currency = first .currency; timing = timing; cvm = first .cvm; cashback = first .cashback }
 
 abbrev pub firstBits : Rules → State → Place → First → Timing → ℕ
 firstBits rules state place first timing = decisionBits rules place (state .values) (purchaseOf first timing) (state .history)

@@ -166,10 +166,13 @@ fn answer(words: &Words, state: State, place: Place, first: First, timing: Timin
     let values = state.values;
     let history = state.history;
     let amount = first.amount;
+    let cvm = first.cvm;
     let purchase = Purchase {
         amount,
         currency: first.currency,
         timing,
+        cvm,
+        cashback: first.cashback,
     };
     let adr = checks::decision_bits(words, place, values, purchase, history);
     let kind = decide(

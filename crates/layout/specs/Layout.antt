@@ -146,6 +146,14 @@ cyclicRuleLength = 9
 abbrev pub cyclicRulesLength : ℕ
 cyclicRulesLength = 18
 
+-- the tail of version 05 (request Thirteen): family; the controls of four accumulators and of four counters; for each profile, in the set-up's
+-- order, whether it checks cashback
+abbrev pub controls : ℕ
+controls = 1
+
+abbrev pub cashbacks : ℕ
+cashbacks = 9
+
 -- accumulator i + 1 of the head
 abbrev pub accumulatorFrom : ℕ → ℕ
 accumulatorFrom i = accumulators + accumulatorLength * i
@@ -167,6 +175,17 @@ cyclicRuleFrom j i = cyclicRules + cyclicRulesLength * j + cyclicRuleLength * i
 -- where dates are on, the tail has 28 + 18p bytes
 abbrev pub cyclesLength : List ℕ → ℕ
 cyclesLength s = cyclicRules + cyclicRulesLength * byte s profiles
+
+-- the control of slot i + 1: of accumulator i + 1, or from 5 on of a counter; whether profile j + 1 checks cashback
+abbrev pub controlFrom : ℕ → ℕ
+controlFrom i = controls + i
+
+abbrev pub cashbackFrom : ℕ → ℕ
+cashbackFrom j = cashbacks + j
+
+-- a CPACE card's tail has 9 + p bytes
+abbrev pub familyLength : List ℕ → ℕ
+familyLength s = cashbacks + byte s profiles
 
 -- p profiles stand behind the head, and c conversions behind them: 52 + 107p + 7c bytes
 abbrev pub profileFrom : ℕ → ℕ

@@ -2,7 +2,7 @@
 // its part. What stands first in its part has no name here.
 ghost use mathlib.Core.Path.{_≡_};
 ghost use Prim.Native.Nat.{_<_, _^_};
-ghost use Rattle.layout.specs.Layout.{profileFrom, conversionFrom, baseLength, profilePlace, conversionPlace, cyclesLength};
+ghost use Rattle.layout.specs.Layout.{profileFrom, conversionFrom, baseLength, profilePlace, conversionPlace, cyclesLength, familyLength};
 
 // The head.
 pub const KEY_INDEX: usize = 0;
@@ -101,6 +101,12 @@ pub const CYCLIC_RULE_LENGTH: usize = 9;
 // Those of both.
 pub const CYCLIC_RULES_LENGTH: usize = 18;
 
+// The tail of version 05: family, controls of four accumulators and of four counters, and for each
+// profile whether it checks cashback.
+pub const CONTROLS: usize = 1;
+
+pub const CASHBACKS: usize = 9;
+
 // Where profile i + 1 begins, and where i profiles end.
 fn profile_from(i: usize) -> usize
     requires { ⌜ i < 256 ⌝ }
@@ -140,6 +146,13 @@ pub fn cycles_length(s: &[u8]) -> usize
     ensures { λ r. ⌜ (r ≡ cyclesLength (now (s .entry))) × (r < 2 ^ 63) ⌝ }
 {
     CYCLIC_RULES + CYCLIC_RULES_LENGTH * wire::byte_at(s, PROFILES) as usize
+}
+
+// How many bytes the tail of version 05 has where the card is a CPACE one: 9 + p.
+pub fn family_length(s: &[u8]) -> usize
+    ensures { λ r. ⌜ (r ≡ familyLength (now (s .entry))) × (r < 2 ^ 63) ⌝ }
+{
+    CASHBACKS + wire::byte_at(s, PROFILES) as usize
 }
 
 // The place of conversion i + 1.

@@ -6,7 +6,7 @@ use lib.ListN.{length}
 use Rattle.rules.specs.Word.{wordCount}
 use Rattle.load.specs.Load.{headWords, rateWords, ratesWords, loaded}
 use Rattle.load.specs.Load.{ruleWords, rulesWords, profileHeadWords, sentWords, profileWords, profilesWords}
-use Rattle.load.specs.Load.{cycleWords, cyclicRuleWords, cyclicRulesWords, cyclesWords}
+use Rattle.load.specs.Load.{cycleWords, cyclicRuleWords, cyclicRulesWords, cyclesWords, familyWords}
 
 module _ (s : List ℕ) (at : ℕ) where
   pub rate-size : length (rateWords s at) ≡ 4
@@ -64,7 +64,12 @@ module _ (t : List ℕ) where
   unfolding cyclesWords cycleWords cyclicRulesWords cyclicRuleWords
   cycles-size = refl
 
-pub loaded-size : (s t : List ℕ) (syllabus : ℕ) → length (loaded s t syllabus) ≡ wordCount
+-- of the tail of version 05
+pub family-size : (f : List ℕ) → length (familyWords f) ≡ 12
+unfolding familyWords
+family-size f = refl
+
+pub loaded-size : (s t f : List ℕ) (syllabus : ℕ) → length (loaded s t f syllabus) ≡ wordCount
 unfolding loaded headWords ratesWords rateWords profilesWords profileWords profileHeadWords rulesWords ruleWords sentWords
-    cyclesWords cycleWords cyclicRulesWords cyclicRuleWords
-loaded-size s t syllabus = refl
+    cyclesWords cycleWords cyclicRulesWords cyclicRuleWords familyWords
+loaded-size s t f syllabus = refl

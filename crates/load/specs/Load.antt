@@ -7,7 +7,7 @@ use lib.Dec.{eqb}
 use Rattle.wire.specs.Wire.{byte, number}
 use Rattle.layout.specs.Layout.{profilePlace, conversionPlace}
 use Rattle.layout.specs.Layout as layout
-use Rattle.rules.specs.Rules.{four}
+use Rattle.rules.specs.Rules.{four, eight}
 
 -- n rows, one behind the other
 abbrev pub rows : ℕ → (ℕ → List ℕ) → List ℕ
@@ -77,10 +77,14 @@ cyclicRulesWords t j = rows 2 (λ i. cyclicRuleWords t (layout.cyclicRuleFrom j 
 unfoldable pub cyclesWords : List ℕ → List ℕ
 cyclesWords t = rows 2 (λ i. cycleWords t (layout.cycleFrom i)) ++ rows 4 (cyclicRulesWords t)
 
--- the base's, then the syllabus, and last those of the tail of version 04
-unfoldable pub loaded : List ℕ → List ℕ → ℕ → List ℕ
-loaded s t syllabus = (((headWords s ++ ratesWords s) ++ profilesWords s) ++ syllabus ∷ []) ++ cyclesWords t
+-- of the tail of version 05: the controls of the eight slots, and whether each profile checks cashback
+unfoldable pub familyWords : List ℕ → List ℕ
+familyWords f = eight (λ i. byte f (layout.controlFrom i)) ++ four (λ j. byte f (layout.cashbackFrom j))
+
+-- the base's, then the syllabus, and last those of the tails of versions 04 and 05
+unfoldable pub loaded : (s t f : List ℕ) → ℕ → List ℕ
+loaded s t f syllabus = ((((headWords s ++ ratesWords s) ++ profilesWords s) ++ syllabus ∷ []) ++ cyclesWords t) ++ familyWords f
 
 -- the words after a load: all of them are stored
-abbrev pub stored : (words s t : List ℕ) → ℕ → List ℕ
-stored words s t syllabus = sets words 0 (loaded s t syllabus)
+abbrev pub stored : (words s t f : List ℕ) → ℕ → List ℕ
+stored words s t f syllabus = sets words 0 (loaded s t f syllabus)

@@ -8,6 +8,10 @@ ghost use Rattle.load.specs.Load.{headWords, rateWords, ratesWords, stor
 ghost use Rattle.layout.specs.Layout.{cycleFrom as cycleBytes, cyclicRuleFrom as cyclicRuleBytes};
 ghost use Rattle.rules.specs.Word.{cycles, cycleFrom, cyclicRuleFrom};
 ghost use Rattle.load.specs.Load.{cycleWords, cyclicRuleWords, cyclicRulesWords, cyclesWords};
+ghost use Rattle.wire.specs.Wire.{byte};
+ghost use Rattle.rules.specs.Word.{controls};
+ghost use Rattle.rules.specs.Rules.{four};
+ghost use Rattle.load.specs.Load.{familyWords};
 ghost use Rattle.load.specs.Load.{limitIn, ruleWords, rulesWords, profileHeadWords, sentWords, profileWords, profilesWords};
 use rules::Words;
 use rules::word;
@@ -193,13 +197,37 @@ fn load_cycles(words: &mut Words, t: &[u8])
     load_cyclic_rules(words, 3, t);
 }
 
-// Every word, whatever stood there: the base's, the syllabus, and those of the cyclic accumulators.
-pub fn load(words: &mut Words, s: &[u8], t: &[u8], syllabus: u8)
-    ensures { λ _. ⌜ now (words .exit) ≡ stored (now (words .entry)) (now (s .entry)) (now (t .entry)) syllabus ⌝ }
+// Four bytes from a place on.
+fn load_bytes(words: &mut Words, to: usize, f: &[u8], at: usize)
+    requires { ⌜ (to + 4 ≤ wordCount) × (at + 4 < 2 ^ 64) ⌝ }
+    ensures { λ _. ⌜ now (words .exit) ≡ sets (now (words .entry)) to (four (λ i. byte (now (f .entry)) (at + i))) ⌝ }
+{
+    words[to] = wire::byte_at(f, at) as u64;
+    words[to + 1] = wire::byte_at(f, at + 1) as u64;
+    words[to + 2] = wire::byte_at(f, at + 2) as u64;
+    words[to + 3] = wire::byte_at(f, at + 3) as u64;
+}
+
+// The controls of the accumulators and of the counters, and whether the profiles check cashback; a
+// CPA card has no bytes of it, and all is 0.
+fn load_family(words: &mut Words, f: &[u8])
+    ensures { λ _. ⌜ now (words .exit) ≡ sets (now (words .entry)) controls (familyWords (now (f .entry))) ⌝ }
+{
+    load_bytes(words, word::CONTROLS, f, layout::CONTROLS);
+    load_bytes(words, word::CONTROLS + 4, f, layout::CONTROLS + 4);
+    load_bytes(words, word::CASHBACKS, f, layout::CASHBACKS);
+}
+
+// Every word, whatever stood there: the base's, the syllabus, those of the cyclic accumulators, and
+// those of a CPACE card.
+pub fn load(words: &mut Words, s: &[u8], t: &[u8], f: &[u8], syllabus: u8)
+    ensures { λ _. ⌜ now (words .exit)
+        ≡ stored (now (words .entry)) (now (s .entry)) (now (t .entry)) (now (f .entry)) syllabus ⌝ }
 {
     load_head(words, s);
     load_rates(words, s);
     load_profiles(words, s);
     words[word::SYLLABUS] = syllabus as u64;
     load_cycles(words, t);
+    load_family(words, f);
 }

@@ -13,7 +13,7 @@ use Rattle.rules.specs.declared.Place.{Place}
 use Rattle.rules.specs.declared.Values.{Values}
 use Rattle.rules.specs.Rules.{Rules}
 use Rattle.rules.proofs.Places.{each, both}
-use Rattle.purchase.specs.Meter.{Meter, accumulator, counter, cyclic, IsMeter, MeterRule, ruleOf, valueOf, capOf, worthTo, takesPart}
+use Rattle.purchase.specs.Meter.{Meter, accumulator, counter, cyclic, IsMeter, MeterRule, ruleOf, valueOf, capOf, worthTo, takesUp}
 use Rattle.meters.specs.declared.Change.{Change}
 use Rattle.meters.specs.declared.Change.the-variants.{Approve, Decline, SetToLimits, Clear}
 use Rattle.meters.specs.Meters.{Entry, put, add, move, moved, addition, order, counts, countsDecline, based, added, entered, applied}
@@ -98,7 +98,7 @@ module _ (cap : ℕ) where
   -- a change puts nothing above the cap where the upper limit is not above it
   pub entered-puts : (rules : Rules) (meter : Meter) (rule : MeterRule) (change : Change) → rule .upper ≤ cap
       → Puts cap (based rule change ++ added rules meter rule change)
-  entered-puts rules meter rule (Approve purchase) h = unless-off (takesPart purchase meter && counts rule) _ (addition-puts (worthTo rules purchase meter))
+  entered-puts rules meter rule (Approve purchase) h = unless-off (takesUp rules purchase meter && counts rule) _ (addition-puts (worthTo rules purchase meter))
   entered-puts rules meter rule Decline h = unless-off (countsDecline rule) (add 1 ∷ []) tt
   entered-puts rules meter rule SetToLimits h = active-puts (rule .active) (rule .upper) h
   entered-puts rules meter rule Clear h = active-puts (rule .active) 0 (omega arith)

@@ -11,7 +11,7 @@ use Rattle.rules.specs.declared.Place.{Place}
 use Rattle.rules.specs.declared.Values.{Values}
 use Rattle.rules.specs.Rules.{Rules, two, four}
 use Rattle.purchase.specs.declared.Purchase.{Purchase}
-use Rattle.purchase.specs.Meter.{Meter, accumulator, counter, cyclic, MeterRule, ruleOf, counterCap, amountAt, countAt, cyclicAt, worthTo, takesPart}
+use Rattle.purchase.specs.Meter.{Meter, accumulator, counter, cyclic, MeterRule, ruleOf, counterCap, amountAt, countAt, cyclicAt, worthTo, takesUp}
 use Rattle.meters.specs.declared.Change.{Change}
 use Rattle.meters.specs.declared.Change.the-variants.{Approve, Decline, SetToLimits, Clear}
 
@@ -59,9 +59,9 @@ based rule Decline = []
 based rule SetToLimits = cond (rule .active) (put (rule .upper) ∷ []) []
 based rule Clear = cond (rule .active) (put 0 ∷ []) []
 
--- an addition or none: at an offline approval, or by CSU order 11, what a purchase is worth to a meter that takes part; at an offline decline 1
+-- an addition or none: at an offline approval, or by CSU order 11, what a purchase is worth to a meter that takes it up; at an offline decline 1
 abbrev pub added : Rules → Meter → MeterRule → Change → List Entry
-added rules meter rule (Approve purchase) = cond (takesPart purchase meter && counts rule) (addition (worthTo rules purchase meter)) []
+added rules meter rule (Approve purchase) = cond (takesUp rules purchase meter && counts rule) (addition (worthTo rules purchase meter)) []
 added rules meter rule Decline = cond (countsDecline rule) (add 1 ∷ []) []
 added rules meter rule SetToLimits = []
 added rules meter rule Clear = []

@@ -1,5 +1,6 @@
 // What approvals, declines and the issuer's orders do to the values.
 ghost use mathlib.Core.Path.{_≡_};
+ghost use Prim.Native.Nat.{_<_};
 ghost use Rattle.rules.specs.Rules.{rulesOf};
 ghost use Rattle.purchase.specs.Meter.{accumulator, counter, cyclic, counterCap, worth, isInOrder};
 ghost use Rattle.meters.specs.declared.Change.the-variants.{Approve};
@@ -72,7 +73,7 @@ fn change_amount(
     }
     match change {
         Change::Approve(purchase) => {
-            if rule.allow {
+            if purchase::is_open(words, purchase, i) & rule.allow {
                 return grow(amount, purchase::worth(words, purchase, i));
             }
             amount
@@ -85,6 +86,7 @@ fn change_amount(
 
 // Counter i + 1 after a change.
 fn change_count(words: &Words, place: Place, i: usize, value: u8, change: Change) -> u8
+    requires { ⌜ i < 4 ⌝ }
     ensures { λ r. ⌜ r ≡ moved counterCap value (entered (rulesOf (now (words .entry))) place change (counter i)) ⌝ }
 {
     let rule = rules::counter_rule(words, place, i);
@@ -92,8 +94,8 @@ fn change_count(words: &Words, place: Place, i: usize, value: u8, change: Change
         return value;
     }
     match change {
-        Change::Approve(_) => {
-            if rule.allow {
+        Change::Approve(purchase) => {
+            if purchase::is_open(words, purchase, 4 + i) & rule.allow {
                 return next(value);
             }
             value

@@ -17,7 +17,7 @@ use Rattle.setup.proofs.Faithful.{untouched}
 use Rattle.shape.specs.declared.Shape.{Shape}
 use Rattle.shape.specs.declared.ReadShape.{ReadShape}
 use Rattle.shape.specs.declared.ReadShape.the-variants.{Taken as ShapeTaken, Refused as ShapeRefused}
-use Rattle.shape.specs.Shape.{basePart, cyclesPart, shapeOf, shapeAt}
+use Rattle.shape.specs.Shape.{basePart, cyclesPart, familyPart, shapeOf, shapeAt}
 use Rattle.paper.specs.declared.Opened.{Opened}
 use Rattle.paper.specs.declared.Opened.the-variants.{Setup, Refused as OpenRefused}
 use Rattle.paper.specs.Paper.{openPaper}
@@ -33,11 +33,11 @@ use Rattle.pages.specs.Alone.{apartIn, apartOf}
 
 -- ---- as many words as before
 
-stored-length : (words s t : List ℕ) (syllabus unnamed : ℕ) → length (wordsAfter words s t syllabus unnamed) ≡ length words
+stored-length : (words s t f : List ℕ) (syllabus unnamed : ℕ) → length (wordsAfter words s t f syllabus unnamed) ≡ length words
 unfolding wordsAfter
-stored-length words s t syllabus unnamed = by (isAccepted s t unnamed) where
-  by : (b : Bool) → length (cond b (stored words s t syllabus) words) ≡ length words
-  by true = length-sets words 0 (loaded s t syllabus)
+stored-length words s t f syllabus unnamed = by (isAccepted s t f unnamed) where
+  by : (b : Bool) → length (cond b (stored words s t f syllabus) words) ≡ length words
+  by true = length-sets words 0 (loaded s t f syllabus)
   by false = refl
 
 pub words-length : (words paper : List ℕ) → length (wordsBegun words paper) ≡ length words
@@ -46,7 +46,7 @@ words-length words paper = by (openPaper paper) where
   by-shape : (body : List ℕ) (read : ReadShape) → length (shapedWords words body read) ≡ length words
   by-shape body (ShapeRefused refusal) = refl
   by-shape body (ShapeTaken shape) =
-      stored-length words (basePart shape body) (cyclesPart (shape .dating) body) (shape .syllabus) (shape .unnamed)
+      stored-length words (basePart shape body) (cyclesPart (shape .dating) body) (familyPart (shape .family) body) (shape .syllabus) (shape .unnamed)
 
   by : (opened : Opened) → length (openedWords words paper opened) ≡ length words
   by (OpenRefused refusal) = refl
@@ -59,21 +59,21 @@ not-both refusal e = let z : _≡_ {A = ℕ} 0 1 = cc in omega arith
 
 module _ (words words′ paper : List ℕ) (lent : length words ≡ wordCount) (lent′ : length words′ ≡ wordCount) where
   -- a set-up that is taken fills all of them
-  filled : (s t : List ℕ) (syllabus unnamed : ℕ) → isAccepted s t unnamed ≡ true
-      → wordsAfter words s t syllabus unnamed ≡ wordsAfter words′ s t syllabus unnamed
+  filled : (s t f : List ℕ) (syllabus unnamed : ℕ) → isAccepted s t f unnamed ≡ true
+      → wordsAfter words s t f syllabus unnamed ≡ wordsAfter words′ s t f syllabus unnamed
   unfolding wordsAfter
-  filled s t syllabus unnamed good =
-      let size = loaded-size s t syllabus in
-      rw good (all words (loaded s t syllabus) (size ∙ sym lent) ∙ sym (all words′ (loaded s t syllabus) (size ∙ sym lent′)))
+  filled s t f syllabus unnamed good =
+      let size = loaded-size s t f syllabus in
+      rw good (all words (loaded s t f syllabus) (size ∙ sym lent) ∙ sym (all words′ (loaded s t f syllabus) (size ∙ sym lent′)))
 
   same-words : begunOf paper .event ≡ SetUp → wordsBegun words paper ≡ wordsBegun words′ paper
   unfolding begunOf setupBegun baseBegun wordsBegun setupWords
   same-words = by (openPaper paper) where
-    by-base : (shape : Shape) (s t : List ℕ) (end : ℕ) (b : Bool) → isAccepted s t (shape .unnamed) ≡ b → baseBegun shape s t end .event ≡ SetUp
-        → wordsAfter words s t (shape .syllabus) (shape .unnamed) ≡ wordsAfter words′ s t (shape .syllabus) (shape .unnamed)
-    by-base shape s t end true good e = filled s t (shape .syllabus) (shape .unnamed) good
-    by-base shape s t end false bad e =
-        absurd (not-both _ (sym (ap (λ r. setUpEvent (r .answer)) (untouched words s t (shape .syllabus) (shape .unnamed) bad .1)) ∙ e))
+    by-base : (shape : Shape) (s t f : List ℕ) (end : ℕ) (b : Bool) → isAccepted s t f (shape .unnamed) ≡ b → baseBegun shape s t f end .event ≡ SetUp
+        → wordsAfter words s t f (shape .syllabus) (shape .unnamed) ≡ wordsAfter words′ s t f (shape .syllabus) (shape .unnamed)
+    by-base shape s t f end true good e = filled s t f (shape .syllabus) (shape .unnamed) good
+    by-base shape s t f end false bad e =
+        absurd (not-both _ (sym (ap (λ r. setUpEvent (r .answer)) (untouched words s t f (shape .syllabus) (shape .unnamed) bad .1)) ∙ e))
 
     by-shape : (body : List ℕ) (place end : ℕ) (read : ReadShape) → shapedBegun body place end read .event ≡ SetUp
         → shapedWords words body read ≡ shapedWords words′ body read
@@ -81,7 +81,8 @@ module _ (words words′ paper : List ℕ) (lent : length words ≡ wordCount) (
     by-shape body place end (ShapeTaken shape) e =
         let base = basePart shape body in
         let cycles = cyclesPart (shape .dating) body in
-        by-base (shapeAt place shape) base cycles end (isAccepted base cycles (shape .unnamed)) refl e
+        let family = familyPart (shape .family) body in
+        by-base (shapeAt place shape) base cycles family end (isAccepted base cycles family (shape .unnamed)) refl e
 
     by : (opened : Opened) → openedBegun paper opened .event ≡ SetUp → openedWords words paper opened ≡ openedWords words′ paper opened
     by (OpenRefused refusal) e = absurd (not-both refusal e)

@@ -25,14 +25,15 @@ use Rattle.readback.specs.WellFormed.{Writable, OfBytes, LaidOut, WellFormed}
 use Rattle.conversation.specs.declared.Event.{Event}
 use Rattle.conversation.specs.declared.Event.the-variants.{Answered}
 use Rattle.lines.specs.Sitting.{answerLine, linesOf, sittingLines}
-use Rattle.demands.specs.Setup.{Setup, AcceptedSetup}
-use Rattle.demands.specs.Conversation.{Exchange, Sitting, rulesBy, sat, next}
+use Rattle.demands.specs.Setup.{Setup, IsCpa, AcceptedSetup}
+use Rattle.demands.specs.Conversation.{Exchange, Sitting, run, rulesBy, sat, next}
 use Rattle.demands.specs.Ledger.{owed}
-use Rattle.demands.specs.Audit.{capOf, startOf, approves, upperOf, brought, bought, lastDate, inForce, placeBy, takesUp, ledger, tested}
+use Rattle.demands.specs.Audit.{capOf, startOf, approves, upperOf, brought, bought, lastDate, inForce, placeBy, takesPart, ledger, tested}
 use Rattle.demands.specs.Guards.{Guards}
 use Rattle.demands.specs.Past.{past, atcBy, Says}
 use Rattle.demands.specs.Due.{due, dueIn, InKind}
 use Rattle.demands.specs.Rows.{InSetup, Numbered}
+use Rattle.demands.specs.Selecting.{slotsBy}
 use Rattle.demands.specs.Decision.{flags, FirstAnswers}
 use Rattle.demands.specs.Verification.{Gives}
 use Rattle.demands.proofs.Total.{total}
@@ -44,13 +45,15 @@ use Rattle.demands.proofs.Refusal.{numbered, in-kind, refusal-keeps}
 use Rattle.demands.proofs.First.{first-answers}
 use Rattle.demands.proofs.Answers.{gives}
 use Rattle.demands.proofs.Sendable.{written-out}
-use Rattle.spelling.specs.Spelling.{Bytes}
-use Rattle.papers.specs.Papers.{restIn, setupOf, mannerOf, choiceOf, datesOf, Accepted, walked, commandsOf, faulty, Chosen, Timed}
+use Rattle.slot.specs.declared.Slots.{Slots}
+use Rattle.spelling.specs.Spelling.{Bytes, slotsIn}
+use Rattle.papers.specs.Papers.{restIn, setupOf, mannerOf, choiceOf, datesOf, cardOf, Accepted, walked, commandsOf, faulty, Chosen, Timed}
 use Rattle.papers.specs.Talk.{allAnswered, CutBehind, newest, cardAfter}
 use Rattle.papers.proofs.Setups.{good-setup, begins}
 use Rattle.papers.proofs.Walk.{walk-cards}
 use Rattle.papers.proofs.Talk.{fresh, run-one, Cut, cut, NextSaid, next-said}
 use Rattle.papers.proofs.Starts.{Met, all-met, met-right}
+use Rattle.papers.proofs.Held.{tested-is, chosen-alike}
 use Rattle.papers.proofs.Events.{happened-there}
 
 line-at : (n : ℕ) (before : List Exchange) (command : Command) (answer : Answer) (more : List Event)
@@ -68,7 +71,7 @@ module _ (words paper : List ℕ) (lent : length words ≡ wordCount) (bytes : B
 
   -- the conversation's card after some of the commands is the one that heard them
   card-is : (heard left : List Command) → commandsOf paper ≡ heard ++ left → cardAfter words paper (length heard) ≡ sat setup heard .state
-  unfolding cardAfter walked
+  unfolding cardAfter walked run
   card-is heard left e =
       let b = begins words paper lent bytes a in
       rw (b .begun-is, b .rules)
@@ -156,16 +159,16 @@ module _ (words paper : List ℕ) (lent : length words ≡ wordCount) (bytes : B
         ∙ line-at 1 before command answer more
         ∙ ap (λ (k : ℕ). answerLine k answer) (omega arith)
 
-    -- DEMAND 3, THE UPPER LIMIT: no offline approval under a guarding profile leaves the value above it
+    -- DEMAND 3, THE UPPER LIMIT: on a CPA card no offline approval under a guarding profile leaves the value above it
     -- (of a cyclic accumulator, no approval without a date error)
-    pub paper-limit : (meter : Meter) → IsMeter meter → Guards (inForce setup log) (placeBy setup log) meter → approves command answer ≡ true
-        → takesUp (bought setup (record { command = command; answer = answer } ∷ log)) meter ≡ true
+    pub paper-limit : IsCpa setup → (meter : Meter) → IsMeter meter → Guards (inForce setup log) (placeBy setup log) meter → approves command answer ≡ true
+        → takesPart (bought setup (record { command = command; answer = answer } ∷ log)) meter ≡ true
         → valueOf (then .values) meter ≤ upperOf (inForce setup log) (placeBy setup log) meter
-    paper-limit meter is =
+    paper-limit cpa meter is =
         at-turn (λ log card outcome. Guards (inForce setup log) (placeBy setup log) meter → approves command (outcome .answer) ≡ true
-        → takesUp (bought setup (record { command = command; answer = outcome .answer } ∷ log)) meter ≡ true
+        → takesPart (bought setup (record { command = command; answer = outcome .answer } ∷ log)) meter ≡ true
         → valueOf (outcome .state .values) meter ≤ upperOf (inForce setup log) (placeBy setup log) meter)
-        (λ commands. limit setup accepted commands command meter is)
+        (λ commands. limit setup accepted cpa commands command meter is)
 
     -- DEMAND 1: the number is the first row that applies; a command that is taken is answered in its kind; a refusal keeps the card
     pub paper-numbered : Numbered (InSetup (inForce setup log)) (atcBy setup log) (due log) command (answerNumber answer)
@@ -187,19 +190,26 @@ module _ (words paper : List ℕ) (lent : length words ≡ wordCount) (bytes : B
     pub paper-gives : Gives setup log command (record { state = then; answer = answer })
     paper-gives = at-turn (λ log card outcome. Gives setup log command outcome) (λ commands. gives setup accepted commands command)
 
-    -- a Start's profile is the one that its record names, or the one that the paper's file gives for the terminal's data in it; and a First has its
-    -- date in a dated paper
-    met : Met (mannerOf paper) command
-    unfolding walked
+    -- a Start's profile is the one that its record names, or the one that the paper's file gives for the bytes in it and, of a CPACE card, for what
+    -- it then holds by the answers so far; and a First has its date in a dated paper
+    abbrev slots : Slots
+    slots = slotsIn (cardOf paper) (card .values)
+
+    met : Met (mannerOf paper) slots command
+    unfolding walked run
     met =
         let whole = here .whole ∙ ap (λ (l : List Command). here .heard ++ l) (its .left-is) in
-        all-met (mannerOf paper) (length paper) (restIn paper) (here .heard) command (its .behind) whole
+        subst (λ (state : State). Met (mannerOf paper) (slotsIn (cardOf paper) (state .values)) command)
+        (card-there before (Answered command answer ∷ more) e)
+        (all-met (mannerOf paper) (length paper) (fresh setup) (restIn paper) (here .heard) command (its .behind) whole)
 
-    pub paper-chosen : (start : Start) → command ≡ StartCommand start → Chosen (choiceOf paper) start
-    paper-chosen start is = met-right (mannerOf paper) (StartCommand start) (subst (Met (mannerOf paper)) is met)
+    pub paper-chosen : (start : Start) → command ≡ StartCommand start → Chosen (choiceOf paper) (cardOf paper) (slotsBy setup log) start
+    paper-chosen start is =
+        chosen-alike setup log (cardOf paper) (card .values) (tested-is paper) (paper-total before (Answered command answer ∷ more) e)
+        (choiceOf paper) (cardOf paper) start (met-right (mannerOf paper) slots (StartCommand start) (subst (Met (mannerOf paper) slots) is met))
 
     pub paper-timed : (first : First) → command ≡ FirstCommand first → Timed (datesOf paper) first
-    paper-timed first is = met-right (mannerOf paper) (FirstCommand first) (subst (Met (mannerOf paper)) is met)
+    paper-timed first is = met-right (mannerOf paper) slots (FirstCommand first) (subst (Met (mannerOf paper) slots) is met)
 
     pub paper-first-answers : (first : First) (kind : Kind) (number : ℕ) (iad : Iad) → command ≡ FirstCommand first → answer ≡ Given kind number iad
         → FirstAnswers (inForce setup log) (placeBy setup log) first

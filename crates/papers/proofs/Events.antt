@@ -11,7 +11,7 @@ use Rattle.refusal.specs.declared.Refusal.the-variants.{Unreadable}
 use Rattle.rules.specs.Word.{wordCount}
 use Rattle.setup.specs.Setup.{setupNumber}
 use Rattle.shape.specs.declared.Shape.{Shape}
-use Rattle.shape.specs.Shape.{basePart, cyclesPart, shapeOf, shapeAt}
+use Rattle.shape.specs.Shape.{basePart, cyclesPart, familyPart, shapeOf, shapeAt}
 use Rattle.conversation.specs.declared.Begun.{Begun}
 use Rattle.conversation.specs.declared.Event.{Event}
 use Rattle.conversation.specs.declared.Event.the-variants.{SetUp, Refused}
@@ -19,7 +19,7 @@ use Rattle.conversation.specs.Conversation.{begunOf, setupBegun, shapedBegun}
 use Rattle.conversation.specs.Events.{eventsOf}
 use Rattle.lines.specs.Lines.{refusalLine}
 use Rattle.lines.specs.Sitting.{answerLine, linesOf, sittingLines}
-use Rattle.demands.specs.Conversation.{Exchange, rulesBy}
+use Rattle.demands.specs.Conversation.{Exchange, run, rulesBy}
 use Rattle.rows.specs.Whole.{IsTaken}
 use Rattle.rows.proofs.Whole.{taken-if-spelled}
 use Rattle.spelling.specs.Spelling.{Bytes}
@@ -40,10 +40,10 @@ module _ (words paper : List ℕ) (lent : length words ≡ wordCount) (bytes : B
   -- THE EVENTS OF AN ACCEPTED PAPER ARE THOSE OF ITS COMMANDS OVER ITS SET-UP
   pub happened-there : eventsOf words paper
       ≡ SetUp ∷ (happened (rulesBy (setupOf paper)) (fresh (setupOf paper) .state) (commandsOf paper) ++ ending (faulty paper))
-  unfolding eventsOf walked
+  unfolding eventsOf walked run
   happened-there =
       let b = begins words paper lent bytes a in
-      let walks = walk-events (rulesBy (setupOf paper)) (b .shape) paper (b .lies) (length paper) (fresh (setupOf paper) .state) (b .at) in
+      let walks = walk-events (rulesBy (setupOf paper)) (b .shape) paper (b .lies) (length paper) (fresh (setupOf paper) .state) [] (b .at) in
       rw (b .begun-is, b .rules) (ap (λ (l : List Event). SetUp ∷ l) (walks ∙ rw (b .manner, b .rest)))
 
   pub events-are : eventsOf words paper ≡ eventsBy paper
@@ -89,7 +89,9 @@ unfolding begunOf setupBegun
 one-event paper version body rest o n = let r = opens paper version body rest o in rw (r .0, r .1) (by n) where
   by : NotSetUp version body → One (shapedBegun body 4 (4 + length body) (shapeOf version body) .event)
   by (no-shape e) = refused-shape body 4 (4 + length body) (shapeOf version body) e
-  by (no-base shape t e) = rw t (refused-base (shapeAt 4 shape) (basePart shape body) (cyclesPart (shape .dating) body) (4 + length body) e)
+  by (no-base shape t e) =
+      rw t
+      (refused-base (shapeAt 4 shape) (basePart shape body) (cyclesPart (shape .dating) body) (familyPart (shape .family) body) (4 + length body) e)
 
 -- EVERY BYTE STRING: it does not open, its set-up is not one, or it is heard
 pub every-paper : (words paper : List ℕ) → length words ≡ wordCount → Bytes paper → Heard words paper

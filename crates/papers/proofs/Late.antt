@@ -15,7 +15,7 @@ use Rattle.ranges.specs.Ranges.{isSetup, hasLength, isHead, areAccumulators, is
 use Rattle.ranges.specs.Ranges.{areProfiles, isProfileOrAbsent, isProfile, areMasks, isMaximumAmount, areAccumulatorRules, isAccumulatorRule}
 use Rattle.ranges.specs.Ranges.{areCounterRules, areSent, areNumbersApart, profileNumber}
 use Rattle.ranges.specs.Ranges.{areConversions, isConversionOrAbsent, isConversion, conversionPair, arePairsApart}
-use Rattle.ranges.specs.Ranges.{isCycle, isCyclicRule, areCyclicRules, areCycles}
+use Rattle.ranges.specs.Ranges.{isCycle, isCyclicRule, areCyclicRules, areCycles, isFamily}
 use Rattle.calendar.specs.Calendar.{dateAt, hasDay, isDay}
 use Rattle.setup.specs.Setup.{readSetup}
 use Rattle.shape.specs.declared.Dating.the-variants.{On as DatesOn}
@@ -57,7 +57,7 @@ set-up : SetUp 4 lateBody shaped
 unfolding late shapeOf tailsOf baseTail selectionTail syllabusTail datingTail readSetup isSetup hasLength isHead areAccumulators isAccumulator number
     areProfiles isProfileOrAbsent isProfile areMasks isMaximumAmount areAccumulatorRules isAccumulatorRule areCounterRules areSent
     areNumbersApart profileNumber areConversions isConversionOrAbsent isConversion conversionPair arePairsApart
-    areCycles isCycle areCyclicRules isCyclicRule dateAt isDay hasDay
+    areCycles isCycle areCyclicRules isCyclicRule dateAt isDay hasDay isFamily
 set-up = record { shape-is = refl; base = refl }
 
 pub accepted : Accepted late

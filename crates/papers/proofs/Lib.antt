@@ -3,6 +3,7 @@ pub mod Setups
 pub mod Walk
 pub mod Talk
 pub mod Starts
+pub mod Held
 pub mod Events
 pub mod Demands
 pub mod Witness

@@ -6,29 +6,28 @@ use Prim.Native.Nat.{ℕ, _+_, _-_}
 use native.Mathlib.Omega.{arith}
 use lib.ListN.{length, drop, length-append}
 use lib.Seq.{take-at, drop-append-seam}
-use Rattle.wire.specs.Wire.{number}
+use Rattle.wire.specs.Wire.{byte, number}
 use Rattle.rules.specs.Word.{wordCount}
 use Rattle.rules.specs.Rules.{rulesOf}
-use Rattle.ranges.specs.Ranges.{isSetup, areCycles}
-use Rattle.setup.specs.Setup.{isAccepted, readSetup, rulesIn}
+use Rattle.setup.specs.Setup.{isAccepted, rulesIn}
 use Rattle.setup.proofs.Faithful.{started}
-use Rattle.wire.proofs.Pairs.{both}
 use Rattle.shape.specs.declared.Shape.{Shape}
-use Rattle.shape.specs.Shape.{basePart, cyclesPart, shapeAt}
-use Rattle.card.specs.Card.{freshState}
+use Rattle.shape.specs.Shape.{basePart, cyclesPart, familyPart, shapeAt}
 use Rattle.conversation.specs.declared.Event.the-variants.{SetUp}
 use Rattle.conversation.specs.Conversation.{begunOf, baseBegun, setupBegun, setupWords, wordsBegun}
 use Rattle.demands.specs.Setup.{Setup, AcceptedSetup}
 use Rattle.demands.specs.Conversation.{rulesBy}
-use Rattle.rows.specs.Rows.{body as spelledBase, cyclesBytes}
+use Rattle.rows.specs.Rows.{body as spelledBase, cyclesBytes, controlsBytes}
 use Rattle.rows.specs.Rows as R
 use Rattle.rows.specs.Tails as T
 use Rattle.rows.specs.Tails.{Choosing, off, on, Tail, tailBytes, choosingOf, syllabusOf, unnamedOf, Base}
-use Rattle.rows.specs.Tails.{selecting, fileOf, dating, shapeSaid, TailSays}
+use Rattle.rows.specs.Tails.{selecting, fileOf, dating, familyFrom, Fine, shapeSaid, TailSays}
 use Rattle.rows.specs.Whole.{IsSetup}
-use Rattle.rows.proofs.Behind.{length-kept}
-use Rattle.rows.proofs.Whole.{is-base, reads-whole, both-in-range}
-use Rattle.spelling.specs.Spelling.{Bytes, byFile, choiceIn, Dates, datesIn, mannerIn}
+use Rattle.rows.proofs.Placed.{in-place}
+use Rattle.rows.proofs.Ranges.{three}
+use Rattle.rows.proofs.Behind.{byte-kept, length-kept}
+use Rattle.rows.proofs.Whole.{is-base, reads-whole, all-in-range}
+use Rattle.spelling.specs.Spelling.{Bytes, byFile, choiceIn, Dates, datesIn, familyIn, mannerIn}
 use Rattle.spelling.specs.Faults.{Opens}
 use Rattle.spelling.specs.Sitting.{Lies}
 use Rattle.spelling.specs.Sitting as Sp
@@ -36,10 +35,11 @@ use Rattle.spelling.proofs.Numbers.{byte-small, bytes-take, bytes-drop, bytes-f
 use Rattle.spelling.proofs.Shapes.{record-is}
 use Rattle.spelling.proofs.Commands.{of}
 use Rattle.spelling.proofs.Opening as O
-use Rattle.spelling.proofs.Papers.{bytes-cycles, lies-there, chooses, rules-are}
+use Rattle.spelling.proofs.Papers.{bytes-cycles, bytes-family, lies-there, chooses, rules-are}
 use Rattle.papers.specs.Papers.{versionIn, bodyIn, restIn, baseIn, tailsIn, setupIn, setupOf, mannerOf, Accepted}
 use Rattle.papers.specs.Papers as P
-use Rattle.papers.proofs.Tails.{choiceSaid, datesSaid, mannerSaid, reads-as}
+use Rattle.papers.proofs.Tails.{choiceSaid, datesSaid, cardSaid, mannerSaid, ReadsAs, reads-as, unnamed-is}
+use Rattle.papers.proofs.Talk.{fresh}
 
 -- ---- a paper that opens
 
@@ -82,11 +82,14 @@ module _ (base : List ℕ) (sized : Base base) (tail : Tail) where
 
 -- the set-up of a base and its tail
 abbrev pub setupSaid : (base : List ℕ) → Tail → Setup
-setupSaid base tail = record { bytes = base; tail = cyclesBytes (T.datesOf tail); syllabus = syllabusOf tail; unnamed = unnamedOf tail }
-
--- with its parts
-abbrev made : (bytes tail : List ℕ) (syllabus unnamed : ℕ) → Setup
-made bytes tail syllabus unnamed = record { bytes = bytes; tail = tail; syllabus = syllabus; unnamed = unnamed }
+setupSaid base tail =
+    record {
+      bytes = base;
+      tail = cyclesBytes (T.datesOf tail);
+      family = controlsBytes (T.familiesOf tail);
+      syllabus = syllabusOf tail;
+      unnamed = unnamedOf tail;
+    }
 
 module _ (version : ℕ) (body : List ℕ) (i : IsSetup version body) where
   abbrev base : List ℕ
@@ -94,6 +97,9 @@ module _ (version : ℕ) (body : List ℕ) (i : IsSetup version body) where
 
   abbrev cycles : List ℕ
   cycles = cyclesBytes (T.datesOf (i .tail))
+
+  abbrev controls : List ℕ
+  controls = controlsBytes (T.familiesOf (i .tail))
 
   abbrev pub shape : Shape
   shape = shapeSaid base (i .tail)
@@ -107,45 +113,66 @@ module _ (version : ℕ) (body : List ℕ) (i : IsSetup version body) where
   cycles-are : cyclesPart (shape .dating) body ≡ cycles
   cycles-are = rw (← i .spelled) (says .cycles)
 
-  good : isAccepted base cycles (shape .unnamed) ≡ true
-  good = both-in-range (i .setup) (i .tail) (i .fits) (i .fine) .1 (i .in-range, i .dates-in-range)
+  controls-are : familyPart (shape .family) body ≡ controls
+  controls-are = rw (← i .spelled) (says .family)
+
+  good : isAccepted base cycles controls (shape .unnamed) ≡ true
+  good = all-in-range (i .setup) (i .tail) (i .fits) (i .fine) .1 (i .in-range, i .dates-in-range, i .families-in-range)
 
   pub set-up : Sp.SetUp version body shape
   set-up =
       record {
         shape-is = rw (← i .version-is, ← i .spelled) (says .read);
-        base = rw (base-is, cycles-are, started base cycles (shape .unnamed) good);
+        base = rw (base-is, cycles-are, controls-are, started base cycles controls (shape .unnamed) good);
       }
 
   -- what is read behind the base
   there : tailsIn body ≡ tailBytes (i .tail)
   there = rw (← i .spelled) (tails-there base (is-base (i .setup) (i .fits)) (i .tail))
 
+  reads : ReadsAs (P.profilesIn body) (i .tail)
+  reads =
+      let sized = is-base (i .setup) (i .fits) in
+      let p : byte base 3 ≡ P.profilesIn body = rw (← i .spelled) (sym (byte-kept base sized (tailBytes (i .tail)) 3 (omega arith))) in
+      reads-as (P.profilesIn body) (i .tail) (subst (λ (n : ℕ). Fine n (i .tail)) (sym (in-place (i .setup) (i .fits) .p) ∙ p) (i .fine))
+
   setup-there : setupIn version body ≡ setupSaid base (i .tail)
   setup-there =
-      let r = reads-as (i .tail) in
+      let r = reads in
+      let p = P.profilesIn body in
       let from : baseIn body ≡ base = rw (← i .spelled) (base-there base (is-base (i .setup) (i .fits)) (i .tail)) in
-      let unnamed : P.unnamedIn version ≡ unnamedOf (i .tail) = ap P.unnamedIn (sym (i .version-is)) ∙ r .unnamed-is in
-      let tail : P.cyclesIn (tailsIn body) ≡ cycles = ap P.cyclesIn there ∙ r .cycles-are in
+      let unnamed : P.unnamedIn version ≡ unnamedOf (i .tail) = ap P.unnamedIn (sym (i .version-is)) ∙ unnamed-is (i .tail) in
+      let tail : P.cyclesIn p (tailsIn body) ≡ cycles = ap (P.cyclesIn p) there ∙ r .cycles-are in
+      let family : P.familyIn p (tailsIn body) ≡ controls = ap (P.familyIn p) there ∙ r .family-is in
       let syllabus : P.syllabusIn (tailsIn body) ≡ syllabusOf (i .tail) = ap P.syllabusIn there ∙ r .syllabus-is in
-      λ j. made (from j) (tail j) (syllabus j) (unnamed j)
+      λ j. record { bytes = from j; tail = tail j; family = family j; syllabus = syllabus j; unnamed = unnamed j }
 
   manner-there : P.mannerIn body ≡ mannerSaid (i .tail)
   manner-there =
-      let r = reads-as (i .tail) in
-      ap₂ of (ap P.choiceIn there ∙ r .choice-is) (ap P.datesIn there ∙ r .dates-are)
+      let r = reads in
+      let choice : P.choiceIn (tailsIn body) ≡ choiceSaid (choosingOf (i .tail)) = ap P.choiceIn there ∙ r .choice-is in
+      let dates : P.datesIn (tailsIn body) ≡ datesSaid (T.datesOf (i .tail)) = ap P.datesIn there ∙ r .dates-are in
+      let card : P.cardIn (P.profilesIn body) (tailsIn body) ≡ cardSaid (T.familiesOf (i .tail)) = ap (P.cardIn (P.profilesIn body)) there ∙ r .card-is in
+      λ j. of (choice j) (dates j) (card j)
 
   -- and what the readers make of it
   manner-read : mannerIn shape body ≡ mannerSaid (i .tail)
-  manner-read = ap₂ of (rw (← i .spelled) (by (choosingOf (i .tail)) (says .file))) (by-dates (T.datesOf (i .tail))) where
-    by : (c : Choosing) → T.fileIn (selecting c (length base)) (base ++ tailBytes (i .tail)) ≡ fileOf c
-        → choiceIn (selecting c (length base)) (base ++ tailBytes (i .tail)) ≡ choiceSaid c
-    by off e = refl
-    by (on entries) e = ap (λ (f : List ℕ). byFile f (length entries)) e
+  manner-read =
+      let choice : choiceIn (shape .selecting) body ≡ choiceSaid (choosingOf (i .tail)) = rw (← i .spelled) (by (choosingOf (i .tail)) (says .file)) in
+      λ j. of (choice j) (by-dates (T.datesOf (i .tail)) j) (by-family (T.familiesOf (i .tail)) j)
+    where
+      by : (c : Choosing) → T.fileIn (selecting c (length base)) (base ++ tailBytes (i .tail)) ≡ fileOf c
+          → choiceIn (selecting c (length base)) (base ++ tailBytes (i .tail)) ≡ choiceSaid c
+      by off e = refl
+      by (on entries) e = ap (λ (f : List ℕ). byFile f (length entries)) e
 
-    by-dates : (d : R.Dates) → datesIn (dating d (T.datesAt base (choosingOf (i .tail)))) ≡ datesSaid d
-    by-dates R.undated = refl
-    by-dates (R.dated d) = refl
+      by-dates : (d : R.Dates) → datesIn (dating d (T.datesAt base (choosingOf (i .tail)))) ≡ datesSaid d
+      by-dates R.undated = refl
+      by-dates (R.dated d) = refl
+
+      by-family : (f : R.Families) → familyIn (familyFrom f (T.familiesAt base (choosingOf (i .tail)) (T.datesOf (i .tail)))) ≡ cardSaid f
+      by-family R.cpa = refl
+      by-family (R.cpace f) = refl
 
 -- ---- an accepted paper
 
@@ -174,13 +201,17 @@ module _ (paper : List ℕ) (a : Accepted paper) where
       let t = cycles v b (a .set-up) in
       let base-bytes : Bytes s = subst Bytes (base-is v b (a .set-up)) (bytes-take (form .base) b body-bytes) in
       let tail-bytes : Bytes t = subst Bytes (cycles-are v b (a .set-up)) (bytes-cycles (form .dating) b body-bytes) in
-      let (base-taken, tail-taken) = both (isSetup s (form .unnamed)) (areCycles t) (good v b (a .set-up)) in
+      let f = controls v b (a .set-up) in
+      let family-bytes : Bytes f = subst Bytes (controls-are v b (a .set-up)) (bytes-family (form .family) b body-bytes) in
+      let (base-taken, tail-taken, family-taken) = three s t f (form .unnamed) (good v b (a .set-up)) in
       rw setup-is
       (record {
         bytes = record { below = byte-small s base-bytes };
         tail-bytes = record { below = byte-small t tail-bytes };
+        family-bytes = record { below = byte-small f family-bytes };
         taken = base-taken;
         tail-taken = tail-taken;
+        family-taken = family-taken;
       })
 
 -- where the conversation begins: the card, the rules, the manner of its commands and the place behind the set-up
@@ -190,7 +221,7 @@ pub record Begins (words paper : List ℕ) : Type 0 where
   pub begun-is : begunOf paper
       ≡ record {
         shape = shape;
-        state = freshState (readSetup (setupOf paper .bytes) (setupOf paper .tail) (setupOf paper .unnamed) .fresh);
+        state = fresh (setupOf paper) .state;
         at = at;
         event = SetUp;
       }
@@ -209,13 +240,14 @@ begins words paper lent bytes a =
     let r = O.opens paper v b (a .rest) (a .opens) in
     let base = base-is v b (a .set-up) in
     let cycles = cycles-are v b (a .set-up) in
+    let family = controls-are v b (a .set-up) in
     record {
       shape = shapeAt 4 form;
       at = 4 + length b;
-      begun-is = rw (setup-is paper a, r .0, r .1, t .shape-is, base, cycles, started _ _ _ (good v b (a .set-up)));
+      begun-is = rw (setup-is paper a, r .0, r .1, t .shape-is, base, cycles, family, started _ _ _ _ (good v b (a .set-up)));
       rules =
           rw (setup-is paper a, r .0, r .1, t .shape-is)
-          (rules-are words paper v b (a .rest) (a .opens) form t bytes lent ∙ ap₂ (λ (s c : List ℕ). rulesIn s c (form .syllabus)) base cycles);
+          (rules-are words paper v b (a .rest) (a .opens) form t bytes lent ∙ (λ j. rulesIn (base j) (cycles j) (family j) (form .syllabus)));
       lies = lies-there words paper v b (a .rest) (a .opens) form t;
       manner = chooses words paper v b (a .rest) (a .opens) form t ∙ manner-read v b (a .set-up) ∙ sym (manner-is paper a);
       rest = r .2 ∙ sym (rest-is paper v b (a .rest) (a .opens));

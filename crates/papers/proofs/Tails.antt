@@ -2,21 +2,22 @@
 use mathlib.Core.Path.{_≡_, refl, sym, ap, _∙_}
 use mathlib.Core.Bool.{cond}
 use mathlib.Core.List.{List, [], _∷_, _++_, append-nil, append-assoc}
-use Prim.Native.Nat.{ℕ, suc, _+_}
+use Prim.Native.Nat.{ℕ, suc, _+_, _*_}
 use native.Mathlib.Omega.{arith}
 use lib.Dec.{eqb}
-use lib.ListN.{length, drop, length-append}
-use lib.Seq.{take-append-seam, drop-append-seam}
+use lib.ListN.{length, take, drop, length-append}
+use lib.Seq.{take-append-seam, drop-append-seam, take-at, drop-at}
 use Rattle.wire.specs.Wire.{byte}
-use Rattle.rows.specs.Rows.{spelled, written, cyclesRow, cyclesBytes}
+use Rattle.rows.specs.Rows.{spelled, written, cyclesRow, cyclesBytes, controlsRow, controlsBytes}
 use Rattle.rows.specs.Rows as R
-use Rattle.rows.specs.Tails.{Choosing, off, on, fileBytes, choosingBytes, datesBytes, Tail, first, second, third, fourth}
-use Rattle.rows.specs.Tails.{versionOf, tailBytes, choosingOf, syllabusOf, unnamedOf}
+use Rattle.rows.specs.Tails.{Choosing, off, on, fileBytes, choosingBytes, datesBytes, familiesBytes, Tail, first, second, third, fourth, fifth}
+use Rattle.rows.specs.Tails.{versionOf, tailBytes, choosingOf, syllabusOf, unnamedOf, FineDates, Fine}
 use Rattle.rows.specs.Tails as T
-use Rattle.spelling.specs.Spelling.{Choice, byName, byFile, Dates, undated, dated, Manner}
-use Rattle.papers.specs.Papers.{entriesLong, choiceIn, behindSelection, syllabusIn, datesIn, cyclesIn, unnamedIn}
+use Rattle.rows.proofs.Dated.{cycles-size}
+use Rattle.spelling.specs.Spelling.{Choice, byName, byFile, Dates, undated, dated, CardFamily, cpa, cpace, Manner}
+use Rattle.papers.specs.Papers.{entriesLong, choiceIn, behindSelection, syllabusIn, datesIn, cyclesIn, cardIn, familyIn, unnamedIn}
 
--- how a Start chooses its profile, and whether a First has a date, where this is spelled
+-- how a Start chooses its profile, whether a First has a date, and whose card it is, where this is spelled
 abbrev pub choiceSaid : Choosing → Choice
 choiceSaid off = byName
 choiceSaid (on entries) = byFile (fileBytes entries) (length entries)
@@ -25,8 +26,13 @@ abbrev pub datesSaid : R.Dates → Dates
 datesSaid R.undated = undated
 datesSaid (R.dated cycles) = dated
 
+abbrev pub cardSaid : R.Families → CardFamily
+cardSaid R.cpa = cpa
+cardSaid (R.cpace controls) = cpace
+
 abbrev pub mannerSaid : Tail → Manner
-mannerSaid tail = record { choice = choiceSaid (choosingOf tail); dates = datesSaid (T.datesOf tail) }
+mannerSaid tail =
+    record { choice = choiceSaid (choosingOf tail); dates = datesSaid (T.datesOf tail); family = cardSaid (T.familiesOf tail) }
 
 -- ---- the selection
 
@@ -47,57 +53,87 @@ chosen (on entries) rest =
     let size : 2 + length file ≡ suc (suc (length file)) = omega arith in
     (rw (long, take-append-seam file rest), rw (long, size) (drop-append-seam file rest))
 
--- ---- the dates
+-- ---- the dates, and the family behind them
 
 -- what is said behind a selection
 abbrev datesFrom : List ℕ → Dates
 datesFrom s = cond (eqb (byte (drop 1 s) 0) 0) undated dated
 
-abbrev cyclesFrom : List ℕ → List ℕ
-cyclesFrom s = cond (eqb (byte (drop 1 s) 0) 0) [] (drop 1 s)
+abbrev cyclesFrom : (p : ℕ) → List ℕ → List ℕ
+cyclesFrom p s = cond (eqb (byte (drop 1 s) 0) 0) [] (take (28 + 18 * p) (drop 1 s))
 
-dates-there : (syllabus : ℕ) (d : R.Dates) → (datesFrom (syllabus ∷ datesBytes d) ≡ datesSaid d) × (cyclesFrom (syllabus ∷ datesBytes d) ≡ cyclesBytes d)
+abbrev endFrom : (p : ℕ) → List ℕ → List ℕ
+endFrom p s = drop (cond (eqb (byte (drop 1 s) 0) 0) 1 (28 + 18 * p)) (drop 1 s)
+
+abbrev cardFrom : List ℕ → CardFamily
+cardFrom s = cond (eqb (byte s 0) 0) cpa cpace
+
+abbrev familyFrom : List ℕ → List ℕ
+familyFrom s = cond (eqb (byte s 0) 0) [] s
+
+dates-there : (p syllabus : ℕ) (d : R.Dates) (rest : List ℕ) → FineDates p d
+    → (datesFrom (syllabus ∷ datesBytes d ++ rest) ≡ datesSaid d) × (cyclesFrom p (syllabus ∷ datesBytes d ++ rest) ≡ cyclesBytes d)
+    × (endFrom p (syllabus ∷ datesBytes d ++ rest) ≡ rest)
 unfolding spelled written cyclesRow
-dates-there syllabus R.undated = (refl, refl)
-dates-there syllabus (R.dated cycles) = (refl, refl)
+dates-there p syllabus R.undated rest fine = (refl, refl, refl)
+dates-there p syllabus (R.dated cycles) rest fine =
+    let t = cyclesBytes (R.dated cycles) in
+    let size : length t ≡ 28 + 18 * p = cycles-size cycles ∙ ap (λ (n : ℕ). 28 + 18 * n) (fine .1) in
+    (refl, take-at t rest (28 + 18 * p) size, drop-at t rest (28 + 18 * p) size)
+
+family-there : (f : R.Families) → (cardFrom (familiesBytes f) ≡ cardSaid f) × (familyFrom (familiesBytes f) ≡ controlsBytes f)
+unfolding spelled written controlsRow
+family-there R.cpa = (refl, refl)
+family-there (R.cpace controls) = (refl, refl)
 
 -- ---- all of them
 
-pub record ReadsAs (tail : Tail) : Type 0 where
+pub record ReadsAs (p : ℕ) (tail : Tail) : Type 0 where
   pub choice-is : choiceIn (tailBytes tail) ≡ choiceSaid (choosingOf tail)
   pub syllabus-is : syllabusIn (tailBytes tail) ≡ syllabusOf tail
   pub dates-are : datesIn (tailBytes tail) ≡ datesSaid (T.datesOf tail)
-  pub cycles-are : cyclesIn (tailBytes tail) ≡ cyclesBytes (T.datesOf tail)
-  pub unnamed-is : unnamedIn (versionOf tail) ≡ unnamedOf tail
+  pub cycles-are : cyclesIn p (tailBytes tail) ≡ cyclesBytes (T.datesOf tail)
+  pub card-is : cardIn p (tailBytes tail) ≡ cardSaid (T.familiesOf tail)
+  pub family-is : familyIn p (tailBytes tail) ≡ controlsBytes (T.familiesOf tail)
 
-pub reads-as : (tail : Tail) → ReadsAs tail
-reads-as first = record { choice-is = refl; syllabus-is = refl; dates-are = refl; cycles-are = refl; unnamed-is = refl }
-reads-as (second c) =
+-- by what stands behind the selection
+module _ (p : ℕ) (tail : Tail) where
+  reads-by : (s : List ℕ) → choiceIn (tailBytes tail) ≡ choiceSaid (choosingOf tail) → behindSelection (tailBytes tail) ≡ s
+      → byte s 0 ≡ syllabusOf tail → datesFrom s ≡ datesSaid (T.datesOf tail) → cyclesFrom p s ≡ cyclesBytes (T.datesOf tail)
+      → cardFrom (endFrom p s) ≡ cardSaid (T.familiesOf tail) → familyFrom (endFrom p s) ≡ controlsBytes (T.familiesOf tail) → ReadsAs p tail
+  reads-by s choice behind syllabus dates cycles card family =
+      record {
+        choice-is = choice;
+        syllabus-is = ap (λ (t : List ℕ). byte t 0) behind ∙ syllabus;
+        dates-are = ap datesFrom behind ∙ dates;
+        cycles-are = ap (cyclesFrom p) behind ∙ cycles;
+        card-is = ap (λ (t : List ℕ). cardFrom (endFrom p t)) behind ∙ card;
+        family-is = ap (λ (t : List ℕ). familyFrom (endFrom p t)) behind ∙ family;
+      }
+
+pub reads-as : (p : ℕ) (tail : Tail) → Fine p tail → ReadsAs p tail
+reads-as p first fine = reads-by p first [] refl refl refl refl refl refl refl
+reads-as p (second c) fine =
     let nothing : choosingBytes c ≡ choosingBytes c ++ [] = sym (append-nil (choosingBytes c)) in
-    let behind : behindSelection (choosingBytes c) ≡ [] = ap behindSelection nothing ∙ chosen c [] .1 in
-    record {
-      choice-is = ap choiceIn nothing ∙ chosen c [] .0;
-      syllabus-is = ap (λ (s : List ℕ). byte s 0) behind;
-      dates-are = ap datesFrom behind;
-      cycles-are = ap cyclesFrom behind;
-      unnamed-is = refl;
-    }
-reads-as (third c syllabus) =
+    reads-by p (second c) [] (ap choiceIn nothing ∙ chosen c [] .0) (ap behindSelection nothing ∙ chosen c [] .1) refl refl refl refl refl
+reads-as p (third c syllabus) fine =
     let (choice, behind) = chosen c (syllabus ∷ []) in
-    record {
-      choice-is = choice;
-      syllabus-is = ap (λ (s : List ℕ). byte s 0) behind;
-      dates-are = ap datesFrom behind;
-      cycles-are = ap cyclesFrom behind;
-      unnamed-is = refl;
-    }
-reads-as (fourth c syllabus d) =
+    reads-by p (third c syllabus) (syllabus ∷ []) choice behind refl refl refl refl refl
+reads-as p (fourth c syllabus d) fine =
     let (choice, behind) = chosen c (syllabus ∷ datesBytes d) in
-    let (dates, cycles) = dates-there syllabus d in
-    record {
-      choice-is = choice;
-      syllabus-is = ap (λ (s : List ℕ). byte s 0) behind;
-      dates-are = ap datesFrom behind ∙ dates;
-      cycles-are = ap cyclesFrom behind ∙ cycles;
-      unnamed-is = refl;
-    }
+    let (dates, cycles, end) = dates-there p syllabus d [] (fine .2) in
+    let nothing : syllabus ∷ datesBytes d ≡ syllabus ∷ datesBytes d ++ [] = ap (λ (t : List ℕ). syllabus ∷ t) (sym (append-nil (datesBytes d))) in
+    reads-by p (fourth c syllabus d) (syllabus ∷ datesBytes d ++ []) choice (behind ∙ nothing) refl dates cycles (ap cardFrom end) (ap familyFrom end)
+reads-as p (fifth c syllabus d f) fine =
+    let (choice, behind) = chosen c (syllabus ∷ datesBytes d ++ familiesBytes f) in
+    let (dates, cycles, end) = dates-there p syllabus d (familiesBytes f) (fine .2) in
+    let (card, family) = family-there f in
+    reads-by p (fifth c syllabus d f) (syllabus ∷ datesBytes d ++ familiesBytes f) choice behind refl dates cycles (ap cardFrom end ∙ card)
+    (ap familyFrom end ∙ family)
+
+pub unnamed-is : (tail : Tail) → unnamedIn (versionOf tail) ≡ unnamedOf tail
+unnamed-is first = refl
+unnamed-is (second c) = refl
+unnamed-is (third c syllabus) = refl
+unnamed-is (fourth c syllabus d) = refl
+unnamed-is (fifth c syllabus d f) = refl

@@ -47,7 +47,7 @@ run-answered sitting (c ∷ cs) =
 -- a sitting before its first command
 abbrev pub fresh : Setup → Sitting
 fresh setup =
-    record { rules = rulesBy setup; state = freshState (readSetup (setup .bytes) (setup .tail) (setup .unnamed) .fresh); log = [] }
+    record { rules = rulesBy setup; state = freshState (readSetup (setup .bytes) (setup .tail) (setup .family) (setup .unnamed) .fresh); log = [] }
 
 -- THE TALK OF A SITTING, AS EVENTS
 pub talk-is : (setup : Setup) (commands : List Command)

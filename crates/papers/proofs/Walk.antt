@@ -4,14 +4,19 @@ use mathlib.Core.Bool.{Bool, true, false, cond}
 use mathlib.Core.List.{List, [], _∷_, _++_}
 use Prim.Native.Nat.{ℕ, zero, suc, _+_, _-_, _*_, _≤_, _<_}
 use native.Mathlib.Omega.{arith}
-use borrow.Author.Tests.{lt-leb, le-ltb, ltb-true, ltb-false, ne-eqb, eqb-true}
+use borrow.Author.Tests.{lt-leb, le-ltb, ltb-true, ltb-false, ne-eqb, eqb-true, eqb-false}
 use lib.Dec.{eqb, ltb}
 use lib.ListN.{length, take, drop, length-drop}
 use lib.Seq.{drop-drop}
-use Rattle.wire.specs.Wire.{number}
+use Rattle.wire.specs.Wire.{byte, number}
+use Rattle.wire.proofs.Numbers.{one as number-1}
 use Rattle.calendar.specs.Calendar.{dateAt}
+use Rattle.cpace.specs.Cpace.{cvmAt, cashbackAt}
 use Rattle.refusal.specs.declared.Refusal.the-variants.{Unreadable}
 use Rattle.rules.specs.Rules.{Rules}
+use Rattle.slot.specs.declared.Slots.{Slots}
+use Rattle.shape.specs.declared.Dating.{Dating}
+use Rattle.shape.specs.declared.Family.{Family}
 use Rattle.shape.specs.declared.Shape.{Shape}
 use Rattle.paper.specs.declared.Next.{Next}
 use Rattle.paper.specs.declared.Next.the-variants.{Record, Fault, End as PaperEnd}
@@ -20,7 +25,7 @@ use Rattle.paper.specs.Walk.{part}
 use Rattle.command.specs.declared.Command.{Command}
 use Rattle.command.specs.declared.ReadCommand.{ReadCommand}
 use Rattle.command.specs.declared.ReadCommand.the-variants.{Taken as CommandTaken, Refused as CommandRefused}
-use Rattle.command.specs.Command.{commandOf, selectingOf, startOf, firstOf, secondOf, commandIn}
+use Rattle.command.specs.Command.{commandOf, selectingOf, startSelected, startOf, firstOf, secondOf, commandIn}
 use Rattle.state.specs.declared.State.{State}
 use Rattle.card.specs.Card.{stepOf}
 use Rattle.conversation.specs.declared.Event.{Event}
@@ -29,14 +34,14 @@ use Rattle.conversation.specs.declared.Event.the-variants.{End, Refused, Answer
 use Rattle.conversation.specs.Conversation.{answeredBy, takenOf}
 use Rattle.conversation.specs.Events.{eventsFrom}
 use Rattle.demands.specs.Conversation.{Exchange, Sitting, told as heard, run}
-use Rattle.spelling.specs.Spelling.{Choice, byName, byFile, Dates, undated, dated, Manner, mannerIn}
+use Rattle.spelling.specs.Spelling.{Choice, byName, byFile, Dates, undated, dated, CardFamily, cpa, cpace, Manner, mannerIn, cvmOf, cashbackOf}
 use Rattle.spelling.specs.Faults.{cut-in-length, cut-short, no-kind}
 use Rattle.spelling.specs.Sitting.{Lies, happened}
 use Rattle.spelling.proofs.Shapes.{shift, next-drop, part-drop, next-broken}
-use Rattle.spelling.proofs.Commands.{of, readBy}
+use Rattle.spelling.proofs.Commands.{of, datingOf, familyOf, readBy, not-start, Shows, cvm-read, cashback-read}
 use Rattle.spelling.proofs.Records.{commands-same}
-use Rattle.papers.specs.Papers.{Front, nothing, broken, one, frontBy, frontOf, Meaning, none, means, meant}
-use Rattle.papers.specs.Papers.{Walked, stopped, goingOn, walkBy, walk}
+use Rattle.papers.specs.Papers.{Front, nothing, broken, one, frontBy, frontOf, Meaning, none, means, startMeant, shownAt, firstMeant, secondMeant, meant}
+use Rattle.papers.specs.Papers.{Walked, stopped, met, goingOn, slotsAt, walkBy, walk}
 use Rattle.papers.specs.Talk.{ending, turns}
 
 -- ---- the record at the front
@@ -100,25 +105,52 @@ abbrev asRead : Meaning → ReadCommand
 asRead none = CommandRefused Unreadable
 asRead (means command) = CommandTaken command
 
-meant-read : (manner : Manner) (kind : ℕ) (body : List ℕ) → readBy manner kind body ≡ asRead (meant manner kind body)
-unfolding meant commandOf selectingOf startOf firstOf secondOf dateAt
-meant-read manner kind body = by (manner .choice) (manner .dates) (eqb kind 2) (eqb kind 3) (eqb kind 4) refl refl refl where
-  if-so : (b : Bool) (m : Meaning) → cond b (asRead m) (CommandRefused Unreadable) ≡ asRead (cond b m none)
-  if-so true m = refl
-  if-so false m = refl
+if-so : (b : Bool) (m : Meaning) → cond b (asRead m) (CommandRefused Unreadable) ≡ asRead (cond b m none)
+if-so true m = refl
+if-so false m = refl
 
-  by : (choice : Choice) (dates : Dates) (two three four : Bool) → eqb kind 2 ≡ two → eqb kind 3 ≡ three → eqb kind 4 ≡ four
-      → readBy (of choice dates) kind body ≡ asRead (meant (of choice dates) kind body)
-  by byName dates true three four e f g = rw (eqb-true kind 2 e) (if-so (eqb (length body) 1) _)
-  by (byFile file entries) dates true three four e f g = rw (eqb-true kind 2 e)
-  by byName undated false true four e f g = rw (eqb-true kind 3 f) (if-so (eqb (length body) 12) _)
-  by byName dated false true four e f g = rw (eqb-true kind 3 f) (if-so (eqb (length body) 15) _)
-  by (byFile file entries) undated false true four e f g = rw (eqb-true kind 3 f) (if-so (eqb (length body) 12) _)
-  by (byFile file entries) dated false true four e f g = rw (eqb-true kind 3 f) (if-so (eqb (length body) 15) _)
-  by byName dates false false true e f g = rw (eqb-true kind 4 g) (if-so (eqb (length body) 8) _)
-  by (byFile file entries) dates false false true e f g = rw (eqb-true kind 4 g) (if-so (eqb (length body) 8) _)
-  by byName dates false false false e f g = rw (e, f, g)
-  by (byFile file entries) dates false false false e f g = rw (e, f, g)
+unless : (b : Bool) (m : Meaning) → cond b (CommandRefused Unreadable) (asRead m) ≡ asRead (cond b none m)
+unless true m = refl
+unless false m = refl
+
+module _ (body : List ℕ) where
+  start-meant : (choice : Choice) (dates : Dates) (family : CardFamily) (slots : Slots)
+      → readBy (of choice dates family) slots 2 body ≡ asRead (startMeant choice family slots body)
+  unfolding commandOf selectingOf startSelected startOf
+  start-meant byName dates cpa slots = if-so (eqb (length body) 1) _
+  start-meant byName dates cpace slots = if-so (eqb (length body) 2) _
+  start-meant (byFile file entries) dates cpa slots = refl
+  start-meant (byFile file entries) dates cpace slots = unless (eqb (length body) 0) _
+
+  shown-meant : (at : ℕ) → (cvmAt body at ≡ cvmOf (shownAt at body)) × (cashbackAt body (at + 3) ≡ cashbackOf (shownAt at body))
+  shown-meant at =
+      let there : Shows body at (byte body at) (byte body (at + 1)) (byte body (at + 2)) (number body (at + 3) 6) =
+      (number-1 body at, number-1 body (at + 1), number-1 body (at + 2), refl) in
+      (cvm-read body at _ _ _ _ there, cashback-read body at _ _ _ _ there)
+
+  first-meant : (dates : Dates) (family : CardFamily)
+      → commandOf (datingOf dates) (familyOf family) 3 body ≡ asRead (firstMeant dates family body)
+  unfolding commandOf firstOf dateAt
+  first-meant undated cpa = if-so (eqb (length body) 12) _
+  first-meant dated cpa = if-so (eqb (length body) 15) _
+  first-meant undated cpace = let (cvm, cashback) = shown-meant 12 in rw (cvm, cashback) (if-so (eqb (length body) 21) _)
+  first-meant dated cpace = let (cvm, cashback) = shown-meant 15 in rw (cvm, cashback) (if-so (eqb (length body) 24) _)
+
+meant-read : (manner : Manner) (slots : Slots) (kind : ℕ) (body : List ℕ) → readBy manner slots kind body ≡ asRead (meant manner slots kind body)
+unfolding meant commandOf secondOf
+meant-read manner slots kind body = by (eqb kind 2) (eqb kind 3) (eqb kind 4) refl refl refl where
+  other : eqb kind 2 ≡ false → readBy manner slots kind body ≡ commandOf (datingOf (manner .dates)) (familyOf (manner .family)) kind body
+  other e = not-start manner slots kind body (eqb-false kind 2 e)
+
+  second-meant : (dating : Dating) (family : Family) → commandOf dating family 4 body ≡ asRead (secondMeant body)
+  second-meant dating family = if-so (eqb (length body) 8) _
+
+  by : (two three four : Bool) → eqb kind 2 ≡ two → eqb kind 3 ≡ three → eqb kind 4 ≡ four
+      → readBy manner slots kind body ≡ asRead (meant manner slots kind body)
+  by true three four e f g = rw (eqb-true kind 2 e) (start-meant body (manner .choice) (manner .dates) (manner .family) slots)
+  by false true four e f g = other e ∙ rw (eqb-true kind 3 f) (first-meant body (manner .dates) (manner .family))
+  by false false true e f g = other e ∙ rw (eqb-true kind 4 g) (second-meant (datingOf (manner .dates)) (familyOf (manner .family)))
+  by false false false e f g = other e ∙ rw (e, f, g)
 
 -- ---- one turn, and all of them
 
@@ -126,17 +158,25 @@ module _ (rules : Rules) (form : Shape) (s : List ℕ) (lies : Lies (form .selec
   abbrev manner : Manner
   manner = mannerIn form s
 
-  -- what the walk meets at a place, and what the conversation takes there
-  data Turn (state : State) (at : ℕ) : Type 0 where
-    over : ((more : List ℕ → Walked) → walkBy manner (frontOf (drop at s)) more ≡ stopped false)
-        → takenOf rules form state s at .event ≡ End → Turn state at
-    fault : ((more : List ℕ → Walked) → walkBy manner (frontOf (drop at s)) more ≡ stopped true)
-        → takenOf rules form state s at .event ≡ Refused Unreadable → Turn state at
-    command : (c : Command) (end : ℕ) → ((more : List ℕ → Walked) → walkBy manner (frontOf (drop at s)) more ≡ goingOn (means c) (more (drop end s)))
-        → takenOf rules form state s at ≡ record { state = stepOf rules state c .state; at = end; event = Answered c (stepOf rules state c .answer) }
-        → Turn state at
+  abbrev sitting : State → List Exchange → Sitting
+  sitting state log = record { rules = rules; state = state; log = log }
 
-  module _ (state : State) (at : ℕ) where
+  -- what the walk meets at a place in a sitting
+  abbrev Meets : State → List Exchange → (at : ℕ) → ((Sitting → List ℕ → Walked) → Walked) → Type 0
+  Meets state log at is = (more : Sitting → List ℕ → Walked) → walkBy manner (sitting state log) (frontOf (drop at s)) more ≡ is more
+
+  -- and what the conversation takes there
+  data Turn (state : State) (log : List Exchange) (at : ℕ) : Type 0 where
+    over : Meets state log at (λ more. stopped false) → takenOf rules form state s at .event ≡ End → Turn state log at
+    fault : Meets state log at (λ more. stopped true) → takenOf rules form state s at .event ≡ Refused Unreadable → Turn state log at
+    command : (c : Command) (end : ℕ) → Meets state log at (λ more. met c (more (heard (sitting state log) c) (drop end s)))
+        → takenOf rules form state s at ≡ record { state = stepOf rules state c .state; at = end; event = Answered c (stepOf rules state c .answer) }
+        → Turn state log at
+
+  module _ (state : State) (log : List Exchange) (at : ℕ) where
+    abbrev slots : Slots
+    slots = slotsAt manner (sitting state log)
+
     abbrev rest : List ℕ
     rest = drop at s
 
@@ -147,12 +187,14 @@ module _ (rules : Rules) (form : Shape) (s : List ℕ) (lies : Lies (form .selec
     place next e = next-drop s at ∙ ap (shift at) e
 
     -- what the reader makes of a record
-    read : (kind start end : ℕ) (m : Meaning) → meant manner kind (part rest start end) ≡ m → commandIn form s kind (part s (at + start) (at + end)) ≡ asRead m
+    read : (kind start end : ℕ) (m : Meaning) → meant manner slots kind (part rest start end) ≡ m
+        → commandIn form (state .values) s kind (part s (at + start) (at + end)) ≡ asRead m
     read kind start end m f =
-        commands-same form s lies kind (part s (at + start) (at + end))
-        ∙ ap (readBy manner kind) (part-drop s at start end) ∙ meant-read manner kind (part rest start end) ∙ ap asRead f
+        commands-same form (state .values) s lies kind (part s (at + start) (at + end))
+        ∙ ap (readBy manner slots kind) (part-drop s at start end) ∙ meant-read manner slots kind (part rest start end) ∙ ap asRead f
 
-    by-meaning : (kind start end : ℕ) → nextAt rest 0 ≡ Record kind start end → (m : Meaning) → meant manner kind (part rest start end) ≡ m → Turn state at
+    by-meaning : (kind start end : ℕ) → nextAt rest 0 ≡ Record kind start end → (m : Meaning) → meant manner slots kind (part rest start end) ≡ m
+        → Turn state log at
     unfolding takenOf answeredBy
     by-meaning kind start end e none f =
         fault (λ more. rw (front (Record kind start end) e, f)) (rw (place (Record kind start end) e, read kind start end none f))
@@ -160,65 +202,70 @@ module _ (rules : Rules) (form : Shape) (s : List ℕ) (lies : Lies (form .selec
         command c (at + end) (λ more. rw (front (Record kind start end) e, f, drop-drop end at s))
         (rw (place (Record kind start end) e, read kind start end (means c) f))
 
-    by-next : (next : Next) → nextAt rest 0 ≡ next → Turn state at
+    by-next : (next : Next) → nextAt rest 0 ≡ next → Turn state log at
     unfolding takenOf
     by-next PaperEnd e = over (λ more. rw (front PaperEnd e)) (rw (place PaperEnd e))
     by-next Fault e = fault (λ more. rw (front Fault e)) (rw (place Fault e))
-    by-next (Record kind start end) e = by-meaning kind start end e (meant manner kind (part rest start end)) refl
+    by-next (Record kind start end) e = by-meaning kind start end e (meant manner slots kind (part rest start end)) refl
 
-    turn : Turn state at
+    turn : Turn state log at
     turn = by-next (nextAt rest 0) refl
 
   -- THE EVENTS OF n TURNS ARE THOSE OF THE COMMANDS MET
+  abbrev said-to : State → Command → Exchange
+  said-to state c = record { command = c; answer = stepOf rules state c .answer }
+
   abbrev told : Walked → State → List Event
   told walked state = happened rules state (walked .commands) ++ ending (walked .fault)
 
-  one-more : (n : ℕ) (state : State) (at : ℕ) → Turn state at
-      → ((state : State) (at : ℕ) → eventsFrom n rules form state s at ≡ told (walk n manner (drop at s)) state)
-      → eventsFrom (suc n) rules form state s at ≡ told (walk (suc n) manner (drop at s)) state
-  unfolding eventsFrom walk happened
-  one-more n state at (over w t) then = rw (w (walk n manner), t)
-  one-more n state at (fault w t) then = rw (w (walk n manner), t)
-  one-more n state at (command c end w t) then =
-      rw (w (walk n manner), t) (ap (λ (more : List Event). Answered c (stepOf rules state c .answer) ∷ more) (then (stepOf rules state c .state) end))
+  abbrev Events : ℕ → Type 0
+  Events n =
+      (state : State) (log : List Exchange) (at : ℕ) → eventsFrom n rules form state s at ≡ told (walk n manner (sitting state log) (drop at s)) state
 
-  pub walk-events : (n : ℕ) (state : State) (at : ℕ) → eventsFrom n rules form state s at ≡ told (walk n manner (drop at s)) state
+  one-more : (n : ℕ) (state : State) (log : List Exchange) (at : ℕ) → Turn state log at → Events n
+      → eventsFrom (suc n) rules form state s at ≡ told (walk (suc n) manner (sitting state log) (drop at s)) state
   unfolding eventsFrom walk happened
-  walk-events zero state at = refl
-  walk-events (suc n) state at = one-more n state at (turn state at) (walk-events n)
+  one-more n state log at (over w t) then = rw (w (walk n manner), t)
+  one-more n state log at (fault w t) then = rw (w (walk n manner), t)
+  one-more n state log at (command c end w t) then =
+      rw (w (walk n manner), t)
+      (ap (λ (more : List Event). Answered c (stepOf rules state c .answer) ∷ more) (then (stepOf rules state c .state) (said-to state c ∷ log) end))
+
+  pub walk-events : (n : ℕ) → Events n
+  unfolding eventsFrom walk happened
+  walk-events zero state log at = refl
+  walk-events (suc n) state log at = one-more n state log at (turn state log at) (walk-events n)
 
   -- AND THE CARD AFTER ANY OF THEM IS THE ONE THAT HEARD THOSE BEFORE
-  abbrev sitting : State → List Exchange → Sitting
-  sitting state log = record { rules = rules; state = state; log = log }
-
   abbrev Card : ℕ → List Command → Type 0
   Card n before =
-      (state : State) (log : List Exchange) (at : ℕ) (after : List Command) → walk n manner (drop at s) .commands ≡ before ++ after
+      (state : State) (log : List Exchange) (at : ℕ) (after : List Command) → walk n manner (sitting state log) (drop at s) .commands ≡ before ++ after
       → turns (length before) rules form state s at ≡ run (sitting state log) before .state
 
   not-met : {A : Type 0} (c : Command) (cs : List Command) → [] ≡ c ∷ cs → A
   not-met c cs e = let z : _≡_ {A = ℕ} 0 1 = cc in absurd (omega arith)
 
   card-on : (n : ℕ) (c : Command) (before : List Command) → Card n before
-      → (state : State) (log : List Exchange) (at : ℕ) (after : List Command) → walk (suc n) manner (drop at s) .commands ≡ c ∷ (before ++ after)
-      → Turn state at → turns (suc (length before)) rules form state s at ≡ run (sitting state log) (c ∷ before) .state
+      → (state : State) (log : List Exchange) (at : ℕ) (after : List Command)
+      → walk (suc n) manner (sitting state log) (drop at s) .commands ≡ c ∷ (before ++ after)
+      → Turn state log at → turns (suc (length before)) rules form state s at ≡ run (sitting state log) (c ∷ before) .state
   unfolding turns run walk
   card-on n c before then state log at after e (over w t) = not-met c (before ++ after) (ap (λ (x : Walked). x .commands) (sym (w (walk n manner))) ∙ e)
   card-on n c before then state log at after e (fault w t) = not-met c (before ++ after) (ap (λ (x : Walked). x .commands) (sym (w (walk n manner))) ∙ e)
   card-on n c before then state log at after e (command d end w t) =
-      let met : d ∷ walk n manner (drop end s) .commands ≡ c ∷ (before ++ after) = ap (λ (x : Walked). x .commands) (sym (w (walk n manner))) ∙ e in
+      let on = walk n manner (heard (sitting state log) d) (drop end s) .commands in
+      let all : d ∷ on ≡ c ∷ (before ++ after) = ap (λ (x : Walked). x .commands) (sym (w (walk n manner))) ∙ e in
       let same : d ≡ c = cc in
-      let behind : walk n manner (drop end s) .commands ≡ before ++ after = cc in
-      let said : Exchange = record { command = d; answer = stepOf rules state d .answer } in
+      let behind : on ≡ before ++ after = cc in
       ap (λ (taken : Taken). turns (length before) rules form (taken .state) s (taken .at)) t
-      ∙ then (stepOf rules state d .state) (said ∷ log) end after behind
+      ∙ then (stepOf rules state d .state) (said-to state d ∷ log) end after behind
       ∙ ap (λ (x : Command). run (heard (sitting state log) x) before .state) same
 
   pub walk-cards : (n : ℕ) (before : List Command) → Card n before
   unfolding turns run walk
   walk-cards n [] state log at after e = refl
   walk-cards zero (c ∷ before) state log at after e = not-met c (before ++ after) e
-  walk-cards (suc n) (c ∷ before) state log at after e = card-on n c before (walk-cards n before) state log at after e (turn state at)
+  walk-cards (suc n) (c ∷ before) state log at after e = card-on n c before (walk-cards n before) state log at after e (turn state log at)
 
 -- ---- the walk ends: each record goes further, and as many steps as there are bytes say all there is to say
 
@@ -240,19 +287,22 @@ shorter (high ∷ low ∷ k ∷ more) kind body behind e = by (high * 256 + low)
   by (suc n) e = let l = by-room n (ltb (length more) n) e in omega arith
 
 module _ (manner : Manner) where
-  settled-by : (n m : ℕ) (s : List ℕ) → length s ≤ suc n → (front : Front) → frontOf s ≡ front
-      → ((behind : List ℕ) → length behind ≤ n → walk m manner behind ≡ walk n manner behind)
-      → walkBy manner front (walk m manner) ≡ walkBy manner front (walk n manner)
-  settled-by n m s l nothing e then = refl
-  settled-by n m s l broken e then = refl
-  settled-by n m s l (one kind body behind) e then =
-      let less = shorter s kind body behind e in
-      ap (goingOn (meant manner kind body)) (then behind (omega arith))
+  settled-by : (n m : ℕ) (sitting : Sitting) (s : List ℕ) → length s ≤ suc n → (front : Front) → frontOf s ≡ front
+      → ((sitting : Sitting) (behind : List ℕ) → length behind ≤ n → walk m manner sitting behind ≡ walk n manner sitting behind)
+      → walkBy manner sitting front (walk m manner) ≡ walkBy manner sitting front (walk n manner)
+  settled-by n m sitting s l nothing e then = refl
+  settled-by n m sitting s l broken e then = refl
+  settled-by n m sitting s l (one kind body behind) e then = by (meant manner (slotsAt manner sitting) kind body) where
+    by : (meaning : Meaning)
+        → goingOn meaning (λ c. walk m manner (heard sitting c) behind) ≡ goingOn meaning (λ c. walk n manner (heard sitting c) behind)
+    by none = refl
+    by (means c) = ap (met c) (then (heard sitting c) behind (omega (arith, shorter s kind body behind e)))
 
-  pub walk-settled : (n m : ℕ) (s : List ℕ) → length s ≤ n → n ≤ m → walk m manner s ≡ walk n manner s
+  pub walk-settled : (n m : ℕ) (sitting : Sitting) (s : List ℕ) → length s ≤ n → n ≤ m → walk m manner sitting s ≡ walk n manner sitting s
   unfolding walk frontOf
-  walk-settled zero zero s l k = refl
-  walk-settled zero (suc m) [] l k = refl
-  walk-settled zero (suc m) (b ∷ s) l k = absurd (omega arith)
-  walk-settled (suc n) zero s l k = absurd (omega arith)
-  walk-settled (suc n) (suc m) s l k = settled-by n m s l (frontOf s) refl (λ behind h. walk-settled n m behind h (omega arith))
+  walk-settled zero zero sitting s l k = refl
+  walk-settled zero (suc m) sitting [] l k = refl
+  walk-settled zero (suc m) sitting (b ∷ s) l k = absurd (omega arith)
+  walk-settled (suc n) zero sitting s l k = absurd (omega arith)
+  walk-settled (suc n) (suc m) sitting s l k =
+      settled-by n m sitting s l (frontOf s) refl (λ after behind h. walk-settled n m after behind h (omega arith))

@@ -1,5 +1,5 @@
 -- The premises are met: by the printed sitting, its 242 bytes and the 322 bytes of its lines; by a paper whose Starts bring the terminal's data; by
--- one of version 03; and by one whose Firsts have their dates. Assumes nothing.
+-- one of version 03; by one whose Firsts have their dates; and by a CPACE card's. Assumes nothing.
 use mathlib.Core.Path.{_≡_, refl, sym, ap, _∙_}
 use mathlib.Core.Bool.{true, false}
 use mathlib.Core.List.{List, [], _∷_, append-nil}
@@ -9,9 +9,11 @@ use lib.ListN.{length, take, drop, take-append-drop}
 use Rattle.wire.specs.Wire.{number}
 use Rattle.refusal.specs.declared.Refusal.the-variants.{OutOfTurn}
 use Rattle.rules.specs.Word.{wordCount}
+use Rattle.cpace.specs.declared.Cvm.the-variants.{NoCvm}
 use Rattle.purchase.specs.Meter.{Meter, accumulator, cyclic}
 use Rattle.shape.specs.declared.Dating.the-variants.{On as DatesOn}
-use Rattle.shape.specs.Shape.{based, selects, dates}
+use Rattle.shape.specs.declared.Family.the-variants.{Cpace}
+use Rattle.shape.specs.Shape.{based, selects, dates, families}
 use Rattle.command.specs.declared.When.the-variants.{On}
 use Rattle.command.specs.declared.Command.{Command}
 use Rattle.command.specs.declared.Command.the-variants.{First as FirstCommand}
@@ -20,8 +22,8 @@ use Rattle.state.specs.declared.Answer.the-variants.{Refused}
 use Rattle.conversation.specs.declared.Event.{Event}
 use Rattle.conversation.specs.declared.Event.the-variants.{SetUp, Answered}
 use Rattle.lines.specs.Sitting.{sittingLines}
-use Rattle.demands.specs.Conversation.{Exchange}
-use Rattle.demands.specs.Audit.{inForce, placeBy, approves, bought, takesUp}
+use Rattle.demands.specs.Conversation.{Exchange, run, rulesBy, sat}
+use Rattle.demands.specs.Audit.{inForce, placeBy, approves, bought, takesPart}
 use Rattle.demands.specs.Guards.{Guards}
 use Rattle.demands.specs.Printed.{first, second, commands}
 use Rattle.demands.specs.Printed as D
@@ -30,8 +32,11 @@ use Rattle.rows.specs.Rows.{setupRow, headRow, profileRow, spelled, written}
 use Rattle.rows.specs.Tails.{off, third}
 use Rattle.rows.specs.Whole.{wholeBody}
 use Rattle.rows.proofs.Witness as R
-use Rattle.spelling.specs.Spelling.{Bytes, big, recordOf, spellAll, paperOf, byName, byFile, undated, dated, Manner, standsFor, allStandFor}
+use Rattle.spelling.specs.Spelling.{Bytes, big, recordOf, spellAll, paperOf, byName, byFile, undated, dated, cpa, cpace, Manner}
+use Rattle.spelling.specs.Spelling.{Sent, standsFor}
+use Rattle.spelling.specs.Sitting.{allStandFor}
 use Rattle.spelling.specs.Printed.{printed, body, sent, printedLines, selection, selectionBody, file, brought, calendar, calendarBody, datedSent}
+use Rattle.spelling.specs.Printed.{cpacePaper, cpaceBody, cpaceSent}
 use Rattle.spelling.proofs.Witness as W
 use Rattle.spelling.proofs.Text.{printed-text}
 use Rattle.papers.specs.Papers.{entriesLong, setupOf, mannerOf, choiceOf, Accepted, frontOf, meant, walk, walked, commandsOf, faulty}
@@ -47,7 +52,7 @@ pub accepted : Accepted printed
 accepted = accepted-if-taken printed W.bytes 1 body (spellAll sent) W.opens (based 159) W.set-up
 
 -- ITS SET-UP AND ITS COMMANDS, from its bytes; it ends without a fault
-pub its-setup : setupOf printed ≡ record { bytes = D.body; tail = []; syllabus = 0; unnamed = 2 ^ 22 }
+pub its-setup : setupOf printed ≡ record { bytes = D.body; tail = []; family = []; syllabus = 0; unnamed = 2 ^ 22 }
 unfolding printed D.body setupOf entriesLong number
 its-setup = refl
 
@@ -94,7 +99,7 @@ pub record Approval (words paper : List ℕ) (meter : Meter) (n : ℕ) (command 
   pub cut : CutBehind words paper (take n (saidIn paper)) (Answered command answer ∷ more)
   pub guards : Guards (inForce (setupOf paper) (newest (take n (saidIn paper)))) (placeBy (setupOf paper) (newest (take n (saidIn paper)))) meter
   pub approves-it : approves command answer ≡ true
-  pub takes-it-up : takesUp (bought (setupOf paper) (record { command = command; answer = answer } ∷ newest (take n (saidIn paper)))) meter ≡ true
+  pub takes-part : takesPart (bought (setupOf paper) (record { command = command; answer = answer } ∷ newest (take n (saidIn paper)))) meter ≡ true
 
 abbrev answerOf : List Exchange → Answer
 answerOf [] = Refused OutOfTurn
@@ -110,7 +115,7 @@ at-first words lent =
       cut = cut-behind words lent 1;
       guards = record { active = refl; included = refl; decline = refl; default = refl };
       approves-it = refl;
-      takes-it-up = refl;
+      takes-part = refl;
     }
 
 pub at-second : (words : List ℕ) → length words ≡ wordCount → Approval words printed (accumulator 0) 4 second
@@ -122,7 +127,7 @@ at-second words lent =
       cut = cut-behind words lent 4;
       guards = record { active = refl; included = refl; decline = refl; default = refl };
       approves-it = refl;
-      takes-it-up = refl;
+      takes-part = refl;
     }
 
 -- AND THE LAST SECOND IS REFUSED
@@ -132,6 +137,10 @@ refused-there words lent = cut-behind words lent 7
 
 -- ---- the paper whose Starts bring the terminal's data
 
+-- what is sent stands for these commands at a paper's card
+abbrev standIn : (paper : List ℕ) → Manner → List Sent → List Command
+standIn paper manner xs = allStandFor (rulesBy (setupOf paper)) manner (sat (setupOf paper) [] .state) xs
+
 pub brought-accepted : Accepted selection
 brought-accepted =
     accepted-if-taken selection W.brought-bytes 2 selectionBody (spellAll brought) W.brought-opens (selects (based 266) 268 279 1) W.brought-set-up
@@ -140,8 +149,8 @@ pub brought-choice : choiceOf selection ≡ byFile file 1
 unfolding selection mannerOf entriesLong number
 brought-choice = refl
 
-pub brought-commands : commandsOf selection ≡ allStandFor (record { choice = byFile file 1; dates = undated }) brought
-unfolding selection brought mannerOf entriesLong number frontOf meant walk walked standsFor allStandFor
+pub brought-commands : commandsOf selection ≡ standIn selection (record { choice = byFile file 1; dates = undated; family = cpa }) brought
+unfolding selection brought mannerOf entriesLong number frontOf meant walk walked standsFor allStandFor run
 brought-commands = refl
 
 -- ---- a paper of version 03: the printed set-up, selection off, syllabus 1
@@ -166,11 +175,12 @@ latest-accepted =
             in-range = R.printed-in-range;
             fine = (tt, lit≤ tt);
             dates-in-range = tt;
+            families-in-range = tt;
             spelled = refl;
           };
     }
 
-pub latest-setup : setupOf latest ≡ record { bytes = D.body; tail = []; syllabus = 1; unnamed = 2 ^ 22 }
+pub latest-setup : setupOf latest ≡ record { bytes = D.body; tail = []; family = []; syllabus = 1; unnamed = 2 ^ 22 }
 unfolding latest R.printed recordOf big setupRow headRow profileRow spelled written D.body setupOf entriesLong number
 latest-setup = refl
 
@@ -182,18 +192,18 @@ dated-accepted =
 
 -- its base has 159 bytes, and its tail of version 04, behind one byte for selection and one for the syllabus, 46
 pub dated-setup : setupOf calendar
-    ≡ record { bytes = take 159 (drop 4 calendar); tail = take 46 (drop 165 calendar); syllabus = 0; unnamed = 2 ^ 25 }
+    ≡ record { bytes = take 159 (drop 4 calendar); tail = take 46 (drop 165 calendar); family = []; syllabus = 0; unnamed = 2 ^ 25 }
 unfolding calendar setupOf entriesLong number
 dated-setup = refl
 
 abbrev onDays : Manner
-onDays = record { choice = byName; dates = dated }
+onDays = record { choice = byName; dates = dated; family = cpa }
 
 pub dated-manner : mannerOf calendar ≡ onDays
 unfolding calendar mannerOf entriesLong number
 dated-manner = refl
 
-pub dated-commands : commandsOf calendar ≡ allStandFor onDays datedSent
+pub dated-commands : commandsOf calendar ≡ standIn calendar onDays datedSent
 unfolding calendar datedSent mannerOf entriesLong number frontOf meant walk walked standsFor allStandFor
 dated-commands = refl
 
@@ -210,6 +220,8 @@ bought-on month day amount =
       currency = 0x0978;
       terminal = 0x22;
       when = On (record { year = 0x05; month = month; day = day });
+      cvm = NoCvm;
+      cashback = false;
     })
 
 pub in-a-day : (words : List ℕ) → length words ≡ wordCount → Approval words calendar (cyclic 0) 1 (bought-on 0x07 0x15 6000)
@@ -221,7 +233,7 @@ in-a-day words lent =
       cut = cut-in words calendar lent W.dated-bytes dated-accepted dated-no-fault 1;
       guards = record { active = refl; included = refl; decline = refl; default = refl };
       approves-it = refl;
-      takes-it-up = refl;
+      takes-part = refl;
     }
 
 pub in-a-month : (words : List ℕ) → length words ≡ wordCount → Approval words calendar (cyclic 1) 11 (bought-on 0x08 0x01 10000)
@@ -233,5 +245,32 @@ in-a-month words lent =
       cut = cut-in words calendar lent W.dated-bytes dated-accepted dated-no-fault 11;
       guards = record { active = refl; included = refl; decline = refl; default = refl };
       approves-it = refl;
-      takes-it-up = refl;
+      takes-part = refl;
     }
+
+-- ---- the paper of a CPACE card
+
+pub cpace-accepted : Accepted cpacePaper
+cpace-accepted =
+    accepted-if-taken cpacePaper W.cpace-bytes 5 cpaceBody (spellAll cpaceSent) W.cpace-opens (families (based 159) (Cpace 162 172)) W.cpace-set-up
+
+-- its base has 159 bytes, and its tail of version 05, behind one byte each for selection, syllabus and dates, 10
+pub cpace-setup : setupOf cpacePaper
+    ≡ record { bytes = take 159 (drop 4 cpacePaper); tail = []; family = take 10 (drop 166 cpacePaper); syllabus = 0; unnamed = 2 ^ 26 }
+unfolding cpacePaper setupOf entriesLong number
+cpace-setup = refl
+
+abbrev presenting : Manner
+presenting = record { choice = byName; dates = undated; family = cpace }
+
+pub cpace-manner : mannerOf cpacePaper ≡ presenting
+unfolding cpacePaper mannerOf entriesLong number
+cpace-manner = refl
+
+pub cpace-commands : commandsOf cpacePaper ≡ standIn cpacePaper presenting cpaceSent
+unfolding cpacePaper cpaceSent mannerOf entriesLong number frontOf meant walk walked standsFor allStandFor
+cpace-commands = refl
+
+pub cpace-no-fault : faulty cpacePaper ≡ false
+unfolding cpacePaper mannerOf entriesLong number frontOf meant walk walked
+cpace-no-fault = refl

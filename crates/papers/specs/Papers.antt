@@ -7,17 +7,21 @@ use lib.Dec.{eqb, ltb}
 use lib.ListN.{length, take, drop}
 use Rattle.wire.specs.Wire.{byte, number}
 use Rattle.calendar.specs.declared.Date.{Date}
+use Rattle.slot.specs.declared.Slots.{Slots}
 use Rattle.selection.specs.declared.Selection.the-variants.{Selected}
 use Rattle.selection.specs.Selection.{selectionOf}
+use Rattle.command.specs.declared.When.{When}
 use Rattle.command.specs.declared.When.the-variants.{Undated, On}
 use Rattle.command.specs.declared.Start.{Start}
 use Rattle.command.specs.declared.First.{First}
 use Rattle.command.specs.declared.Command.{Command}
-use Rattle.command.specs.declared.Command.the-variants.{Start as StartCommand, First as FirstCommand, Second as SecondCommand}
+use Rattle.command.specs.declared.Command.the-variants.{Second as SecondCommand}
 use Rattle.demands.specs.Setup.{Setup}
+use Rattle.demands.specs.Conversation.{Sitting, told, sat}
 use Rattle.rows.specs.Tails.{baseLength}
-use Rattle.spelling.specs.Spelling.{Choice, byName, byFile, Dates, undated, dated, Manner}
-use Rattle.spelling.specs.Faults.{Opens}
+use Rattle.spelling.specs.Spelling.{unsaid, on, Presented, unshown, shown, Choice, byName, byFile, Dates, undated, dated, CardFamily, cpa, cpace, Manner}
+use Rattle.spelling.specs.Spelling.{slotsIn, selects, startSent, firstSent}
+use Rattle.spelling.specs.Faults.{firstLength, Opens}
 use Rattle.rows.specs.Whole.{IsSetup}
 
 -- ---- the set-up: behind the version a record's length (2), which counts kind and body, its kind (1), its body
@@ -60,33 +64,49 @@ behindSelection tails = drop (cond (eqb (byte tails 0) 0) 1 (2 + fileLong tails)
 abbrev pub syllabusIn : (tails : List ℕ) → ℕ
 syllabusIn tails = byte (behindSelection tails) 0
 
--- VERSION 04, dates, behind that: 0 off; 1 on, and all that follows
+-- VERSION 04, dates, behind that: 0 off; 1 on, 28 + 18p bytes
 abbrev pub datingIn : (tails : List ℕ) → List ℕ
 datingIn tails = drop 1 (behindSelection tails)
 
 abbrev pub datesIn : (tails : List ℕ) → Dates
 datesIn tails = cond (eqb (byte (datingIn tails) 0) 0) undated dated
 
-abbrev pub cyclesIn : (tails : List ℕ) → List ℕ
-cyclesIn tails = cond (eqb (byte (datingIn tails) 0) 0) [] (datingIn tails)
+abbrev pub cyclesIn : (p : ℕ) (tails : List ℕ) → List ℕ
+cyclesIn p tails = cond (eqb (byte (datingIn tails) 0) 0) [] (take (28 + 18 * p) (datingIn tails))
 
--- mask bits 0 to 21 are named, and in version 04 0 to 24
+-- VERSION 05, the card family, behind that: 0 CPA; 1 CPACE, and all that follows
+abbrev pub behindDating : (p : ℕ) (tails : List ℕ) → List ℕ
+behindDating p tails = drop (cond (eqb (byte (datingIn tails) 0) 0) 1 (28 + 18 * p)) (datingIn tails)
+
+abbrev pub cardIn : (p : ℕ) (tails : List ℕ) → CardFamily
+cardIn p tails = cond (eqb (byte (behindDating p tails) 0) 0) cpa cpace
+
+abbrev pub familyIn : (p : ℕ) (tails : List ℕ) → List ℕ
+familyIn p tails = cond (eqb (byte (behindDating p tails) 0) 0) [] (behindDating p tails)
+
+-- mask bits 0 to 21 are named, in version 04 0 to 24, in version 05 0 to 25
 abbrev pub unnamedIn : (version : ℕ) → ℕ
-unnamedIn version = cond (ltb version 4) (2 ^ 22) (2 ^ 25)
+unnamedIn version = cond (ltb version 4) (2 ^ 22) (cond (ltb version 5) (2 ^ 25) (2 ^ 26))
+
+-- p, the profiles
+abbrev pub profilesIn : (body : List ℕ) → ℕ
+profilesIn body = byte body 3
 
 abbrev pub setupIn : (version : ℕ) (body : List ℕ) → Setup
 setupIn version body =
     record {
       bytes = baseIn body;
-      tail = cyclesIn (tailsIn body);
+      tail = cyclesIn (profilesIn body) (tailsIn body);
+      family = familyIn (profilesIn body) (tailsIn body);
       syllabus = syllabusIn (tailsIn body);
       unnamed = unnamedIn version;
     }
 
 abbrev pub mannerIn : (body : List ℕ) → Manner
-mannerIn body = record { choice = choiceIn (tailsIn body); dates = datesIn (tailsIn body) }
+mannerIn body =
+    record { choice = choiceIn (tailsIn body); dates = datesIn (tailsIn body); family = cardIn (profilesIn body) (tailsIn body) }
 
--- THE SET-UP OF A PAPER; how its Starts choose a profile, and whether its Firsts have dates
+-- THE SET-UP OF A PAPER; how its Starts choose a profile, whether its Firsts have dates, and whose card it is
 unfoldable pub setupOf : (paper : List ℕ) → Setup
 setupOf paper = setupIn (versionIn paper) (bodyIn paper)
 
@@ -98,6 +118,9 @@ choiceOf paper = mannerOf paper .choice
 
 abbrev pub datesOf : (paper : List ℕ) → Dates
 datesOf paper = mannerOf paper .dates
+
+abbrev pub cardOf : (paper : List ℕ) → CardFamily
+cardOf paper = mannerOf paper .family
 
 -- it is accepted: the paper opens, and its set-up is spelled from fields in their ranges and the tails of its version
 pub record Accepted (paper : List ℕ) : Type 0 where
@@ -129,32 +152,33 @@ pub data Meaning : Type 0 where
   none : Meaning
   means : Command → Meaning
 
--- Start: profile (1), or where profiles are selected the terminal's data
-abbrev pub startMeant : Choice → (body : List ℕ) → Meaning
-startMeant byName body = cond (eqb (length body) 1) (means (StartCommand (record { chosen = Selected (byte body 0) 0 }))) none
-startMeant (byFile file entries) body = means (StartCommand (record { chosen = selectionOf file entries body }))
+-- Start: profile (1), or where profiles are selected the terminal's data; to a CPACE card interface (1) before it, which the file reads too, and
+-- besides what its entries may test
+abbrev pub startMeant : Choice → CardFamily → Slots → (body : List ℕ) → Meaning
+startMeant byName cpa slots body = cond (eqb (length body) 1) (means (startSent unsaid (Selected (byte body 0) 0))) none
+startMeant byName cpace slots body = cond (eqb (length body) 2) (means (startSent (on (byte body 0)) (Selected (byte body 1) 0))) none
+startMeant (byFile file entries) cpa slots body = means (startSent unsaid (selects (byFile file entries) slots body))
+startMeant (byFile file entries) cpace slots body =
+    cond (eqb (length body) 0) none (means (startSent (on (byte body 0)) (selects (byFile file entries) slots body)))
 
--- First: type (1), amount (8), currency (2), terminal type (1), and in a dated paper the date, YY, MM and DD (1 each)
-abbrev pub firstMeant : Dates → (body : List ℕ) → Meaning
-firstMeant undated body =
-    cond (eqb (length body) 12)
-    (means (FirstCommand (record {
-      requested = byte body 0;
-      amount = record { 0 = number body 1 8 };
-      currency = number body 9 2;
-      terminal = byte body 11;
-      when = Undated;
-    })))
-    none
-firstMeant dated body =
-    cond (eqb (length body) 15)
-    (means (FirstCommand (record {
-      requested = byte body 0;
-      amount = record { 0 = number body 1 8 };
-      currency = number body 9 2;
-      terminal = byte body 11;
-      when = On (record { year = byte body 12; month = byte body 13; day = byte body 14 });
-    })))
+-- First: type (1), amount (8), currency (2), terminal type (1), in a dated paper the date, YY, MM and DD (1 each), and to a CPACE card CVM results
+-- (3) and cashback (6)
+abbrev pub whenMeant : Dates → (body : List ℕ) → When
+whenMeant undated body = Undated
+whenMeant dated body = On (record { year = byte body 12; month = byte body 13; day = byte body 14 })
+
+abbrev pub shownAt : (at : ℕ) (body : List ℕ) → Presented
+shownAt at body = shown (byte body at) (byte body (at + 1)) (byte body (at + 2)) (number body (at + 3) 6)
+
+abbrev pub presentedMeant : Dates → CardFamily → (body : List ℕ) → Presented
+presentedMeant dates cpa body = unshown
+presentedMeant undated cpace body = shownAt 12 body
+presentedMeant dated cpace body = shownAt 15 body
+
+abbrev pub firstMeant : Dates → CardFamily → (body : List ℕ) → Meaning
+firstMeant dates family body =
+    cond (eqb (length body) (firstLength dates family))
+    (means (firstSent (whenMeant dates body) (byte body 0) (number body 1 8) (number body 9 2) (byte body 11) (presentedMeant dates family body)))
     none
 
 -- Second: type (1), response code (2), issuer data (1), CSU (4)
@@ -165,12 +189,13 @@ secondMeant body =
     none
 
 -- kind 2 is a Start, 3 a First, 4 a Second
-unfoldable pub meant : Manner → (kind : ℕ) (body : List ℕ) → Meaning
-meant manner kind body =
-    cond (eqb kind 2) (startMeant (manner .choice) body)
-    (cond (eqb kind 3) (firstMeant (manner .dates) body) (cond (eqb kind 4) (secondMeant body) none))
+unfoldable pub meant : Manner → Slots → (kind : ℕ) (body : List ℕ) → Meaning
+meant manner slots kind body =
+    cond (eqb kind 2) (startMeant (manner .choice) (manner .family) slots body)
+    (cond (eqb kind 3) (firstMeant (manner .dates) (manner .family) body) (cond (eqb kind 4) (secondMeant body) none))
 
--- ---- all of them, one behind the other: the commands, up to the end or to a fault, which is a record that is none
+-- ---- all of them, one behind the other, each at the card that heard those before it: the commands, up to the end or to a fault, which is a
+-- record that is none
 pub record Walked : Type 0 where
   pub commands : List Command
   pub fault : Bool
@@ -178,22 +203,29 @@ pub record Walked : Type 0 where
 abbrev pub stopped : (fault : Bool) → Walked
 stopped fault = record { commands = []; fault = fault }
 
-abbrev pub goingOn : Meaning → Walked → Walked
+abbrev pub met : Command → Walked → Walked
+met command more = record { commands = command ∷ more .commands; fault = more .fault }
+
+abbrev pub goingOn : Meaning → (Command → Walked) → Walked
 goingOn none more = stopped true
-goingOn (means command) more = record { commands = command ∷ more .commands; fault = more .fault }
+goingOn (means command) more = met command (more command)
 
-abbrev pub walkBy : Manner → Front → (List ℕ → Walked) → Walked
-walkBy manner nothing more = stopped false
-walkBy manner broken more = stopped true
-walkBy manner (one kind body behind) more = goingOn (meant manner kind body) (more behind)
+abbrev pub slotsAt : Manner → Sitting → Slots
+slotsAt manner sitting = slotsIn (manner .family) (sitting .state .values)
 
-unfoldable pub walk : (n : ℕ) → Manner → List ℕ → Walked
-walk zero manner s = stopped false
-walk (suc n) manner s = walkBy manner (frontOf s) (walk n manner)
+abbrev pub walkBy : Manner → Sitting → Front → (Sitting → List ℕ → Walked) → Walked
+walkBy manner sitting nothing more = stopped false
+walkBy manner sitting broken more = stopped true
+walkBy manner sitting (one kind body behind) more =
+    goingOn (meant manner (slotsAt manner sitting) kind body) (λ command. more (told sitting command) behind)
+
+unfoldable pub walk : (n : ℕ) → Manner → Sitting → List ℕ → Walked
+walk zero manner sitting s = stopped false
+walk (suc n) manner sitting s = walkBy manner sitting (frontOf s) (walk n manner)
 
 -- no paper has more records than bytes
 unfoldable pub walked : (paper : List ℕ) → Walked
-walked paper = walk (length paper) (mannerOf paper) (restIn paper)
+walked paper = walk (length paper) (mannerOf paper) (sat (setupOf paper) []) (restIn paper)
 
 -- THE COMMANDS OF A PAPER, and whether it ends by a fault
 abbrev pub commandsOf : (paper : List ℕ) → List Command
@@ -202,10 +234,12 @@ commandsOf paper = walked paper .commands
 abbrev pub faulty : (paper : List ℕ) → Bool
 faulty paper = walked paper .fault
 
--- how a Start came to its profile: it names it, with no entry visited, or the file gives it for the terminal's data
-abbrev pub Chosen : Choice → Start → Type 0
-Chosen byName start = (profile : ℕ) × (start .chosen ≡ Selected profile 0)
-Chosen (byFile file entries) start = (terminal : List ℕ) × (start .chosen ≡ selectionOf file entries terminal)
+-- how a Start came to its profile: it names it, with no entry visited, or the file gives it for the terminal's data, behind the interface to a
+-- CPACE card, and for what its entries may test
+abbrev pub Chosen : Choice → CardFamily → Slots → Start → Type 0
+Chosen byName family slots start = (profile : ℕ) × (start .chosen ≡ Selected profile 0)
+Chosen (byFile file entries) cpa slots start = (terminal : List ℕ) × (start .chosen ≡ selectionOf file entries terminal slots)
+Chosen (byFile file entries) cpace slots start = (terminal : List ℕ) × (start .chosen ≡ selectionOf file entries (start .interface ∷ terminal) slots)
 
 -- and whether a First has its date
 abbrev pub Timed : Dates → First → Type 0

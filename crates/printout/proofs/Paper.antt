@@ -10,6 +10,7 @@ use lib.ListN.{length, getD}
 use lib.Seq.{sets}
 use Rattle.refusal.specs.Refusal.{refusalNumber}
 use Rattle.rules.specs.Rules.{Rules, rulesOf}
+use Rattle.rules.specs.Word.{wordCount}
 use Rattle.shape.specs.declared.Shape.{Shape}
 use Rattle.command.specs.declared.Command.{Command}
 use Rattle.state.specs.declared.Answer.{Answer}
@@ -137,7 +138,7 @@ module _ (words paper : List ℕ) where
     by false e w = (leb-false (at + (8 * length paper + 82)) (length room) e, refl, refl)
 
   -- EVERY BYTE STRING
-  pub every-text : length words ≡ 186 → Bytes paper → Printed paper (linesRead (transcriptOf words paper))
+  pub every-text : length words ≡ wordCount → Bytes paper → Printed paper (linesRead (transcriptOf words paper))
   every-text lent bytes = rw printed-lines (by (every-paper words paper lent bytes)) where
     by : Heard words paper → Printed paper (sittingLines words paper)
     by (Talk.unread fault e) = unread fault (unfold sittingLines linesOf in ap (linesOf 0) e)
@@ -147,11 +148,11 @@ module _ (words paper : List ℕ) where
     by (Talk.heard a e) = heard a (lines-are words paper lent bytes a)
 
 -- AND OF AN ACCEPTED ONE: the set-up's line, one for each command with its answer, and refusal 9 where a fault ends it
-pub accepted-text : (words paper : List ℕ) → length words ≡ 186 → Bytes paper → Accepted paper → linesRead (transcriptOf words paper) ≡ linesBy paper
+pub accepted-text : (words paper : List ℕ) → length words ≡ wordCount → Bytes paper → Accepted paper → linesRead (transcriptOf words paper) ≡ linesBy paper
 accepted-text words paper lent bytes a = printed-lines words paper ∙ lines-are words paper lent bytes a
 
 -- a command's line says its place and the fields of its answer
-pub line-says : (words paper : List ℕ) → length words ≡ 186 → Bytes paper → Accepted paper
+pub line-says : (words paper : List ℕ) → length words ≡ wordCount → Bytes paper → Accepted paper
     → (before : List Exchange) (command : Command) (answer : Answer) (behind : List Event)
     → CutBehind words paper before (Answered command answer ∷ behind) → suc (length before) < 100_000 → Sized answer
     → fieldsIn (getD (linesRead (transcriptOf words paper)) (suc (length before)) []) ≡ shown (suc (length before)) answer
@@ -162,5 +163,5 @@ line-says words paper lent bytes a before command answer behind e few sized =
     ∙ answer-shown n few answer sized
 
 -- DOCUMENT 01'S SITTING
-pub printed-sitting : (words : List ℕ) → length words ≡ 186 → linesRead (transcriptOf words printed) ≡ printedLines
+pub printed-sitting : (words : List ℕ) → length words ≡ wordCount → linesRead (transcriptOf words printed) ≡ printedLines
 printed-sitting words lent = printed-lines words printed ∙ printed-text words lent

@@ -5,11 +5,12 @@ use Prim.Native.Nat.{ℕ}
 use lib.Dec.{T, eqb}
 use lib.ListN.{length, replicate, getD}
 use Rattle.wire.specs.Wire.{byte, number}
+use Rattle.rules.specs.Word.{wordCount}
 use Rattle.transcript.specs.Transcript.{joined, transcriptOf}
 use Rattle.pages.specs.Stack.{pagesIn, stackOf}
 use Rattle.import.specs.Import.{importRecord, oldRecord, takeOver}
 use Rattle.imports.specs.Imports.{digitsOf, recordLine, linesIn, importsFrom, importsOf}
-use Rattle.spelling.specs.Spelling.{big, recordOf, names, kindOf, bodyOf, spell, paperOf}
+use Rattle.spelling.specs.Spelling.{big, recordOf, unsaid, names, kindOf, bodyOf, spell, paperOf}
 use Rattle.spelling.specs.Printed.{printed, body}
 use Rattle.spelling.proofs.Computed.{answered}
 use Rattle.printout.specs.Text.{linesRead}
@@ -21,7 +22,7 @@ unread = linesRead (transcriptOf [] [])
 
 -- and the printed set-up, a Start and a byte more have three
 abbrev heard : List (List ℕ)
-heard = linesRead (transcriptOf (replicate 186 0) (paperOf 1 body (spell (names 1) ++ 0 ∷ [])))
+heard = linesRead (transcriptOf (replicate wordCount 0) (paperOf 1 body (spell (names unsaid 1) ++ 0 ∷ [])))
 
 -- `stack-lines`, `cut-lines`: two empty papers, and one behind which a byte stands
 abbrev two : List (List ℕ)

@@ -1,18 +1,20 @@
 -- A meter: an accumulator, a counter (document 01, "Numbers" and "The paper") or a cyclic accumulator (request Five). A counter is one that
--- stops at 255 and to which a purchase is worth 1; a cyclic accumulator is one that takes no part in a transaction with a date error.
-use Prim.Native.Nat.{ℕ, _<_}
-use mathlib.Core.Bool.{Bool, true, false}
+-- stops at 255 and to which a purchase is worth 1; a cyclic accumulator is one that takes no part in a transaction with a date error. A CPACE
+-- card's accumulators and counters may be closed to a transaction (request Thirteen).
+use Prim.Native.Nat.{ℕ, _+_, _<_}
+use mathlib.Core.Bool.{Bool, true, false, not}
 use lib.ListN.{getD}
 use Rattle.money.specs.declared.AccumulatorAmount.{AccumulatorAmount}
 use Rattle.money.specs.declared.Converted.{Converted}
 use Rattle.money.specs.declared.Converted.the-variants.{Amount}
 use Rattle.money.specs.Money.{max, convertOf}
+use Rattle.cpace.specs.Cpace.{closes}
 use Rattle.rules.specs.declared.Place.{Place}
 use Rattle.rules.specs.declared.AccumulatorRule.{AccumulatorRule}
 use Rattle.rules.specs.declared.CounterRule.{CounterRule}
 use Rattle.rules.specs.declared.Values.{Values}
 use Rattle.rules.specs.declared.CyclicRule.{CyclicRule}
-use Rattle.rules.specs.Rules.{Rules, currencyAt, accumulatorRule, counterRule, cycleOf, cyclicRule}
+use Rattle.rules.specs.Rules.{Rules, currencyAt, accumulatorRule, counterRule, cycleOf, cyclicRule, controlAt}
 use Rattle.purchase.specs.declared.Timing.{Timing}
 use Rattle.purchase.specs.declared.Timing.the-variants.{Undated, InOrder, DateError}
 use Rattle.purchase.specs.declared.Purchase.{Purchase}
@@ -115,7 +117,7 @@ worthTo rules purchase (accumulator i) = worth rules purchase i
 worthTo rules purchase (counter i) = once
 worthTo rules purchase (cyclic i) = cyclicWorth rules purchase i
 
--- the meter takes part in the transaction: a cyclic accumulator where its date is in order
+-- how a purchase's date stands
 abbrev pub isInOrder : Timing → Bool
 isInOrder Undated = false
 isInOrder InOrder = true
@@ -126,7 +128,18 @@ isDateError Undated = false
 isDateError InOrder = false
 isDateError (DateError date) = true
 
-abbrev pub takesPart : Purchase → Meter → Bool
-takesPart purchase (accumulator i) = true
-takesPart purchase (counter i) = true
-takesPart purchase (cyclic i) = isInOrder (purchase .timing)
+-- THE METER TAKES THE PURCHASE UP: an accumulator or a counter if its control does not close it to the transaction's CVM, which a CPA card's
+-- never does; a cyclic accumulator if the date is in order. The slots are the four accumulators and then the four counters
+unfoldable pub isOpen : Rules → Purchase → (slot : ℕ) → Bool
+isOpen rules purchase slot = not (closes (controlAt rules slot) (purchase .cvm))
+
+abbrev pub takesUp : Rules → Purchase → Meter → Bool
+takesUp rules purchase (accumulator i) = isOpen rules purchase i
+takesUp rules purchase (counter i) = isOpen rules purchase (4 + i)
+takesUp rules purchase (cyclic i) = isInOrder (purchase .timing)
+
+-- the meter's value is tested, with the purchase or without it: a cyclic accumulator's if the date is in order
+abbrev pub isTested : Purchase → Meter → Bool
+isTested purchase (accumulator i) = true
+isTested purchase (counter i) = true
+isTested purchase (cyclic i) = isInOrder (purchase .timing)

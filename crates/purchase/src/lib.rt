@@ -2,8 +2,9 @@
 ghost use mathlib.Core.Path.{_≡_};
 ghost use Rattle.money.specs.Money.{convertOf};
 ghost use Rattle.rules.specs.Rules.{rulesOf};
-ghost use Rattle.purchase.specs.Meter.{worth, cyclicWorth};
+ghost use Rattle.purchase.specs.Meter.{worth, cyclicWorth, isOpen};
 use calendar::Date;
+use cpace::Cvm;
 use money::AccumulatorAmount;
 use money::Converted;
 use money::TransactionAmount;
@@ -20,6 +21,8 @@ pub struct Purchase {
     pub amount: TransactionAmount,
     pub currency: u16,
     pub timing: Timing,
+    pub cvm: Cvm,
+    pub cashback: bool,
 }
 
 // The purchase in a currency. The table is read only for another one.
@@ -46,4 +49,17 @@ pub fn cyclic_worth(words: &Words, purchase: Purchase, i: usize) -> Converted
 {
     let cycle = rules::cycle_of(words, i);
     worth_in(words, purchase, cycle.currency)
+}
+
+// Whether a slot, accumulator i + 1 or from 5 on a counter, takes the purchase up: its control does not
+// close it. A control of 0, as every one of a CPA card, lets all in.
+pub fn is_open(words: &Words, purchase: Purchase, slot: usize) -> bool
+    ensures { λ r. ⌜ r ≡ isOpen (rulesOf (now (words .entry))) purchase slot ⌝ }
+{
+    let control = rules::control(words, slot);
+    if control == 0 {
+        return true;
+    }
+    let cvm = purchase.cvm;
+    !cpace::closes(control, cvm)
 }

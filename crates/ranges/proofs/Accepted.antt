@@ -1,5 +1,5 @@
--- What is accepted is exactly document 01's list of ranges, field by field over the bytes, and for the tail of version 04 request Five's.
--- Assumes nothing.
+-- What is accepted is exactly document 01's list of ranges, field by field over the bytes, for the tail of version 04 request Five's, and for
+-- that of version 05 request Thirteen's. Assumes nothing.
 use mathlib.Core.Path.{_≡_}
 use mathlib.Core.Bool.{true}
 use mathlib.Core.List.{List}
@@ -17,7 +17,7 @@ use Rattle.ranges.specs.Ranges.{hasLength, isHead, isAccumulator, areAcc
 use Rattle.ranges.specs.Ranges.{areMasks, isMaximumAmount, isAccumulatorRule, areAccumulatorRules, areCounterRules, areSent}
 use Rattle.ranges.specs.Ranges.{isProfile, isProfileOrAbsent, areProfiles, isConversion, isConversionOrAbsent, areConversions}
 use Rattle.ranges.specs.Ranges.{profileNumber, areNumbersApart, conversionPair, arePairsApart}
-use Rattle.ranges.specs.Ranges.{isCycle, isCyclicRule, areCyclicRules, areCycles}
+use Rattle.ranges.specs.Ranges.{isCycle, isCyclicRule, areCyclicRules, areCycles, isFamily}
 use Rattle.ranges.proofs.Decides.{Decides, _and_, _or_, _with_, at-most, below, equal, denied, each, itself, stated, if-there, different}
 
 -- three decimal digits in two bytes
@@ -113,6 +113,14 @@ pub record CyclesRanges (t : List ℕ) : Type 0 where
 -- where they are off it has no byte
 abbrev pub CyclesAccepted : List ℕ → Type 0
 CyclesAccepted t = (length t ≡ 0) ⊎ CyclesRanges t
+
+-- the tail of version 05 of a CPACE card; a CPA one's has no byte
+pub record FamilyRanges (f : List ℕ) : Type 0 where
+  pub controls : (i : ℕ) → i < 8 → byte f (layout.controlFrom i) ≤ 15
+  pub cashbacks : (j : ℕ) → j < 4 → byte f (layout.cashbackFrom j) ≤ 1
+
+abbrev pub FamilyAccepted : List ℕ → Type 0
+FamilyAccepted f = (length f ≡ 0) ⊎ FamilyRanges f
 
 pub currency : (code : ℕ) → Decides (isCurrency code) (Currency code)
 currency code =
@@ -286,3 +294,18 @@ module _ (t : List ℕ) where
 
   pub cycles-complete : CyclesAccepted t → areCycles t ≡ true
   cycles-complete = cycles-decided .1
+
+module _ (f : List ℕ) where
+  family-decided : Decides (isFamily f) (FamilyAccepted f)
+  unfolding isFamily
+  family-decided =
+      equal _ _
+      or stated (each 8 (λ i. at-most (byte f (layout.controlFrom i)) 15) and each 4 (λ j. at-most (byte f (layout.cashbackFrom j)) 1))
+      (λ (controls, cashbacks). record { controls = controls; cashbacks = cashbacks })
+      (λ r. r .controls with r .cashbacks)
+
+  pub family-accepted : isFamily f ≡ true → FamilyAccepted f
+  family-accepted = family-decided .0
+
+  pub family-complete : FamilyAccepted f → isFamily f ≡ true
+  family-complete = family-decided .1

@@ -143,3 +143,14 @@ unfoldable pub areCycles : List ℕ → Bool
 areCycles t =
     eqb (length t) 0
     || (isDay (dateAt t layout.lastDate) && all 2 (λ i. isCycle t (layout.cycleFrom i)) && all 4 (areCyclicRules t))
+
+-- THE TAIL OF VERSION 05 of a CPACE card (request Thirteen); none of a CPA one
+-- the control of slot i + 1 (0 to 15); whether profile j + 1 checks cashback (0/1), of one that is not there it reads as 0
+abbrev pub isControl : List ℕ → (i : ℕ) → Bool
+isControl f i = leb (byte f (layout.controlFrom i)) 15
+
+abbrev pub isCashback : List ℕ → (j : ℕ) → Bool
+isCashback f j = leb (byte f (layout.cashbackFrom j)) 1
+
+unfoldable pub isFamily : List ℕ → Bool
+isFamily f = eqb (length f) 0 || (all 8 (isControl f) && all 4 (isCashback f))

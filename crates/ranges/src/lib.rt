@@ -10,6 +10,7 @@ ghost use Rattle.ranges.specs.Ranges.{isProfile, isProfileOrAbsent, areP
 ghost use Rattle.ranges.specs.Ranges.{apart, listed, profileNumber, areNumbersApart, conversionPair, arePairsApart};
 ghost use Rattle.layout.specs.Layout.{cycleFrom, cyclicRuleFrom};
 ghost use Rattle.ranges.specs.Ranges.{isCycle, isCyclicRule, areCyclicRules, areCycles};
+ghost use Rattle.ranges.specs.Ranges.{all, isControl, isCashback, isFamily};
 use money::MAX;
 
 // 52 + 107p + 7c bytes.
@@ -294,4 +295,45 @@ pub fn are_cycles(t: &[u8]) -> bool
             & are_cyclic_rules(t, 1)
             & are_cyclic_rules(t, 2)
             & are_cyclic_rules(t, 3))
+}
+
+// The control of slot i + 1.
+fn is_control(f: &[u8], i: usize) -> bool
+    requires { ⌜ i < 8 ⌝ }
+    ensures { λ r. ⌜ r ≡ isControl (now (f .entry)) i ⌝ }
+{
+    wire::byte_at(f, layout::CONTROLS + i) <= 15
+}
+
+fn are_controls(f: &[u8]) -> bool
+    ensures { λ r. ⌜ r ≡ all 8 (isControl (now (f .entry))) ⌝ }
+{
+    is_control(f, 0)
+        & is_control(f, 1)
+        & is_control(f, 2)
+        & is_control(f, 3)
+        & is_control(f, 4)
+        & is_control(f, 5)
+        & is_control(f, 6)
+        & is_control(f, 7)
+}
+
+// Whether profile j + 1 checks cashback. Of a profile that is not there every byte reads as 0.
+fn is_cashback(f: &[u8], j: usize) -> bool
+    requires { ⌜ j < 4 ⌝ }
+    ensures { λ r. ⌜ r ≡ isCashback (now (f .entry)) j ⌝ }
+{
+    wire::byte_at(f, layout::CASHBACKS + j) <= 1
+}
+
+// Whether the bytes are the tail of version 05, in range where the card is a CPACE one; none of a CPA
+// one.
+pub fn is_family(f: &[u8]) -> bool
+    ensures { λ r. ⌜ r ≡ isFamily (now (f .entry)) ⌝ }
+{
+    if f.len() == 0 {
+        return true;
+    }
+    are_controls(f)
+        & (is_cashback(f, 0) & is_cashback(f, 1) & is_cashback(f, 2) & is_cashback(f, 3))
 }

@@ -6,20 +6,24 @@ use native.Mathlib.Nat.{add-zero}
 use native.Mathlib.Omega.{arith}
 use borrow.Author.Tests.{lt-leb, le-ltb, eq-eqb, eqb-true}
 use lib.ListN.{length, take, drop, length-append, List·getD-append}
-use lib.Seq.{length-take-le, getD-take, getD-drop, take-at, take-all, drop-at, getD-at, getD-append-seam, getD-append-add, drop-append-add}
+use lib.Seq.{length-take-le, getD-take, getD-drop, take-at, take-all, drop-at, getD-at, getD-append-seam, getD-append-add, drop-append-add, drop-drop}
 use Rattle.wire.specs.Wire.{byte}
 use Rattle.selection.specs.Selection.{isFile}
 use Rattle.shape.specs.declared.Dating.the-variants.{Off as DatesOff}
+use Rattle.shape.specs.declared.Family.the-variants.{Cpa}
 use Rattle.shape.specs.declared.Shape.{Shape}
 use Rattle.shape.specs.declared.Tails.{Tails}
 use Rattle.shape.specs.declared.Tails.the-variants.{Ended}
 use Rattle.shape.specs.declared.ReadShape.the-variants.{Taken}
-use Rattle.shape.specs.Shape.{based, baseTail, entriesEnd, selectionTail, follows, syllabusTail, dates, datingTail, cyclesPart, behind, tailsOf, whole, shapeOf}
+use Rattle.shape.specs.Shape.{based, baseTail, entriesEnd, selectionTail, follows, syllabusTail, dates, datingTail, cyclesPart, families, familyTail}
+use Rattle.shape.specs.Shape.{familyPart, behind, tailsOf, whole, shapeOf}
 use Rattle.shape.proofs.Files.{file-ends}
-use Rattle.rows.specs.Rows.{Dates, undated, dated, cyclesBytes}
-use Rattle.rows.specs.Tails.{Choosing, off, on, fileBytes, choosingBytes, datesBytes, Tail, first, second, third, fourth, tailBytes}
-use Rattle.rows.specs.Tails.{FineDates, Fine, baseLength, Base, selecting, fileIn, fileOf, dating, datesAt, TailSays}
+use Rattle.rows.specs.Rows.{Dates, undated, dated, cyclesBytes, Families, cpa, cpace, controlsBytes}
+use Rattle.rows.specs.Tails.{Choosing, off, on, fileBytes, choosingBytes, datesBytes, familiesBytes, Tail, first, second, third, fourth, fifth}
+use Rattle.rows.specs.Tails.{tailBytes, FineDates, FineFamilies, Fine, baseLength, Base, selecting, fileIn, fileOf, dating, datesAt, familyFrom}
+use Rattle.rows.specs.Tails.{familiesAt, TailSays}
 use Rattle.rows.proofs.Dated.{cycles-size, cycles-in-place}
+use Rattle.rows.proofs.Family.{controls-size, controls-in-place}
 use Rattle.rows.proofs.Entries.{file-read}
 
 file-there : (base : List ℕ) (c : Choosing) (rest : List ℕ) → fileIn (selecting c (length base)) (base ++ (choosingBytes c ++ rest)) ≡ fileOf c
@@ -63,7 +67,7 @@ choosingEnd base c = length base + length (choosingBytes c)
 
 abbrev pub chosen : List ℕ → Choosing → Shape
 chosen base c =
-    record { base = length base; selecting = selecting c (length base); syllabus = 0; dating = DatesOff; unnamed = 2 ^ 22 }
+    record { base = length base; selecting = selecting c (length base); syllabus = 0; dating = DatesOff; family = Cpa; unnamed = 2 ^ 22 }
 
 pub choosing-read : (base : List ℕ) (c : Choosing) (rest : List ℕ)
     → selectionTail (base ++ (choosingBytes c ++ rest)) (based (length base)) (length base) ≡ Ended (chosen base c) (choosingEnd base c)
@@ -102,6 +106,7 @@ first-says base sized =
       base-is = rw nothing at (base-there base sized []);
       file = refl;
       cycles = refl;
+      family = refl;
     }
 
 second-says : (base : List ℕ) (c : Choosing) → length base ≡ baseLength base → TailSays base (second c) (base ++ choosingBytes c)
@@ -119,6 +124,7 @@ second-says base c sized =
       base-is = base-there base sized (choosingBytes c);
       file = rw nothing at (file-there base c []);
       cycles = refl;
+      family = refl;
     }
 
 -- the syllabus behind it, whatever follows
@@ -178,71 +184,154 @@ module _ (base : List ℕ) (c : Choosing) (y : ℕ) (sized : length base ≡ bas
         base-is = base-there base sized tail;
         file = file-there base c (y ∷ []);
         cycles = refl;
+        family = refl;
       }
 
--- ---- dates
+-- ---- dates, whatever follows
 
-dates-size : (d : Dates) → 1 ≤ length (datesBytes d)
-dates-size undated = omega arith
-dates-size (dated d) = let size = cycles-size d in omega arith
+module _ (base : List ℕ) (c : Choosing) (y : ℕ) (rest : List ℕ) where
+  abbrev pub with-dates : Dates → List ℕ
+  with-dates d = with-rest base c y (datesBytes d ++ rest)
 
-dating-read : (base : List ℕ) (c : Choosing) (y : ℕ) (d : Dates) → length base ≡ baseLength base → FineDates (byte base 3) d → (shape : Shape)
-    → datingTail (base ++ tailBytes (fourth c y d)) shape (datesAt base c)
-    ≡ Ended (dates shape (dating d (datesAt base c))) (datesAt base c + length (datesBytes d))
-unfolding datingTail
-dating-read base c y undated sized fine shape =
-    let body = base ++ tailBytes (fourth c y undated) in
-    let at = datesAt base c in
-    let switch : byte body at ≡ 0 = ap (byte body) (sym (add-zero at)) ∙ rest-byte base c y (0 ∷ []) 0 in
-    rw (switch, lt-leb (length body) at (omega (arith, rest-size base c y (0 ∷ []))))
-dating-read base c y (dated d) sized fine shape =
-    let t = cyclesBytes (dated d) in
-    let body = base ++ tailBytes (fourth c y (dated d)) in
-    let at = datesAt base c in
-    let switch : byte body at ≡ 1 = ap (byte body) (sym (add-zero at)) ∙ rest-byte base c y t 0 ∙ cycles-in-place d (fine .0) .dated in
-    let p : byte body 3 ≡ byte base 3 = byte-kept base sized (tailBytes (fourth c y (dated d))) 3 (omega arith) in
-    let rules = fine .1 in
-    let size = cycles-size d in
-    let long = rest-size base c y t in
-    let end : at + (28 + 18 * byte body 3) ≡ at + length t = omega arith in
-    rw (switch, end, lt-leb (length body) at (omega arith), le-ltb (length body) (at + length t) (omega arith))
+  pub dates-read : (d : Dates) → length base ≡ baseLength base → FineDates (byte base 3) d → (shape : Shape)
+      → datingTail (with-dates d) shape (datesAt base c) ≡ Ended (dates shape (dating d (datesAt base c))) (familiesAt base c d)
+  unfolding datingTail
+  dates-read undated sized fine shape =
+      let body = with-dates undated in
+      let at = datesAt base c in
+      let switch : byte body at ≡ 0 = ap (byte body) (sym (add-zero at)) ∙ rest-byte base c y (0 ∷ rest) 0 in
+      rw (switch, lt-leb (length body) at (omega (arith, rest-size base c y (0 ∷ rest))))
+  dates-read (dated d) sized fine shape =
+      let t = cyclesBytes (dated d) in
+      let body = with-dates (dated d) in
+      let at = datesAt base c in
+      let size = cycles-size d in
+      let switch : byte body at ≡ 1 =
+      ap (byte body) (sym (add-zero at)) ∙ rest-byte base c y (t ++ rest) 0 ∙ List·getD-append t rest 0 0 (omega arith) ∙ cycles-in-place d (fine .0) .dated in
+      let p : byte body 3 ≡ byte base 3 = byte-kept base sized (choosingBytes c ++ (y ∷ t ++ rest)) 3 (omega arith) in
+      let rules = fine .1 in
+      let long = rest-size base c y (t ++ rest) in
+      let more = length-append t rest in
+      let end : at + (28 + 18 * byte body 3) ≡ at + length t = omega arith in
+      rw (switch, end, lt-leb (length body) at (omega arith), le-ltb (length body) (at + length t) (omega arith))
 
-cycles-there : (base : List ℕ) (c : Choosing) (y : ℕ) (d : Dates) → cyclesPart (dating d (datesAt base c)) (base ++ tailBytes (fourth c y d)) ≡ cyclesBytes d
-cycles-there base c y undated = refl
-cycles-there base c y (dated d) =
-    let t = cyclesBytes (dated d) in
-    let size : datesAt base c + length t - datesAt base c ≡ length t = omega arith in
-    rw (size, rest-there base c y t) (take-all (length t) t (omega arith))
+  cycles-there : (d : Dates) → cyclesPart (dating d (datesAt base c)) (with-dates d) ≡ cyclesBytes d
+  cycles-there undated = refl
+  cycles-there (dated d) =
+      let t = cyclesBytes (dated d) in
+      let size : datesAt base c + length t - datesAt base c ≡ length t = omega arith in
+      rw (size, rest-there base c y (t ++ rest)) (take-at t rest (length t) refl)
 
+  -- what follows the dates
+  module _ (d : Dates) where
+    pub end-size : length (with-dates d) ≡ familiesAt base c d + length rest
+    end-size = omega (arith, rest-size base c y (datesBytes d ++ rest), length-append (datesBytes d) rest)
+
+    end-there : drop (familiesAt base c d) (with-dates d) ≡ rest
+    end-there =
+        sym (drop-drop (length (datesBytes d)) (datesAt base c) (with-dates d))
+        ∙ ap (drop (length (datesBytes d))) (rest-there base c y (datesBytes d ++ rest))
+        ∙ drop-at (datesBytes d) rest (length (datesBytes d)) refl
+
+    end-byte : byte (with-dates d) (familiesAt base c d) ≡ byte rest 0
+    end-byte =
+        ap (byte (with-dates d)) (sym (add-zero (familiesAt base c d))) ∙ sym (getD-drop (familiesAt base c d) (with-dates d) 0 0)
+        ∙ ap (λ (t : List ℕ). byte t 0) end-there
+
+    module _ (sized : length base ≡ baseLength base) (low : y ≤ 1) (fine : FineDates (byte base 3) d) where
+      syllabus-4 : behind (behind (baseTail (with-dates d)) (selectionTail (with-dates d))) (syllabusTail (with-dates d))
+          ≡ Ended (follows (chosen base c) y) (datesAt base c)
+      syllabus-4 =
+          ap (λ (t : Tails). behind t (syllabusTail (with-dates d))) (selection-read base sized c (y ∷ datesBytes d ++ rest))
+          ∙ syllabus-read base c y (datesBytes d ++ rest) low (chosen base c)
+
+      abbrev shape-4 : Shape
+      shape-4 = dates (follows (chosen base c) y) (dating d (datesAt base c))
+
+      tails-4 : tailsOf 4 (with-dates d) ≡ Ended shape-4 (familiesAt base c d)
+      unfolding tailsOf
+      tails-4 = ap (λ (t : Tails). behind t (datingTail (with-dates d))) syllabus-4 ∙ dates-read d sized fine (follows (chosen base c) y)
+
+-- nothing follows them
 module _ (base : List ℕ) (c : Choosing) (y : ℕ) (d : Dates) (sized : length base ≡ baseLength base) (low : y ≤ 1) (fine : FineDates (byte base 3) d) where
   abbrev dated-body : List ℕ
-  dated-body = base ++ tailBytes (fourth c y d)
+  dated-body = with-dates base c y [] d
 
-  syllabus-4 : behind (behind (baseTail dated-body) (selectionTail dated-body)) (syllabusTail dated-body)
-      ≡ Ended (follows (chosen base c) y) (datesAt base c)
-  syllabus-4 =
-      ap (λ (t : Tails). behind t (syllabusTail dated-body)) (selection-read base sized c (y ∷ datesBytes d))
-      ∙ syllabus-read base c y (datesBytes d) low (chosen base c)
-
-  abbrev shape-4 : Shape
-  shape-4 = dates (follows (chosen base c) y) (dating d (datesAt base c))
-
-  tails-4 : tailsOf 4 dated-body ≡ Ended shape-4 (datesAt base c + length (datesBytes d))
-  unfolding tailsOf
-  tails-4 = ap (λ (t : Tails). behind t (datingTail dated-body)) syllabus-4 ∙ dating-read base c y d sized fine (follows (chosen base c) y)
-
-  shape-read : shapeOf 4 dated-body ≡ Taken shape-4
+  shape-read-4 : shapeOf 4 dated-body ≡ Taken (shape-4 base c y [] d sized low fine)
   unfolding shapeOf
-  shape-read = ap (whole dated-body) tails-4 ∙ rw (eq-eqb _ _ (sym (rest-size base c y (datesBytes d))))
+  shape-read-4 =
+      let size : familiesAt base c d ≡ length dated-body = omega (arith, end-size base c y [] d) in
+      ap (whole dated-body) (tails-4 base c y [] d sized low fine) ∙ rw (eq-eqb (familiesAt base c d) (length dated-body) size)
 
-  fourth-says : TailSays base (fourth c y d) dated-body
+  fourth-says : TailSays base (fourth c y d) (base ++ tailBytes (fourth c y d))
   fourth-says =
-      record {
-        read = shape-read;
-        base-is = base-there base sized (tailBytes (fourth c y d));
-        file = file-there base c (y ∷ datesBytes d);
-        cycles = cycles-there base c y d;
-      }
+      subst (TailSays base (fourth c y d)) (ap (λ (t : List ℕ). base ++ (choosingBytes c ++ y ∷ t)) (append-nil (datesBytes d)))
+      (record {
+        read = shape-read-4;
+        base-is = base-there base sized (choosingBytes c ++ (y ∷ datesBytes d ++ []));
+        file = file-there base c (y ∷ datesBytes d ++ []);
+        cycles = cycles-there base c y [] d;
+        family = refl;
+      })
+
+-- ---- the family
+
+module _ (base : List ℕ) (c : Choosing) (y : ℕ) (d : Dates) (sized : length base ≡ baseLength base) where
+  abbrev family-body : Families → List ℕ
+  family-body f = base ++ tailBytes (fifth c y d f)
+
+  abbrev at : ℕ
+  at = familiesAt base c d
+
+  family-read : (f : Families) → FineFamilies (byte base 3) f → (shape : Shape)
+      → familyTail (family-body f) shape at ≡ Ended (families shape (familyFrom f at)) (at + length (familiesBytes f))
+  unfolding familyTail
+  family-read cpa fine shape =
+      rw (end-byte base c y (0 ∷ []) d, lt-leb (length (family-body cpa)) at (omega (arith, end-size base c y (0 ∷ []) d)))
+  family-read (cpace f) fine shape =
+      let t = controlsBytes (cpace f) in
+      let body = family-body (cpace f) in
+      let switch : byte body at ≡ 1 = end-byte base c y t d ∙ controls-in-place f (fine .0) .family in
+      let p : byte body 3 ≡ byte base 3 = byte-kept base sized (tailBytes (fifth c y d (cpace f))) 3 (omega arith) in
+      let checks = fine .1 in
+      let size = controls-size f in
+      let long = end-size base c y t d in
+      let end : at + (9 + byte body 3) ≡ at + length t = omega arith in
+      rw (switch, end, lt-leb (length body) at (omega arith), le-ltb (length body) (at + length t) (omega arith))
+
+  family-there : (f : Families) → familyPart (familyFrom f at) (family-body f) ≡ controlsBytes f
+  family-there cpa = refl
+  family-there (cpace f) =
+      let t = controlsBytes (cpace f) in
+      let size : at + length t - at ≡ length t = omega arith in
+      rw (size, end-there base c y t d) (take-all (length t) t (omega arith))
+
+  module _ (f : Families) (low : y ≤ 1) (fine-dates : FineDates (byte base 3) d) (fine : FineFamilies (byte base 3) f) where
+    behind-4 : tailsOf 5 (family-body f) ≡ behind (tailsOf 4 (family-body f)) (familyTail (family-body f))
+    unfolding tailsOf
+    behind-4 = refl
+
+    abbrev shape-5 : Shape
+    shape-5 = families (shape-4 base c y (familiesBytes f) d sized low fine-dates) (familyFrom f at)
+
+    shape-read-5 : shapeOf 5 (family-body f) ≡ Taken shape-5
+    unfolding shapeOf
+    shape-read-5 =
+        let body = family-body f in
+        let end = at + length (familiesBytes f) in
+        ap (whole body)
+        (behind-4 ∙ ap (λ (t : Tails). behind t (familyTail body)) (tails-4 base c y (familiesBytes f) d sized low fine-dates) ∙ family-read f fine _)
+        ∙ rw (eq-eqb end (length body) (sym (end-size base c y (familiesBytes f) d)))
+
+    fifth-says : TailSays base (fifth c y d f) (family-body f)
+    fifth-says =
+        record {
+          read = shape-read-5;
+          base-is = base-there base sized (tailBytes (fifth c y d f));
+          file = file-there base c (y ∷ datesBytes d ++ familiesBytes f);
+          cycles = cycles-there base c y (familiesBytes f) d;
+          family = family-there f;
+        }
 
 -- THE STATEMENT: a base and the tail of a version are read as they were spelled
 pub reads-tails : (base : List ℕ) (tail : Tail) → Base base → Fine (byte base 3) tail → TailSays base tail (base ++ tailBytes tail)
@@ -250,3 +339,4 @@ reads-tails base first sized fine = subst (λ (t : List ℕ). TailSays base firs
 reads-tails base (second c) sized fine = second-says base c sized
 reads-tails base (third c y) sized fine = third-says base c y sized (fine .1)
 reads-tails base (fourth c y d) sized fine = fourth-says base c y d sized (fine .1) (fine .2)
+reads-tails base (fifth c y d f) sized fine = fifth-says base c y d sized f (fine .1) (fine .2) (fine .3)

@@ -23,12 +23,12 @@ use Rattle.shape.specs.Shape.{based, baseTail, fileEnd, selects, selectionTail,
 use Rattle.shape.specs.Shape as Sh
 use Rattle.shape.proofs.Files.{file-ends}
 use Rattle.shape.proofs.Inside.{not-before}
-use Rattle.rows.specs.Tails.{Choosing, off, on, choosingBytes, Tail, first, second, third, fourth, versionOf, tailBytes, FineChoosing, Fine}
+use Rattle.rows.specs.Tails.{Choosing, off, on, choosingBytes, Tail, first, second, third, fourth, fifth, versionOf, tailBytes, FineChoosing, Fine}
 use Rattle.rows.specs.Tails.{baseLength, Base, IsSpelled, BadChoosing, missing, above, behind-off, no-number, entries, butLast}
 use Rattle.rows.specs.Tails.{BadTail, other-length, choosing, no-syllabus, syllabus-above, between, no-choosing, behind-choosing}
-use Rattle.rows.proofs.Entries.{file-read, Small, small-drop, small-take, more-than-one, file-spelled, file-bad, bad-file}
-use Rattle.rows.proofs.Fourth.{fourth-settled}
-use Rattle.rows.proofs.FourthRefused.{fourth-refused}
+use Rattle.rows.proofs.Entries.{file-read, Small, small-drop, small-take, more-than-one, only-one, file-spelled, file-bad, bad-file}
+use Rattle.rows.proofs.Later.{Late, four, five, late-settled}
+use Rattle.rows.proofs.LaterRefused.{late-refused}
 use Rattle.rows.proofs.Behind.{base-sized, some-bytes, length-kept, third-size, third-last, reads-tails}
 
 never : {P : Type 0} → _≡_ {A = ℕ} 0 1 → P
@@ -144,11 +144,6 @@ module _ (body : List ℕ) (small : Small body) where
           let low = ltb-false 1 (byte body at) c in
           let one : byte body at ≡ 1 = only-one (byte body at) some low in
           subst (Passed at) (ap endOf e) (passed-on at (leb-false (length body) at a) one (ltb-false (length body) (fileEnd body at) d))
-        where
-          only-one : (x : ℕ) → (x ≡ 0 → ⊥) → x ≤ 1 → x ≡ 1
-          only-one zero n l = absurd (n refl)
-          only-one (suc zero) n l = refl
-          only-one (suc (suc x)) n l = absurd (omega arith)
 
   -- and then a syllabus
   record Followed (at end : ℕ) : Type 0 where
@@ -248,19 +243,20 @@ module _ (body : List ℕ) (small : Small body) where
       by false a e =
           by-selection (ltb-false (length body) (baseLength body) a) (selectionTail body (based (baseLength body)) (baseLength body)) refl e
 
-  fourth-spelled : (shape : Shape) → shapeOf 4 body ≡ Taken shape → IsSpelled 4 body
-  fourth-spelled shape e = by (fourth-settled body small) where
-    by : IsSpelled 4 body ⊎ BadTail 4 body → IsSpelled 4 body
+  late-spelled : (version : ℕ) → Late version → (shape : Shape) → shapeOf version body ≡ Taken shape → IsSpelled version body
+  late-spelled version late shape e = by (late-settled version late body small) where
+    by : IsSpelled version body ⊎ BadTail version body → IsSpelled version body
     by (inl s) = s
-    by (inr b) = let n = ap shapeNumber e in absurd (omega (arith, fourth-refused body b))
+    by (inr b) = let n = ap shapeNumber e in absurd (omega (arith, late-refused late body b))
 
-  spelled-if-taken : (version : ℕ) → 1 ≤ version → version ≤ 4 → (shape : Shape) → shapeOf version body ≡ Taken shape → IsSpelled version body
+  spelled-if-taken : (version : ℕ) → 1 ≤ version → version ≤ 5 → (shape : Shape) → shapeOf version body ≡ Taken shape → IsSpelled version body
   spelled-if-taken zero l m = absurd (omega arith)
   spelled-if-taken (suc zero) l m = first-spelled
   spelled-if-taken (suc (suc zero)) l m = second-spelled
   spelled-if-taken (suc (suc (suc zero))) l m = third-spelled
-  spelled-if-taken (suc (suc (suc (suc zero)))) l m = fourth-spelled
-  spelled-if-taken (suc (suc (suc (suc (suc n))))) l m = absurd (omega arith)
+  spelled-if-taken (suc (suc (suc (suc zero)))) l m = late-spelled 4 four
+  spelled-if-taken (suc (suc (suc (suc (suc zero))))) l m = late-spelled 5 five
+  spelled-if-taken (suc (suc (suc (suc (suc (suc n)))))) l m = absurd (omega arith)
 
   -- ---- spelled, or with a cause
 
@@ -320,15 +316,22 @@ module _ (body : List ℕ) (small : Small body) where
         inl (record { base = body; tail = first; version-is = refl; sized = eqb-true (length body) (baseLength body) e; fine = tt; joined = append-nil body })
     by false e = inr (other-length refl (eqb-false (length body) (baseLength body) e))
 
-  tail-settled : (version : ℕ) → 1 ≤ version → version ≤ 4 → IsSpelled version body ⊎ BadTail version body
+  tail-settled : (version : ℕ) → 1 ≤ version → version ≤ 5 → IsSpelled version body ⊎ BadTail version body
   tail-settled zero l m = absurd (omega arith)
   tail-settled (suc zero) l m = first-settled
   tail-settled (suc (suc zero)) l m = second-settled
   tail-settled (suc (suc (suc zero))) l m = third-settled
-  tail-settled (suc (suc (suc (suc zero)))) l m = fourth-settled body small
-  tail-settled (suc (suc (suc (suc (suc n))))) l m = absurd (omega arith)
+  tail-settled (suc (suc (suc (suc zero)))) l m = late-settled 4 four body small
+  tail-settled (suc (suc (suc (suc (suc zero))))) l m = late-settled 5 five body small
+  tail-settled (suc (suc (suc (suc (suc (suc n)))))) l m = absurd (omega arith)
 
 -- no body is spelled and has a cause
+late-excluded : (base : List ℕ) (tail : Tail) → Late (versionOf tail) → Base base → Fine (byte base 3) tail
+    → BadTail (versionOf tail) (base ++ tailBytes tail) → ⊥
+late-excluded base tail late sized fine b =
+    let taken = ap shapeNumber (reads-tails base tail sized fine .read) in
+    omega (arith, late-refused late (base ++ tailBytes tail) b)
+
 excluded : (base : List ℕ) (tail : Tail) → Base base → Fine (byte base 3) tail → BadTail (versionOf tail) (base ++ tailBytes tail) → ⊥
 excluded base first sized fine (other-length v n) = n (rw (append-nil base) sized)
 excluded base first sized fine (choosing v b) = omega arith
@@ -359,9 +362,8 @@ excluded base (third c y) sized fine (between v b) =
     no-cause c (subst (λ (t : List ℕ). BadChoosing t) (ap butLast behind ∙ take-at (choosingBytes c) (y ∷ []) (length tail - 1) size) b)
 excluded base (third c y) sized fine (no-choosing v b) = omega arith
 excluded base (third c y) sized fine (behind-choosing v d t e b) = omega arith
-excluded base (fourth c y d) sized fine b =
-    let taken = ap shapeNumber (reads-tails base (fourth c y d) sized fine .read) in
-    omega (arith, fourth-refused (base ++ tailBytes (fourth c y d)) b)
+excluded base (fourth c y d) sized fine b = late-excluded base (fourth c y d) four sized fine b
+excluded base (fifth c y d f) sized fine b = late-excluded base (fifth c y d f) five sized fine b
 
 -- a shape is taken, or its number is 1
 data Ways (read : ReadShape) : Type 0 where
@@ -380,7 +382,7 @@ ways version body = by (tailsOf version body) where
   by (Ended shape at) = by-end shape (eqb at (length body))
 
 -- THE STATEMENTS: a tail is taken exactly if the body is spelled, and refusal 1 exactly if it has one of the causes
-module _ (version : ℕ) (body : List ℕ) (bytes : Bytes body) (least : 1 ≤ version) (most : version ≤ 4) where
+module _ (version : ℕ) (body : List ℕ) (bytes : Bytes body) (least : 1 ≤ version) (most : version ≤ 5) where
   pub tails-if-read : shapeNumber (shapeOf version body) ≡ 0 → IsSpelled version body
   tails-if-read z = by (ways version body) where
     by : Ways (shapeOf version body) → IsSpelled version body

@@ -69,6 +69,11 @@ more-than-one zero e f = absurd (eqb-false 0 0 e refl)
 more-than-one (suc zero) e f = absurd (eqb-false 1 1 f refl)
 more-than-one (suc (suc x)) e f = omega arith
 
+pub only-one : (x : ℕ) → (x ≡ 0 → ⊥) → x ≤ 1 → x ≡ 1
+only-one zero n l = absurd (n refl)
+only-one (suc zero) n l = refl
+only-one (suc (suc x)) n l = absurd (omega arith)
+
 pub file-spelled : (n : ℕ) (file : List ℕ) → Small file → isFile file n ≡ true → Entries n file
 unfolding isFile
 file-spelled zero [] small h = record { entries = []; count = refl; fine = tt; joined = refl }

@@ -1,33 +1,36 @@
 -- What is read of a spelled set-up is what its fields say. Assumes nothing.
 use mathlib.Core.Path.{_≡_, refl, ap, ap₂, _∙_}
-use mathlib.Core.Bool.{Bool, true, false, cond}
+use mathlib.Core.Bool.{false, cond}
 use mathlib.Core.List.{List, [], _∷_}
 use Prim.Native.Nat.{ℕ, zero, suc, _+_, _*_, _/_, _≤_}
 use native.Mathlib.Omega.{arith}
-use borrow.Author.Tests.{ltb-false, ne-eqb}
-use lib.Dec.{ltb}
+use borrow.Author.Tests.{ne-eqb}
+use lib.Dec.{eqb, ltb}
 use lib.ListN.{length, getD, List·getD-eq-default}
 use Rattle.wire.specs.Wire.{byte, number}
 use Rattle.wire.proofs.Numbers.{past}
 use Rattle.money.specs.Money.{blank}
 use Rattle.calendar.specs.Calendar.{dateAt}
 use Rattle.rules.specs.declared.CyclicRule.{CyclicRule}
-use Rattle.rules.specs.Rules.{two, blankProfile, blankCyclic, periodOf}
+use Rattle.rules.specs.Rules.{two, eight, blankProfile, blankCyclic, periodOf}
 use Rattle.setup.specs.declared.Fresh.{Fresh}
 use Rattle.setup.specs.declared.SetupAnswer.the-variants.{Done}
 use Rattle.setup.specs.Setup.{rateIn, accumulatorIn, counterIn, profileIn, cycleIn, cyclicIn, amountIn, rulesIn, freshIn}
 use Rattle.setup.proofs.Faithful.{Bytes, faithful, started}
 use Rattle.rows.specs.Rows.{Fits, Limits, Profile, Conversion, Setup, setupRow, body}
 use Rattle.rows.specs.Rows.{spelled, Cyclic, CyclicLimit, Cycles, Dates, undated, dated, cyclesRow, cyclesBytes}
+use Rattle.rows.specs.Rows.{Controls, Families, cpa, cpace, controlsRow, controlsBytes}
 use Rattle.rows.specs.Said.{accumulatorSaid, counterSaid, profileSaid, conversionSaid, profileAt, conversionAt, rulesSaid, freshSaid, Says}
 use Rattle.rows.specs.Said.{periodSaid, cyclicSaid, cyclicLimitSaid, cyclicLimitsSaid, cyclesSaid, cyclicRulesAt, amountsSaid, lastSaid}
-use Rattle.rows.specs.Tails.{FineDates}
+use Rattle.rows.specs.Said.{yes-if-one, controlsSaid, cashbackAt}
+use Rattle.rows.specs.Tails.{FineDates, FineFamilies}
 use Rattle.rows.specs.Offsets.{AccumulatorOffsets, CounterOffsets, ProfileOffsets, ConversionOffsets, Offsets}
 use Rattle.rows.specs.Offsets.{CyclicOffsets, CyclicLimitOffsets, CyclesOffsets}
 use Rattle.rows.proofs.Spelling.{spelled-bytes}
-use Rattle.rows.proofs.Places.{said-there}
+use Rattle.rows.proofs.Places.{said-there, said-or-blank}
 use Rattle.rows.proofs.Placed.{body-size, in-place}
 use Rattle.rows.proofs.Dated.{cycles-size, cycles-in-place}
+use Rattle.rows.proofs.Family.{controls-size, controls-in-place}
 
 -- ---- the tail of version 04
 
@@ -76,26 +79,20 @@ module _ (d : Cycles) (fits : Fits (cyclesRow d)) where
   offsets : CyclesOffsets tail d
   offsets = cycles-in-place d fits
 
-  -- of a profile that is not there every byte reads as 0
-  limits-or-blank : (j : ℕ) → limits j ≡ cond (ltb j (length (d .rules))) (limits j) blanks
-  limits-or-blank j = by (ltb j (length (d .rules))) refl where
-    by : (there : Bool) → ltb j (length (d .rules)) ≡ there → limits j ≡ cond there (limits j) blanks
-    by true e = refl
-    by false e =
-        let size = cycles-size d in
-        let past = ltb-false j (length (d .rules)) e in
-        ap₂ (λ (x y : CyclicRule). x ∷ y ∷ [])
-        (no-limit tail (28 + 18 * j + 9 * 0) (omega arith)) (no-limit tail (28 + 18 * j + 9 * 1) (omega arith))
+  both : {a b c e : CyclicRule} → a ≡ b → c ≡ e → _≡_ {A = List CyclicRule} (a ∷ c ∷ []) (b ∷ e ∷ [])
+  both = ap₂ (λ (x y : CyclicRule). x ∷ y ∷ [])
 
+  -- of a profile that is not there every byte reads as 0
   limits-read : (j : ℕ) → limits j ≡ cyclicRulesAt (dated d) j
   limits-read j =
-      limits-or-blank j
-      ∙ said-there cyclicLimitsSaid blanks (limits j) (d .rules) j
+      said-or-blank cyclicLimitsSaid blanks (limits j) (d .rules) j
       (λ l r.
       let o = offsets .rules j l r in
-      ap₂ (λ (x y : CyclicRule). x ∷ y ∷ [])
-      (limit-read tail (28 + 18 * j + 9 * 0) (getD (d .rules) j r .one) (o 0 (omega arith)))
+      both (limit-read tail (28 + 18 * j + 9 * 0) (getD (d .rules) j r .one) (o 0 (omega arith)))
       (limit-read tail (28 + 18 * j + 9 * 1) (getD (d .rules) j r .two) (o 1 (omega arith))))
+      (λ l.
+      let size = cycles-size d in
+      both (no-limit tail (28 + 18 * j + 9 * 0) (omega arith)) (no-limit tail (28 + 18 * j + 9 * 1) (omega arith)))
 
   dated-read : TailRead tail (dated d)
   unfolding dateAt
@@ -117,6 +114,45 @@ tail-read p (dated d) fine = dated-read d (fine .0)
 tail-bytes : (d : Dates) → Bytes (cyclesBytes d)
 tail-bytes undated = record { below = λ i. omega arith }
 tail-bytes (dated d) = spelled-bytes (cyclesRow d)
+
+-- ---- the tail of version 05
+
+record FamilyRead (u : List ℕ) (f : Families) : Type 0 where
+  controls : eight (λ i. byte u (1 + i)) ≡ controlsSaid f
+  cashbacks : (j : ℕ) → eqb (byte u (9 + j)) 1 ≡ cashbackAt f j
+
+cpace-read : (f : Controls) → Fits (controlsRow f) → FamilyRead (spelled (controlsRow f)) (cpace f)
+cpace-read f fits =
+    let u = spelled (controlsRow f) in
+    let o = controls-in-place f fits in
+    let size = controls-size f in
+    let a = o .accumulators in
+    let c = o .counters in
+    record {
+      controls =
+          simp (
+            a 0 (omega arith),
+            a 1 (omega arith),
+            a 2 (omega arith),
+            a 3 (omega arith),
+            c 0 (omega arith),
+            c 1 (omega arith),
+            c 2 (omega arith),
+            c 3 (omega arith),
+          );
+      cashbacks =
+          λ j.
+          said-or-blank yes-if-one false (eqb (byte u (9 + j)) 1) (f .cashbacks) j (λ l d. ap yes-if-one (o .cashbacks j l d))
+          (λ l. ap yes-if-one (List·getD-eq-default u 0 (omega arith)));
+    }
+
+family-read : (p : ℕ) (f : Families) → FineFamilies p f → FamilyRead (controlsBytes f) f
+family-read p cpa fine = record { controls = refl; cashbacks = λ j. refl }
+family-read p (cpace f) fine = cpace-read f (fine .0)
+
+family-bytes : (f : Families) → Bytes (controlsBytes f)
+family-bytes cpa = record { below = λ i. omega arith }
+family-bytes (cpace f) = spelled-bytes (controlsRow f)
 
 -- ---- the base
 
@@ -181,9 +217,9 @@ module _ (s : List ℕ) where
         (λ l d. conversion-read (52 + 107 * length (x .profiles) + 7 * i) (getD (x .conversions) i d) (o .conversions i l d))
 
     module _ (t : List ℕ) (d : Dates) (r : TailRead t d) where
-      rules-said : (syllabus : ℕ) → rulesIn s t syllabus ≡ rulesSaid x d syllabus
+      rules-said : (u : List ℕ) (f : Families) → FamilyRead u f → (syllabus : ℕ) → rulesIn s t u syllabus ≡ rulesSaid x d f syllabus
       unfolding rulesIn rulesSaid
-      rules-said syllabus =
+      rules-said u f c syllabus =
           simp (
             o .key,
             o .pin,
@@ -208,6 +244,11 @@ module _ (s : List ℕ) where
             r .rules 1,
             r .rules 2,
             r .rules 3,
+            c .controls,
+            c .cashbacks 0,
+            c .cashbacks 1,
+            c .cashbacks 2,
+            c .cashbacks 3,
           )
 
       fresh-said : freshIn s t ≡ freshSaid x d
@@ -229,20 +270,23 @@ module _ (s : List ℕ) where
           )
 
 -- THE STATEMENT: every reader finds each field where the widths before it end
-pub reads-fields : (x : Setup) (d : Dates) → Fits (setupRow x) → FineDates (length (x .profiles)) d → Says x d (body x) (cyclesBytes d)
-reads-fields x d fits fine =
+pub reads-fields : (x : Setup) (d : Dates) (f : Families) → Fits (setupRow x) → FineDates (length (x .profiles)) d → FineFamilies (length (x .profiles)) f
+    → Says x d f (body x) (cyclesBytes d) (controlsBytes f)
+reads-fields x d f fits fine-dates fine-family =
+    let p = length (x .profiles) in
     let s = body x in
     let t = cyclesBytes d in
+    let u = controlsBytes f in
     let o = in-place x fits in
-    let r = tail-read (length (x .profiles)) d fine in
-    let rules = rules-said s x o t d r in
+    let r = tail-read p d fine-dates in
+    let rules = rules-said s x o t d r u f (family-read p f fine-family) in
     let fresh = fresh-said s x o t d r in
     record {
       size = body-size x;
       rules = rules;
       fresh = fresh;
-      read = λ unnamed good. started s t unnamed good ∙ ap (λ (fresh : Fresh). record { fresh = fresh; answer = Done }) fresh;
+      read = λ unnamed good. started s t u unnamed good ∙ ap (λ (fresh : Fresh). record { fresh = fresh; answer = Done }) fresh;
       loaded =
           λ syllabus unnamed words size good.
-          faithful s t (spelled-bytes (setupRow x)) (tail-bytes d) syllabus unnamed words size good ∙ rules syllabus;
+          faithful s t u (spelled-bytes (setupRow x)) (tail-bytes d) (family-bytes f) syllabus unnamed words size good ∙ rules syllabus;
     }

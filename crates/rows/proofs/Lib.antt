@@ -4,12 +4,14 @@ pub mod Placed
 pub mod Fields
 pub mod Unspelled
 pub mod Dated
+pub mod Family
 pub mod Ranges
 pub mod DatedRanges
+pub mod FamilyRanges
 pub mod Entries
 pub mod Behind
-pub mod Fourth
-pub mod FourthRefused
+pub mod Later
+pub mod LaterRefused
 pub mod Causes
 pub mod Whole
 pub mod Witness

@@ -1,7 +1,7 @@
 -- In a spelled set-up each field stands at the offset that docs/PAPERS.md gives. Assumes nothing.
 use mathlib.Core.Path.{_≡_, refl, sym, ap, subst, _∙_}
 use mathlib.Core.List.{List, _++_}
-use Prim.Native.Nat.{ℕ, _+_, _*_}
+use Prim.Native.Nat.{ℕ, _+_, _*_, _<_}
 use native.Mathlib.Nat.{add-zero, zero-add, add-assoc}
 use native.Mathlib.Omega.{arith}
 use lib.ListN.{length, getD}
@@ -24,6 +24,14 @@ module _ (s : List ℕ) where
   -- a byte is a number of width 1
   pub at-byte : (at v : ℕ) → number s at 1 ≡ v → byte s at ≡ v
   at-byte at v h = sym (one s at) ∙ h
+
+  -- bytes one behind the other
+  pub bytes-in : (at : ℕ) (vs : List ℕ) → Stands s at (each counterRow vs) → (i : ℕ) → i < length vs → (d : ℕ) → byte s (at + i) ≡ getD vs i d
+  unfolding Stands
+  bytes-in at vs h i l d =
+      let there : at + i ≡ 0 + (at + 1 * i) = omega arith in
+      let from : Stands s (0 + at) (each counterRow vs) = rw (zero-add at) h in
+      ap (byte s) there ∙ at-byte (0 + (at + 1 * i)) (getD vs i d) (each-stands s counterRow 1 (λ v. refl) 0 vs at from i l d .0)
 
   accumulator-offsets : (at : ℕ) (l : Limits) → Stands s at (limitsRow 8 l) → AccumulatorOffsets s at l
   unfolding Stands
@@ -117,7 +125,6 @@ module _ (x : Setup) where
     in-place =
         let q = stands-at s (firstRow x) 0 (head-parts .0) in
         let a = each-stands s accumulatorRow 10 (λ a. refl) 0 (listed (x .accumulators)) 8 (head-parts .1) in
-        let c = each-stands s counterRow 1 (λ v. refl) 0 (listed (x .counters)) 48 (head-parts .2) in
         let ps = each-stands s profileRow 107 profile-width 0 (x .profiles) 52 (head-and-tables .1) in
         let cs = each-stands s conversionRow 7 conversion-width after (x .conversions) 0 (rw (add-zero after) (head-and-tables .2)) in
         record {
@@ -130,10 +137,7 @@ module _ (x : Setup) where
           online = at-byte s 7 (x .online) (q 6);
           currencies = λ i l. ap (λ n. number s n 2) (sym (zero-add (8 + 10 * i))) ∙ a i l (x .accumulators .one) .0;
           values = λ i l. ap (λ n. number s (n + 2) 8) (sym (zero-add (8 + 10 * i))) ∙ a i l (x .accumulators .one) .1 .0;
-          counters =
-              λ i l.
-              let there : 48 + i ≡ 0 + (48 + 1 * i) = omega arith in
-              ap (byte s) there ∙ at-byte s (0 + (48 + 1 * i)) (nth (x .counters) i) (c i l (x .counters .one) .0);
+          counters = λ i l. bytes-in s 48 (listed (x .counters)) (head-parts .2) i l (x .counters .one);
           profiles =
               λ i l d.
               subst (λ n. ProfileOffsets s n (getD (x .profiles) i d)) (zero-add (52 + 107 * i))

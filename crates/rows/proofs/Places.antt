@@ -2,7 +2,7 @@
 use mathlib.Core.Path.{_≡_, refl}
 use mathlib.Core.Bool.{Bool, true, false, cond}
 use mathlib.Core.List.{List, [], _∷_}
-use Prim.Native.Nat.{ℕ, zero, suc, _<_}
+use Prim.Native.Nat.{ℕ, zero, suc, _≤_, _<_}
 use native.Mathlib.Omega.{arith}
 use borrow.Author.Tests.{lt-ltb, le-ltb, ltb-true, ltb-false}
 use lib.Dec.{ltb}
@@ -22,6 +22,13 @@ module _ {A : Type 0} where
   said-there said blank y [] i h = rw (le-ltb i 0 (omega arith))
   said-there said blank y (x ∷ xs) zero h = rw (lt-ltb 0 (suc (length xs)) (omega arith)) (h (omega arith) x)
   said-there said blank y (x ∷ xs) (suc i) h = rw (less-suc i (length xs)) (said-there said blank y xs i (λ l d. h (omega arith) d))
+
+  -- and where nothing is there, the same
+  pub said-or-blank : {B : Type 0} (said : A → B) (blank y : B) (xs : List A) (i : ℕ) → (i < length xs → (d : A) → y ≡ said (getD xs i d))
+      → (length xs ≤ i → y ≡ blank) → y ≡ saidAt said blank xs i
+  said-or-blank said blank y [] i h k = k (omega arith)
+  said-or-blank said blank y (x ∷ xs) zero h k = h (omega arith) x
+  said-or-blank said blank y (x ∷ xs) (suc i) h k = said-or-blank said blank y xs i (λ l d. h (omega arith) d) (λ l. k (omega arith))
 
   module _ (d : A) where
     pub at-each : (P : A → Type 0) (xs : List A) → Each P xs → (i : ℕ) → i < length xs → P (getD xs i d)

@@ -1,6 +1,6 @@
 -- A spelled set-up is accepted exactly if its fields are in their ranges; its number is then 0, and else 1. Assumes nothing.
 use mathlib.Core.Path.{_≡_, refl, sym, _∙_}
-use mathlib.Core.Bool.{Bool, true, false, cond}
+use mathlib.Core.Bool.{Bool, true, false, cond, _&&_}
 use mathlib.Core.List.{List}
 use mathlib.Core.Logic.{_↔_}
 use Prim.Native.Nat.{ℕ, _+_, _*_, _<_}
@@ -8,9 +8,9 @@ use native.Mathlib.Omega.{arith}
 use lib.ListN.{length, getD}
 use Rattle.wire.specs.Wire.{byte, number}
 use Rattle.wire.proofs.Pairs.{both}
-use Rattle.ranges.specs.Ranges.{isSetup, areCycles}
+use Rattle.ranges.specs.Ranges.{isSetup, areCycles, isFamily}
 use Rattle.ranges.proofs.Accepted.{Currency, AccumulatorRanges, AccumulatorRuleRanges, ProfileRanges, ConversionRanges, Accepted, accepted, complete}
-use Rattle.ranges.proofs.Accepted.{CyclesAccepted, cycles-accepted, cycles-complete}
+use Rattle.ranges.proofs.Accepted.{CyclesAccepted, cycles-accepted, cycles-complete, FamilyAccepted, family-accepted, family-complete}
 use Rattle.setup.specs.Setup.{isAccepted, readSetup, setupNumber}
 use Rattle.rows.specs.Rows.{Fits, Four, Limits, Profile, Conversion, Setup, listed, setupRow, body}
 use Rattle.rows.specs.InRange.{ThreeDigits, AccumulatorRange, AccumulatorLimits, CounterLimits, ProfileRange, ConversionRange, SameNumber, SamePair}
@@ -248,33 +248,39 @@ accepted-in-range x fits unnamed =
 
 -- ---- the number of the answer
 
-module _ (s t : List ℕ) (unnamed : ℕ) where
-  -- base and tail in their ranges
-  abbrev pub BothAccepted : Type 0
-  BothAccepted = Accepted s unnamed × CyclesAccepted t
+module _ (s t f : List ℕ) (unnamed : ℕ) where
+  -- base and tails in their ranges
+  abbrev pub AllAccepted : Type 0
+  AllAccepted = Accepted s unnamed × CyclesAccepted t × FamilyAccepted f
 
-  pub both-accepted : (isAccepted s t unnamed ≡ true) ↔ BothAccepted
-  both-accepted = (
-    λ e. let (base, tail) = both (isSetup s unnamed) (areCycles t) e in (accepted s unnamed base, cycles-accepted t tail),
-    λ (base, tail). rw (complete s unnamed base, cycles-complete t tail),
+  pub three : isAccepted s t f unnamed ≡ true → (isSetup s unnamed ≡ true) × (areCycles t ≡ true) × (isFamily f ≡ true)
+  three e =
+      let (older, family) = both (isSetup s unnamed && areCycles t) (isFamily f) e in
+      let (base, cycles) = both (isSetup s unnamed) (areCycles t) older in
+      (base, cycles, family)
+
+  pub all-accepted : (isAccepted s t f unnamed ≡ true) ↔ AllAccepted
+  all-accepted = (
+    λ e. let (base, cycles, family) = three e in (accepted s unnamed base, cycles-accepted t cycles, family-accepted f family),
+    λ (base, cycles, family). rw (complete s unnamed base, cycles-complete t cycles, family-complete f family),
   )
 
   abbrev numbered : ℕ
-  numbered = setupNumber (readSetup s t unnamed .answer)
+  numbered = setupNumber (readSetup s t f unnamed .answer)
 
-  number-by : (good : Bool) → isAccepted s t unnamed ≡ good → numbered ≡ cond good 0 1
+  number-by : (good : Bool) → isAccepted s t f unnamed ≡ good → numbered ≡ cond good 0 1
   unfolding readSetup
   number-by true e = rw e refl
   number-by false e = rw e refl
 
-  pub setup-taken : (numbered ≡ 0) ↔ BothAccepted
-  setup-taken = (λ z. both-accepted .0 (by (isAccepted s t unnamed) refl z), λ a. number-by true (both-accepted .1 a)) where
-    by : (good : Bool) → isAccepted s t unnamed ≡ good → numbered ≡ 0 → isAccepted s t unnamed ≡ true
+  pub setup-taken : (numbered ≡ 0) ↔ AllAccepted
+  setup-taken = (λ z. all-accepted .0 (by (isAccepted s t f unnamed) refl z), λ a. number-by true (all-accepted .1 a)) where
+    by : (good : Bool) → isAccepted s t f unnamed ≡ good → numbered ≡ 0 → isAccepted s t f unnamed ≡ true
     by true e z = e
     by false e z = let n = number-by false e in absurd (omega arith)
 
-  pub setup-refused : (numbered ≡ 1) ↔ (BothAccepted → ⊥)
-  setup-refused = (λ z a. let n = number-by true (both-accepted .1 a) in omega arith, λ f. by (isAccepted s t unnamed) refl f) where
-    by : (good : Bool) → isAccepted s t unnamed ≡ good → (BothAccepted → ⊥) → numbered ≡ 1
-    by true e f = absurd (f (both-accepted .0 e))
-    by false e f = number-by false e
+  pub setup-refused : (numbered ≡ 1) ↔ (AllAccepted → ⊥)
+  setup-refused = (λ z a. let n = number-by true (all-accepted .1 a) in omega arith, λ g. by (isAccepted s t f unnamed) refl g) where
+    by : (good : Bool) → isAccepted s t f unnamed ≡ good → (AllAccepted → ⊥) → numbered ≡ 1
+    by true e g = absurd (g (all-accepted .0 e))
+    by false e g = number-by false e

@@ -11,16 +11,18 @@ use Rattle.wire.specs.Wire.{number}
 use Rattle.ranges.specs.Ranges.{isSetup, hasLength, isHead, areAccumulators, isAccumulator, areProfiles, isProfileOrAbsent, isProfile}
 use Rattle.ranges.specs.Ranges.{areMasks, isMaximumAmount, areAccumulatorRules, isAccumulatorRule, areCounterRules, areSent}
 use Rattle.ranges.specs.Ranges.{areNumbersApart, profileNumber, areConversions, isConversionOrAbsent, isConversion, conversionPair, arePairsApart}
-use Rattle.ranges.specs.Ranges.{areCycles, isCycle, areCyclicRules, isCyclicRule}
+use Rattle.ranges.specs.Ranges.{areCycles, isCycle, areCyclicRules, isCyclicRule, isFamily}
 use Rattle.setup.specs.Setup.{rateIn, accumulatorIn, counterIn, profileIn, cycleIn, cyclicIn, rulesIn, freshIn, readSetup, setupNumber}
 use Rattle.shape.specs.declared.ReadShape.{ReadShape}
 use Rattle.shape.specs.declared.ReadShape.the-variants.{Taken, Refused}
-use Rattle.shape.specs.Shape.{baseTail, entriesEnd, selectionTail, syllabusTail, datingTail, tailsOf, shapeOf, shapeNumber}
+use Rattle.shape.specs.Shape.{baseTail, entriesEnd, selectionTail, syllabusTail, datingTail, familyTail, tailsOf, shapeOf, shapeNumber}
 use Rattle.rows.specs.Rows.{Four, Accumulator, Limits, Profile, Conversion, Setup, written, spelled, headRow, profileRow, conversionRow, setupRow, body}
 use Rattle.rows.specs.Rows.{Two, Cyclic, CyclicLimit, Dates, undated, dated, cyclicLimitsRow, cyclesRow, cyclesBytes}
+use Rattle.rows.specs.Rows.{Families, cpa, cpace, controlsRow, controlsBytes}
 use Rattle.rows.specs.Said.{profileSaid, conversionSaid, rulesSaid, freshSaid}
 use Rattle.rows.specs.Tails.{off, first, third, tailBytes}
-use Rattle.rows.proofs.Witness.{profile as printedProfile, printed, printedBytes, daily}
+use Rattle.rows.specs.Whole.{readWhole}
+use Rattle.rows.proofs.Witness.{profile as printedProfile, printed, printedBytes, daily, dual}
 
 -- ---- a set-up in which each field has a value of its own
 
@@ -80,9 +82,14 @@ unfoldable pub countedDates : Dates
 countedDates =
     dated (record { year = 122; month = 123; day = 124; accumulators = twos cyclic 125 4; rules = twos limit 133 2 ∷ twos limit 137 2 ∷ [] })
 
+-- controls of accumulators, of counters, and two cashback checks
+abbrev controlling : (accumulators counters one two : ℕ) → Families
+controlling a c one two = cpace (record { accumulators = fours (λ n. n) a 1; counters = fours (λ n. n) c 1; cashbacks = one ∷ two ∷ [] })
+
 -- what is read of it
-pub rules-read : rulesIn (body counted) (cyclesBytes countedDates) 1 ≡ rulesSaid counted countedDates 1
-unfolding counted countedDates setupRow headRow profileRow conversionRow cyclesRow cyclicLimitsRow spelled written rulesIn rateIn profileIn
+pub rules-read : rulesIn (body counted) (cyclesBytes countedDates) (controlsBytes (controlling 141 145 0 1)) 1
+    ≡ rulesSaid counted countedDates (controlling 141 145 0 1) 1
+unfolding counted countedDates setupRow headRow profileRow conversionRow cyclesRow cyclicLimitsRow controlsRow spelled written rulesIn rateIn profileIn
     accumulatorIn counterIn cycleIn cyclicIn number rulesSaid profileSaid conversionSaid
 rules-read = refl
 
@@ -170,17 +177,35 @@ limitDates =
 -- ---- what is compared
 
 abbrev number-of : Setup → Dates → (unnamed : ℕ) → ℕ
-number-of x d unnamed = setupNumber (readSetup (body x) (cyclesBytes d) unnamed .answer)
+number-of x d unnamed = setupNumber (readSetup (body x) (cyclesBytes d) [] unnamed .answer)
+
+abbrev number-with : Families → ℕ
+number-with f = setupNumber (readSetup (body printed) [] (controlsBytes f) (2 ^ 26) .answer)
+
+-- of a set-up and its tail in a version, 9 where it has no shape
+abbrev number-by : ReadShape → (body : List ℕ) → ℕ
+number-by (Taken shape) s = setupNumber (readWhole shape s .answer)
+number-by (Refused refusal) s = 9
+
+abbrev number-in : (version : ℕ) → Setup → (tail : List ℕ) → ℕ
+number-in version x tail = number-by (shapeOf version (body x ++ tail)) (body x ++ tail)
 
 -- the limits of counter 1 in profile 1, as the rules have them, and as they were spelled
 abbrev limitsRead : Setup → Limits → Bool
 limitsRead x spelledAs =
-    let rule = getD (getD (rulesIn (body x) [] 1 .profiles) 0 blankProfile .counters) 0 blankCounter in
+    let rule = getD (getD (rulesIn (body x) [] [] 1 .profiles) 0 blankProfile .counters) 0 blankCounter in
     eqb (rule .lower) (spelledAs .lower) && eqb (rule .upper) (spelledAs .upper)
 
 -- the limit of a cyclic accumulator in a profile, in a tail for two profiles whose limits are 1 to 4 in their order
 abbrev limitRead : (profile accumulator : ℕ) → ℕ
-limitRead j i = getD (getD (rulesIn [] (cyclesBytes limitDates) 0 .cyclicRules) j []) i blankCyclic .limit .0
+limitRead j i = getD (getD (rulesIn [] (cyclesBytes limitDates) [] 0 .cyclicRules) j []) i blankCyclic .limit .0
+
+-- the control of a slot, and a profile's cashback check, in a tail whose controls are 1 to 8 in their order, with a check in the second profile only
+abbrev controlRead : (slot : ℕ) → ℕ
+controlRead i = getD (rulesIn [] [] (controlsBytes (controlling 1 5 0 1)) 0 .controls) i 0
+
+abbrev cashbackRead : (profile : ℕ) → Bool
+cashbackRead j = getD (rulesIn [] [] (controlsBytes (controlling 1 5 0 1)) 0 .cashbacks) j false
 
 -- the syllabus that was read, 9 where none was
 abbrev followed : ReadShape → ℕ
@@ -202,7 +227,8 @@ pub record Samples : Type 0 where
   pub left-over : T (isRefused 3 (1 ∷ 1 ∷ 0 ∷ 0 ∷ 0 ∷ []))
   pub syllabus-above : T (isRefused 3 (0 ∷ 2 ∷ []))
   pub bit-22 : T (eqb (number-of (masked 22) undated (2 ^ 22)) 1 && eqb (number-of (masked 22) undated (2 ^ 25)) 0)
-  pub bit-25 : T (eqb (number-of (masked 25) undated (2 ^ 25)) 1)
+  pub bit-25 : T (eqb (number-in 4 (masked 25) (0 ∷ 0 ∷ 0 ∷ [])) 1 && eqb (number-in 5 (masked 25) (0 ∷ 0 ∷ 0 ∷ 0 ∷ [])) 0)
+  pub bit-26 : T (eqb (number-in 5 (masked 26) (0 ∷ 0 ∷ 0 ∷ 0 ∷ [])) 1)
   pub thirtieth : T (eqb (number-of printed (dates 0x30 6 3) (2 ^ 25)) 0)
   pub thirty-first : T (eqb (number-of printed (dates 0x31 6 3) (2 ^ 25)) 1)
   pub first-day-7 : T (eqb (number-of printed (dates 0x30 7 3) (2 ^ 25)) 1)
@@ -213,13 +239,24 @@ pub record Samples : Type 0 where
   pub behind-undated : T (isRefused 4 (0 ∷ 0 ∷ 0 ∷ 0 ∷ []))
   pub one-short : T (isRefused 4 (take 47 (tailBytes daily)))
   pub one-more : T (isRefused 4 (tailBytes daily ++ 0 ∷ []))
+  pub control-15 : T (eqb (number-with (controlling 12 12 1 1)) 0)
+  pub control-16 : T (eqb (number-with (controlling 13 12 1 1)) 1 && eqb (number-with (controlling 12 13 1 1)) 1)
+  pub cashback-2 : T (eqb (number-with (controlling 0 0 2 0)) 1)
+  pub controls-read : T (eqb (controlRead 0) 1 && eqb (controlRead 3) 4 && eqb (controlRead 4) 5 && eqb (controlRead 7) 8)
+  pub cashbacks-read : T (not (cashbackRead 0) && cashbackRead 1 && not (cashbackRead 2))
+  pub family-read : T (eqb (shapeNumber (shapeOf 5 (printedBytes ++ tailBytes dual))) 0)
+  pub family-2 : T (isRefused 5 (0 ∷ 0 ∷ 0 ∷ 2 ∷ []))
+  pub no-family : T (isRefused 5 (0 ∷ 0 ∷ 0 ∷ []))
+  pub behind-cpa : T (isRefused 5 (0 ∷ 0 ∷ 0 ∷ 0 ∷ 0 ∷ []))
+  pub family-short : T (isRefused 5 (take 57 (tailBytes dual)))
+  pub family-more : T (isRefused 5 (tailBytes dual ++ 0 ∷ []))
 
 pub samples : Samples
 unfolding counted printed printedBytes setupRow headRow profileRow conversionRow spelled written rulesIn rateIn profileIn accumulatorIn
     counterIn number readSetup isSetup hasLength isHead areAccumulators isAccumulator areProfiles isProfileOrAbsent isProfile areMasks
     isMaximumAmount areAccumulatorRules isAccumulatorRule areCounterRules areSent areNumbersApart profileNumber areConversions
     isConversionOrAbsent isConversion conversionPair arePairsApart shapeOf tailsOf baseTail selectionTail entriesEnd syllabusTail datingTail
-    cyclesRow cyclicLimitsRow cycleIn cyclicIn areCycles isCycle areCyclicRules isCyclicRule dateAt isDay hasDay
+    cyclesRow cyclicLimitsRow cycleIn cyclicIn areCycles isCycle areCyclicRules isCyclicRule dateAt isDay hasDay familyTail controlsRow isFamily
 samples =
     record {
       counter-limits = tt;
@@ -233,6 +270,7 @@ samples =
       syllabus-above = tt;
       bit-22 = tt;
       bit-25 = tt;
+      bit-26 = tt;
       thirtieth = tt;
       thirty-first = tt;
       first-day-7 = tt;
@@ -243,4 +281,15 @@ samples =
       behind-undated = tt;
       one-short = tt;
       one-more = tt;
+      control-15 = tt;
+      control-16 = tt;
+      cashback-2 = tt;
+      controls-read = tt;
+      cashbacks-read = tt;
+      family-read = tt;
+      family-2 = tt;
+      no-family = tt;
+      behind-cpa = tt;
+      family-short = tt;
+      family-more = tt;
     }

@@ -25,7 +25,7 @@ unfolding made
 made-size f w at zero = refl
 made-size f w at (suc n) = ap suc (made-size f w (at + w) n)
 
-inFour : {A : Type 0} → (ℕ → A) → (w at : ℕ) → Four A
+unfoldable pub inFour : {A : Type 0} → (ℕ → A) → (w at : ℕ) → Four A
 inFour f w at = record { one = f at; two = f (at + w); three = f (at + w + w); four = f (at + w + w + w) }
 
 module _ (s : List ℕ) where
@@ -38,7 +38,7 @@ module _ (s : List ℕ) where
       joins s (row (f at)) (each row (made f w (at + w) n)) at (there at)
       (subst (λ m. Stands s (at + m) (each row (made f w (at + w) n))) (sym (same (f at))) (made-stands row w same f there n (at + w)))
 
-  four-stands : {A : Type 0} (row : A → List Field) (w : ℕ) → ((x : A) → widths (row x) ≡ w)
+  pub four-stands : {A : Type 0} (row : A → List Field) (w : ℕ) → ((x : A) → widths (row x) ≡ w)
       → (f : ℕ → A) → ((at : ℕ) → Stands s at (row (f at)))
       → (at : ℕ) → Stands s at (each row (listed (inFour f w at)))
   unfolding made inFour
@@ -88,7 +88,7 @@ module _ (s : List ℕ) where
   unfolding Stands accumulatorFrom
   accumulator-stands at = (refl, (refl, tt))
 
-  counter-stands : (at : ℕ) → Stands s at (counterRow (number s at 1))
+  pub counter-stands : (at : ℕ) → Stands s at (counterRow (number s at 1))
   unfolding Stands
   counter-stands at = (refl, tt)
 

@@ -1,5 +1,5 @@
 -- The set-up of the sitting that document 01 prints ("A sitting in full"), from its fields: its bytes, and that the premises of the statements are met;
--- also with dates. Assumes nothing.
+-- also with dates, and of a CPACE card. Assumes nothing.
 use mathlib.Core.Path.{_≡_, refl}
 use mathlib.Core.Bool.{Bool, true, _&&_}
 use mathlib.Core.List.{List, [], _∷_, _++_}
@@ -14,10 +14,10 @@ use Rattle.calendar.specs.Calendar.{isDay, hasDay}
 use Rattle.calendar.proofs.Dates.{calendar-days}
 use Rattle.ranges.specs.Ranges.{isSetup}
 use Rattle.rows.specs.Rows.{Field, written, spelled, Fits, Four, Accumulator, Limits, Profile, Setup, headRow, profileRow, setupRow, body}
-use Rattle.rows.specs.Rows.{Cyclic, Cycles, undated, dated, cyclicLimitsRow, cyclesRow}
+use Rattle.rows.specs.Rows.{Cyclic, Cycles, undated, dated, cyclicLimitsRow, cyclesRow, Controls, cpa, cpace, controlsRow}
 use Rattle.rows.specs.Said.{Says}
-use Rattle.rows.specs.InRange.{ThreeDigits, AccumulatorRange, AccumulatorLimits, InRange, CyclicRange, DatesRange}
-use Rattle.rows.specs.Tails.{off, on, third, fourth, Tail, tailBytes, Fine, TailSays}
+use Rattle.rows.specs.InRange.{ThreeDigits, AccumulatorRange, AccumulatorLimits, InRange, CyclicRange, DatesRange, FamiliesRange}
+use Rattle.rows.specs.Tails.{off, on, third, fourth, fifth, Tail, tailBytes, Fine, TailSays}
 use Rattle.rows.specs.Whole.{wholeBody, WholeSays}
 use Rattle.rows.proofs.Fields.{reads-fields}
 use Rattle.rows.proofs.Ranges.{accepted-in-range}
@@ -101,8 +101,8 @@ pub printed-fits : Fits (setupRow printed)
 unfolding printed setupRow headRow profileRow
 printed-fits = fit (setupRow printed) refl
 
-pub printed-says : Says printed undated (body printed) []
-printed-says = reads-fields printed undated printed-fits tt
+pub printed-says : Says printed undated cpa (body printed) [] []
+printed-says = reads-fields printed undated cpa printed-fits tt tt
 
 -- ---- and are in their ranges
 
@@ -148,12 +148,15 @@ in-range-below unnamed named =
       pairs = tt;
     }
 
--- in versions 01 to 03, and from version 04 on
+-- in versions 01 to 03, in version 04, and from version 05 on
 pub printed-in-range : InRange printed (2 ^ 22)
 printed-in-range = in-range-below (2 ^ 22) (omega arith)
 
 pub printed-in-range-4 : InRange printed (2 ^ 25)
 printed-in-range-4 = in-range-below (2 ^ 25) (omega arith)
+
+pub printed-in-range-5 : InRange printed (2 ^ 26)
+printed-in-range-5 = in-range-below (2 ^ 26) (omega arith)
 
 pub printed-accepted : isSetup (body printed) (2 ^ 22) ≡ true
 printed-accepted = accepted-in-range printed printed-fits (2 ^ 22) .1 printed-in-range
@@ -220,4 +223,38 @@ daily-in-range =
 -- THE WITNESS: it is taken, and says what was spelled
 pub daily-says : WholeSays printed daily 4 (wholeBody printed daily)
 unfolding printed
-daily-says = whole-says printed daily printed-fits daily-fine printed-in-range-4 daily-in-range
+daily-says = whole-says printed daily printed-fits daily-fine printed-in-range-4 daily-in-range tt
+
+-- ---- and a CPACE card: accumulator 1 is closed without CVM, counter 4 always, and cashback is checked
+
+abbrev pub guarding : Controls
+guarding =
+    record {
+      accumulators = record { one = 0x01; two = 0x02; three = 0x04; four = 0x08 };
+      counters = record { one = 0x03; two = 0x05; three = 0x06; four = 0x0F };
+      cashbacks = 1 ∷ [];
+    }
+
+abbrev pub dual : Tail
+dual = fifth off 0 (dated spending) (cpace guarding)
+
+pub dual-bytes : tailBytes dual ≡ tailBytes daily ++ (0x01 ∷ 0x01 ∷ 0x02 ∷ 0x04 ∷ 0x08 ∷ 0x03 ∷ 0x05 ∷ 0x06 ∷ 0x0F ∷ 0x01 ∷ [])
+unfolding cyclesRow cyclicLimitsRow controlsRow spelled written
+dual-bytes = refl
+
+pub dual-fine : Fine 1 dual
+unfolding controlsRow
+dual-fine = let (chosen, low, dates) = daily-fine in (chosen, low, dates, (fit (controlsRow guarding) refl, refl))
+
+pub dual-in-range : FamiliesRange (cpace guarding)
+dual-in-range =
+    record {
+      accumulators = (omega arith, (omega arith, (omega arith, (omega arith, tt))));
+      counters = (omega arith, (omega arith, (omega arith, (omega arith, tt))));
+      cashbacks = (omega arith, tt);
+    }
+
+-- THE WITNESS: it is taken, and says what was spelled
+pub dual-says : WholeSays printed dual 5 (wholeBody printed dual)
+unfolding printed
+dual-says = whole-says printed dual printed-fits dual-fine printed-in-range-5 daily-in-range dual-in-range

@@ -1,4 +1,4 @@
--- The ranges of a set-up's fields (document 01, "Numbers" and "The paper"; document 02, request Five). Key index, ATC, and a counter's value and limits
+-- The ranges of a set-up's fields (document 01, "Numbers" and "The paper"; document 02, Five and Thirteen). Key index, ATC, and a counter's value and limits
 -- may be any.
 use mathlib.Core.Path.{_≡_}
 use mathlib.Core.List.{List, [], _∷_}
@@ -6,6 +6,7 @@ use Prim.Native.Nat.{ℕ, _+_, _*_, _≤_, _<_}
 use lib.ListN.{length}
 use Rattle.calendar.specs.Almanac.{dateAfter}
 use Rattle.rows.specs.Rows.{Accumulator, Limits, Profile, Conversion, Setup, listed, Two, Cyclic, CyclicLimit, Cycles, Dates, undated, dated, paired}
+use Rattle.rows.specs.Rows.{Controls, Families, cpa, cpace}
 
 -- of each in a list
 abbrev pub Each : {A : Type 0} → (A → Type 0) → List A → Type 0
@@ -119,3 +120,21 @@ pub record CyclesRange (d : Cycles) : Type 0 where
 abbrev pub DatesRange : Dates → Type 0
 DatesRange undated = Unit
 DatesRange (dated d) = CyclesRange d
+
+-- ---- the tail of version 05
+
+-- 8 offline PIN, 4 online PIN, 2 signature, 1 no CVM
+abbrev pub ControlRange : ℕ → Type 0
+ControlRange control = control ≤ 15
+
+abbrev pub CashbackRange : ℕ → Type 0
+CashbackRange check = check ≤ 1
+
+pub record ControlsRange (f : Controls) : Type 0 where
+  pub accumulators : Each ControlRange (listed (f .accumulators))
+  pub counters : Each ControlRange (listed (f .counters))
+  pub cashbacks : Each CashbackRange (f .cashbacks)
+
+abbrev pub FamiliesRange : Families → Type 0
+FamiliesRange cpa = Unit
+FamiliesRange (cpace f) = ControlsRange f

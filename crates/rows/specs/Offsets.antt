@@ -1,10 +1,11 @@
--- Where the fields of a set-up stand, in numbers: the offsets of docs/PAPERS.md, "Set-up, kind 1" and "Tail of version 04".
+-- Where the fields of a set-up stand, in numbers: the offsets of docs/PAPERS.md, "Set-up, kind 1" and the tails of versions 04 and 05.
 use mathlib.Core.Path.{_≡_}
 use mathlib.Core.List.{List}
 use Prim.Native.Nat.{ℕ, _+_, _*_, _<_}
 use lib.ListN.{length, getD}
 use Rattle.wire.specs.Wire.{byte, number}
 use Rattle.rows.specs.Rows.{Four, Limits, Profile, Conversion, Setup, listed, Two, Cyclic, CyclicLimit, Cycles, paired}
+use Rattle.rows.specs.Rows.{Controls}
 
 -- number i + 1 of the four
 abbrev pub nth : {A : Type 0} → Four A → ℕ → A
@@ -81,3 +82,11 @@ pub record CyclesOffsets (t : List ℕ) (d : Cycles) : Type 0 where
   pub accumulators : (i : ℕ) → i < 2 → CyclicOffsets t (4 + 12 * i) (ofTwo (d .accumulators) i)
   pub rules : (j : ℕ) → j < length (d .rules) → (r : Two CyclicLimit) (i : ℕ) → i < 2
       → CyclicLimitOffsets t (28 + 18 * j + 9 * i) (ofTwo (getD (d .rules) j r) i)
+
+-- ---- the tail of version 05, from its own start
+
+pub record ControlsOffsets (t : List ℕ) (f : Controls) : Type 0 where
+  pub family : byte t 0 ≡ 1
+  pub accumulators : (i : ℕ) → i < 4 → byte t (1 + i) ≡ nth (f .accumulators) i
+  pub counters : (i : ℕ) → i < 4 → byte t (5 + i) ≡ nth (f .counters) i
+  pub cashbacks : (j : ℕ) → j < length (f .cashbacks) → (d : ℕ) → byte t (9 + j) ≡ getD (f .cashbacks) j d

@@ -1,4 +1,4 @@
--- A set-up's body spelled from its fields (document 01, "The paper"; docs/PAPERS.md, "Set-up, kind 1" and "Tail of version 04"). Rows of fields in the
+-- A set-up's body spelled from its fields (document 01, "The paper"; docs/PAPERS.md, "Set-up, kind 1" and the tails of versions 04 and 05). Rows of fields in the
 -- paper's order, each field with its width in bytes. There is no offset here: a field stands where the widths before it end.
 use Prim.Native.Nat.{ℕ, zero, suc, _+_, _/_, _%_, _^_, _<_}
 use mathlib.Core.List.{List, [], _∷_, _++_}
@@ -125,6 +125,19 @@ pub data Dates : Type 0 where
   undated : Dates
   dated : Cycles → Dates
 
+-- ---- what the tail of version 05 says (document 02, request Thirteen)
+
+-- the controls of the accumulators and of the counters; and for each profile, in the set-up's order, whether it checks cashback
+pub record Controls : Type 0 where
+  pub accumulators : Four ℕ
+  pub counters : Four ℕ
+  pub cashbacks : List ℕ
+
+-- a CPA card, or a CPACE one
+pub data Families : Type 0 where
+  cpa : Families
+  cpace : Controls → Families
+
 -- ---- its rows
 
 abbrev pub listed : {A : Type 0} → Four A → List A
@@ -208,3 +221,18 @@ cyclesRow d = datedRow d ++ (each cyclicRow (paired (d .accumulators)) ++ each c
 abbrev pub cyclesBytes : Dates → List ℕ
 cyclesBytes undated = []
 cyclesBytes (dated d) = spelled (cyclesRow d)
+
+-- ---- the row of the tail of version 05 of a CPACE card
+
+abbrev pub byteRow : ℕ → List Field
+byteRow value = 1 of value ∷ []
+
+-- family, which is 1; the controls of four accumulators and of four counters; p cashback checks
+unfoldable pub controlsRow : Controls → List Field
+controlsRow f =
+    byteRow 1 ++ (each byteRow (listed (f .accumulators)) ++ (each byteRow (listed (f .counters)) ++ each byteRow (f .cashbacks)))
+
+-- no byte of a CPA card
+abbrev pub controlsBytes : Families → List ℕ
+controlsBytes cpa = []
+controlsBytes (cpace f) = spelled (controlsRow f)

@@ -1,8 +1,9 @@
--- What the fields of a set-up come to: the rules that they are, and what a fresh card starts from (document 01, "The paper"; document 02, request Five).
+-- What the fields of a set-up come to: the rules that they are, and what a fresh card starts from (document 01, "The paper"; document 02, Five and
+-- Thirteen).
 use Prim.Native.Nat.{ℕ, zero, suc, _+_, _*_, _/_, _%_}
 use mathlib.Core.Path.{_≡_}
-use mathlib.Core.Bool.{Bool, true}
-use mathlib.Core.List.{List, [], _∷_}
+use mathlib.Core.Bool.{Bool, true, false}
+use mathlib.Core.List.{List, [], _∷_, _++_}
 use lib.Dec.{eqb}
 use lib.ListN.{length}
 use Rattle.money.specs.declared.AccumulatorAmount.{AccumulatorAmount}
@@ -21,6 +22,7 @@ use Rattle.setup.specs.declared.Fresh.{Fresh}
 use Rattle.setup.specs.declared.SetupAnswer.the-variants.{Done}
 use Rattle.setup.specs.Setup.{rulesIn, freshIn, isAccepted, readSetup, wordsAfter}
 use Rattle.rows.specs.Rows.{Limits, Profile, Conversion, Setup, Two, Cyclic, CyclicLimit, Dates, undated, dated}
+use Rattle.rows.specs.Rows.{Families, cpa, cpace, listed}
 
 -- the switch of value k (1, 2, 4 or 8)
 abbrev pub switch : (k switches : ℕ) → Bool
@@ -123,9 +125,18 @@ abbrev pub lastSaid : Dates → Date
 lastSaid undated = record { year = 0; month = 0; day = 0 }
 lastSaid (dated d) = record { year = d .year; month = d .month; day = d .day }
 
--- with the tail of version 04 and the syllabus, which stand beside the set-up
-unfoldable pub rulesSaid : Setup → Dates → ℕ → Rules
-rulesSaid x d syllabus =
+-- the controls of the four accumulators, then of the four counters; a CPA card's are 0
+abbrev pub controlsSaid : Families → List ℕ
+controlsSaid cpa = 0 ∷ 0 ∷ 0 ∷ 0 ∷ 0 ∷ 0 ∷ 0 ∷ 0 ∷ []
+controlsSaid (cpace f) = listed (f .accumulators) ++ listed (f .counters)
+
+abbrev pub cashbackAt : Families → ℕ → Bool
+cashbackAt cpa j = false
+cashbackAt (cpace f) j = saidAt yes-if-one false (f .cashbacks) j
+
+-- with the tails of versions 04 and 05 and the syllabus, which stand beside the set-up
+unfoldable pub rulesSaid : Setup → Dates → Families → ℕ → Rules
+rulesSaid x d f syllabus =
     record {
       key = x .key;
       pin = x .pin;
@@ -140,6 +151,8 @@ rulesSaid x d syllabus =
       profiles = profileAt x 0 ∷ profileAt x 1 ∷ profileAt x 2 ∷ profileAt x 3 ∷ [];
       cycles = cyclesSaid d;
       cyclicRules = cyclicRulesAt d 0 ∷ cyclicRulesAt d 1 ∷ cyclicRulesAt d 2 ∷ cyclicRulesAt d 3 ∷ [];
+      controls = controlsSaid f;
+      cashbacks = cashbackAt f 0 ∷ cashbackAt f 1 ∷ cashbackAt f 2 ∷ cashbackAt f 3 ∷ [];
     }
 
 unfoldable pub freshSaid : Setup → Dates → Fresh
@@ -159,12 +172,13 @@ freshSaid x d =
       last = lastSaid d;
     }
 
--- What every reader of a base and a tail of version 04 makes of them, where they say x and d: the base's length, the rules and the fresh card in the
--- bytes; and once they are accepted, what reading them answers, and the rules in the words that they were loaded into, whatever these held before.
-pub record Says (x : Setup) (d : Dates) (s t : List ℕ) : Type 0 where
+-- What every reader of a base and its tails of versions 04 and 05 makes of them, where they say x, d and f: the base's length, the rules and the fresh
+-- card in the bytes; and once they are accepted, what reading them answers, and the rules in the words that they were loaded into, whatever these held
+-- before.
+pub record Says (x : Setup) (d : Dates) (f : Families) (s t u : List ℕ) : Type 0 where
   pub size : length s ≡ 52 + 107 * length (x .profiles) + 7 * length (x .conversions)
-  pub rules : (syllabus : ℕ) → rulesIn s t syllabus ≡ rulesSaid x d syllabus
+  pub rules : (syllabus : ℕ) → rulesIn s t u syllabus ≡ rulesSaid x d f syllabus
   pub fresh : freshIn s t ≡ freshSaid x d
-  pub read : (unnamed : ℕ) → isAccepted s t unnamed ≡ true → readSetup s t unnamed ≡ record { fresh = freshSaid x d; answer = Done }
-  pub loaded : (syllabus unnamed : ℕ) (words : List ℕ) → length words ≡ wordCount → isAccepted s t unnamed ≡ true
-      → rulesOf (wordsAfter words s t syllabus unnamed) ≡ rulesSaid x d syllabus
+  pub read : (unnamed : ℕ) → isAccepted s t u unnamed ≡ true → readSetup s t u unnamed ≡ record { fresh = freshSaid x d; answer = Done }
+  pub loaded : (syllabus unnamed : ℕ) (words : List ℕ) → length words ≡ wordCount → isAccepted s t u unnamed ≡ true
+      → rulesOf (wordsAfter words s t u syllabus unnamed) ≡ rulesSaid x d f syllabus

@@ -1,4 +1,5 @@
--- What follows the base of a set-up's body, spelled (docs/PAPERS.md, "Tail of version 02" to "Tail of version 04"; document 02, Three, Nine and Five).
+-- What follows the base of a set-up's body, spelled (docs/PAPERS.md, "Tail of version 02" to "Tail of version 05"; document 02, Three, Nine, Five
+-- and Thirteen).
 use Prim.Native.Nat.{ℕ, suc, _+_, _-_, _*_, _^_, _≤_, _<_}
 use mathlib.Core.Path.{_≡_}
 use mathlib.Core.List.{List, [], _∷_, _++_}
@@ -8,10 +9,12 @@ use Rattle.shape.specs.declared.Selecting.{Selecting}
 use Rattle.shape.specs.declared.Selecting.the-variants.{Off, On}
 use Rattle.shape.specs.declared.Dating.{Dating}
 use Rattle.shape.specs.declared.Dating.the-variants.{Off as DatesOff, On as DatesOn}
+use Rattle.shape.specs.declared.Family.{Family}
+use Rattle.shape.specs.declared.Family.the-variants.{Cpa, Cpace}
 use Rattle.shape.specs.declared.Shape.{Shape}
 use Rattle.shape.specs.declared.ReadShape.the-variants.{Taken}
-use Rattle.shape.specs.Shape.{basePart, cyclesPart, shapeOf}
-use Rattle.rows.specs.Rows.{Fits, Dates, undated, dated, cyclesRow, cyclesBytes}
+use Rattle.shape.specs.Shape.{basePart, cyclesPart, familyPart, shapeOf}
+use Rattle.rows.specs.Rows.{Fits, Dates, undated, dated, cyclesRow, cyclesBytes, Families, cpa, cpace, controlsRow, controlsBytes}
 
 -- selection off, or on with the bytes of each entry
 pub data Choosing : Type 0 where
@@ -33,52 +36,72 @@ abbrev pub datesBytes : Dates → List ℕ
 datesBytes undated = 0 ∷ []
 datesBytes (dated d) = cyclesBytes (dated d)
 
--- version 01 has no tail; version 02 has the selection's; version 03 that and the syllabus; version 04 these and the dates'
+-- 0 CPA; CPACE, the row of its fields, which begins with 1
+abbrev pub familiesBytes : Families → List ℕ
+familiesBytes cpa = 0 ∷ []
+familiesBytes (cpace f) = controlsBytes (cpace f)
+
+-- version 01 has no tail; version 02 has the selection's; version 03 that and the syllabus; version 04 these and the dates'; version 05 these and the
+-- family's
 pub data Tail : Type 0 where
   first : Tail
   second : Choosing → Tail
   third : Choosing → (syllabus : ℕ) → Tail
   fourth : Choosing → (syllabus : ℕ) → Dates → Tail
+  fifth : Choosing → (syllabus : ℕ) → Dates → Families → Tail
 
 abbrev pub versionOf : Tail → ℕ
 versionOf first = 1
 versionOf (second choosing) = 2
 versionOf (third choosing syllabus) = 3
 versionOf (fourth choosing syllabus dates) = 4
+versionOf (fifth choosing syllabus dates families) = 5
 
 abbrev pub tailBytes : Tail → List ℕ
 tailBytes first = []
 tailBytes (second choosing) = choosingBytes choosing
 tailBytes (third choosing syllabus) = choosingBytes choosing ++ syllabus ∷ []
 tailBytes (fourth choosing syllabus dates) = choosingBytes choosing ++ syllabus ∷ datesBytes dates
+tailBytes (fifth choosing syllabus dates families) = choosingBytes choosing ++ (syllabus ∷ datesBytes dates ++ familiesBytes families)
 
--- older papers select nothing, follow syllabus 0 and have no dates
+-- older papers select nothing, follow syllabus 0, have no dates and are of CPA cards
 abbrev pub choosingOf : Tail → Choosing
 choosingOf first = off
 choosingOf (second choosing) = choosing
 choosingOf (third choosing syllabus) = choosing
 choosingOf (fourth choosing syllabus dates) = choosing
+choosingOf (fifth choosing syllabus dates families) = choosing
 
 abbrev pub syllabusOf : Tail → ℕ
 syllabusOf first = 0
 syllabusOf (second choosing) = 0
 syllabusOf (third choosing syllabus) = syllabus
 syllabusOf (fourth choosing syllabus dates) = syllabus
+syllabusOf (fifth choosing syllabus dates families) = syllabus
 
 abbrev pub datesOf : Tail → Dates
 datesOf first = undated
 datesOf (second choosing) = undated
 datesOf (third choosing syllabus) = undated
 datesOf (fourth choosing syllabus dates) = dates
+datesOf (fifth choosing syllabus dates families) = dates
 
--- the first mask bit without a name: 22, and from version 04 on 25, whether dates are on or off
+abbrev pub familiesOf : Tail → Families
+familiesOf first = cpa
+familiesOf (second choosing) = cpa
+familiesOf (third choosing syllabus) = cpa
+familiesOf (fourth choosing syllabus dates) = cpa
+familiesOf (fifth choosing syllabus dates families) = families
+
+-- the first mask bit without a name: 22, from version 04 on 25, and from version 05 on 26, whatever the tail says
 abbrev pub unnamedOf : Tail → ℕ
 unnamedOf first = 2 ^ 22
 unnamedOf (second choosing) = 2 ^ 22
 unnamedOf (third choosing syllabus) = 2 ^ 22
 unnamedOf (fourth choosing syllabus dates) = 2 ^ 25
+unnamedOf (fifth choosing syllabus dates families) = 2 ^ 26
 
--- ---- what fits: numbers of entries and lengths below 256, syllabus 0 or 1, a row of rules for each of the p profiles
+-- ---- what fits: numbers of entries and lengths below 256, syllabus 0 or 1, a row of rules and a cashback check for each of the p profiles
 
 abbrev pub FineEntries : List (List ℕ) → Type 0
 FineEntries [] = Unit
@@ -92,11 +115,16 @@ abbrev pub FineDates : (p : ℕ) → Dates → Type 0
 FineDates p undated = Unit
 FineDates p (dated d) = Fits (cyclesRow d) × (length (d .rules) ≡ p)
 
+abbrev pub FineFamilies : (p : ℕ) → Families → Type 0
+FineFamilies p cpa = Unit
+FineFamilies p (cpace f) = Fits (controlsRow f) × (length (f .cashbacks) ≡ p)
+
 abbrev pub Fine : (p : ℕ) → Tail → Type 0
 Fine p first = Unit
 Fine p (second choosing) = FineChoosing choosing
 Fine p (third choosing syllabus) = FineChoosing choosing × (syllabus ≤ 1)
 Fine p (fourth choosing syllabus dates) = FineChoosing choosing × (syllabus ≤ 1) × FineDates p dates
+Fine p (fifth choosing syllabus dates families) = FineChoosing choosing × (syllabus ≤ 1) × FineDates p dates × FineFamilies p families
 
 -- p and c stand at 3 and 4 of the base, which has 52 + 107p + 7c bytes
 abbrev pub baseLength : List ℕ → ℕ
@@ -128,7 +156,15 @@ dating (dated d) at = DatesOn at (at + length (cyclesBytes (dated d)))
 abbrev pub datesAt : (base : List ℕ) → Choosing → ℕ
 datesAt base choosing = length base + length (choosingBytes choosing) + 1
 
--- the shape: the base's length, where the file stands, the syllabus, where the dates' tail stands, the first unnamed mask bit
+-- where the family's tail stands: behind the dates'
+abbrev pub familyFrom : Families → ℕ → Family
+familyFrom cpa at = Cpa
+familyFrom (cpace f) at = Cpace at (at + length (controlsBytes (cpace f)))
+
+abbrev pub familiesAt : (base : List ℕ) → Choosing → Dates → ℕ
+familiesAt base choosing dates = datesAt base choosing + length (datesBytes dates)
+
+-- the shape: the base's length, where the file stands, the syllabus, where the dates' and the family's tail stand, the first unnamed mask bit
 abbrev pub shapeSaid : (base : List ℕ) → Tail → Shape
 shapeSaid base tail =
     record {
@@ -136,6 +172,7 @@ shapeSaid base tail =
       selecting = selecting (choosingOf tail) (length base);
       syllabus = syllabusOf tail;
       dating = dating (datesOf tail) (datesAt base (choosingOf tail));
+      family = familyFrom (familiesOf tail) (familiesAt base (choosingOf tail) (datesOf tail));
       unnamed = unnamedOf tail;
     }
 
@@ -144,6 +181,7 @@ pub record TailSays (base : List ℕ) (tail : Tail) (body : List ℕ) : Type 0 w
   pub base-is : basePart (shapeSaid base tail) body ≡ base
   pub file : fileIn (selecting (choosingOf tail) (length base)) body ≡ fileOf (choosingOf tail)
   pub cycles : cyclesPart (shapeSaid base tail .dating) body ≡ cyclesBytes (datesOf tail)
+  pub family : familyPart (shapeSaid base tail .family) body ≡ controlsBytes (familiesOf tail)
 
 -- a body is a base and the tail of its version
 pub record IsSpelled (version : ℕ) (body : List ℕ) : Type 0 where
@@ -173,7 +211,7 @@ pub data BadChoosing (tail : List ℕ) : Type 0 where
 abbrev pub butLast : List ℕ → List ℕ
 butLast s = take (length s - 1) s
 
--- of version 04, read from the front: an entry is missing or cut short
+-- from version 04 on, read from the front: an entry is missing or cut short
 pub data CutFile : List ℕ → ℕ → Type 0 where
   cut-here : {file : List ℕ} {n : ℕ} → length file ≤ byte file 0 → CutFile file (suc n)
   cut-below : {file : List ℕ} {n : ℕ} → byte file 0 < length file → CutFile (drop (byte file 0 + 1) file) n → CutFile file (suc n)
@@ -185,24 +223,33 @@ pub data NoChoosing (tail : List ℕ) : Type 0 where
   no-count : byte tail 0 ≡ 1 → length tail ≡ 1 → NoChoosing tail
   cut-file : byte tail 0 ≡ 1 → 1 < length tail → CutFile (drop 2 tail) (byte tail 1) → NoChoosing tail
 
--- behind a selection: no syllabus; one above 1; then no switch; one above 1; bytes behind "off"; another length than 28 + 18p
-pub data BadDates (p : ℕ) (tail : List ℕ) : Type 0 where
-  nothing-behind : length tail ≡ 0 → BadDates p tail
-  follows-above : 1 < byte tail 0 → BadDates p tail
-  no-dated : length tail ≡ 1 → BadDates p tail
-  dated-above : 1 < byte tail 1 → BadDates p tail
-  behind-undated : byte tail 1 ≡ 0 → 2 < length tail → BadDates p tail
-  dated-length : byte tail 1 ≡ 1 → (length tail ≡ 1 + (28 + 18 * p) → ⊥) → BadDates p tail
+-- behind the dates: in version 04 any byte; in version 05 no family; one above 1; bytes behind "CPA"; another length than 9 + p
+pub data BadEnd (version p : ℕ) (rest : List ℕ) : Type 0 where
+  behind-dates : version ≡ 4 → 0 < length rest → BadEnd version p rest
+  no-family : version ≡ 5 → length rest ≡ 0 → BadEnd version p rest
+  family-above : version ≡ 5 → 1 < byte rest 0 → BadEnd version p rest
+  behind-cpa : version ≡ 5 → byte rest 0 ≡ 0 → 1 < length rest → BadEnd version p rest
+  cpace-length : version ≡ 5 → byte rest 0 ≡ 1 → (length rest ≡ 9 + p → ⊥) → BadEnd version p rest
+
+-- behind a selection: no syllabus; one above 1; then no switch; one above 1; what stands behind "off"; less than 28 + 18p bytes, or what stands behind them
+pub data BadDates (version p : ℕ) (tail : List ℕ) : Type 0 where
+  nothing-behind : length tail ≡ 0 → BadDates version p tail
+  follows-above : 1 < byte tail 0 → BadDates version p tail
+  no-dated : length tail ≡ 1 → BadDates version p tail
+  dated-above : 1 < byte tail 1 → BadDates version p tail
+  behind-undated : byte tail 1 ≡ 0 → BadEnd version p (drop 2 tail) → BadDates version p tail
+  dated-short : byte tail 1 ≡ 1 → length tail < 1 + (28 + 18 * p) → BadDates version p tail
+  behind-dated : byte tail 1 ≡ 1 → BadEnd version p (drop (1 + (28 + 18 * p)) tail) → BadDates version p tail
 
 -- version 01: another length than the base's; version 02: what is behind the base; version 03: nothing behind the base, a syllabus above 1, or
--- what stands between; version 04: no selection behind the base, or what stands behind one
+-- what stands between; from version 04 on: no selection behind the base, or what stands behind one
 pub data BadTail (version : ℕ) (body : List ℕ) : Type 0 where
   other-length : version ≡ 1 → (length body ≡ baseLength body → ⊥) → BadTail version body
   choosing : version ≡ 2 → BadChoosing (drop (baseLength body) body) → BadTail version body
   no-syllabus : version ≡ 3 → length body ≤ baseLength body → BadTail version body
   syllabus-above : version ≡ 3 → 1 < byte body (length body - 1) → BadTail version body
   between : version ≡ 3 → BadChoosing (butLast (drop (baseLength body) body)) → BadTail version body
-  no-choosing : version ≡ 4 → NoChoosing (drop (baseLength body) body) → BadTail version body
-  behind-choosing : version ≡ 4 → (choosing : Choosing) (tail : List ℕ) → drop (baseLength body) body ≡ choosingBytes choosing ++ tail
-      → BadDates (byte body 3) tail
+  no-choosing : 4 ≤ version → NoChoosing (drop (baseLength body) body) → BadTail version body
+  behind-choosing : 4 ≤ version → (choosing : Choosing) (tail : List ℕ) → drop (baseLength body) body ≡ choosingBytes choosing ++ tail
+      → BadDates version (byte body 3) tail
       → BadTail version body

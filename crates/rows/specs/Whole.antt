@@ -10,11 +10,11 @@ use Rattle.setup.specs.declared.ReadSetup.{ReadSetup}
 use Rattle.setup.specs.Setup.{readSetup, wordsAfter, setupNumber}
 use Rattle.shape.specs.declared.Shape.{Shape}
 use Rattle.shape.specs.declared.ReadShape.the-variants.{Taken}
-use Rattle.shape.specs.Shape.{basePart, cyclesPart, shapeOf}
+use Rattle.shape.specs.Shape.{basePart, cyclesPart, familyPart, shapeOf}
 use Rattle.rows.specs.Rows.{Setup, Fits, setupRow, body}
-use Rattle.rows.specs.InRange.{InRange, DatesRange}
+use Rattle.rows.specs.InRange.{InRange, DatesRange, FamiliesRange}
 use Rattle.rows.specs.Said.{rulesSaid, freshSaid}
-use Rattle.rows.specs.Tails.{Tail, versionOf, tailBytes, syllabusOf, datesOf, unnamedOf, Fine, shapeSaid}
+use Rattle.rows.specs.Tails.{Tail, versionOf, tailBytes, syllabusOf, datesOf, familiesOf, unnamedOf, Fine, shapeSaid}
 
 abbrev pub wholeBody : Setup → Tail → List ℕ
 wholeBody x tail = body x ++ tailBytes tail
@@ -27,14 +27,16 @@ pub record IsSetup (version : ℕ) (s : List ℕ) : Type 0 where
   pub in-range : InRange setup (unnamedOf tail)
   pub fine : Fine (length (setup .profiles)) tail
   pub dates-in-range : DatesRange (datesOf tail)
+  pub families-in-range : FamiliesRange (familiesOf tail)
   pub spelled : wholeBody setup tail ≡ s
 
--- what is read of a body of this shape: its base, and its tail of version 04
+-- what is read of a body of this shape: its base, and its tails of versions 04 and 05
 abbrev pub readWhole : Shape → (s : List ℕ) → ReadSetup
-readWhole shape s = readSetup (basePart shape s) (cyclesPart (shape .dating) s) (shape .unnamed)
+readWhole shape s = readSetup (basePart shape s) (cyclesPart (shape .dating) s) (familyPart (shape .family) s) (shape .unnamed)
 
 abbrev pub wordsWhole : (words : List ℕ) → Shape → (s : List ℕ) → List ℕ
-wordsWhole words shape s = wordsAfter words (basePart shape s) (cyclesPart (shape .dating) s) (shape .syllabus) (shape .unnamed)
+wordsWhole words shape s =
+    wordsAfter words (basePart shape s) (cyclesPart (shape .dating) s) (familyPart (shape .family) s) (shape .syllabus) (shape .unnamed)
 
 -- its base and its tails, where its shape is this
 pub record IsTaken (version : ℕ) (s : List ℕ) : Type 0 where
@@ -47,4 +49,4 @@ pub record WholeSays (x : Setup) (tail : Tail) (version : ℕ) (s : List ℕ) : 
   pub shape-is : shapeOf version s ≡ Taken (shapeSaid (body x) tail)
   pub answered : readWhole (shapeSaid (body x) tail) s ≡ record { fresh = freshSaid x (datesOf tail); answer = Done }
   pub loaded : (words : List ℕ) → length words ≡ wordCount
-      → rulesOf (wordsWhole words (shapeSaid (body x) tail) s) ≡ rulesSaid x (datesOf tail) (syllabusOf tail)
+      → rulesOf (wordsWhole words (shapeSaid (body x) tail) s) ≡ rulesSaid x (datesOf tail) (familiesOf tail) (syllabusOf tail)

@@ -1,12 +1,13 @@
 -- A profile stands in the words at its base; what is four times or twice there is found by its index. Assumes nothing.
 use mathlib.Core.Path.{_≡_, refl, sym, ap, _∙_}
 use mathlib.Core.List.{List, []}
-use Prim.Native.Nat.{ℕ, zero, suc, _≤_, _<_}
+use lib.Dec.{eqb}
+use Prim.Native.Nat.{ℕ, zero, suc, _+_, _≤_, _<_}
 use native.Mathlib.Omega.{arith}
 use lib.ListN.{getD, List·getD-eq-default}
 use Rattle.rules.specs.declared.Place.{Place}
 use Rattle.rules.specs.declared.Place.the-variants.{One, Two, Three, Four}
-use Rattle.rules.specs.Rules.{Profile, two, four, profileOf, cyclicRuleAt, rulesOf, indexOf, profileBase, profileAt}
+use Rattle.rules.specs.Rules.{Profile, two, four, eight, profileOf, cyclicRuleAt, rulesOf, indexOf, profileBase, profileAt, checksCashback}
 use Rattle.rules.specs.Word as word
 
 pub profile-at : (w : List ℕ) (place : Place) → profileAt (rulesOf w) place ≡ profileOf w (profileBase place)
@@ -29,6 +30,14 @@ cyclic-at w One = refl
 cyclic-at w Two = refl
 cyclic-at w Three = refl
 cyclic-at w Four = refl
+
+-- whether it checks cashback
+pub cashback-at : (w : List ℕ) (place : Place) → checksCashback (rulesOf w) place ≡ eqb (getD w (word.cashbacks + indexOf place) 0) 1
+unfolding rulesOf
+cashback-at w One = refl
+cashback-at w Two = refl
+cashback-at w Three = refl
+cashback-at w Four = refl
 
 -- what holds at 0 to 3 holds below 4
 pub each : (P : ℕ → Type 0) → P 0 → P 1 → P 2 → P 3 → (i : ℕ) → i < 4 → P i
@@ -56,3 +65,14 @@ module _ {A : Type 0} (f : ℕ → A) (d : A) where
 
   pub two-past : (i : ℕ) → 2 ≤ i → getD (two f) i d ≡ d
   two-past i h = List·getD-eq-default (two f) d h
+
+  pub eight-at : (i : ℕ) → i < 8 → getD (eight f) i d ≡ f i
+  eight-at zero h = refl
+  eight-at (suc zero) h = refl
+  eight-at (suc (suc zero)) h = refl
+  eight-at (suc (suc (suc zero))) h = refl
+  eight-at (suc (suc (suc (suc i)))) h =
+      each (λ k. getD (eight f) (suc (suc (suc (suc k)))) d ≡ f (suc (suc (suc (suc k))))) refl refl refl refl i (omega arith)
+
+  pub eight-past : (i : ℕ) → 8 ≤ i → getD (eight f) i d ≡ d
+  eight-past i h = List·getD-eq-default (eight f) d h

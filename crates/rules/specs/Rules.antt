@@ -39,6 +39,10 @@ pub record Rules : Type 0 where
   -- the two cyclic accumulators, and for each of the four profiles their rules (request Five)
   pub cycles : List Cycle
   pub cyclicRules : List (List CyclicRule)
+  -- the controls of the eight slots, four accumulators and then four counters, and for each of the four profiles whether it checks cashback
+  -- (request Thirteen); a CPA card's are 0 and off
+  pub controls : List ℕ
+  pub cashbacks : List Bool
 
 -- four of a kind, for places 0 to 3
 abbrev pub four : {A : Type 0} → (ℕ → A) → List A
@@ -46,6 +50,9 @@ four f = f 0 ∷ f 1 ∷ f 2 ∷ f 3 ∷ []
 
 abbrev pub two : {A : Type 0} → (ℕ → A) → List A
 two f = f 0 ∷ f 1 ∷ []
+
+abbrev pub eight : {A : Type 0} → (ℕ → A) → List A
+eight f = f 0 ∷ f 1 ∷ f 2 ∷ f 3 ∷ f 4 ∷ f 5 ∷ f 6 ∷ f 7 ∷ []
 
 abbrev pub five : {A : Type 0} → (ℕ → A) → List A
 five f = f 0 ∷ f 1 ∷ f 2 ∷ f 3 ∷ f 4 ∷ []
@@ -166,6 +173,8 @@ rulesOf w =
       profiles = four (λ i. profileOf w (word.profileFrom i));
       cycles = two (λ i. cycleAt w (word.cycleFrom i));
       cyclicRules = four (λ j. two (λ i. cyclicRuleAt w (word.cyclicRuleFrom j i)));
+      controls = eight (λ i. getD w (word.controls + i) 0 % 256);
+      cashbacks = four (λ j. eqb (getD w (word.cashbacks + j) 0) 1);
     }
 
 abbrev pub blankProfile : Profile
@@ -216,3 +225,10 @@ cycleOf rules i = getD (rules .cycles) i blankCycle
 
 abbrev pub cyclicRule : Rules → Place → ℕ → CyclicRule
 cyclicRule rules place i = getD (getD (rules .cyclicRules) (indexOf place) []) i blankCyclic
+
+-- the control of slot i + 1, and whether a profile checks cashback
+abbrev pub controlAt : Rules → ℕ → ℕ
+controlAt rules i = getD (rules .controls) i 0
+
+abbrev pub checksCashback : Rules → Place → Bool
+checksCashback rules place = getD (rules .cashbacks) (indexOf place) false

@@ -2,7 +2,7 @@
 -- a rule's switches.
 use Prim.Native.Nat.{ℕ, _+_, _*_}
 
--- the head, 5 rates, 4 profiles, the syllabus, 2 cyclic accumulators and their rules
+-- the head, 5 rates, 4 profiles, the syllabus, 2 cyclic accumulators and their rules, 8 controls, 4 profiles' cashback checks
 abbrev pub keyIndex : ℕ
 keyIndex = 0
 
@@ -30,8 +30,14 @@ cycles = 164
 abbrev pub cyclicRules : ℕ
 cyclicRules = 170
 
+abbrev pub controls : ℕ
+controls = 186
+
+abbrev pub cashbacks : ℕ
+cashbacks = 194
+
 abbrev pub wordCount : ℕ
-wordCount = 186
+wordCount = 198
 
 -- a rate: from, to, digits, shift
 abbrev pub to : ℕ

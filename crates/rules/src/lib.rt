@@ -7,7 +7,7 @@ ghost use Prim.Native.Nat.{_+_, _≤_, _<_};
 ghost use Rattle.rules.specs.Word.{wordCount, syllabus, profileLength, ruleLength, rateFrom};
 ghost use Rattle.rules.specs.Rules.{blankWords, rulesOf, profileBase, placeOr, findProfile, profileAt, currencyAt};
 ghost use Rattle.rules.specs.Rules.{rateAt, accumulatorAt, counterAt, accumulatorRule, counterRule};
-ghost use Rattle.rules.specs.Rules.{indexOf, periodOf, cycleAt, cyclicRuleAt, cycleOf, cyclicRule};
+ghost use Rattle.rules.specs.Rules.{indexOf, periodOf, cycleAt, cyclicRuleAt, cycleOf, cyclicRule, controlAt, checksCashback};
 use calendar::Period;
 use money::AccumulatorAmount;
 use money::Rate;
@@ -347,6 +347,24 @@ pub fn cyclic_rule(words: &Words, place: Place, i: usize) -> CyclicRule
         allow: false,
         include: false,
     }
+}
+
+// The control of slot i + 1: of accumulator i + 1, or from 5 on of a counter.
+pub fn control(words: &Words, i: usize) -> u8
+    ensures { λ r. ⌜ r ≡ controlAt (rulesOf (now (words .entry))) i ⌝ }
+{
+    if i < 8 {
+        (words[word::CONTROLS + i] % 256) as u8
+    } else {
+        0
+    }
+}
+
+// Whether a profile checks cashback.
+pub fn checks_cashback(words: &Words, place: Place) -> bool
+    ensures { λ r. ⌜ r ≡ checksCashback (rulesOf (now (words .entry))) place ⌝ }
+{
+    words[word::CASHBACKS + index(place)] == 1
 }
 
 pub fn profile_sent(words: &Words, place: Place) -> Sent

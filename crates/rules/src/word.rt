@@ -1,6 +1,7 @@
 // Where the words stand. What stands first in its part has no name here.
 
-// The head, 5 rates, 4 profiles, the syllabus, 2 cyclic accumulators and their rules.
+// The head, 5 rates, 4 profiles, the syllabus, 2 cyclic accumulators and their rules, 8 controls and
+// 4 profiles' cashback checks.
 pub const KEY_INDEX: usize = 0;
 
 pub const PIN_TRIES: usize = 1;
@@ -19,7 +20,11 @@ pub const CYCLES: usize = 164;
 
 pub const CYCLIC_RULES: usize = 170;
 
-pub const COUNT: usize = 186;
+pub const CONTROLS: usize = 186;
+
+pub const CASHBACKS: usize = 194;
+
+pub const COUNT: usize = 198;
 
 // A rate: from, to, digits, shift.
 pub const TO: usize = 1;

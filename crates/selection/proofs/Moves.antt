@@ -9,6 +9,7 @@ use lib.ListN.{length}
 use lib.Dec.{ltb, eqb}
 use borrow.Author.Tests.{lt-ltb, le-ltb}
 use Rattle.wire.specs.Wire.{byte}
+use Rattle.slot.specs.declared.Slots.{Slots}
 use Rattle.entry.specs.Entry.{actionTaken}
 use Rattle.entry.specs.declared.Action.{Action}
 use Rattle.entry.specs.declared.Action.the-variants.{Move}
@@ -41,47 +42,47 @@ module _ (s : List ℕ) (n : ℕ) (some : n ≡ 0 → ⊥) where
   file-more h = file-step ∙ simp (lt-ltb _ _ h)
 
 -- a selection that begins at entry k begins at the first entry of what is left
-pub from-skipped : (k n : ℕ) (s d : List ℕ) → selectFrom k (entriesOf s n) d ≡ selectionOf (skipped s k) (n - k) d
+pub from-skipped : (k n : ℕ) (s d : List ℕ) (slots : Slots) → selectFrom k (entriesOf s n) d slots ≡ selectionOf (skipped s k) (n - k) d slots
 unfolding selectFrom entriesOf skipped selectionOf
-from-skipped zero n s d = simp (sub-zero)
-from-skipped (suc k) zero s d = let z : 0 - suc k ≡ 0 = omega arith in rw z
-from-skipped (suc k) (suc n) s d =
+from-skipped zero n s d slots = simp (sub-zero)
+from-skipped (suc k) zero s d slots = let z : 0 - suc k ≡ 0 = omega arith in rw z
+from-skipped (suc k) (suc n) s d slots =
     let z : suc n - suc k ≡ n - k = omega arith in
-    from-skipped k n (below s) d ∙ ap (λ (m : ℕ). selectionOf (skipped (below s) k) m d) (sym z)
+    from-skipped k n (below s) d slots ∙ ap (λ (m : ℕ). selectionOf (skipped (below s) k) m d slots) (sym z)
 
-pub none : (s d : List ℕ) (n : ℕ) → n ≡ 0 → selectionOf s n d ≡ NotSelected
+pub none : (s d : List ℕ) (slots : Slots) (n : ℕ) → n ≡ 0 → selectionOf s n d slots ≡ NotSelected
 unfolding selectionOf selectFrom entriesOf
-none s d n h = rw h
+none s d slots n h = rw h
 
 -- a visit to the first of some entries, which does r
-pub record Visit (s d : List ℕ) (n : ℕ) (r : Action) : Type 0 where
+pub record Visit (s d : List ℕ) (slots : Slots) (n : ℕ) (r : Action) : Type 0 where
   pub some : n ≡ 0 → ⊥
-  pub does : r ≡ actionTaken (firstEntry s) d
+  pub does : r ≡ actionTaken (firstEntry s) d slots
 
 -- the entry cut out as f
-pub visit : (s d f : List ℕ) (n : ℕ) (r : Action) → (n ≡ 0 → ⊥) → f ≡ firstEntry s → r ≡ actionTaken f d → Visit s d n r
-visit s d f n r some cut took = record { some = some; does = took ∙ ap (λ (x : List ℕ). actionTaken x d) cut }
+pub visit : (s d f : List ℕ) (slots : Slots) (n : ℕ) (r : Action) → (n ≡ 0 → ⊥) → f ≡ firstEntry s → r ≡ actionTaken f d slots → Visit s d slots n r
+visit s d f slots n r some cut took = record { some = some; does = took ∙ ap (λ (x : List ℕ). actionTaken x d slots) cut }
 
-module _ {s d : List ℕ} {n : ℕ} {r : Action} (v : Visit s d n r) where
-  pub step : (a : Action) → r ≡ a → selectionOf s n d ≡ follow a (λ m. selectFrom (m - 1) (entriesOf (below s) (n - 1)) d)
+module _ {s d : List ℕ} {slots : Slots} {n : ℕ} {r : Action} (v : Visit s d slots n r) where
+  pub step : (a : Action) → r ≡ a → selectionOf s n d slots ≡ follow a (λ m. selectFrom (m - 1) (entriesOf (below s) (n - 1)) d slots)
   unfolding selectionOf selectFrom entriesOf
   step a e =
       let l : n ≡ suc (n - 1) = omega (arith, v .some) in
-      ap (λ (m : ℕ). selectFrom 0 (entriesOf s m) d) l
-      ∙ ap (λ (x : Action). follow x (λ m. selectFrom (m - 1) (entriesOf (below s) (n - 1)) d)) (sym (v .does) ∙ e)
+      ap (λ (m : ℕ). selectFrom 0 (entriesOf s m) d slots) l
+      ∙ ap (λ (x : Action). follow x (λ m. selectFrom (m - 1) (entriesOf (below s) (n - 1)) d slots)) (sym (v .does) ∙ e)
 
   -- a move of m, or past the last entry
   module _ {m : ℕ} (e : r ≡ Move m) where
-    moved : selectionOf s n d ≡ oneMore (selectionOf (skipped s m) (n - m) d)
+    moved : selectionOf s n d slots ≡ oneMore (selectionOf (skipped s m) (n - m) d slots)
     unfolding follow
     moved =
-        let h = moves-down (firstEntry s) d m (sym (v .does) ∙ e) in
+        let h = moves-down (firstEntry s) d slots m (sym (v .does) ∙ e) in
         let l : n - 1 - (m - 1) ≡ n - m = omega arith in
         let below-is = skip-more s m (λ z. omega arith) in
-        step (Move m) e ∙ ap oneMore (from-skipped (m - 1) (n - 1) (below s) d ∙ ap₂ (λ (t : List ℕ) (k : ℕ). selectionOf t k d) (sym below-is) l)
+        step (Move m) e ∙ ap oneMore (from-skipped (m - 1) (n - 1) (below s) d slots ∙ ap₂ (λ (t : List ℕ) (k : ℕ). selectionOf t k d slots) (sym below-is) l)
 
-    pub moves-on : {t : List ℕ} {q p : Selection} → t ≡ skipped s m → q ≡ selectionOf t (n - m) d → q ≡ p → oneMore p ≡ selectionOf s n d
-    moves-on g f a = ap oneMore (sym a ∙ f ∙ ap (λ (x : List ℕ). selectionOf x (n - m) d) g) ∙ sym moved
+    pub moves-on : {t : List ℕ} {q p : Selection} → t ≡ skipped s m → q ≡ selectionOf t (n - m) d slots → q ≡ p → oneMore p ≡ selectionOf s n d slots
+    moves-on g f a = ap oneMore (sym a ∙ f ∙ ap (λ (x : List ℕ). selectionOf x (n - m) d slots) g) ∙ sym moved
 
-    pub moves-past : n ≤ m → selectionOf s n d ≡ NotSelected
-    moves-past h = moved ∙ ap oneMore (none (skipped s m) d (n - m) (omega arith))
+    pub moves-past : n ≤ m → selectionOf s n d slots ≡ NotSelected
+    moves-past h = moved ∙ ap oneMore (none (skipped s m) d slots (n - m) (omega arith))

@@ -1,11 +1,13 @@
 -- Annex A's complex example: Table A-6 with 0056 as the issuer's country, and what Table A-4 says that it selects. The data are the
 -- diversifier, terminal type (1), additional capabilities (2), country (2) and capabilities (3). Assumes nothing.
 use mathlib.Core.Path.{_≡_, refl}
-use mathlib.Core.Bool.{true}
+use mathlib.Core.Bool.{true, false}
 use mathlib.Core.List.{List, [], _∷_, _++_}
 use Prim.Native.Nat.{ℕ}
 use Rattle.wire.specs.Wire.{number}
-use Rattle.entry.specs.Entry.{block, isWellFormed, reachesPast, masked, isAnyOf, passes, actionOf, actionTaken}
+use Rattle.slot.specs.Slot.{testsSlot}
+use Rattle.slot.specs.declared.Slots.{Slots}
+use Rattle.entry.specs.Entry.{block, isWellFormed, reachesPast, masked, isAnyOf, passes, actionOf, dataAction, actionTaken}
 use Rattle.selection.specs.Selection.{entriesOf, isFile, follow, selectFrom, selectionOf}
 use Rattle.selection.specs.declared.Selection.{Selection}
 use Rattle.selection.specs.declared.Selection.the-variants.{Selected}
@@ -58,10 +60,14 @@ abbrev pub answers : List Row → List Selection
 answers [] = []
 answers (r ∷ rows) = r .answer ∷ answers rows
 
+-- a CPA card's entries test no slot
+abbrev none : Slots
+none = record { testable = false; amounts = []; counts = [] }
+
 abbrev pub selections : List Row → List Selection
 selections [] = []
-selections (r ∷ rows) = selectionOf complex 13 (r .told) ∷ selections rows
+selections (r ∷ rows) = selectionOf complex 13 (r .told) none ∷ selections rows
 
 pub worked : selections table ≡ answers table
-unfolding complex number block isWellFormed reachesPast masked isAnyOf passes actionOf actionTaken entriesOf follow selectFrom selectionOf
+unfolding complex number block isWellFormed reachesPast masked isAnyOf passes actionOf testsSlot dataAction actionTaken entriesOf follow selectFrom selectionOf
 worked = refl

@@ -5,6 +5,7 @@ use mathlib.Core.List.{List, [], _∷_}
 use lib.ListN.{length, take, drop}
 use lib.Dec.{ltb, eqb}
 use Rattle.wire.specs.Wire.{byte}
+use Rattle.slot.specs.declared.Slots.{Slots}
 use Rattle.entry.specs.Entry.{actionTaken}
 use Rattle.entry.specs.declared.Action.{Action}
 use Rattle.entry.specs.declared.Action.the-variants.{Profile, Move, Refused}
@@ -40,13 +41,13 @@ follow (Move m) below = oneMore (below m)
 follow Refused below = NotSelected
 
 -- the selection that begins at entry k of a list, the first being 0; past the last one there is none
-unfoldable pub selectFrom : ℕ → List (List ℕ) → List ℕ → Selection
-selectFrom k [] d = NotSelected
-selectFrom zero (e ∷ es) d = follow (actionTaken e d) (λ m. selectFrom (m - 1) es d)
-selectFrom (suc k) (e ∷ es) d = selectFrom k es d
+unfoldable pub selectFrom : ℕ → List (List ℕ) → List ℕ → Slots → Selection
+selectFrom k [] d slots = NotSelected
+selectFrom zero (e ∷ es) d slots = follow (actionTaken e d slots) (λ m. selectFrom (m - 1) es d slots)
+selectFrom (suc k) (e ∷ es) d slots = selectFrom k es d slots
 
-unfoldable pub selectionOf : List ℕ → ℕ → List ℕ → Selection
-selectionOf file n d = selectFrom 0 (entriesOf file n) d
+unfoldable pub selectionOf : List ℕ → ℕ → List ℕ → Slots → Selection
+selectionOf file n d slots = selectFrom 0 (entriesOf file n) d slots
 
 -- ITS NUMBER AND VALUES: refusal 12 where nothing is selected
 abbrev pub selectionNumber : Selection → ℕ

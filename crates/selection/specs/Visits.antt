@@ -1,9 +1,15 @@
--- What a selection looks at: the entries that it visits, and of the data what each of these extracts.
+-- What a selection looks at: the entries that it visits, of the data what each of these extracts, and the slots that they test.
 use Prim.Native.Nat.{ℕ, zero, suc, _-_}
 use mathlib.Core.Path.{_≡_}
+use mathlib.Core.Bool.{true, cond, not, _&&_}
+use mathlib.Core.Logic.{_⊎_}
 use mathlib.Core.List.{List, [], _∷_, map}
 use lib.ListN.{getD, take, drop}
-use Rattle.entry.specs.Entry.{position, blockLength, actionTaken}
+use Rattle.fields.specs.Fields.{position, blockLength, checkType}
+use Rattle.slot.specs.declared.Slots.{Slots}
+use Rattle.slot.specs.declared.Slot.{Slot}
+use Rattle.slot.specs.Slot.{testsSlot, slotOf, isSlotSound, asksAmount, valueOf}
+use Rattle.entry.specs.Entry.{actionTaken}
 use Rattle.entry.specs.declared.Action.{Action}
 use Rattle.entry.specs.declared.Action.the-variants.{Profile, Move, Refused}
 use Rattle.selection.specs.Selection.{entriesOf}
@@ -15,25 +21,43 @@ onward (Move m) below = below m
 onward Refused below = []
 
 -- the places of the entries visited from entry k of a list on, the first being 0
-unfoldable pub visitedFrom : ℕ → List (List ℕ) → List ℕ → List ℕ
-visitedFrom k [] d = []
-visitedFrom zero (e ∷ es) d = 0 ∷ map suc (onward (actionTaken e d) (λ m. visitedFrom (m - 1) es d))
-visitedFrom (suc k) (e ∷ es) d = map suc (visitedFrom k es d)
+unfoldable pub visitedFrom : ℕ → List (List ℕ) → List ℕ → Slots → List ℕ
+visitedFrom k [] d slots = []
+visitedFrom zero (e ∷ es) d slots = 0 ∷ map suc (onward (actionTaken e d slots) (λ m. visitedFrom (m - 1) es d slots))
+visitedFrom (suc k) (e ∷ es) d slots = map suc (visitedFrom k es d slots)
 
-abbrev pub visited : List ℕ → ℕ → List ℕ → List ℕ
-visited file n d = visitedFrom 0 (entriesOf file n) d
+abbrev pub visited : List ℕ → ℕ → List ℕ → Slots → List ℕ
+visited file n d slots = visitedFrom 0 (entriesOf file n) d slots
 
 abbrev pub entryAt : List ℕ → ℕ → ℕ → List ℕ
 entryAt file n i = getD (entriesOf file n) i []
 
--- the bytes of the data that an entry looks at
+-- the bytes of the data that an entry looks at; one that tests a slot looks at none but for the amount to add
 abbrev pub stretch : List ℕ → List ℕ → List ℕ
 stretch e d = take (blockLength e) (drop (position e - 1) d)
 
-pub record Alike (e e′ d d′ : List ℕ) : Type 0 where
+abbrev pub looked : List ℕ → List ℕ → Slots → List ℕ
+looked e d slots = cond (testsSlot e slots && not (asksAmount (slotOf (checkType e)) (checkType e))) [] (stretch e d)
+
+-- the slot that an entry tests: it is sound, and its check type names it
+abbrev pub Names : List ℕ → Slots → Slot → Type 0
+Names e slots x = (testsSlot e slots ≡ true) × (isSlotSound e ≡ true) × (slotOf (checkType e) ≡ x)
+
+pub record Alike (e e′ d d′ : List ℕ) (slots slots′ : Slots) : Type 0 where
   pub entry : e ≡ e′
-  pub looked : stretch e d ≡ stretch e d′
+  pub seen : looked e d slots ≡ looked e d′ slots
+  pub tested : (x : Slot) → Names e slots x → valueOf slots x ≡ valueOf slots′ x
 
 abbrev pub All : (ℕ → Type 0) → List ℕ → Type 0
 All P [] = Unit
 All P (x ∷ xs) = P x × All P xs
+
+abbrev pub Among : ℕ → List ℕ → Type 0
+Among i [] = ⊥
+Among i (x ∷ xs) = (i ≡ x) ⊎ Among i xs
+
+-- A SELECTION TESTS A SLOT if an entry that it visits does
+pub record Tests (file : List ℕ) (n : ℕ) (d : List ℕ) (slots : Slots) (x : Slot) : Type 0 where
+  pub place : ℕ
+  pub visits : Among place (visited file n d slots)
+  pub names : Names (entryAt file n place) slots x

@@ -1,5 +1,6 @@
 // The Profile Selection File of CPA Annex A: its entries, and the walk over them to a profile.
 use entry::Action;
+use slot::Slots;
 use wire::byte_at;
 ghost use mathlib.Core.Path.{_≡_};
 ghost use Rattle.selection.specs.Selection.{firstEntry, below, skipped, isFile, selectionOf};
@@ -54,20 +55,21 @@ pub fn is_file(file: &[u8], entries: u8) -> bool
     is_file(entries_below(file), entries - 1)
 }
 
-// The profile that a file's entries select for the terminal's data, and how many of them were visited.
-pub fn select(file: &[u8], entries: u8, data: &[u8]) -> Selection
-    ensures { λ r. ⌜ r ≡ selectionOf (now (file .entry)) entries (now («data» .entry)) ⌝ }
+// The profile that a file's entries select for the terminal's data and the card's slots, and how many of
+// them were visited.
+pub fn select(file: &[u8], entries: u8, data: &[u8], slots: Slots) -> Selection
+    ensures { λ r. ⌜ r ≡ selectionOf (now (file .entry)) entries (now («data» .entry)) slots ⌝ }
 {
     if entries == 0 {
         return Selection::NotSelected;
     }
-    match entry::take_action(first_entry(file), data) {
+    match entry::take_action(first_entry(file), data, slots) {
         Action::Profile(profile) => Selection::Selected { profile, visits: 1 },
         Action::Move(down) => {
             if entries <= down {
                 return Selection::NotSelected;
             }
-            match select(move_down(file, down), entries - down, data) {
+            match select(move_down(file, down), entries - down, data, slots) {
                 Selection::Selected { profile, visits } => Selection::Selected {
                     profile,
                     visits: visits + 1,

@@ -1,6 +1,6 @@
 -- What the rules say after an accepted set-up is what stands in its bytes at document 01's offsets. Assumes nothing.
 use mathlib.Core.Path.{_≡_, refl, sym, ap, _∙_}
-use mathlib.Core.Bool.{Bool, true, false, cond}
+use mathlib.Core.Bool.{Bool, true, false, cond, _&&_}
 use mathlib.Core.List.{List}
 use Prim.Native.Nat.{ℕ, zero, suc, _+_, _%_, _^_, _≤_, _<_}
 use native.Mathlib.Nat.{add-assoc, mod-eq-of-lt, pow-suc}
@@ -14,13 +14,13 @@ use Rattle.money.specs.Money.{blank}
 use Rattle.layout.specs.Layout.{profileFrom, conversionFrom, profilePlace, conversionPlace}
 use Rattle.layout.specs.Layout as layout
 use Rattle.rules.specs.Word.{wordCount}
-use Rattle.rules.specs.Rules.{Rules, two, four, five, profileOf, rulesOf, rateAt, cycleAt, cyclicRuleAt, blankProfile, blankAccumulator, blankCounter}
+use Rattle.rules.specs.Rules.{Rules, two, four, five, eight, profileOf, rulesOf, rateAt, cycleAt, cyclicRuleAt, blankProfile, blankAccumulator, blankCounter}
 use Rattle.load.specs.Load.{headWords, rateWords, ratesWords, profilesWords, loaded}
 use Rattle.load.specs.Load.{limitIn, ruleWords, rulesWords, profileHeadWords, sentWords, profileWords}
-use Rattle.load.specs.Load.{cycleWords, cyclicRuleWords, cyclicRulesWords, cyclesWords}
+use Rattle.load.specs.Load.{cycleWords, cyclicRuleWords, cyclicRulesWords, cyclesWords, familyWords}
 use Rattle.load.proofs.Sizes.{loaded-size}
 use Rattle.load.proofs.Stores.{all}
-use Rattle.ranges.specs.Ranges.{isSetup, areCycles}
+use Rattle.ranges.specs.Ranges.{isSetup, areCycles, isFamily}
 use Rattle.ranges.proofs.Accepted.{accepted}
 use Rattle.refusal.specs.declared.Refusal.the-variants.{BadSetup}
 use Rattle.setup.specs.declared.SetupAnswer.the-variants.{Done, Refused}
@@ -107,8 +107,8 @@ module _ (s : List ℕ) (bytes : Bytes s) where
     by true = refl
     by false = no-rate (length s) (omega arith)
 
--- the base, and the tail of version 04
-module _ (s t : List ℕ) (base-bytes : Bytes s) (tail-bytes : Bytes t) where
+-- the base, and the tails of versions 04 and 05
+module _ (s t f : List ℕ) (base-bytes : Bytes s) (cycle-bytes : Bytes t) (family-bytes : Bytes f) where
   -- each part of the rules is read from its own words
   parts : ℕ → Rules
   parts syllabus =
@@ -121,14 +121,16 @@ module _ (s t : List ℕ) (base-bytes : Bytes s) (tail-bytes : Bytes t) where
         profiles = four (λ i. profileOf (profileWords s (profilePlace s i)) 0);
         cycles = two (λ i. cycleAt (cycleWords t (layout.cycleFrom i)) 0);
         cyclicRules = four (λ j. two (λ i. cyclicRuleAt (cyclicRuleWords t (layout.cyclicRuleFrom j i)) 0));
+        controls = eight (λ i. byte f (layout.controlFrom i) % 256);
+        cashbacks = four (λ j. eqb (byte f (layout.cashbackFrom j)) 1);
       }
 
-  apart : (syllabus : ℕ) → rulesOf (loaded s t syllabus) ≡ parts syllabus
+  apart : (syllabus : ℕ) → rulesOf (loaded s t f syllabus) ≡ parts syllabus
   unfolding parts rulesOf loaded headWords ratesWords rateWords profilesWords profileOf profileWords profileHeadWords rulesWords ruleWords sentWords
-      cyclesWords cycleWords cyclicRulesWords cyclicRuleWords
+      cyclesWords cycleWords cyclicRulesWords cyclicRuleWords familyWords
   apart syllabus = refl
 
-  rules-there : (syllabus : ℕ) → byte s layout.pinTries ≤ 15 → parts syllabus ≡ rulesIn s t syllabus
+  rules-there : (syllabus : ℕ) → byte s layout.pinTries ≤ 15 → parts syllabus ≡ rulesIn s t f syllabus
   unfolding parts rulesIn
   rules-there syllabus pin =
       let keep : byte s layout.pinTries % 16 ≡ byte s layout.pinTries = mod-eq-of-lt (omega arith) in
@@ -149,26 +151,29 @@ module _ (s t : List ℕ) (base-bytes : Bytes s) (tail-bytes : Bytes t) where
         rate 2,
         rate 3,
         rate 4,
-        cycle-there t tail-bytes,
-        cyclic-there t tail-bytes,
+        cycle-there t cycle-bytes,
+        cyclic-there t cycle-bytes,
+        keep1 f family-bytes,
       )
 
   -- the words of an accepted set-up, whatever they held before
-  pub faithful : (syllabus unnamed : ℕ) (words : List ℕ) → length words ≡ wordCount → isAccepted s t unnamed ≡ true
-      → rulesOf (wordsAfter words s t syllabus unnamed) ≡ rulesIn s t syllabus
+  pub faithful : (syllabus unnamed : ℕ) (words : List ℕ) → length words ≡ wordCount → isAccepted s t f unnamed ≡ true
+      → rulesOf (wordsAfter words s t f syllabus unnamed) ≡ rulesIn s t f syllabus
   unfolding wordsAfter
   faithful syllabus unnamed words size good =
-      let (base, tail) = both (isSetup s unnamed) (areCycles t) good in
-      rw good (ap rulesOf (all words (loaded s t syllabus) (loaded-size s t syllabus ∙ sym size)) ∙ apart syllabus
+      let (older, family) = both (isSetup s unnamed && areCycles t) (isFamily f) good in
+      let (base, tail) = both (isSetup s unnamed) (areCycles t) older in
+      rw good (ap rulesOf (all words (loaded s t f syllabus) (loaded-size s t f syllabus ∙ sym size)) ∙ apart syllabus
       ∙ rules-there syllabus (accepted s unnamed base .pin))
 
 -- a refused set-up changes nothing lent, and leaves no card
-pub untouched : (words s t : List ℕ) (syllabus unnamed : ℕ) → isAccepted s t unnamed ≡ false
-    → (wordsAfter words s t syllabus unnamed ≡ words) × (readSetup s t unnamed ≡ record { fresh = noCard; answer = Refused BadSetup })
+pub untouched : (words s t f : List ℕ) (syllabus unnamed : ℕ) → isAccepted s t f unnamed ≡ false
+    → (wordsAfter words s t f syllabus unnamed ≡ words) × (readSetup s t f unnamed ≡ record { fresh = noCard; answer = Refused BadSetup })
 unfolding wordsAfter readSetup
-untouched words s t syllabus unnamed bad = (simp bad, simp bad)
+untouched words s t f syllabus unnamed bad = (simp bad, simp bad)
 
 -- what an accepted set-up gives the card to start from
-pub started : (s t : List ℕ) (unnamed : ℕ) → isAccepted s t unnamed ≡ true → readSetup s t unnamed ≡ record { fresh = freshIn s t; answer = Done }
+pub started : (s t f : List ℕ) (unnamed : ℕ) → isAccepted s t f unnamed ≡ true
+    → readSetup s t f unnamed ≡ record { fresh = freshIn s t; answer = Done }
 unfolding readSetup
-started s t unnamed good = simp good
+started s t f unnamed good = simp good

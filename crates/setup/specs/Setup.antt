@@ -14,11 +14,11 @@ use Rattle.rules.specs.declared.AccumulatorRule.{AccumulatorRule}
 use Rattle.rules.specs.declared.CounterRule.{CounterRule}
 use Rattle.rules.specs.declared.Cycle.{Cycle}
 use Rattle.rules.specs.declared.CyclicRule.{CyclicRule}
-use Rattle.rules.specs.Rules.{Rules, Profile, two, four, five, blankProfile, periodOf}
+use Rattle.rules.specs.Rules.{Rules, Profile, two, four, five, eight, blankProfile, periodOf}
 use Rattle.layout.specs.Layout.{profileFrom, conversionFrom}
 use Rattle.layout.specs.Layout as layout
 use Rattle.load.specs.Load.{stored}
-use Rattle.ranges.specs.Ranges.{isSetup, areCycles}
+use Rattle.ranges.specs.Ranges.{isSetup, areCycles, isFamily}
 use Rattle.setup.specs.declared.Fresh.{Fresh}
 use Rattle.setup.specs.declared.SetupAnswer.{SetupAnswer}
 use Rattle.setup.specs.declared.SetupAnswer.the-variants.{Done, Refused}
@@ -101,9 +101,10 @@ cyclicIn t at =
     }
 
 -- key index; PIN tries; issuer authentication required; p; c; (the fresh card's ATC and go online next;) four accumulators of currency
--- (2) and value (8); (four counter values;) p profiles; c conversions; and beside this base the tail of version 04 and the syllabus
-unfoldable pub rulesIn : (s t : List ℕ) → ℕ → Rules
-rulesIn s t syllabus =
+-- (2) and value (8); (four counter values;) p profiles; c conversions; beside this base the tail of version 04; that of
+-- version 05: (family,) the controls of four accumulators and of four counters, p cashback checks; and the syllabus
+unfoldable pub rulesIn : (s t f : List ℕ) → ℕ → Rules
+rulesIn s t f syllabus =
     record {
       key = byte s layout.keyIndex;
       pin = byte s layout.pinTries;
@@ -117,6 +118,8 @@ rulesIn s t syllabus =
       profiles = four (λ i. cond (ltb i (byte s layout.profiles)) (profileIn s (profileFrom i)) blankProfile);
       cycles = two (λ i. cycleIn t (layout.cycleFrom i));
       cyclicRules = four (λ j. two (λ i. cyclicIn t (layout.cyclicRuleFrom j i)));
+      controls = eight (λ i. byte f (layout.controlFrom i));
+      cashbacks = four (λ j. eqb (byte f (layout.cashbackFrom j)) 1);
     }
 
 -- what accumulator i + 1 of a fresh card holds
@@ -147,17 +150,17 @@ noCard =
       last = record { year = 0; month = 0; day = 0 };
     }
 
--- base and tail in their ranges
-abbrev pub isAccepted : (s t : List ℕ) (unnamed : ℕ) → Bool
-isAccepted s t unnamed = isSetup s unnamed && areCycles t
+-- base and tails in their ranges
+abbrev pub isAccepted : (s t f : List ℕ) (unnamed : ℕ) → Bool
+isAccepted s t f unnamed = isSetup s unnamed && areCycles t && isFamily f
 
 -- refusal 1 leaves the lent words as they were
-unfoldable pub readSetup : (s t : List ℕ) (unnamed : ℕ) → ReadSetup
-readSetup s t unnamed =
-    cond (isAccepted s t unnamed) (record { fresh = freshIn s t; answer = Done }) (record { fresh = noCard; answer = Refused BadSetup })
+unfoldable pub readSetup : (s t f : List ℕ) (unnamed : ℕ) → ReadSetup
+readSetup s t f unnamed =
+    cond (isAccepted s t f unnamed) (record { fresh = freshIn s t; answer = Done }) (record { fresh = noCard; answer = Refused BadSetup })
 
-unfoldable pub wordsAfter : (words s t : List ℕ) (syllabus unnamed : ℕ) → List ℕ
-wordsAfter words s t syllabus unnamed = cond (isAccepted s t unnamed) (stored words s t syllabus) words
+unfoldable pub wordsAfter : (words s t f : List ℕ) (syllabus unnamed : ℕ) → List ℕ
+wordsAfter words s t f syllabus unnamed = cond (isAccepted s t f unnamed) (stored words s t f syllabus) words
 
 abbrev pub setupNumber : SetupAnswer → ℕ
 setupNumber Done = 0

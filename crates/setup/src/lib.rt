@@ -94,14 +94,22 @@ pub fn no_card() -> Fresh
     }
 }
 
-// The base of a set-up, the tail of version 04 where dates are on, and what the other tails say: the
-// syllabus, and the first mask bit that is unnamed. Refusal 1 leaves the words as they were.
-pub fn read_setup(s: &[u8], t: &[u8], syllabus: u8, unnamed: u32, words: &mut Words) -> ReadSetup
-    ensures { λ r. ⌜ (r ≡ readSetup (now (s .entry)) (now (t .entry)) unnamed)
-        × (now (words .exit) ≡ wordsAfter (now (words .entry)) (now (s .entry)) (now (t .entry)) syllabus unnamed) ⌝ }
+// The base of a set-up, the tail of version 04 where dates are on, that of version 05 of a CPACE card,
+// and what the other tails say: the syllabus, and the first mask bit that is unnamed. Refusal 1 leaves
+// the words as they were.
+pub fn read_setup(
+    s: &[u8],
+    t: &[u8],
+    f: &[u8],
+    syllabus: u8,
+    unnamed: u32,
+    words: &mut Words,
+) -> ReadSetup
+    ensures { λ r. ⌜ (r ≡ readSetup (now (s .entry)) (now (t .entry)) (now (f .entry)) unnamed)
+        × (now (words .exit) ≡ wordsAfter (now (words .entry)) (now (s .entry)) (now (t .entry)) (now (f .entry)) syllabus unnamed) ⌝ }
 {
-    if ranges::is_setup(s, unnamed) & ranges::are_cycles(t) {
-        load::load(words, s, t, syllabus);
+    if ranges::is_setup(s, unnamed) & ranges::are_cycles(t) & ranges::is_family(f) {
+        load::load(words, s, t, f, syllabus);
         let fresh = read_fresh(s, t);
         ReadSetup {
             fresh,

@@ -10,13 +10,14 @@ use lib.ListN.{length, length-append, List·getD-eq-default}
 use lib.Seq.{getD-append-seam}
 use Rattle.wire.specs.Wire.{byte}
 use Rattle.refusal.specs.declared.Refusal.the-variants.{BadSetup}
-use Rattle.shape.specs.declared.Dating.the-variants.{Off as DatesOff}
+use Rattle.shape.specs.declared.Dating.the-variants.{Off as DatesOff, On as DatesOn}
+use Rattle.shape.specs.declared.Family.the-variants.{Cpa}
 use Rattle.shape.specs.declared.Shape.{Shape}
 use Rattle.shape.specs.declared.Tails.{Tails}
 use Rattle.shape.specs.declared.Tails.the-variants.{Ended, Wrong}
 use Rattle.shape.specs.declared.ReadShape.the-variants.{Taken, Refused}
 use Rattle.shape.specs.Shape.{baseLength, based, baseTail, entriesEnd, fileEnd, selects, selectionTail, follows, syllabusTail}
-use Rattle.shape.specs.Shape.{dates, datingTail, behind, tailsOf, whole, shapeOf}
+use Rattle.shape.specs.Shape.{dates, datesEnd, datingTail, families, familyTail, behind, tailsOf, whole, shapeOf}
 use Rattle.shape.proofs.Either.{choose}
 
 -- a byte past the end reads as 0
@@ -85,27 +86,37 @@ module _ (body : List ℕ) where
   unfolding baseTail
   near-base = rw (same-byte body 3, same-byte body 4, longer) (near-end (based (baseLength body)) (baseLength body))
 
+  -- a tail at a place that is off, and ends behind its switch, or on, and ends elsewhere
+  near-switched : (at : ℕ) (off on : Shape) (end : ℕ)
+      → Near
+      (cond (leb (length body + 1) at) Wrong
+      (cond (eqb (byte body at) 0) (Ended off (at + 1))
+      (cond (ltb 1 (byte body at)) Wrong (cond (ltb (length body + 1) end) Wrong (Ended on end)))))
+      (cond (leb (length body) at) Wrong
+      (cond (eqb (byte body at) 0) (Ended off (at + 1)) (cond (ltb 1 (byte body at)) Wrong (cond (ltb (length body) end) Wrong (Ended on end)))))
+  near-switched at off on end =
+      by (near-end on end) (leb (length body) at) (leb (length body + 1) at) refl refl (eqb (byte body at) 0) refl (ltb 1 (byte body at))
+    where
+      by : {x y : Tails} → Near x y → (older later : Bool) → leb (length body) at ≡ older → leb (length body + 1) at ≡ later
+          → (clear : Bool) → eqb (byte body at) 0 ≡ clear → (above : Bool)
+          → Near (cond later Wrong (cond clear (Ended off (at + 1)) (cond above Wrong x)))
+          (cond older Wrong (cond clear (Ended off (at + 1)) (cond above Wrong y)))
+      by e true true h k clear z above = same
+      by e true false h k true z above =
+          let here : at ≡ length body = omega (arith, leb-true (length body) at h, leb-false (length body + 1) at k) in
+          rw here (past off)
+      by e true false h k false z above =
+          absurd (eqb-false (byte body at) 0 z (List·getD-eq-default body 0 (leb-true (length body) at h)))
+      by e false true h k clear z above = absurd (omega (arith, leb-false (length body) at h, leb-true (length body + 1) at k))
+      by e false false h k true z above = same
+      by e false false h k false z true = same
+      by e false false h k false z false = e
+
   near-selection : (shape : Shape) (at : ℕ) → Near (selectionTail newer shape at) (selectionTail body shape at)
   unfolding selectionTail
   near-selection shape at =
       rw (same-byte body at, same-byte body (at + 1), same-entries (at + 2) (byte body (at + 1)), longer)
-      (by (near-end (selects shape (at + 2) (fileEnd body at) (byte body (at + 1))) (fileEnd body at))
-      (leb (length body) at) (leb (length body + 1) at) refl refl (eqb (byte body at) 0) refl (ltb 1 (byte body at)))
-    where
-      by : {x y : Tails} → Near x y → (older later : Bool) → leb (length body) at ≡ older → leb (length body + 1) at ≡ later
-          → (off : Bool) → eqb (byte body at) 0 ≡ off → (above : Bool)
-          → Near (cond later Wrong (cond off (Ended shape (at + 1)) (cond above Wrong x)))
-          (cond older Wrong (cond off (Ended shape (at + 1)) (cond above Wrong y)))
-      by e true true h k off z above = same
-      by e true false h k true z above =
-          let here : at ≡ length body = omega (arith, leb-true (length body) at h, leb-false (length body + 1) at k) in
-          rw here (past shape)
-      by e true false h k false z above =
-          absurd (eqb-false (byte body at) 0 z (List·getD-eq-default body 0 (leb-true (length body) at h)))
-      by e false true h k off z above = absurd (omega (arith, leb-false (length body) at h, leb-true (length body + 1) at k))
-      by e false false h k true z above = same
-      by e false false h k false z true = same
-      by e false false h k false z false = e
+      (near-switched at shape (selects shape (at + 2) (fileEnd body at) (byte body (at + 1))) (fileEnd body at))
 
   missing-selection : (shape : Shape) → selectionTail newer shape (length body + 1) ≡ Wrong
   unfolding selectionTail
@@ -211,6 +222,12 @@ module _ (body : List ℕ) where
     by true h e = let here = eqb-true at (length body) h in cc
     by false h e = cc
 
+  -- what is off and ends behind its switch, behind what was taken
+  added-off : (tail : Shape → ℕ → Tails) (shape off : Shape) {later older : Tails} → Near later older → whole body older ≡ Taken shape
+      → tail shape (length body) ≡ Ended off (length body + 1) → whole newer (behind later tail) ≡ Taken off
+  added-off tail shape off near e ended =
+      rw (near-ended near shape (length body) (taken-ended _ shape e), ended, longer, eq-eqb (length body + 1) (length body + 1) refl)
+
   dated-off : (shape : Shape) → datingTail newer shape (length body) ≡ Ended (dates shape DatesOff) (length body + 1)
   unfolding datingTail
   dated-off shape = rw (longer, lt-leb (length body + 1) (length body) (omega arith), getD-append-seam body 0 [] 0)
@@ -222,6 +239,33 @@ module _ (body : List ℕ) where
   -- DATES OFF: the older shape, but that mask bits 22 to 24 are named
   pub dates-off : (shape : Shape) → shapeOf 3 body ≡ Taken shape → shapeOf 4 newer ≡ Taken (dates shape DatesOff)
   unfolding shapeOf
-  dates-off shape e =
-      let ended = near-ended near-3 shape (length body) (taken-ended (tailsOf 3 body) shape e) in
-      rw (behind-3, ended, dated-off shape, longer, eq-eqb (length body + 1) (length body + 1) refl)
+  dates-off shape e = rw behind-3 (added-off (datingTail newer) shape (dates shape DatesOff) near-3 e (dated-off shape))
+
+  -- ---- the family: a body that is taken ends with its dates, and behind them stands the family
+
+  near-dating : (shape : Shape) (at : ℕ) → Near (datingTail newer shape at) (datingTail body shape at)
+  unfolding datingTail
+  near-dating shape at =
+      rw (same-byte body at, same-byte body 3, longer)
+      (near-switched at (dates shape DatesOff) (dates shape (DatesOn at (datesEnd body at))) (datesEnd body at))
+
+  missing-dating : (shape : Shape) → datingTail newer shape (length body + 1) ≡ Wrong
+  unfolding datingTail
+  missing-dating shape = rw (longer, le-leb (length body + 1) (length body + 1) (omega arith))
+
+  near-4 : Near (tailsOf 4 newer) (tailsOf 4 body)
+  unfolding tailsOf
+  near-4 = near-behind datingTail near-dating missing-dating near-3
+
+  family-cpa : (shape : Shape) → familyTail newer shape (length body) ≡ Ended (families shape Cpa) (length body + 1)
+  unfolding familyTail
+  family-cpa shape = rw (longer, lt-leb (length body + 1) (length body) (omega arith), getD-append-seam body 0 [] 0)
+
+  behind-4 : tailsOf 5 newer ≡ behind (tailsOf 4 newer) (familyTail newer)
+  unfolding tailsOf
+  behind-4 = refl
+
+  -- A CPA CARD: the older shape, but that mask bit 25 is named
+  pub family-off : (shape : Shape) → shapeOf 4 body ≡ Taken shape → shapeOf 5 newer ≡ Taken (families shape Cpa)
+  unfolding shapeOf
+  family-off shape e = rw behind-4 (added-off (familyTail newer) shape (families shape Cpa) near-4 e (family-cpa shape))

@@ -1,27 +1,30 @@
 -- The shape of a paper: what its version adds to a set-up's body, read front to back (docs/PAPERS.md, "How a version adds"; document 02, Three,
--- Nine and Five). The base of document 01, 52 + 107p + 7c bytes, then a tail for each addition, in the order of the versions, to the body's end.
+-- Nine, Five and Thirteen). The base of document 01, 52 + 107p + 7c bytes, then a tail for each addition, in the order of the versions, to the body's end.
 use Prim.Native.Nat.{ℕ, zero, suc, _+_, _-_, _^_, _≤_}
 use mathlib.Core.Bool.{cond}
 use mathlib.Core.List.{List, []}
 use lib.Dec.{eqb, ltb, leb}
 use lib.ListN.{length, take, drop}
 use Rattle.wire.specs.Wire.{byte}
-pub use Rattle.layout.specs.Layout.{baseLength, cyclesLength}
+pub use Rattle.layout.specs.Layout.{baseLength, cyclesLength, familyLength}
 use Rattle.refusal.specs.declared.Refusal.the-variants.{BadSetup}
 use Rattle.refusal.specs.Refusal.{refusalNumber}
 use Rattle.shape.specs.declared.Selecting.{Selecting}
 use Rattle.shape.specs.declared.Selecting.the-variants.{Off, On}
 use Rattle.shape.specs.declared.Dating.{Dating}
 use Rattle.shape.specs.declared.Dating.the-variants.{Off as DatesOff, On as DatesOn}
+use Rattle.shape.specs.declared.Family.{Family}
+use Rattle.shape.specs.declared.Family.the-variants.{Cpa, Cpace}
 use Rattle.shape.specs.declared.Shape.{Shape}
 use Rattle.shape.specs.declared.Tails.{Tails}
 use Rattle.shape.specs.declared.Tails.the-variants.{Ended, Wrong}
 use Rattle.shape.specs.declared.ReadShape.{ReadShape}
 use Rattle.shape.specs.declared.ReadShape.the-variants.{Taken, Refused}
 
--- THE BASE, which is whole; with no tail nothing is selected, the syllabus is 0, nothing is dated, and mask bits 0 to 21 are named
+-- THE BASE, which is whole; with no tail nothing is selected, the syllabus is 0, nothing is dated, the family is CPA, and mask bits 0 to 21 are
+-- named
 abbrev pub based : (base : ℕ) → Shape
-based base = record { base = base; selecting = Off; syllabus = 0; dating = DatesOff; unnamed = 2 ^ 22 }
+based base = record { base = base; selecting = Off; syllabus = 0; dating = DatesOff; family = Cpa; unnamed = 2 ^ 22 }
 
 unfoldable pub baseTail : List ℕ → Tails
 baseTail body = cond (ltb (length body) (baseLength body)) Wrong (Ended (based (baseLength body)) (baseLength body))
@@ -42,6 +45,7 @@ selects shape start end entries =
       selecting = On start end entries;
       syllabus = shape .syllabus;
       dating = shape .dating;
+      family = shape .family;
       unnamed = shape .unnamed;
     }
 
@@ -60,6 +64,7 @@ follows shape syllabus =
       selecting = shape .selecting;
       syllabus = syllabus;
       dating = shape .dating;
+      family = shape .family;
       unnamed = shape .unnamed;
     }
 
@@ -71,7 +76,14 @@ syllabusTail body shape at =
 -- bits 0 to 24 are named
 abbrev pub dates : Shape → Dating → Shape
 dates shape dating =
-    record { base = shape .base; selecting = shape .selecting; syllabus = shape .syllabus; dating = dating; unnamed = 2 ^ 25 }
+    record {
+      base = shape .base;
+      selecting = shape .selecting;
+      syllabus = shape .syllabus;
+      dating = dating;
+      family = shape .family;
+      unnamed = 2 ^ 25;
+    }
 
 abbrev pub datesEnd : List ℕ → (at : ℕ) → ℕ
 datesEnd body at = at + cyclesLength body
@@ -83,6 +95,29 @@ datingTail body shape at =
     (cond (ltb 1 (byte body at)) Wrong
     (cond (ltb (length body) (datesEnd body at)) Wrong (Ended (dates shape (DatesOn at (datesEnd body at))) (datesEnd body at)))))
 
+-- VERSION 05, the card family: 0 CPA; 1 CPACE, and then the controls and the cashback checks, 9 + p bytes in all; whichever it is, mask bits 0 to
+-- 25 are named
+abbrev pub families : Shape → Family → Shape
+families shape family =
+    record {
+      base = shape .base;
+      selecting = shape .selecting;
+      syllabus = shape .syllabus;
+      dating = shape .dating;
+      family = family;
+      unnamed = 2 ^ 26;
+    }
+
+abbrev pub familyEnd : List ℕ → (at : ℕ) → ℕ
+familyEnd body at = at + familyLength body
+
+unfoldable pub familyTail : List ℕ → Shape → (at : ℕ) → Tails
+familyTail body shape at =
+    cond (leb (length body) at) Wrong
+    (cond (eqb (byte body at) 0) (Ended (families shape Cpa) (at + 1))
+    (cond (ltb 1 (byte body at)) Wrong
+    (cond (ltb (length body) (familyEnd body at)) Wrong (Ended (families shape (Cpace at (familyEnd body at))) (familyEnd body at)))))
+
 -- one tail behind another; above the paper's version it is off and has no bytes
 abbrev pub behind : Tails → (Shape → ℕ → Tails) → Tails
 behind Wrong tail = Wrong
@@ -93,7 +128,9 @@ since first version before tail = cond (ltb version first) before (behind before
 
 unfoldable pub tailsOf : (version : ℕ) (body : List ℕ) → Tails
 tailsOf version body =
-    since 4 version (since 3 version (since 2 version (baseTail body) (selectionTail body)) (syllabusTail body)) (datingTail body)
+    since 5 version
+    (since 4 version (since 3 version (since 2 version (baseTail body) (selectionTail body)) (syllabusTail body)) (datingTail body))
+    (familyTail body)
 
 -- THE SHAPE: the last tail ends where the body does, or refusal 1
 abbrev pub whole : List ℕ → Tails → ReadShape
@@ -111,10 +148,19 @@ abbrev pub cyclesPart : Dating → (body : List ℕ) → List ℕ
 cyclesPart DatesOff body = []
 cyclesPart (DatesOn start end) body = take (end - start) (drop start body)
 
+-- the tail of version 05 of a CPACE card, no byte of a CPA one
+abbrev pub familyPart : Family → (body : List ℕ) → List ℕ
+familyPart Cpa body = []
+familyPart (Cpace start end) body = take (end - start) (drop start body)
+
 -- the tail lies in so many bytes
 abbrev pub Spans : Dating → (bytes : ℕ) → Type 0
 Spans DatesOff bytes = Unit
 Spans (DatesOn start end) bytes = (start ≤ end) × (end ≤ bytes)
+
+abbrev pub Holds : Family → (bytes : ℕ) → Type 0
+Holds Cpa bytes = Unit
+Holds (Cpace start end) bytes = (start ≤ end) × (end ≤ bytes)
 
 -- the file lies in so many bytes
 abbrev pub Lies : Selecting → (bytes : ℕ) → Type 0
@@ -130,6 +176,10 @@ abbrev pub datingAt : (place : ℕ) → Dating → Dating
 datingAt place DatesOff = DatesOff
 datingAt place (DatesOn start end) = DatesOn (place + start) (place + end)
 
+abbrev pub familyAt : (place : ℕ) → Family → Family
+familyAt place Cpa = Cpa
+familyAt place (Cpace start end) = Cpace (place + start) (place + end)
+
 abbrev pub shapeAt : (place : ℕ) → Shape → Shape
 shapeAt place shape =
     record {
@@ -137,6 +187,7 @@ shapeAt place shape =
       selecting = selectingAt place (shape .selecting);
       syllabus = shape .syllabus;
       dating = datingAt place (shape .dating);
+      family = familyAt place (shape .family);
       unnamed = shape .unnamed;
     }
 

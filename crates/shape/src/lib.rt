@@ -4,20 +4,25 @@
 ghost use mathlib.Core.Path.{_≡_};
 ghost use Prim.Native.Nat.{_+_, _≤_};
 ghost use lib.ListN.{length};
-ghost use Rattle.shape.specs.Shape.{baseTail, entriesEnd, selectionTail, syllabusTail, dates, datingTail, since, tailsOf, shapeOf};
+ghost use Rattle.shape.specs.Shape.{baseTail, entriesEnd, selectionTail, syllabusTail, dates, datingTail, families, familyTail, since, tailsOf, shapeOf};
 use refusal::Refusal;
 
-// The first version with a tail that selects profiles, with a syllabus, and with dates.
+// The first version with a tail that selects profiles, with a syllabus, with dates, and with a card
+// family.
 const SELECTION: u8 = 2;
 
 const SYLLABUS: u8 = 3;
 
 const DATES: u8 = 4;
 
-// The first mask bit without a name, 22, and from version 04 on 25.
+const FAMILY: u8 = 5;
+
+// The first mask bit without a name: 22, from version 04 on 25, and from version 05 on 26.
 const UNNAMED: u32 = 4_194_304;
 
 const UNNAMED_DATED: u32 = 33_554_432;
+
+const UNNAMED_FAMILY: u32 = 67_108_864;
 
 // Whether profiles are selected. The Profile Selection File stands from start up to end.
 pub enum Selecting {
@@ -35,6 +40,12 @@ pub enum Dating {
     On { start: usize, end: usize },
 }
 
+// The card family. The tail with a CPACE card's controls and cashback checks stands from start up to end.
+pub enum Family {
+    Cpa,
+    Cpace { start: usize, end: usize },
+}
+
 // The base's length, what the tails say, an older paper's being off, and the first mask bit that is
 // unnamed.
 pub struct Shape {
@@ -42,6 +53,7 @@ pub struct Shape {
     pub selecting: Selecting,
     pub syllabus: u8,
     pub dating: Dating,
+    pub family: Family,
     pub unnamed: u32,
 }
 
@@ -70,6 +82,7 @@ fn read_base(body: &[u8]) -> Tails
             selecting: Selecting::Off,
             syllabus: 0,
             dating: Dating::Off,
+            family: Family::Cpa,
             unnamed: UNNAMED,
         },
         at: base,
@@ -109,6 +122,7 @@ fn read_selection(body: &[u8], shape: Shape, at: usize) -> Tails
         return Tails::Wrong;
     }
     let dating = shape.dating;
+    let family = shape.family;
     Tails::Ended {
         shape: Shape {
             base: shape.base,
@@ -119,6 +133,7 @@ fn read_selection(body: &[u8], shape: Shape, at: usize) -> Tails
             },
             syllabus: shape.syllabus,
             dating,
+            family,
             unnamed: shape.unnamed,
         },
         at: end,
@@ -138,12 +153,14 @@ fn read_syllabus(body: &[u8], shape: Shape, at: usize) -> Tails
     }
     let selecting = shape.selecting;
     let dating = shape.dating;
+    let family = shape.family;
     Tails::Ended {
         shape: Shape {
             base: shape.base,
             selecting,
             syllabus,
             dating,
+            family,
             unnamed: shape.unnamed,
         },
         at: at + 1,
@@ -155,11 +172,13 @@ fn with_dates(shape: Shape, dating: Dating) -> Shape
     ensures { λ r. ⌜ r ≡ dates shape dating ⌝ }
 {
     let selecting = shape.selecting;
+    let family = shape.family;
     Shape {
         base: shape.base,
         selecting,
         syllabus: shape.syllabus,
         dating,
+        family,
         unnamed: UNNAMED_DATED,
     }
 }
@@ -187,6 +206,49 @@ fn read_dating(body: &[u8], shape: Shape, at: usize) -> Tails
     }
     Tails::Ended {
         shape: with_dates(shape, Dating::On { start: at, end }),
+        at: end,
+    }
+}
+
+// A shape with its family: whichever it is, the masks then have a name for one bit more.
+fn with_family(shape: Shape, family: Family) -> Shape
+    ensures { λ r. ⌜ r ≡ families shape family ⌝ }
+{
+    let selecting = shape.selecting;
+    let dating = shape.dating;
+    Shape {
+        base: shape.base,
+        selecting,
+        syllabus: shape.syllabus,
+        dating,
+        family,
+        unnamed: UNNAMED_FAMILY,
+    }
+}
+
+// Version 05's tail at a place: the family, 0 CPA or 1 CPACE; for CPACE 9 + p bytes in all.
+fn read_family(body: &[u8], shape: Shape, at: usize) -> Tails
+    ensures { λ r. ⌜ r ≡ familyTail (now (body .entry)) shape at ⌝ }
+{
+    if body.len() <= at {
+        return Tails::Wrong;
+    }
+    let family = wire::byte_at(body, at);
+    if family == 0 {
+        return Tails::Ended {
+            shape: with_family(shape, Family::Cpa),
+            at: at + 1,
+        };
+    }
+    if 1 < family {
+        return Tails::Wrong;
+    }
+    let end = at + layout::family_length(body);
+    if body.len() < end {
+        return Tails::Wrong;
+    }
+    Tails::Ended {
+        shape: with_family(shape, Family::Cpace { start: at, end }),
         at: end,
     }
 }
@@ -230,6 +292,19 @@ fn add_dating(version: u8, body: &[u8], tails: Tails) -> Tails
     read_dating(body, shape, at)
 }
 
+// Version 05's tail behind that.
+fn add_family(version: u8, body: &[u8], tails: Tails) -> Tails
+    ensures { λ r. ⌜ r ≡ since 5 version tails (familyTail (now (body .entry))) ⌝ }
+{
+    let Tails::Ended { shape, at } = tails else {
+        return Tails::Wrong;
+    };
+    if version < FAMILY {
+        return tails;
+    }
+    read_family(body, shape, at)
+}
+
 // The base and the tails of a version, one behind the other.
 fn read_tails(version: u8, body: &[u8]) -> Tails
     ensures { λ r. ⌜ r ≡ tailsOf version (now (body .entry)) ⌝ }
@@ -237,7 +312,8 @@ fn read_tails(version: u8, body: &[u8]) -> Tails
     let base = read_base(body);
     let selecting = add_selection(version, body, base);
     let rounding = add_syllabus(version, body, selecting);
-    add_dating(version, body, rounding)
+    let dating = add_dating(version, body, rounding);
+    add_family(version, body, dating)
 }
 
 // The shape of a body, or refusal 1 where bytes are missing or left over, or a tail is out of range.

@@ -8,16 +8,17 @@ use Rattle.money.specs.Money.{rateFor, rounded, scaled, convertOf}
 use Rattle.iad.specs.Iad.{isCvr, isWritable, pairsOf, iadBytes, writeIad, written}
 use Rattle.rules.specs.Rules.{Rules, profileOf, rulesOf, findProfile}
 use Rattle.load.specs.Load.{headWords, rateWords, ratesWords, limitIn, ruleWords, rulesWords, profileHeadWords, sentWords, profileWords}
-use Rattle.load.specs.Load.{profilesWords, cycleWords, cyclicRuleWords, cyclicRulesWords, cyclesWords, loaded}
+use Rattle.load.specs.Load.{profilesWords, cycleWords, cyclicRuleWords, cyclicRulesWords, cyclesWords, familyWords, loaded}
 use Rattle.ranges.specs.Ranges.{isSetup, hasLength, isHead, areAccumulators, isAccumulator, areProfiles, isProfileOrAbsent, isProfile}
 use Rattle.ranges.specs.Ranges.{areMasks, isMaximumAmount, areAccumulatorRules, isAccumulatorRule, areCounterRules, areSent}
-use Rattle.ranges.specs.Ranges.{areNumbersApart, profileNumber, areConversions, isConversionOrAbsent, isConversion, conversionPair, arePairsApart, areCycles}
+use Rattle.ranges.specs.Ranges.{areNumbersApart, profileNumber, areConversions, isConversionOrAbsent, isConversion, conversionPair, arePairsApart}
+use Rattle.ranges.specs.Ranges.{areCycles, isFamily}
 use Rattle.setup.specs.Setup.{freshIn, readSetup, wordsAfter}
 use Rattle.shape.specs.Shape.{shapeOf, tailsOf, baseTail, selectionTail, syllabusTail}
 use Rattle.paper.specs.Paper.{nextAt, openPaper}
 use Rattle.command.specs.declared.Command.{Command}
 use Rattle.command.specs.Command.{startOf, firstOf, secondOf, commandOf, commandIn}
-use Rattle.purchase.specs.Meter.{worth, cyclicWorth}
+use Rattle.purchase.specs.Meter.{worth, cyclicWorth, isOpen}
 use Rattle.meters.specs.Meters.{applied}
 use Rattle.checks.specs.Checks.{accumulatorsLower, accumulatorsUpper, countersLower, countersUpper, datingFlags, maximumExceeded, decisionBits}
 use Rattle.state.specs.declared.State.{State}
@@ -41,18 +42,18 @@ inRange s unnamed = isSetup s unnamed
 
 -- a paper opened, and its set-up read into words
 unfoldable begun : (paper : List ℕ) → Begun
-unfolding inRange areConversions isConversionOrAbsent isConversion conversionPair arePairsApart areCycles openPaper nextAt shapeOf tailsOf baseTail
+unfolding inRange areConversions isConversionOrAbsent isConversion conversionPair arePairsApart areCycles isFamily openPaper nextAt shapeOf tailsOf baseTail
     selectionTail syllabusTail readSetup freshIn freshState begunOf setupBegun baseBegun
 begun paper = begunOf paper
 
 unfoldable rules : (words paper : List ℕ) → Rules
 unfolding wordsBegun setupWords wordsAfter loaded headWords ratesWords rateWords profilesWords profileWords profileHeadWords rulesWords ruleWords
-    limitIn sentWords cyclesWords cycleWords cyclicRulesWords cyclicRuleWords rulesOf profileOf
+    limitIn sentWords cyclesWords cycleWords cyclicRulesWords cyclicRuleWords familyWords rulesOf profileOf
 rules words paper = rulesOf (wordsBegun words paper)
 
 -- a Start and a First
 unfoldable tested : Rules → State → Command → Outcome
-unfolding worth cyclicWorth convertOf rateFor rounded scaled applied decisionBits accumulatorsLower accumulatorsUpper countersLower countersUpper datingFlags
+unfolding worth cyclicWorth isOpen convertOf rateFor rounded scaled applied decisionBits accumulatorsLower accumulatorsUpper countersLower countersUpper datingFlags
     maximumExceeded decision limitsByte verification settled asked concluded
 tested rules state command = stepOf rules state command
 

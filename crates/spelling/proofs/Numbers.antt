@@ -9,6 +9,10 @@ use lib.Seq.{getD-append-add, getD-at, getD-drop, drop-drop, take-suc}
 use Rattle.wire.specs.Wire.{byte, number}
 use Rattle.spelling.specs.Spelling.{Bytes, big}
 
+pub no-bytes : (s : List ℕ) → length s ≤ 0 → s ≡ []
+no-bytes [] h = refl
+no-bytes (b ∷ s) h = absurd (omega arith)
+
 pub big-length : (n k : ℕ) → length (big n k) ≡ n
 unfolding big
 big-length zero k = refl

@@ -1,16 +1,15 @@
 -- Whole papers: the lines of every byte string. Assumes nothing.
-use mathlib.Core.Path.{_≡_, refl, sym, ap, ap₂, subst, _∙_}
-use mathlib.Core.Bool.{Bool, true, false, cond, not, _&&_, _||_}
+use mathlib.Core.Path.{_≡_, refl, sym, ap, subst, _∙_}
+use mathlib.Core.Bool.{Bool, true, false, cond}
 use mathlib.Core.Logic.{_⊎_, inl, inr}
 use mathlib.Core.List.{List, [], _∷_, _++_}
 use Prim.Native.Nat.{ℕ, _+_, _-_, _≤_}
 use native.Mathlib.Omega.{arith}
-use lib.Dec.{eqb, ltb, leb}
+use lib.Dec.{eqb}
 use lib.ListN.{length, take, drop, length-drop}
 use lib.Seq.{drop-append-le, take-append-le}
-use Rattle.wire.specs.Wire.{byte}
 use Rattle.refusal.specs.declared.Refusal.the-variants.{BadSetup, Unreadable}
-use Rattle.rules.specs.Rules.{Rules, rulesOf}
+use Rattle.rules.specs.Rules.{rulesOf}
 use Rattle.rules.specs.Word.{wordCount}
 use Rattle.setup.specs.declared.SetupAnswer.{SetupAnswer}
 use Rattle.setup.specs.declared.SetupAnswer.the-variants.{Done, Refused as SetupRefused}
@@ -23,30 +22,30 @@ use Rattle.shape.specs.declared.Selecting.{Selecting}
 use Rattle.shape.specs.declared.Selecting.the-variants.{Off, On}
 use Rattle.shape.specs.declared.Dating.{Dating}
 use Rattle.shape.specs.declared.Dating.the-variants.{Off as DatesOff, On as DatesOn}
+use Rattle.shape.specs.declared.Family.{Family}
+use Rattle.shape.specs.declared.Family.the-variants.{Cpa, Cpace}
 use Rattle.shape.specs.declared.Shape.{Shape}
 use Rattle.shape.specs.declared.Tails.{Tails}
 use Rattle.shape.specs.declared.Tails.the-variants.{Ended, Wrong}
 use Rattle.shape.specs.declared.ReadShape.{ReadShape}
 use Rattle.shape.specs.declared.ReadShape.the-variants.{Taken, Refused as ShapeRefused}
-use Rattle.shape.specs.Shape.{basePart, cyclesPart, tailsOf, whole, shapeOf, shapeAt, selectingAt, datingAt, shapeNumber}
+use Rattle.shape.specs.Shape.{basePart, cyclesPart, familyPart, tailsOf, whole, shapeOf, shapeAt, selectingAt, datingAt, familyAt, shapeNumber}
 use Rattle.shape.specs.Shape as Sh
 use Rattle.shape.proofs.Inside.{inside}
 use Rattle.paper.specs.declared.Opened.the-variants.{Setup}
 use Rattle.paper.specs.Paper.{openPaper}
 use Rattle.paper.specs.Walk.{part}
-use Rattle.card.specs.Card.{freshState}
 use Rattle.lines.specs.Lines.{refusalLine}
 use Rattle.conversation.specs.declared.Event.{Event}
 use Rattle.conversation.specs.declared.Event.the-variants.{Refused}
 use Rattle.conversation.specs.Conversation.{setUpEvent, begunOf, baseBegun, setupBegun, shapedBegun, setupWords, wordsBegun}
-use Rattle.conversation.specs.Events.{eventsFrom, eventsOf}
+use Rattle.conversation.specs.Events.{eventsOf}
 use Rattle.lines.specs.Sitting.{linesOf, sittingLines}
-use Rattle.spelling.specs.Spelling.{Bytes, recordOf, paperOf, Sent, spellAll, choiceIn, datesIn, Manner, mannerIn, AllFit, allStandFor}
+use Rattle.spelling.specs.Spelling.{Bytes, Sent, spellAll, choiceIn, datesIn, familyIn, Manner, mannerIn, AllFit}
 use Rattle.spelling.specs.Faults.{OpenFault, Opens}
-use Rattle.spelling.specs.Sitting.{Lies, SetUp, NotSetUp, no-shape, no-base, answers, Ends, lastLines, rulesFrom, cardFrom, sittingOf}
+use Rattle.spelling.specs.Sitting.{Lies, setupFrom, SetUp, NotSetUp, no-shape, no-base, Ends, rulesFrom, cardFrom, sittingOf}
 use Rattle.spelling.specs.Sitting.{Sat, unread, not-set-up, sat}
 use Rattle.spelling.proofs.Numbers.{byte-small, bytes-take, bytes-drop, bytes-front}
-use Rattle.spelling.proofs.Commands.{of}
 use Rattle.spelling.proofs.Shapes.{record-is, here-length, part-drop}
 use Rattle.spelling.proofs.Opening.{opens, faults, Opening, opens-or-faults}
 use Rattle.spelling.proofs.Lines.{events-by, lines-happened}
@@ -57,10 +56,10 @@ use Rattle.spelling.proofs.Parsed.{parsed, one-way}
 by-answer : (s t : List ℕ) → Bool → ReadSetup
 by-answer s t b = cond b (record { fresh = freshIn s t; answer = Done }) (record { fresh = noCard; answer = SetupRefused BadSetup })
 
-is-accepted : (s t : List ℕ) (unnamed : ℕ) → readSetup s t unnamed .answer ≡ Done → isAccepted s t unnamed ≡ true
+is-accepted : (s t f : List ℕ) (unnamed : ℕ) → readSetup s t f unnamed .answer ≡ Done → isAccepted s t f unnamed ≡ true
 unfolding readSetup by-answer
-is-accepted s t unnamed e = by (isAccepted s t unnamed) refl e where
-  by : (b : Bool) → isAccepted s t unnamed ≡ b → by-answer s t b .answer ≡ Done → isAccepted s t unnamed ≡ true
+is-accepted s t f unnamed e = by (isAccepted s t f unnamed) refl e where
+  by : (b : Bool) → isAccepted s t f unnamed ≡ b → by-answer s t b .answer ≡ Done → isAccepted s t f unnamed ≡ true
   by true q e = q
   by false q e = let z : _≡_ {A = ℕ} 0 1 = cc in absurd (omega arith)
 
@@ -80,23 +79,29 @@ shape-ways version body = by (tailsOf version body) where
   by Wrong = shape-one refl
   by (Ended shape at) = by-end shape (eqb at (length body))
 
+abbrev accepts : Shape → (body : List ℕ) → Bool
+accepts shape body = isAccepted (basePart shape body) (cyclesPart (shape .dating) body) (familyPart (shape .family) body) (shape .unnamed)
+
 -- EVERY SET-UP IS TAKEN OR NOT
 pub set-up-or-not : (version : ℕ) (body : List ℕ) → ((shape : Shape) × SetUp version body shape) ⊎ NotSetUp version body
 unfolding readSetup by-answer
 set-up-or-not version body = by (shape-ways version body) where
-  by-base : (shape : Shape) → shapeOf version body ≡ Taken shape
-      → (b : Bool) → isAccepted (basePart shape body) (cyclesPart (shape .dating) body) (shape .unnamed) ≡ b
+  by-base : (shape : Shape) → shapeOf version body ≡ Taken shape → (b : Bool) → accepts shape body ≡ b
       → ((shape : Shape) × SetUp version body shape) ⊎ NotSetUp version body
   by-base shape e true q = inl (shape, record { shape-is = e; base = rw q })
   by-base shape e false q = inr (no-base shape e (rw q))
 
   by : ShapeWays (shapeOf version body) → ((shape : Shape) × SetUp version body shape) ⊎ NotSetUp version body
-  by (shape-taken shape e) = by-base shape e (isAccepted (basePart shape body) (cyclesPart (shape .dating) body) (shape .unnamed)) refl
+  by (shape-taken shape e) = by-base shape e (accepts shape body) refl
   by (shape-one e) = inr (no-shape e)
 
 pub bytes-cycles : (dating : Dating) (body : List ℕ) → Bytes body → Bytes (cyclesPart dating body)
 bytes-cycles DatesOff body h = tt
 bytes-cycles (DatesOn start end) body h = bytes-take (end - start) (drop start body) (bytes-drop start body h)
+
+pub bytes-family : (family : Family) (body : List ℕ) → Bytes body → Bytes (familyPart family body)
+bytes-family Cpa body h = tt
+bytes-family (Cpace start end) body h = bytes-take (end - start) (drop start body) (bytes-drop start body h)
 
 module _ (words s : List ℕ) (version : ℕ) (body rest : List ℕ) (o : Opens s version body rest) where
   behind-head : drop 4 s ≡ body ++ rest
@@ -111,6 +116,12 @@ module _ (words s : List ℕ) (version : ℕ) (body rest : List ℕ) (o : Opens 
 
     abbrev tail : List ℕ
     tail = cyclesPart (shape .dating) body
+
+    abbrev controls : List ℕ
+    controls = familyPart (shape .family) body
+
+    good : isAccepted base tail controls (shape .unnamed) ≡ true
+    good = is-accepted base tail controls (shape .unnamed) (t .base)
 
     pub lies-there : Lies (shapeAt 4 shape .selecting) s
     lies-there = by (shape .selecting) (inside body version shape (t .shape-is) .file) where
@@ -133,18 +144,23 @@ module _ (words s : List ℕ) (version : ℕ) (body rest : List ℕ) (o : Opens 
     same-dates DatesOff = refl
     same-dates (DatesOn start end) = refl
 
+    same-family : (family : Family) → familyIn (familyAt 4 family) ≡ familyIn family
+    same-family Cpa = refl
+    same-family (Cpace start end) = refl
+
     -- a paper's commands are in the manner that its set-up's body says
     pub chooses : mannerIn (shapeAt 4 shape) s ≡ mannerIn shape body
-    chooses = ap₂ of same-choice (same-dates (shape .dating))
+    chooses =
+        λ i. record { choice = same-choice i; dates = same-dates (shape .dating) i; family = same-family (shape .family) i }
 
     module _ (bytes : Bytes s) (lent : length words ≡ wordCount) where
-      pub rules-are : rulesOf (wordsAfter words base tail (shape .syllabus) (shape .unnamed)) ≡ rulesFrom shape body
+      pub rules-are : rulesOf (wordsAfter words base tail controls (shape .syllabus) (shape .unnamed)) ≡ rulesFrom shape body
       rules-are =
           let body-bytes : Bytes body = bytes-front body rest (subst Bytes behind-head (bytes-drop 4 s bytes)) in
-          let base-bytes : Bytes base = bytes-take (shape .base) body body-bytes in
-          let tail-bytes : Bytes tail = bytes-cycles (shape .dating) body body-bytes in
-          F.faithful base tail (record { below = byte-small base base-bytes }) (record { below = byte-small tail tail-bytes }) (shape .syllabus)
-          (shape .unnamed) words lent (is-accepted base tail (shape .unnamed) (t .base))
+          let small : (part : List ℕ) → Bytes part → F.Bytes part = λ part h. record { below = byte-small part h } in
+          F.faithful base tail controls (small base (bytes-take (shape .base) body body-bytes))
+          (small tail (bytes-cycles (shape .dating) body body-bytes)) (small controls (bytes-family (shape .family) body body-bytes))
+          (shape .syllabus) (shape .unnamed) words lent good
 
       -- THE LINES OF A PAPER WHOSE SET-UP IS TAKEN
       pub lines-of : (xs : List Sent) (end : List ℕ) → AllFit (mannerIn shape body) xs → (ends : Ends (mannerIn shape body) end)
@@ -152,10 +168,9 @@ module _ (words s : List ℕ) (version : ℕ) (body rest : List ℕ) (o : Opens 
       unfolding sittingLines eventsOf begunOf setupBegun baseBegun wordsBegun setupWords linesOf
       lines-of xs end fit ends e =
           let r = opens s version body rest o in
-          let good = is-accepted base tail (shape .unnamed) (t .base) in
           let rules = rulesFrom shape body in
           let manner = mannerIn shape body in
-          rw (r .0, r .1, t .shape-is, F.started base tail (shape .unnamed) good, rules-are)
+          rw (r .0, r .1, t .shape-is, F.started base tail controls (shape .unnamed) good, rules-are)
           (ap (λ (l : List (List ℕ)). refusalLine 0 0 ∷ l)
           (ap (linesOf 1) (events-by rules (shapeAt 4 shape) s lies-there manner chooses xs (length s) (cardFrom shape body) (4 + length body) fit end ends
           (r .2 ∙ e) (omega (arith, length-drop (4 + length body) s)))
@@ -183,10 +198,10 @@ pub refused-shape : (body : List ℕ) (place end : ℕ) (t : ReadShape) → shap
 refused-shape body place end (ShapeRefused refusal) e = record { refusal = refusal; is = refl; one = e }
 refused-shape body place end (Taken shape) e = absurd (omega arith)
 
-pub refused-base : (shape : Shape) (base tail : List ℕ) (end : ℕ) → setupNumber (readSetup base tail (shape .unnamed) .answer) ≡ 1
-    → One (baseBegun shape base tail end .event)
+pub refused-base : (shape : Shape) (base tail controls : List ℕ) (end : ℕ)
+    → setupNumber (readSetup base tail controls (shape .unnamed) .answer) ≡ 1 → One (baseBegun shape base tail controls end .event)
 unfolding baseBegun
-refused-base shape base tail end e = by (readSetup base tail (shape .unnamed) .answer) e where
+refused-base shape base tail controls end e = by (readSetup base tail controls (shape .unnamed) .answer) e where
   by : (a : SetupAnswer) → setupNumber a ≡ 1 → One (setUpEvent a)
   by Done e = absurd (omega arith)
   by (SetupRefused refusal) e = record { refusal = refusal; is = refl; one = e }
@@ -204,7 +219,9 @@ one-line words s version body rest o n =
 
     by : NotSetUp version body → One (shapedBegun body 4 (4 + length body) (shapeOf version body) .event)
     by (no-shape e) = refused-shape body 4 (4 + length body) (shapeOf version body) e
-    by (no-base shape t e) = rw t (refused-base (shapeAt 4 shape) (basePart shape body) (cyclesPart (shape .dating) body) (4 + length body) e)
+    by (no-base shape t e) =
+        rw t
+        (refused-base (shapeAt 4 shape) (basePart shape body) (cyclesPart (shape .dating) body) (familyPart (shape .family) body) (4 + length body) e)
 
 -- EVERY BYTE STRING IS ONE OF THE THREE, WITH ITS LINES
 pub every-paper : (words s : List ℕ) → length words ≡ wordCount → Bytes s → Sat words s
@@ -255,5 +272,5 @@ pub taken-or-not : (v : ℕ) (b : List ℕ) (x : Shape) → SetUp v b x → NotS
 taken-or-not v b x t (no-shape e) = let none : shapeNumber (shapeOf v b) ≡ 0 = rw (t .shape-is) in omega arith
 taken-or-not v b x t (no-base y u e) =
     let same : y ≡ x = cc (t .shape-is, u) in
-    let none : setupNumber (readSetup (basePart y b) (cyclesPart (y .dating) b) (y .unnamed) .answer) ≡ 0 = rw (same, t .base) in
+    let none : setupNumber (setupFrom y b .answer) ≡ 0 = rw (same, t .base) in
     omega arith

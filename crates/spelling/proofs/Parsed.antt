@@ -1,20 +1,22 @@
 -- Every byte string is what was sent, spelled, and then nothing or a fault; in one way. Assumes nothing.
 use mathlib.Core.Path.{_≡_, refl, sym, ap, ap₂, subst, _∙_}
+use mathlib.Core.Bool.{false}
 use mathlib.Core.List.{List, [], _∷_, _++_, append-assoc}
 use Prim.Native.Nat.{ℕ, zero, suc, _+_, _≤_}
 use native.Mathlib.Omega.{arith}
 use lib.ListN.{length, drop, length-append}
+use Rattle.slot.specs.declared.Slots.{Slots}
 use Rattle.paper.specs.declared.Next.the-variants.{Record}
 use Rattle.paper.specs.Paper.{nextAt}
 use Rattle.paper.specs.Walk.{part}
 use Rattle.command.specs.declared.ReadCommand.the-variants.{Taken}
 use Rattle.spelling.specs.Spelling.{Bytes, Sent, kindOf, bodyOf, spell, spellAll, Manner, Fits, AllFit, standsFor}
-use Rattle.spelling.specs.Faults.{Whole, RestFault, broken, repeated, unknown, start-length, first-length, dated-length, second-length}
+use Rattle.spelling.specs.Faults.{Whole, RestFault, broken, repeated, unknown, start-length, start-empty, first-length, second-length}
 use Rattle.spelling.specs.Sitting.{Ends, ended, faulty}
 use Rattle.spelling.proofs.Numbers.{bytes-behind}
 use Rattle.spelling.proofs.Shapes.{record-length, next-broken, next-whole, body-there, rest-there}
 use Rattle.spelling.proofs.Commands.{readBy, taken, one-sent, refused-wrong}
-use Rattle.spelling.proofs.Commands.{Wrong, a-setup, no-command, bad-start, bad-first, bad-dated, bad-second}
+use Rattle.spelling.proofs.Commands.{Wrong, a-setup, no-command, bad-start, bad-empty, bad-first, bad-second}
 use Rattle.spelling.proofs.Records.{View, none, fault, spelled, view, whole-spelled}
 
 -- ---- in a way
@@ -85,13 +87,18 @@ one-whole s kind kind′ body body′ w v =
     }
 
 module _ (manner : Manner) where
+  -- whatever may be tested
+  abbrev none-tested : Slots
+  none-tested = record { testable = false; amounts = []; counts = [] }
+
   -- what is spelled is no fault
   not-wrong : (s : List ℕ) (x : Sent) (more : List ℕ) → Fits manner x → s ≡ spell x ++ more
       → (kind : ℕ) (body : List ℕ) → Whole s kind body → Wrong manner kind body → ⊥
   not-wrong s x more h e kind body w cause =
       let same = one-whole s (kindOf x) kind (bodyOf x) body (whole-spelled manner x h s more e) w in
-      let read : readBy manner kind body ≡ Taken (standsFor manner x) = rw (← same .kinds, ← same .bodies) (taken manner x h) in
-      let z : _≡_ {A = ℕ} 0 1 = cc (refused-wrong manner kind body cause) in
+      let read : readBy manner none-tested kind body ≡ Taken (standsFor manner none-tested x) =
+      rw (← same .kinds, ← same .bodies) (taken manner none-tested x h) in
+      let z : _≡_ {A = ℕ} 0 1 = cc (refused-wrong manner none-tested kind body cause) in
       omega arith
 
   not-both : (s : List ℕ) (x : Sent) (more : List ℕ) → Fits manner x → s ≡ spell x ++ more → RestFault manner s → ⊥
@@ -103,8 +110,8 @@ module _ (manner : Manner) where
   not-both s x more h e (repeated body w) = not-wrong s x more h e 1 body w (a-setup refl)
   not-both s x more h e (unknown kind body w k) = not-wrong s x more h e kind body w (no-command k)
   not-both s x more h e (start-length body w c n) = not-wrong s x more h e 2 body w (bad-start refl c n)
-  not-both s x more h e (first-length body w d n) = not-wrong s x more h e 3 body w (bad-first refl d n)
-  not-both s x more h e (dated-length body w d n) = not-wrong s x more h e 3 body w (bad-dated refl d n)
+  not-both s x more h e (start-empty w f) = not-wrong s x more h e 2 [] w (bad-empty refl refl f)
+  not-both s x more h e (first-length body w n) = not-wrong s x more h e 3 body w (bad-first refl n)
   not-both s x more h e (second-length body w n) = not-wrong s x more h e 4 body w (bad-second refl n)
 
   not-ended : (s : List ℕ) (x : Sent) (more : List ℕ) → Fits manner x → s ≡ spell x ++ more → Ends manner s → ⊥

@@ -2,16 +2,20 @@
 use mathlib.Core.Path.{_≡_, refl, sym, ap, subst, _∙_}
 use mathlib.Core.Logic.{_↔_}
 use mathlib.Core.List.{List, [], _++_}
-use Prim.Native.Nat.{ℕ, _+_, _<_}
+use Prim.Native.Nat.{ℕ, _+_, _-_, _<_, _≤_}
 use native.Mathlib.Omega.{arith}
 use borrow.Author.Tests.{le-leb}
-use lib.ListN.{length, drop}
+use lib.ListN.{length, take, drop, length-append}
 use lib.Seq.{drop-drop, drop-append-seam}
 use Rattle.refusal.specs.declared.Refusal.the-variants.{Unreadable}
+use Rattle.rules.specs.declared.Values.{Values}
+use Rattle.slot.specs.declared.Slots.{Slots}
 use Rattle.shape.specs.declared.Selecting.{Selecting}
 use Rattle.shape.specs.declared.Selecting.the-variants.{Off, On}
 use Rattle.shape.specs.declared.Dating.{Dating}
 use Rattle.shape.specs.declared.Dating.the-variants.{Off as DatesOff, On as DatesOn}
+use Rattle.shape.specs.declared.Family.{Family}
+use Rattle.shape.specs.declared.Family.the-variants.{Cpa, Cpace}
 use Rattle.shape.specs.declared.Shape.{Shape as PaperShape}
 use Rattle.paper.specs.declared.Next.the-variants.{Record, Fault}
 use Rattle.paper.specs.Paper.{nextAt, nextNumber}
@@ -19,17 +23,18 @@ use Rattle.paper.specs.Walk.{part}
 use Rattle.command.specs.declared.Command.{Command}
 use Rattle.command.specs.declared.ReadCommand.{ReadCommand}
 use Rattle.command.specs.declared.ReadCommand.the-variants.{Taken, Refused}
-use Rattle.command.specs.Command.{firstOf, commandOf, selectingOf, commandIn}
+use Rattle.command.specs.Command.{startOf, firstOf, commandOf, startSelected, selectingOf, slotsOf, commandIn}
 use Rattle.command.specs.Command as C
-use Rattle.spelling.specs.Spelling.{Bytes, big, recordOf, Sent, names, brings, first, firstOn, second, kindOf, bodyOf, spell}
-use Rattle.spelling.specs.Spelling.{Choice, byName, byFile, choiceIn, Dates, datesIn, Manner, mannerIn, Fits, standsFor}
-use Rattle.spelling.specs.Faults.{Broken, Whole, RestFault, broken, repeated, unknown, start-length, first-length, dated-length, second-length}
+use Rattle.spelling.specs.Spelling.{Bytes, big, recordOf, Interface, unsaid, on, Presented, unshown, shown, Sent, names, brings, first, firstOn}
+use Rattle.spelling.specs.Spelling.{second, kindOf, interfaceBytes, presentedBytes, bodyOf, spell}
+use Rattle.spelling.specs.Spelling.{Choice, byName, byFile, choiceIn, Dates, datesIn, familyIn, Manner, mannerIn, Fits, slotsIn, standsFor}
+use Rattle.spelling.specs.Faults.{Broken, Whole, RestFault, broken, repeated, unknown, start-length, start-empty, first-length, second-length}
 use Rattle.spelling.specs.Sitting.{over, refused, command, readingIn, readingOf, reading, Lies, Spelled}
 use Rattle.spelling.proofs.Numbers.{bytes-drop, bytes-front}
 use Rattle.spelling.proofs.Shapes as S
 use Rattle.spelling.proofs.Shapes.{Shape, nothing, whole, shape, record-is, record-length, shift, next-drop, part-drop}
 use Rattle.spelling.proofs.Shapes.{next-nothing, next-broken, next-whole, body-there}
-use Rattle.spelling.proofs.Commands.{of, readBy, taken, Wrong, a-setup, no-command, bad-start, bad-first, bad-dated, bad-second}
+use Rattle.spelling.proofs.Commands.{of, datingOf, familyOf, readBy, taken, Wrong, a-setup, no-command, bad-start, bad-empty, bad-first, bad-second}
 use Rattle.spelling.proofs.Commands.{refused-wrong, Meaning, sent, wrong, meaning}
 
 -- ---- what can stand at the front
@@ -43,8 +48,8 @@ as-fault : (manner : Manner) (s : List ℕ) (kind : ℕ) (body : List ℕ) → W
 as-fault manner s kind body w (a-setup e) = repeated body (subst (λ (k : ℕ). Whole s k body) e w)
 as-fault manner s kind body w (no-command h) = unknown kind body w h
 as-fault manner s kind body w (bad-start e c n) = start-length body (subst (λ (k : ℕ). Whole s k body) e w) c n
-as-fault manner s kind body w (bad-first e d n) = first-length body (subst (λ (k : ℕ). Whole s k body) e w) d n
-as-fault manner s kind body w (bad-dated e d n) = dated-length body (subst (λ (k : ℕ). Whole s k body) e w) d n
+as-fault manner s kind body w (bad-empty e z f) = start-empty (subst (λ (k : ℕ). Whole s k []) e (subst (Whole s kind) z w)) f
+as-fault manner s kind body w (bad-first e n) = first-length body (subst (λ (k : ℕ). Whole s k body) e w) n
 as-fault manner s kind body w (bad-second e n) = second-length body (subst (λ (k : ℕ). Whole s k body) e w) n
 
 body-bytes : (s : List ℕ) (kind : ℕ) (body : List ℕ) → Bytes s → Whole s kind body → Bytes body
@@ -67,13 +72,22 @@ view manner s h = by-shape (shape s h) where
 pub body-short : (manner : Manner) (x : Sent) → Fits manner x → length (bodyOf x) < 65535
 unfolding Fits bodyOf big
 body-short manner x h = by (manner .choice) (manner .dates) x h where
-  by : (choice : Choice) (dates : Dates) (x : Sent) → Fits (of choice dates) x → length (bodyOf x) < 65535
-  by byName dates (names profile) h = omega arith
-  by byName dates (brings terminal) h = absurd h
-  by (byFile file entries) dates (names profile) h = absurd h
-  by (byFile file entries) dates (brings terminal) h = h .0
-  by choice dates (first a b c d) h = omega arith
-  by choice dates (firstOn date a b c d) h = omega arith
+  interface-short : (i : Interface) → length (interfaceBytes i) ≤ 1
+  interface-short unsaid = omega arith
+  interface-short (on interface) = omega arith
+
+  presented-short : (p : Presented) → length (presentedBytes p) ≤ 9
+  presented-short unshown = omega arith
+  presented-short (shown r1 r2 r3 cashback) = omega arith
+
+  by : (choice : Choice) (dates : Dates) (x : Sent) → Fits (of choice dates (manner .family)) x → length (bodyOf x) < 65535
+  by byName dates (names interface profile) h =
+      omega (arith, length-append (interfaceBytes interface) (big 1 profile), interface-short interface)
+  by byName dates (brings interface terminal) h = absurd h
+  by (byFile file entries) dates (names interface profile) h = absurd h
+  by (byFile file entries) dates (brings interface terminal) h = h .1
+  by choice dates (first a b c d p) h = omega (arith, presented-short p)
+  by choice dates (firstOn date a b c d p) h = omega (arith, presented-short p)
   by choice dates (second a b c d) h = omega arith
 
 abbrev pub whole-spelled : (manner : Manner) (x : Sent) → Fits manner x → (s more : List ℕ) → s ≡ spell x ++ more → Whole s (kindOf x) (bodyOf x)
@@ -81,30 +95,51 @@ whole-spelled manner x h s more e = record { more = more; is = e; sized = body-s
 
 -- ---- a place of a paper
 
-pub commands-same : (form : PaperShape) (s : List ℕ) → Lies (form .selecting) s → (kind : ℕ) (body : List ℕ)
-    → commandIn form s kind body ≡ readBy (mannerIn form s) kind body
-unfolding commandIn commandOf firstOf selectingOf
-commands-same form s h kind body = by (form .selecting) (form .dating) h where
-  by : (selecting : Selecting) (dating : Dating) → Lies selecting s
-      → C.readBy selecting dating s kind body ≡ readBy (of (choiceIn selecting s) (datesIn dating)) kind body
-  by Off DatesOff h = refl
-  by Off (DatesOn from to) h = refl
-  by (On start end entries) DatesOff h = rw (le-leb start end (h .0), le-leb end (length s) (h .1))
-  by (On start end entries) (DatesOn from to) h = rw (le-leb start end (h .0), le-leb end (length s) (h .1))
+-- where the tails stand is nothing to the readers
+module _ (slots : Slots) (file : List ℕ) (entries kind : ℕ) (body : List ℕ) where
+  tails-aside : (dating : Dating) (family : Family)
+      → (commandOf dating family kind body ≡ commandOf (datingOf (datesIn dating)) (familyOf (familyIn family)) kind body)
+      × (selectingOf dating family slots file entries kind body
+      ≡ selectingOf (datingOf (datesIn dating)) (familyOf (familyIn family)) slots file entries kind body)
+  unfolding commandOf startOf firstOf selectingOf startSelected
+  tails-aside DatesOff Cpa = (refl, refl)
+  tails-aside DatesOff (Cpace from to) = (refl, refl)
+  tails-aside (DatesOn start end) Cpa = (refl, refl)
+  tails-aside (DatesOn start end) (Cpace from to) = (refl, refl)
 
--- a record stands at a place, is read as that, and the next place is its end
-pub record Stands (form : PaperShape) (s : List ℕ) (at : ℕ) (read : ReadCommand) (end : ℕ) : Type 0 where
+slots-same : (family : Family) (values : Values) → slotsOf family values ≡ slotsIn (familyIn family) values
+unfolding slotsOf slotsIn
+slots-same Cpa values = refl
+slots-same (Cpace from to) values = refl
+
+pub commands-same : (form : PaperShape) (values : Values) (s : List ℕ) → Lies (form .selecting) s → (kind : ℕ) (body : List ℕ)
+    → commandIn form values s kind body ≡ readBy (mannerIn form s) (slotsIn (familyIn (form .family)) values) kind body
+unfolding commandIn
+commands-same form values s h kind body = rw (slots-same (form .family) values) (by (slotsIn (familyIn (form .family)) values) (form .selecting) h) where
+  by : (slots : Slots) (selecting : Selecting) → Lies selecting s
+      → C.readBy selecting (form .dating) (form .family) slots s kind body
+      ≡ readBy (of (choiceIn selecting s) (datesIn (form .dating)) (familyIn (form .family))) slots kind body
+  by slots Off h = tails-aside slots [] 0 kind body (form .dating) (form .family) .0
+  by slots (On start end entries) h =
+      rw (le-leb start end (h .0), le-leb end (length s) (h .1))
+      (tails-aside slots (take (end - start) (drop start s)) entries kind body (form .dating) (form .family) .1)
+
+-- a record stands at a place, is read as that by the card's values, and the next place is its end
+pub record Stands (form : PaperShape) (values : Values) (s : List ℕ) (at : ℕ) (read : ReadCommand) (end : ℕ) : Type 0 where
   pub kind : ℕ
   pub start : ℕ
   pub next : nextAt s at ≡ Record kind start end
-  pub is : commandIn form s kind (part s start end) ≡ read
+  pub is : commandIn form values s kind (part s start end) ≡ read
 
-module _ (form : PaperShape) (s : List ℕ) (lies : Lies (form .selecting) s) (at : ℕ) where
+module _ (form : PaperShape) (values : Values) (s : List ℕ) (lies : Lies (form .selecting) s) (at : ℕ) where
   abbrev manner : Manner
   manner = mannerIn form s
 
+  abbrev slots : Slots
+  slots = slotsIn (manner .family) values
+
   stands : (kind : ℕ) (body : List ℕ) → Whole (drop at s) kind body
-      → Stands form s at (readBy manner kind body) (at + (3 + length body))
+      → Stands form values s at (readBy manner slots kind body) (at + (3 + length body))
   stands kind body w =
       let there : nextAt (drop at s) 0 ≡ Record kind 3 (3 + length body) = rw (w .is) (next-whole kind body (w .more) (w .sized)) in
       let inside : part (drop at s) 3 (3 + length body) ≡ body = rw (w .is) (body-there kind body (w .more)) in
@@ -112,55 +147,55 @@ module _ (form : PaperShape) (s : List ℕ) (lies : Lies (form .selecting) s) (a
         kind = kind;
         start = at + 3;
         next = next-drop s at ∙ ap (shift at) there;
-        is = ap (commandIn form s kind) (part-drop s at 3 (3 + length body) ∙ inside) ∙ commands-same form s lies kind body;
+        is = ap (commandIn form values s kind) (part-drop s at 3 (3 + length body) ∙ inside) ∙ commands-same form values s lies kind body;
       }
 
   pub sent-stands : (x : Sent) → Fits manner x → (rest : List ℕ) → drop at s ≡ spell x ++ rest
-      → Stands form s at (Taken (standsFor manner x)) (at + length (spell x))
+      → Stands form values s at (Taken (standsFor manner slots x)) (at + length (spell x))
   sent-stands x h rest e =
       let st = stands (kindOf x) (bodyOf x) (whole-spelled manner x h (drop at s) rest e) in
-      rw (record-length (kindOf x) (bodyOf x), ← taken manner x h) st
+      rw (record-length (kindOf x) (bodyOf x), ← taken manner slots x h) st
 
   -- no whole record stands there, or one that is refused
   pub data Faulty : Type 0 where
     at-next : nextAt s at ≡ Fault → Faulty
-    at-record : (end : ℕ) → Stands form s at (Refused Unreadable) end → Faulty
+    at-record : (end : ℕ) → Stands form values s at (Refused Unreadable) end → Faulty
 
   wrongly : (kind : ℕ) (body : List ℕ) → Whole (drop at s) kind body → Wrong manner kind body → Faulty
   wrongly kind body w cause =
-      at-record (at + (3 + length body)) (rw (← refused-wrong manner kind body cause) (stands kind body w))
+      at-record (at + (3 + length body)) (rw (← refused-wrong manner slots kind body cause) (stands kind body w))
 
   pub faulty : RestFault manner (drop at s) → Faulty
   faulty (broken b) = at-next (next-drop s at ∙ ap (shift at) (next-broken (drop at s) b))
   faulty (repeated body w) = wrongly 1 body w (a-setup refl)
   faulty (unknown kind body w h) = wrongly kind body w (no-command h)
   faulty (start-length body w c n) = wrongly 2 body w (bad-start refl c n)
-  faulty (first-length body w d n) = wrongly 3 body w (bad-first refl d n)
-  faulty (dated-length body w d n) = wrongly 3 body w (bad-dated refl d n)
+  faulty (start-empty w f) = wrongly 2 [] w (bad-empty refl refl f)
+  faulty (first-length body w n) = wrongly 3 body w (bad-first refl n)
   faulty (second-length body w n) = wrongly 4 body w (bad-second refl n)
 
   -- what is read there
-  reads-stood : (read : ReadCommand) (end : ℕ) → Stands form s at read end → reading form s at ≡ readingOf end read
+  reads-stood : (read : ReadCommand) (end : ℕ) → Stands form values s at read end → reading form values s at ≡ readingOf end read
   unfolding reading
-  reads-stood read end st = ap (readingIn form s) (st .next) ∙ ap (readingOf end) (st .is)
+  reads-stood read end st = ap (readingIn form values s) (st .next) ∙ ap (readingOf end) (st .is)
 
   -- WHAT IS SPELLED AT A PLACE IS READ AS THAT COMMAND, AND THE READER GOES ON BEHIND IT
   pub reads-spelled : (x : Sent) → Fits manner x → (rest : List ℕ) → drop at s ≡ spell x ++ rest
-      → (reading form s at ≡ command (standsFor manner x) (at + length (spell x))) × (drop (at + length (spell x)) s ≡ rest)
+      → (reading form values s at ≡ command (standsFor manner slots x) (at + length (spell x))) × (drop (at + length (spell x)) s ≡ rest)
   reads-spelled x h rest e =
       (reads-stood _ _ (sent-stands x h rest e), sym (drop-drop (length (spell x)) at s) ∙ rw (e, drop-append-seam (spell x) rest))
 
   -- THE END
-  pub reads-end : drop at s ≡ [] → reading form s at ≡ over
+  pub reads-end : drop at s ≡ [] → reading form values s at ≡ over
   unfolding reading
   reads-end e = rw (next-drop s at, next-nothing (drop at s) e)
 
-  refused-there : Faulty → reading form s at ≡ refused 9
+  refused-there : Faulty → reading form values s at ≡ refused 9
   unfolding reading
   refused-there (at-next e) = rw e
   refused-there (at-record end st) = reads-stood (Refused Unreadable) end st
 
-  pub reads-fault : RestFault manner (drop at s) → reading form s at ≡ refused 9
+  pub reads-fault : RestFault manner (drop at s) → reading form values s at ≡ refused 9
   reads-fault f = refused-there (faulty f)
 
   module _ (bytes : Bytes s) where
@@ -179,29 +214,29 @@ module _ (form : PaperShape) (s : List ℕ) (lies : Lies (form .selecting) s) (a
             absurd (omega arith)
 
     -- WHATEVER IS READ AS A COMMAND IS THE SPELLING OF WHAT FITS AND STANDS FOR IT
-    pub spelled-if-read : (c : Command) (end : ℕ) → reading form s at ≡ command c end → Spelled manner s at c end
+    pub spelled-if-read : (c : Command) (end : ℕ) → reading form values s at ≡ command c end → Spelled manner slots s at c end
     spelled-if-read c end e = by (view manner (drop at s) (bytes-drop at s bytes)) where
-      by : View manner (drop at s) → Spelled manner s at c end
+      by : View manner (drop at s) → Spelled manner slots s at c end
       by (none n) = let z : _≡_ {A = ℕ} 0 1 = cc (reads-end n) in absurd (omega arith)
       by (fault f) = let z : _≡_ {A = ℕ} 0 1 = cc (reads-fault f) in absurd (omega arith)
       by (spelled x more fits is) =
           let r = reads-spelled x fits more is in
-          let same : standsFor manner x ≡ c = cc in
+          let same : standsFor manner slots x ≡ c = cc in
           let to : end ≡ at + length (spell x) = cc in
           record { sent = x; fits = fits; stands = same; is = is ∙ rw (to, r .1); ends = to }
 
     -- A REFUSAL IS 9, AND HAS ONE OF ITS CAUSES
-    pub fault-if-refused : (n : ℕ) → reading form s at ≡ refused n → (n ≡ 9) × RestFault manner (drop at s)
+    pub fault-if-refused : (n : ℕ) → reading form values s at ≡ refused n → (n ≡ 9) × RestFault manner (drop at s)
     fault-if-refused n e = by (view manner (drop at s) (bytes-drop at s bytes)) where
       by : View manner (drop at s) → (n ≡ 9) × RestFault manner (drop at s)
       by (none n) = let z : _≡_ {A = ℕ} 0 1 = cc (reads-end n) in absurd (omega arith)
       by (fault f) = (cc (reads-fault f), f)
       by (spelled x more fits is) = let r = reads-spelled x fits more is in let z : _≡_ {A = ℕ} 0 1 = cc in absurd (omega arith)
 
-    pub refused-exactly : (reading form s at ≡ refused 9) ↔ RestFault manner (drop at s)
+    pub refused-exactly : (reading form values s at ≡ refused 9) ↔ RestFault manner (drop at s)
     refused-exactly = (λ e. fault-if-refused 9 e .1, reads-fault)
 
-    pub end-if-over : reading form s at ≡ over → drop at s ≡ []
+    pub end-if-over : reading form values s at ≡ over → drop at s ≡ []
     end-if-over e = by (view manner (drop at s) (bytes-drop at s bytes)) where
       by : View manner (drop at s) → drop at s ≡ []
       by (none n) = n

@@ -1,21 +1,35 @@
 -- What the statements say at chosen inputs, worked out. Assumes nothing.
 use mathlib.Core.Path.{_≡_}
-use mathlib.Core.Bool.{Bool, true, false, not, _&&_}
+use mathlib.Core.Bool.{Bool, false, not, _&&_}
 use mathlib.Core.List.{List, [], _∷_, _++_}
 use Prim.Native.Nat.{ℕ}
 use lib.Dec.{T, eqb}
 use lib.ListN.{length, take, drop, replicate, getD}
 use Rattle.wire.specs.Wire.{byte, number}
+use Rattle.calendar.specs.declared.Date.{Date}
 use Rattle.calendar.specs.Calendar.{dateAt}
+use Rattle.cpace.specs.declared.Cvm.{Cvm}
+use Rattle.cpace.specs.declared.Cvm.the-variants.{OnlinePin, Signature, NoCvm}
+use Rattle.cpace.specs.Cpace.{cvmAt, cashbackAt}
+use Rattle.rules.specs.Word.{wordCount}
 use Rattle.setup.specs.Setup.{rulesIn, freshIn}
+use Rattle.rules.specs.declared.Values.{Values}
+use Rattle.slot.specs.Slot.{testsSlot, slotOf, isSlotSound, lacksAmount, slotValue, slotPasses}
+use Rattle.entry.specs.Entry.{isWellFormed, reachesPast, block, masked, isAnyOf, passes, actionOf, dataAction, slotAction, actionTaken}
+use Rattle.selection.specs.declared.Selection.{Selection}
+use Rattle.selection.specs.declared.Selection.the-variants.{Selected, NotSelected}
+use Rattle.selection.specs.Selection.{entriesOf, follow, selectFrom, selectionOf}
 use Rattle.shape.specs.declared.Dating.the-variants.{On as DatesOn}
+use Rattle.shape.specs.declared.Family.the-variants.{Cpace}
 use Rattle.shape.specs.declared.Shape.{Shape}
-use Rattle.shape.specs.Shape.{based, dates}
+use Rattle.shape.specs.Shape.{based, selects, dates, families}
 use Rattle.paper.specs.Paper.{nextAt, openPaper, openedNumber}
+use Rattle.command.specs.declared.Start.{Start}
+use Rattle.command.specs.declared.First.{First}
 use Rattle.command.specs.declared.When.{When}
 use Rattle.command.specs.declared.When.the-variants.{Undated, On as DatedOn}
 use Rattle.command.specs.declared.Command.the-variants.{Start as StartCommand, First as FirstCommand, Second as SecondCommand}
-use Rattle.command.specs.Command.{firstOf, secondOf, commandOf, commandIn}
+use Rattle.command.specs.Command.{startOf, firstOf, secondOf, commandOf, startSelected, selectingOf, slotsOf, commandIn}
 use Rattle.state.specs.declared.Answer.the-variants.{Started}
 use Rattle.card.specs.Card.{freshState}
 use Rattle.lines.specs.Lines.{digit, decimal, refusalLine, startLine, selectedLine}
@@ -23,7 +37,7 @@ use Rattle.conversation.specs.Conversation.{answeredBy, takenOf}
 use Rattle.conversation.specs.Events.{eventsFrom}
 use Rattle.lines.specs.Sitting.{answerLine, linesOf, sittingLines}
 use Rattle.readback.specs.Fields.{wordsIn, areDigits, valueIn, isHex, bytesIn, Fields, Two, Three, Four, Five, Other, fieldsIn}
-use Rattle.spelling.specs.Spelling.{big, recordOf, names, first, firstOn, second, kindOf, bodyOf, spell, paperOf}
+use Rattle.spelling.specs.Spelling.{big, recordOf, unsaid, on, Presented, unshown, shown, names, brings, first, firstOn, second, kindOf, bodyOf, spell, paperOf}
 use Rattle.spelling.specs.Printed.{printed, body}
 use Rattle.spelling.specs.Sitting.{Reading, over, refused, command, reading}
 use Rattle.spelling.proofs.Computed.{answered}
@@ -32,6 +46,13 @@ use Rattle.spelling.proofs.Computed.{answered}
 abbrev isUnread : List ℕ → Bool
 isUnread s = eqb (openedNumber (openPaper s)) 9
 
+-- what is read at a card whose counter 1 is 5
+abbrev values : Values
+values = record { accumulators = []; counters = 5 ∷ []; cyclic = [] }
+
+abbrev readingWith : Shape → List ℕ → ℕ → Reading
+readingWith shape s at = reading shape values s at
+
 -- `reads-fault`: what stands there ends the paper with 9
 abbrev isNine : Reading → Bool
 isNine over = false
@@ -39,16 +60,27 @@ isNine (refused n) = eqb n 9
 isNine (command c end) = false
 
 abbrev faults : List ℕ → Bool
-faults s = isNine (reading (based 0) s 0)
+faults s = isNine (readingWith (based 0) s 0)
 
--- `reads-spelled`: the fields read of a First and of a Second, and where the next record stands
+-- `reads-spelled`: the fields read of a Start, a First and a Second, and where the next record stands
+abbrev ofStart : (Start → (end : ℕ) → Bool) → Reading → Bool
+ofStart test over = false
+ofStart test (refused n) = false
+ofStart test (command (StartCommand s) end) = test s end
+ofStart test (command (FirstCommand f) end) = false
+ofStart test (command (SecondCommand s) end) = false
+
+abbrev ofFirst : (First → (end : ℕ) → Bool) → Reading → Bool
+ofFirst test over = false
+ofFirst test (refused n) = false
+ofFirst test (command (StartCommand s) end) = false
+ofFirst test (command (FirstCommand f) end) = test f end
+ofFirst test (command (SecondCommand s) end) = false
+
 abbrev isFirst : Reading → (type amount currency terminal end : ℕ) → Bool
-isFirst over type amount currency terminal end = false
-isFirst (refused n) type amount currency terminal end = false
-isFirst (command (StartCommand s) at) type amount currency terminal end = false
-isFirst (command (FirstCommand f) at) type amount currency terminal end =
-    eqb (f .requested) type && eqb (f .amount .0) amount && eqb (f .currency) currency && eqb (f .terminal) terminal && eqb at end
-isFirst (command (SecondCommand s) at) type amount currency terminal end = false
+isFirst reading type amount currency terminal end =
+    ofFirst (λ f at.
+    eqb (f .requested) type && eqb (f .amount .0) amount && eqb (f .currency) currency && eqb (f .terminal) terminal && eqb at end) reading
 
 abbrev isSecond : Reading → (type code issuer csu end : ℕ) → Bool
 isSecond over type code issuer csu end = false
@@ -67,18 +99,55 @@ isOn Undated year month day = false
 isOn (DatedOn date) year month day = eqb (date .year) year && eqb (date .month) month && eqb (date .day) day
 
 abbrev isFirstOn : Reading → (year month day : ℕ) → Bool
-isFirstOn over year month day = false
-isFirstOn (refused n) year month day = false
-isFirstOn (command (StartCommand s) at) year month day = false
-isFirstOn (command (FirstCommand f) at) year month day = isOn (f .when) year month day
-isFirstOn (command (SecondCommand s) at) year month day = false
+isFirstOn reading year month day = ofFirst (λ f at. isOn (f .when) year month day) reading
+
+abbrev day : Date
+day = record { year = 0x05; month = 0x07; day = 0x15 }
 
 abbrev onDay : List ℕ
-onDay = spell (firstOn (record { year = 0x05; month = 0x07; day = 0x15 }) 1 5000 0x0978 0x22)
+onDay = spell (firstOn day 1 5000 0x0978 0x22 unshown)
+
+-- and of what only a CPACE card is sent
+abbrev withCpace : Shape
+withCpace = families (based 0) (Cpace 0 0)
+
+abbrev isNamed : Selection → (profile visits : ℕ) → Bool
+isNamed NotSelected profile visits = false
+isNamed (Selected p v) profile visits = eqb p profile && eqb v visits
+
+abbrev isStart : Reading → (interface profile visits end : ℕ) → Bool
+isStart reading interface profile visits end =
+    ofStart (λ s at. eqb (s .interface) interface && isNamed (s .chosen) profile visits && eqb at end) reading
+
+abbrev presenting : Presented → Reading
+presenting presented = readingWith withCpace (spell (first 1 5000 0x0978 0x22 presented)) 0
+
+-- the CVM by its bit in a control
+abbrev cvmBit : Cvm → ℕ
+cvmBit OnlinePin = 4
+cvmBit Signature = 2
+cvmBit NoCvm = 1
+
+abbrev isVerified : Reading → (bit : ℕ) → Bool
+isVerified reading bit = ofFirst (λ f at. eqb (cvmBit (f .cvm)) bit) reading
+
+abbrev hasCashback : Reading → Bool
+hasCashback reading = ofFirst (λ f at. f .cashback) reading
+
+-- a file that asks the first byte of a Start: 1 is profile 2, else 1; and such a Start behind it
+abbrev asking : List ℕ
+asking = 8 ∷ 1 ∷ 1 ∷ 2 ∷ 0xFF ∷ 1 ∷ 0 ∷ 2 ∷ 1 ∷ []
+
+abbrev behindFile : List ℕ → Reading
+behindFile start = readingWith (selects withCpace 0 9 1) (asking ++ start) 9
+
+-- a file that asks whether counter 1 is above 4: then profile 2, else 1
+abbrev testing : List ℕ
+testing = 7 ∷ 0 ∷ 1 ∷ 1 ∷ 4 ∷ 0x91 ∷ 2 ∷ 1 ∷ []
 
 -- `lines-of`: how many lines n turns over a rest say
 abbrev lineCount : List ℕ → ℕ
-lineCount s = length (linesOf 1 (eventsFrom 9 (rulesIn [] [] 0) (based 0) (freshState (freshIn [] [])) s 0))
+lineCount s = length (linesOf 1 (eventsFrom 9 (rulesIn [] [] [] 0) (based 0) (freshState (freshIn [] [])) s 0))
 
 -- `answer-shown`: the fields of a Start's line that shows the visits
 abbrev isFour : Fields → (number refusal atc visits : ℕ) → Bool
@@ -90,37 +159,56 @@ isFour Other number refusal atc visits = false
 
 -- `every-paper`: the lines of papers with blank words. The printed set-up and a Start
 abbrev blank : List ℕ
-blank = replicate 186 0
+blank = replicate wordCount 0
 
 abbrev started : List (List ℕ)
-started = sittingLines blank (paperOf 1 body (spell (names 1)))
+started = sittingLines blank (paperOf 1 body (spell (names unsaid 1)))
 
 -- version 03, the same set-up with 0840 at 0.4 of 0978, syllabus 1; a Start and a First of 1 in 0840: the last digit of the accumulator sent
 abbrev converting : List ℕ
 converting = take 4 body ++ 1 ∷ drop 5 body ++ 0x08 ∷ 0x40 ∷ 0x09 ∷ 0x78 ∷ 0 ∷ 4 ∷ 8 ∷ []
 
 abbrev roundedUp : List (List ℕ)
-roundedUp = sittingLines blank (paperOf 3 (converting ++ 0 ∷ 1 ∷ []) (spell (names 1) ++ spell (first 1 1 0x0840 0x22)))
+roundedUp = sittingLines blank (paperOf 3 (converting ++ 0 ∷ 1 ∷ []) (spell (names unsaid 1) ++ spell (first 1 1 0x0840 0x22 unshown)))
 
 pub record Samples : Type 0 where
   -- 4 bytes and any 65,533 more
   pub over-long : (more : List ℕ) → length more ≡ 65533 → T (isUnread (1 ∷ 0 ∷ 1 ∷ 1 ∷ more))
   pub version-0 : T (isUnread (0 ∷ 0 ∷ 1 ∷ 1 ∷ []))
-  pub version-5 : T (isUnread (5 ∷ 0 ∷ 1 ∷ 1 ∷ []))
-  pub first-fields : T (isFirst (reading (based 0) (spell (first 1 5000 0x0978 0x22)) 0) 1 5000 0x0978 0x22 15)
-  pub dated-fields : T (isFirst (reading withDates onDay 0) 1 5000 0x0978 0x22 18)
-  pub date-field : T (isFirstOn (reading withDates onDay 0) 0x05 0x07 0x15)
-  pub second-fields : T (isSecond (reading (based 0) (spell (second 1 0x5933 2 0x01020304)) 0) 1 0x5933 2 0x01020304 11)
+  pub version-6 : T (isUnread (6 ∷ 0 ∷ 1 ∷ 1 ∷ []))
+  pub first-fields : T (isFirst (readingWith (based 0) (spell (first 1 5000 0x0978 0x22 unshown)) 0) 1 5000 0x0978 0x22 15)
+  pub dated-fields : T (isFirst (readingWith withDates onDay 0) 1 5000 0x0978 0x22 18)
+  pub date-field : T (isFirstOn (readingWith withDates onDay 0) 0x05 0x07 0x15)
+  pub second-fields : T (isSecond (readingWith (based 0) (spell (second 1 0x5933 2 0x01020304)) 0) 1 0x5933 2 0x01020304 11)
+  -- a CPACE Start names its interface and then its profile; where it brings the terminal's data, the file reads the interface first
+  pub interface-field : T (isStart (readingWith withCpace (spell (names (on 0) 1)) 0) 0 1 0 5)
+  pub interface-read : T (isStart (behindFile (spell (brings (on 1) []))) 1 2 1 13)
+  -- or what the card holds
+  pub slot-tested : T (isStart (readingWith (selects withCpace 0 8 1) (testing ++ spell (brings (on 1) [])) 8) 1 2 1 12)
+  -- a CPACE First, also with its date
+  pub presented-fields : T (isFirst (presenting (shown 0x1E 0x03 0x00 0)) 1 5000 0x0978 0x22 24)
+  pub presented-on-day : T (isVerified (readingWith (families withDates (Cpace 0 0)) (spell (firstOn day 1 5000 0x0978 0x22 (shown 0x1E 3 0 0))) 0) 2)
+  -- 1E 03 00 is signature, 42 03 00 online PIN, 1E 03 02 no CVM
+  pub signature-shown : T (isVerified (presenting (shown 0x1E 0x03 0x00 0)) 2)
+  pub low-bits-asked : T (isVerified (presenting (shown 0x42 0x03 0x00 0)) 4)
+  pub result-asked : T (isVerified (presenting (shown 0x1E 0x03 0x02 0)) 1)
+  -- cashback in its first byte alone; none
+  pub cashback-first-byte : T (hasCashback (presenting (shown 0 0 0 0x010000000000)))
+  pub cashback-none : T (not (hasCashback (presenting (shown 0 0 0 0))))
   -- the set-up repeated, an unknown kind, none (length 0), a Start of two bytes
   pub setup-repeated : T (faults (recordOf 1 (1 ∷ [])))
   pub kind-unknown : T (faults (recordOf 5 (replicate 8 0)))
   pub no-kind : T (faults (0 ∷ 0 ∷ 0 ∷ []))
   pub start-too-long : T (faults (recordOf 2 (1 ∷ 1 ∷ [])))
   -- a First of 12 bytes in a paper with dates, of 15 in one without
-  pub first-undated : T (isNine (reading withDates (spell (first 1 5000 0x0978 0x22)) 0))
+  pub first-undated : T (isNine (readingWith withDates (spell (first 1 5000 0x0978 0x22 unshown)) 0))
   pub first-dated : T (faults onDay)
+  -- neither is a First in a paper of a CPACE card, nor a Start of one byte, nor an empty one where it brings the terminal's data
+  pub first-unpresented : T (isNine (readingWith withCpace onDay 0))
+  pub start-too-short : T (isNine (readingWith withCpace (spell (names unsaid 1)) 0))
+  pub start-empty : T (isNine (behindFile (recordOf 2 [])))
   -- what stands behind a fault is no longer a command
-  pub ends-at-nine : T (eqb (lineCount (recordOf 1 (1 ∷ []) ++ spell (names 1))) 1)
+  pub ends-at-nine : T (eqb (lineCount (recordOf 1 (1 ∷ []) ++ spell (names unsaid 1))) 1)
   -- the set-up's line has number 0, the first command's is the next, by the paper's own rules and its syllabus
   pub numbered-from-0 : T (eqb (byte (getD (sittingLines [] []) 0 []) 0) 0x30)
   pub first-command : T (eqb (length started) 2)
@@ -130,24 +218,40 @@ pub record Samples : Type 0 where
   pub visit-shown : T (isFour (fieldsIn (answerLine 3 (Started 2 1))) 3 0 2 1)
 
 pub samples : Samples
-unfolding openPaper nextAt number dateAt reading commandIn commandOf firstOf secondOf kindOf bodyOf recordOf big
+unfolding openPaper nextAt number dateAt cvmAt cashbackAt reading commandIn commandOf startOf firstOf secondOf startSelected selectingOf
+    selectionOf selectFrom entriesOf follow actionTaken dataAction actionOf passes isAnyOf masked block reachesPast isWellFormed
+    slotsOf testsSlot slotAction isSlotSound slotOf lacksAmount slotPasses slotValue
+    kindOf bodyOf recordOf big
     eventsFrom takenOf answeredBy linesOf refusalLine decimal digit answerLine startLine selectedLine
     fieldsIn wordsIn areDigits valueIn isHex bytesIn printed answered
 samples =
     record {
       over-long = λ more e. rw e tt;
       version-0 = tt;
-      version-5 = tt;
+      version-6 = tt;
       first-fields = tt;
       dated-fields = tt;
       date-field = tt;
       second-fields = tt;
+      interface-field = tt;
+      interface-read = tt;
+      slot-tested = tt;
+      presented-fields = tt;
+      presented-on-day = tt;
+      signature-shown = tt;
+      low-bits-asked = tt;
+      result-asked = tt;
+      cashback-first-byte = tt;
+      cashback-none = tt;
       setup-repeated = tt;
       kind-unknown = tt;
       no-kind = tt;
       start-too-long = tt;
       first-undated = tt;
       first-dated = tt;
+      first-unpresented = tt;
+      start-too-short = tt;
+      start-empty = tt;
       ends-at-nine = tt;
       numbered-from-0 = tt;
       first-command = tt;

@@ -10,7 +10,7 @@ use Rattle.setup.specs.Setup.{rateIn, accumulatorIn, counterIn, profileIn, cycl
 use Rattle.shape.specs.Shape.{based}
 use Rattle.money.specs.Money.{rateFor, scaled, convertOf}
 use Rattle.iad.specs.Iad.{isCvr, isWritable, pairsOf, iadBytes, writeIad, written}
-use Rattle.purchase.specs.Meter.{worth, cyclicWorth}
+use Rattle.purchase.specs.Meter.{worth, cyclicWorth, isOpen}
 use Rattle.meters.specs.Meters.{applied}
 use Rattle.checks.specs.Checks.{accumulatorsLower, accumulatorsUpper, countersLower, countersUpper, datingFlags, maximumExceeded, decisionBits}
 use Rattle.cryptogram.specs.Cryptogram.{limitsByte, verification, sentIad}
@@ -20,8 +20,8 @@ use Rattle.second.specs.Second.{closed, unablePerformed, secondPerformed}
 use Rattle.card.specs.Card.{freshState, startStep, firstStep, secondStep, stepOf}
 use Rattle.lines.specs.Lines.{digit, decimal, hex, refusalLine, startLine, cryptogramLine}
 use Rattle.lines.specs.Sitting.{answerLine, sittingLines}
-use Rattle.spelling.specs.Spelling.{standsFor, allStandFor}
-use Rattle.spelling.specs.Sitting.{answers, ended, sittingOf}
+use Rattle.spelling.specs.Spelling.{standsFor}
+use Rattle.spelling.specs.Sitting.{allStandFor, answers, ended, sittingOf}
 use Rattle.spelling.specs.Printed.{printed, body, sent, printedLines}
 use Rattle.spelling.proofs.Witness.{named, printed-lines}
 
@@ -29,7 +29,7 @@ worked : sittingOf (based 159) body {manner = named} sent {rest = []} (ended ref
 unfolding printed sent printedLines standsFor allStandFor answers answerLine digit decimal hex refusalLine startLine cryptogramLine
     freshState freshIn number rulesIn rateIn profileIn accumulatorIn counterIn cycleIn cyclicIn stepOf startStep firstStep secondStep findProfile
     firstPerformed firstAnswered timingOf dated decision limitsByte settled asked concluded decisionBits accumulatorsLower accumulatorsUpper countersLower countersUpper
-    datingFlags maximumExceeded worth cyclicWorth convertOf rateFor scaled applied verification sentIad pairsOf iadBytes isCvr isWritable writeIad written
+    datingFlags maximumExceeded worth cyclicWorth isOpen convertOf rateFor scaled applied verification sentIad pairsOf iadBytes isCvr isWritable writeIad written
     secondPerformed unablePerformed closed
 worked = refl
 

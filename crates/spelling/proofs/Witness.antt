@@ -1,12 +1,12 @@
--- The premises are met: by the paper of the printed sitting, by one whose Starts bring the terminal's data, and by one whose Firsts have
--- their dates. Assumes nothing.
+-- The premises are met: by the paper of the printed sitting, by one whose Starts bring the terminal's data, by one whose Firsts have
+-- their dates, and by a CPACE card's. Assumes nothing.
 use mathlib.Core.Path.{_≡_, refl, sym}
 use mathlib.Core.Bool.{Bool, true, _&&_}
 use mathlib.Core.List.{List, [], _∷_, append-nil}
 use Prim.Native.Nat.{ℕ, _^_, _<_}
 use borrow.Author.Tests.{ltb-true}
 use lib.Dec.{T, ltb, lit<, lit≤}
-use lib.ListN.{length}
+use lib.ListN.{length, drop}
 use Rattle.wire.specs.Wire.{number}
 use Rattle.wire.proofs.Pairs.{both}
 use Rattle.rules.specs.Word.{wordCount}
@@ -14,18 +14,19 @@ use Rattle.ranges.specs.Ranges.{isSetup, hasLength, isHead, areAccumulators, is
 use Rattle.ranges.specs.Ranges.{areProfiles, isProfileOrAbsent, isProfile, areMasks, isMaximumAmount, areAccumulatorRules, isAccumulatorRule}
 use Rattle.ranges.specs.Ranges.{areCounterRules, areSent, areNumbersApart, profileNumber}
 use Rattle.ranges.specs.Ranges.{areConversions, isConversionOrAbsent, isConversion, conversionPair, arePairsApart}
-use Rattle.ranges.specs.Ranges.{isCycle, isCyclicRule, areCyclicRules, areCycles}
+use Rattle.ranges.specs.Ranges.{isCycle, isCyclicRule, areCyclicRules, areCycles, isFamily}
 use Rattle.calendar.specs.Calendar.{dateAt, hasDay, isDay}
 use Rattle.setup.specs.Setup.{readSetup}
 use Rattle.shape.specs.declared.Dating.the-variants.{On as DatesOn}
+use Rattle.shape.specs.declared.Family.the-variants.{Cpace}
 use Rattle.shape.specs.declared.Shape.{Shape}
-use Rattle.shape.specs.Shape.{based, baseTail, entriesEnd, selects, selectionTail, syllabusTail, dates, datingTail, tailsOf, shapeOf}
+use Rattle.shape.specs.Shape.{based, baseTail, entriesEnd, selects, selectionTail, syllabusTail, dates, datingTail, families, familyTail, tailsOf, shapeOf}
 use Rattle.lines.specs.Sitting.{sittingLines}
-use Rattle.spelling.specs.Spelling.{Bytes, big, recordOf, brings, first, firstOn, second, kindOf, bodyOf, spellAll, paperOf}
-use Rattle.spelling.specs.Spelling.{byName, byFile, undated, dated, Manner, mannerIn, Fits, AllFit}
+use Rattle.spelling.specs.Spelling.{Bytes, big, recordOf, unsaid, on, unshown, shown, names, brings, first, firstOn, second, kindOf, bodyOf, spellAll, paperOf}
+use Rattle.spelling.specs.Spelling.{byName, byFile, undated, dated, cpa, cpace, Manner, mannerIn, Fits, AllFit}
 use Rattle.spelling.specs.Faults.{Opens}
 use Rattle.spelling.specs.Sitting.{SetUp, ended, sittingOf}
-use Rattle.spelling.specs.Printed.{printed, body, sent, selection, selectionBody, file, brought, calendar, calendarBody, datedSent}
+use Rattle.spelling.specs.Printed.{printed, body, sent, selection, selectionBody, file, brought, calendar, calendarBody, datedSent, cpacePaper, cpaceBody, cpaceSent}
 use Rattle.spelling.proofs.Papers.{lines-of}
 
 areBytes : List ℕ → Bool
@@ -57,23 +58,23 @@ opens = record { is = refl; least = lit≤ tt; most = lit≤ tt; short = lit≤ 
 pub set-up : SetUp 1 body (based 159)
 unfolding printed shapeOf tailsOf baseTail readSetup isSetup hasLength isHead areAccumulators isAccumulator number
     areProfiles isProfileOrAbsent isProfile areMasks isMaximumAmount areAccumulatorRules isAccumulatorRule areCounterRules areSent
-    areNumbersApart profileNumber areConversions isConversionOrAbsent isConversion conversionPair arePairsApart areCycles
+    areNumbersApart profileNumber areConversions isConversionOrAbsent isConversion conversionPair arePairsApart areCycles isFamily
 set-up = record { shape-is = refl; base = refl }
 
 abbrev pub named : Manner
-named = record { choice = byName; dates = undated }
+named = record { choice = byName; dates = undated; family = cpa }
 
 pub fit : AllFit named sent
 unfolding sent Fits
 fit = (one, (buys 5000 (lit< tt), (one, (buys 1 (lit< tt), (cannot, (one, (buys 5000 (lit< tt), (cannot, tt)))))))) where
-  one : 1 < 256
-  one = lit< tt
+  one : Fits named (names unsaid 1)
+  one = (tt, lit< tt)
 
-  buys : (amount : ℕ) → amount < 256 ^ 8 → Fits named (first 1 amount 0x0978 0x22)
-  buys amount h = (one, h, lit< tt, lit< tt)
+  buys : (amount : ℕ) → amount < 256 ^ 8 → Fits named (first 1 amount 0x0978 0x22 unshown)
+  buys amount h = ((lit< tt, h, lit< tt, lit< tt), tt)
 
   cannot : Fits named (second 1 0x5933 0 0)
-  cannot = (one, lit< tt, lit< tt, lit< tt)
+  cannot = (lit< tt, lit< tt, lit< tt, lit< tt)
 
 -- THE PRINTED SITTING: THE LINES OF THE 242 BYTES ARE THOSE OF THE EIGHT THAT WERE SENT, AND NO MORE
 pub printed-lines : (words : List ℕ) → length words ≡ wordCount
@@ -87,7 +88,7 @@ abbrev selective : Shape
 selective = selects (based 266) 268 279 1
 
 abbrev chosen : Manner
-chosen = record { choice = byFile file 1; dates = undated }
+chosen = record { choice = byFile file 1; dates = undated; family = cpa }
 
 pub brought-spelled : paperOf 2 selectionBody (spellAll brought) ≡ selection
 unfolding selection brought spellAll kindOf bodyOf recordOf big
@@ -108,7 +109,7 @@ brought-opens = record { is = refl; least = lit≤ tt; most = lit≤ tt; short =
 pub brought-set-up : SetUp 2 selectionBody selective
 unfolding selection shapeOf tailsOf baseTail selectionTail entriesEnd readSetup isSetup hasLength isHead areAccumulators isAccumulator number
     areProfiles isProfileOrAbsent isProfile areMasks isMaximumAmount areAccumulatorRules isAccumulatorRule areCounterRules areSent
-    areNumbersApart profileNumber areConversions isConversionOrAbsent isConversion conversionPair arePairsApart areCycles
+    areNumbersApart profileNumber areConversions isConversionOrAbsent isConversion conversionPair arePairsApart areCycles isFamily
 brought-set-up = record { shape-is = refl; base = refl }
 
 pub brought-chosen : mannerIn selective selectionBody ≡ chosen
@@ -117,12 +118,12 @@ brought-chosen = refl
 
 pub brought-fit : AllFit chosen brought
 unfolding brought Fits
-brought-fit = (three 1 0 0x56 tt tt tt, (buys 5000 (lit< tt), (three 1 8 0x40 tt tt tt, (buys 1 (lit< tt), ((lit< tt, (lit< tt, (lit< tt, tt))), tt))))) where
-  three : (a b c : ℕ) → T (ltb a 256) → T (ltb b 256) → T (ltb c 256) → Fits chosen (brings (a ∷ b ∷ c ∷ []))
-  three a b c p q r = (lit< tt, (lit< p, (lit< q, (lit< r, tt))))
+brought-fit = (three 1 0 0x56 tt tt tt, (buys 5000 (lit< tt), (three 1 8 0x40 tt tt tt, (buys 1 (lit< tt), ((tt, lit< tt, (lit< tt, (lit< tt, tt))), tt))))) where
+  three : (a b c : ℕ) → T (ltb a 256) → T (ltb b 256) → T (ltb c 256) → Fits chosen (brings unsaid (a ∷ b ∷ c ∷ []))
+  three a b c p q r = (tt, lit< tt, (lit< p, (lit< q, (lit< r, tt))))
 
-  buys : (amount : ℕ) → amount < 256 ^ 8 → Fits chosen (first 1 amount 0x0978 0x22)
-  buys amount h = (lit< tt, h, lit< tt, lit< tt)
+  buys : (amount : ℕ) → amount < 256 ^ 8 → Fits chosen (first 1 amount 0x0978 0x22 unshown)
+  buys amount h = ((lit< tt, h, lit< tt, lit< tt), tt)
 
 pub brought-lines : (words : List ℕ) → length words ≡ wordCount
     → sittingLines words selection ≡ sittingOf selective selectionBody {manner = chosen} brought {rest = []} (ended refl)
@@ -137,7 +138,7 @@ abbrev calendarly : Shape
 calendarly = dates (based 159) (DatesOn 161 207)
 
 abbrev onDays : Manner
-onDays = record { choice = byName; dates = dated }
+onDays = record { choice = byName; dates = dated; family = cpa }
 
 pub dated-spelled : paperOf 4 calendarBody (spellAll datedSent) ≡ calendar
 unfolding calendar datedSent spellAll kindOf bodyOf recordOf big
@@ -159,7 +160,7 @@ pub dated-set-up : SetUp 4 calendarBody calendarly
 unfolding calendar shapeOf tailsOf baseTail selectionTail syllabusTail datingTail readSetup isSetup hasLength isHead areAccumulators isAccumulator number
     areProfiles isProfileOrAbsent isProfile areMasks isMaximumAmount areAccumulatorRules isAccumulatorRule areCounterRules areSent
     areNumbersApart profileNumber areConversions isConversionOrAbsent isConversion conversionPair arePairsApart
-    areCycles isCycle areCyclicRules isCyclicRule dateAt isDay hasDay
+    areCycles isCycle areCyclicRules isCyclicRule dateAt isDay hasDay isFamily
 dated-set-up = record { shape-is = refl; base = refl }
 
 pub dated-manner : mannerIn calendarly calendarBody ≡ onDays
@@ -187,12 +188,12 @@ dated-fit = (
   ),
 )
   where
-    one : 1 < 256
-    one = lit< tt
+    one : Fits onDays (names unsaid 1)
+    one = (tt, lit< tt)
 
     buys : (month day amount : ℕ) → T (ltb month 256) → T (ltb day 256) → T (ltb amount (256 ^ 8))
-        → Fits onDays (firstOn (record { year = 0x05; month = month; day = day }) 1 amount 0x0978 0x22)
-    buys month day amount p q r = ((one, lit< r, lit< tt, lit< tt), (lit< tt, lit< p, lit< q))
+        → Fits onDays (firstOn (record { year = 0x05; month = month; day = day }) 1 amount 0x0978 0x22 unshown)
+    buys month day amount p q r = ((lit< tt, lit< r, lit< tt, lit< tt), (lit< tt, lit< p, lit< q), tt)
 
 pub dated-lines : (words : List ℕ) → length words ≡ wordCount
     → sittingLines words calendar ≡ sittingOf calendarly calendarBody {manner = onDays} datedSent {rest = []} (ended refl)
@@ -200,3 +201,71 @@ unfolding calendar
 dated-lines words lent =
     lines-of words calendar 4 calendarBody (spellAll datedSent) dated-opens calendarly dated-set-up dated-bytes lent datedSent []
     dated-fit (ended refl) (sym (append-nil (spellAll datedSent)))
+
+-- ---- the paper of a CPACE card
+
+abbrev cpacely : Shape
+cpacely = families (based 159) (Cpace 162 172)
+
+abbrev presenting : Manner
+presenting = record { choice = byName; dates = undated; family = cpace }
+
+pub cpace-spelled : paperOf 5 cpaceBody (spellAll cpaceSent) ≡ cpacePaper
+unfolding cpacePaper cpaceSent spellAll kindOf bodyOf recordOf big
+cpace-spelled = refl
+
+pub cpace-long : length cpacePaper ≡ 359
+unfolding cpacePaper
+cpace-long = refl
+
+pub cpace-bytes : Bytes cpacePaper
+unfolding cpacePaper areBytes
+cpace-bytes = bytes-of cpacePaper refl
+
+pub cpace-opens : Opens cpacePaper 5 cpaceBody (spellAll cpaceSent)
+unfolding cpacePaper cpaceSent spellAll kindOf bodyOf recordOf big
+cpace-opens = record { is = refl; least = lit≤ tt; most = lit≤ tt; short = lit≤ tt }
+
+pub cpace-set-up : SetUp 5 cpaceBody cpacely
+unfolding cpacePaper shapeOf tailsOf baseTail selectionTail syllabusTail datingTail familyTail readSetup isSetup hasLength isHead areAccumulators isAccumulator
+    number areProfiles isProfileOrAbsent isProfile areMasks isMaximumAmount areAccumulatorRules isAccumulatorRule areCounterRules areSent
+    areNumbersApart profileNumber areConversions isConversionOrAbsent isConversion conversionPair arePairsApart areCycles isFamily
+cpace-set-up = record { shape-is = refl; base = refl }
+
+pub cpace-manner : mannerIn cpacely cpaceBody ≡ presenting
+cpace-manner = refl
+
+pub cpace-fit : AllFit presenting cpaceSent
+unfolding cpaceSent Fits
+cpace-fit = (start 0 tt, (pays 1 0x1F 0x00 1 tt tt tt tt, (cannot 0 0x5A33 tt tt, (start 0 tt, (buys 0x1F 0x00 tt tt, later))))) where
+  start : (interface : ℕ) → T (ltb interface 256) → Fits presenting (names (on interface) 1)
+  start interface h = (lit< h, lit< tt)
+
+  pays : (amount r1 r3 cashback : ℕ) → T (ltb amount (256 ^ 8)) → T (ltb r1 256) → T (ltb r3 256) → T (ltb cashback (256 ^ 6))
+      → Fits presenting (first 1 amount 0x0978 0x22 (shown r1 0x03 r3 cashback))
+  pays amount r1 r3 cashback p q r s = ((lit< tt, lit< p, lit< tt, lit< tt), (lit< q, lit< tt, lit< r, lit< s))
+
+  buys : (r1 r3 : ℕ) → T (ltb r1 256) → T (ltb r3 256) → Fits presenting (first 1 6000 0x0978 0x22 (shown r1 0x03 r3 0))
+  buys r1 r3 q r = pays 6000 r1 r3 0 tt q r tt
+
+  cannot : (type code : ℕ) → T (ltb type 256) → T (ltb code (256 ^ 2)) → Fits presenting (second type code 0 0)
+  cannot type code p q = (lit< p, lit< q, lit< tt, lit< tt)
+
+  later : AllFit presenting (drop 5 cpaceSent)
+  later = (
+    start 1 tt,
+    (
+      buys 0x42 0x00 tt tt,
+      (
+        cannot 1 0x5933 tt tt,
+        (start 1 tt, (buys 0x1E 0x00 tt tt, (start 1 tt, (buys 0x1E 0x02 tt tt, ((lit< tt, lit< tt, lit< tt, lit< tt), (start 2 tt, tt)))))),
+      ),
+    ),
+  )
+
+pub cpace-lines : (words : List ℕ) → length words ≡ wordCount
+    → sittingLines words cpacePaper ≡ sittingOf cpacely cpaceBody {manner = presenting} cpaceSent {rest = []} (ended refl)
+unfolding cpacePaper
+cpace-lines words lent =
+    lines-of words cpacePaper 5 cpaceBody (spellAll cpaceSent) cpace-opens cpacely cpace-set-up cpace-bytes lent cpaceSent []
+    cpace-fit (ended refl) (sym (append-nil (spellAll cpaceSent)))

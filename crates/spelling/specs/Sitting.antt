@@ -4,14 +4,17 @@ use mathlib.Core.List.{List, [], _∷_, _++_}
 use Prim.Native.Nat.{ℕ, _+_, _≤_}
 use lib.ListN.{length, drop}
 use Rattle.rules.specs.Rules.{Rules}
+use Rattle.rules.specs.declared.Values.{Values}
+use Rattle.slot.specs.declared.Slots.{Slots}
 use Rattle.setup.specs.declared.SetupAnswer.the-variants.{Done}
+use Rattle.setup.specs.declared.ReadSetup.{ReadSetup}
 use Rattle.setup.specs.Setup.{readSetup, setupNumber, rulesIn, freshIn}
 use Rattle.refusal.specs.declared.Refusal.the-variants.{Unreadable}
 use Rattle.shape.specs.declared.Selecting.{Selecting}
 use Rattle.shape.specs.declared.Selecting.the-variants.{Off, On}
 use Rattle.shape.specs.declared.Shape.{Shape}
 use Rattle.shape.specs.declared.ReadShape.the-variants.{Taken as ShapeTaken}
-use Rattle.shape.specs.Shape.{basePart, cyclesPart, shapeOf, shapeNumber}
+use Rattle.shape.specs.Shape.{basePart, cyclesPart, familyPart, shapeOf, shapeNumber}
 use Rattle.paper.specs.declared.Next.{Next}
 use Rattle.paper.specs.declared.Next.the-variants.{Record, Fault, End}
 use Rattle.paper.specs.Paper.{nextAt, nextNumber}
@@ -26,10 +29,10 @@ use Rattle.lines.specs.Lines.{refusalLine}
 use Rattle.conversation.specs.declared.Event.{Event}
 use Rattle.conversation.specs.declared.Event.the-variants.{Refused as EndRefused, Answered}
 use Rattle.lines.specs.Sitting.{answerLine, sittingLines}
-use Rattle.spelling.specs.Spelling.{Sent, spell, spellAll, Manner, mannerIn, Fits, AllFit, standsFor, allStandFor}
+use Rattle.spelling.specs.Spelling.{Sent, spell, spellAll, Manner, mannerIn, Fits, AllFit, slotsIn, standsFor}
 use Rattle.spelling.specs.Faults.{OpenFault, Opens, RestFault}
 
--- what is read at a place: the paper's end, a refusal, or a command and the place behind it
+-- what is read at a place, by the card's values: the paper's end, a refusal, or a command and the place behind it
 pub data Reading : Type 0 where
   over : Reading
   refused : (number : ℕ) → Reading
@@ -39,13 +42,13 @@ abbrev pub readingOf : (end : ℕ) → ReadCommand → Reading
 readingOf end (Taken c) = command c end
 readingOf end (Refused refusal) = refused (readNumber (Refused refusal))
 
-abbrev pub readingIn : Shape → List ℕ → Next → Reading
-readingIn shape s End = over
-readingIn shape s Fault = refused (nextNumber Fault)
-readingIn shape s (Record kind start end) = readingOf end (commandIn shape s kind (part s start end))
+abbrev pub readingIn : Shape → Values → List ℕ → Next → Reading
+readingIn shape values s End = over
+readingIn shape values s Fault = refused (nextNumber Fault)
+readingIn shape values s (Record kind start end) = readingOf end (commandIn shape values s kind (part s start end))
 
-unfoldable pub reading : Shape → (paper : List ℕ) (at : ℕ) → Reading
-reading shape s at = readingIn shape s (nextAt s at)
+unfoldable pub reading : Shape → Values → (paper : List ℕ) (at : ℕ) → Reading
+reading shape values s at = readingIn shape values s (nextAt s at)
 
 -- the file lies in the paper
 abbrev pub Lies : Selecting → List ℕ → Type 0
@@ -53,23 +56,36 @@ Lies Off s = Unit
 Lies (On start end entries) s = (start ≤ end) × (end ≤ length s)
 
 -- from a place to an end stands, spelled, what was sent, and it stands for a command
-pub record Spelled (manner : Manner) (s : List ℕ) (at : ℕ) (c : Command) (end : ℕ) : Type 0 where
+pub record Spelled (manner : Manner) (slots : Slots) (s : List ℕ) (at : ℕ) (c : Command) (end : ℕ) : Type 0 where
   pub sent : Sent
   pub fits : Fits manner sent
-  pub stands : standsFor manner sent ≡ c
+  pub stands : standsFor manner slots sent ≡ c
   pub is : drop at s ≡ spell sent ++ drop end s
   pub ends : end ≡ at + length (spell sent)
 
--- the set-up is taken: its shape, and its base with the tail of version 04
+-- a set-up's base, read with the tails of versions 04 and 05
+abbrev pub setupFrom : Shape → (body : List ℕ) → ReadSetup
+setupFrom shape body = readSetup (basePart shape body) (cyclesPart (shape .dating) body) (familyPart (shape .family) body) (shape .unnamed)
+
+-- the set-up is taken: its shape, and its base with those tails
 pub record SetUp (version : ℕ) (body : List ℕ) (shape : Shape) : Type 0 where
   pub shape-is : shapeOf version body ≡ ShapeTaken shape
-  pub base : readSetup (basePart shape body) (cyclesPart (shape .dating) body) (shape .unnamed) .answer ≡ Done
+  pub base : setupFrom shape body .answer ≡ Done
 
 -- or its shape is refused, or its base
 pub data NotSetUp (version : ℕ) (body : List ℕ) : Type 0 where
   no-shape : shapeNumber (shapeOf version body) ≡ 1 → NotSetUp version body
-  no-base : (shape : Shape) → shapeOf version body ≡ ShapeTaken shape
-      → setupNumber (readSetup (basePart shape body) (cyclesPart (shape .dating) body) (shape .unnamed) .answer) ≡ 1 → NotSetUp version body
+  no-base : (shape : Shape) → shapeOf version body ≡ ShapeTaken shape → setupNumber (setupFrom shape body .answer) ≡ 1
+      → NotSetUp version body
+
+-- the command that what is sent stands for at a card, and those of a list, one after the other from a state on
+abbrev pub standsAt : Manner → State → Sent → Command
+standsAt manner state x = standsFor manner (slotsIn (manner .family) (state .values)) x
+
+unfoldable pub allStandFor : Rules → Manner → State → List Sent → List Command
+allStandFor rules manner state [] = []
+allStandFor rules manner state (x ∷ xs) =
+    standsAt manner state x ∷ allStandFor rules manner (stepOf rules state (standsAt manner state x) .state) xs
 
 -- the events of a list of commands, one after the other from a state on
 unfoldable pub happened : Rules → State → List Command → List Event
@@ -99,7 +115,8 @@ lastLines (faulty fault) number = refusalLine number 9 ∷ []
 
 -- the rules and the fresh card of a set-up
 abbrev pub rulesFrom : Shape → (body : List ℕ) → Rules
-rulesFrom shape body = rulesIn (basePart shape body) (cyclesPart (shape .dating) body) (shape .syllabus)
+rulesFrom shape body =
+    rulesIn (basePart shape body) (cyclesPart (shape .dating) body) (familyPart (shape .family) body) (shape .syllabus)
 
 abbrev pub cardFrom : Shape → (body : List ℕ) → State
 cardFrom shape body = freshState (freshIn (basePart shape body) (cyclesPart (shape .dating) body))
@@ -107,7 +124,9 @@ cardFrom shape body = freshState (freshIn (basePart shape body) (cyclesPart (sha
 -- the lines of a paper whose set-up is taken: the set-up's, those of the conversation, and perhaps the one of refusal 9
 abbrev pub sittingOf : Shape → (body : List ℕ) {manner : Manner} (xs : List Sent) {rest : List ℕ} → Ends manner rest → List (List ℕ)
 sittingOf shape body {manner} xs ends =
-    refusalLine 0 0 ∷ (answers (rulesFrom shape body) (cardFrom shape body) 1 (allStandFor manner xs) ++ lastLines ends (1 + length xs))
+    let rules = rulesFrom shape body in
+    let card = cardFrom shape body in
+    refusalLine 0 0 ∷ (answers rules card 1 (allStandFor rules manner card xs) ++ lastLines ends (1 + length xs))
 
 -- a paper and its lines
 pub data Sat (words s : List ℕ) : Type 0 where

@@ -15,19 +15,22 @@ use Rattle.shape.specs.declared.Selecting.{Selecting}
 use Rattle.shape.specs.declared.Selecting.the-variants.{Off, On}
 use Rattle.shape.specs.declared.Dating.{Dating}
 use Rattle.shape.specs.declared.Dating.the-variants.{Off as DatesOff, On as DatesOn}
+use Rattle.shape.specs.declared.Family.{Family}
 use Rattle.shape.specs.declared.Shape.{Shape}
 use Rattle.paper.specs.declared.Next.{Next}
 use Rattle.paper.specs.declared.Next.the-variants.{Record, Fault, End as PaperEnd}
 use Rattle.paper.specs.Paper.{nextAt}
 use Rattle.paper.specs.Walk.{part}
 use Rattle.paper.proofs.Walk.{inside}
-use Rattle.selection.specs.Selection.{visitsOf}
+use Rattle.slot.specs.declared.Slots.{Slots}
+use Rattle.selection.specs.declared.Selection.{Selection}
+use Rattle.selection.specs.Selection.{selectionOf, visitsOf}
 use Rattle.command.specs.declared.Start.{Start}
 use Rattle.command.specs.declared.Command.{Command}
 use Rattle.command.specs.declared.Command.the-variants.{Start as StartCommand, First as FirstCommand, Second as SecondCommand}
 use Rattle.command.specs.declared.ReadCommand.{ReadCommand}
 use Rattle.command.specs.declared.ReadCommand.the-variants.{Taken, Refused as NotTaken}
-use Rattle.command.specs.Command.{startOf, firstLength, firstOf, secondOf, commandOf, selectingOf, fileIn, readBy, commandIn}
+use Rattle.command.specs.Command.{isCpace, interfaceOf, startLength, startOf, plainLength, firstLength, firstOf, secondOf, commandOf, startSelected, selectingOf, slotsOf, fileIn, readBy, commandIn}
 use Rattle.state.specs.declared.Answer.{Answer}
 use Rattle.state.specs.declared.Answer.the-variants.{Refused as AnswerRefused, Started, Given}
 use Rattle.state.specs.declared.State.{State}
@@ -89,40 +92,59 @@ second-of-both : (a b : Bool) → (a && b) ≡ true → b ≡ true
 second-of-both true b e = e
 second-of-both false b e = absurd (let z : _≡_ {A = ℕ} 0 1 = cc in omega arith)
 
--- with or without its date
-first-length : (dating : Dating) → 12 ≤ firstLength dating
-first-length DatesOff = omega arith
-first-length (DatesOn start end) = omega arith
+-- with or without its date, and what a CPACE card asks
+plain-length : (dating : Dating) → 12 ≤ plainLength dating
+plain-length DatesOff = omega arith
+plain-length (DatesOn start end) = omega arith
 
-sized-by-kind : (dating : Dating) (kind : ℕ) (body : List ℕ) → SizedIn (commandOf dating kind body) (length body)
-unfolding commandOf
-sized-by-kind dating kind body =
-    by (eqb kind 2 && eqb (length body) 1) (eqb kind 3 && eqb (length body) (firstLength dating)) (eqb kind 4 && eqb (length body) 8) refl refl where
-      by : (start first second : Bool) → (eqb kind 3 && eqb (length body) (firstLength dating)) ≡ first → (eqb kind 4 && eqb (length body) 8) ≡ second
-          → SizedIn
-          (cond start (Taken (StartCommand (startOf body)))
-          (cond first (Taken (FirstCommand (firstOf dating body))) (cond second (Taken (SecondCommand (secondOf body))) (NotTaken Unreadable))))
-          (length body)
-      by true first second e f = tt
-      by false true second e f =
-          let size = eqb-true (length body) (firstLength dating) (second-of-both (eqb kind 3) (eqb (length body) (firstLength dating)) e) in
-          omega (arith, first-length dating)
-      by false false true e f = eqb-true (length body) 8 (second-of-both (eqb kind 4) (eqb (length body) 8) f)
-      by false false false e f = tt
+first-length : (dating : Dating) (family : Family) → 12 ≤ firstLength dating family
+first-length dating family = by (isCpace family) where
+  by : (b : Bool) → 12 ≤ cond b (plainLength dating + 9) (plainLength dating)
+  by true = omega (arith, plain-length dating)
+  by false = plain-length dating
 
-sized : (selecting : Selecting) (dating : Dating) (paper : List ℕ) (kind : ℕ) (body : List ℕ)
-    → SizedIn (readBy selecting dating paper kind body) (length body)
-unfolding selectingOf
-sized Off dating paper kind body = sized-by-kind dating kind body
-sized (On start end entries) dating paper kind body = by (eqb kind 2) refl where
-  by : (b : Bool) → eqb kind 2 ≡ b → SizedIn (selectingOf dating (fileIn paper start end) entries kind body) (length body)
-  by true e = rw e tt
-  by false e = rw e (sized-by-kind dating kind body)
+module _ (dating : Dating) (family : Family) (kind : ℕ) (body : List ℕ) where
+  abbrev IsFirst : Bool
+  IsFirst = eqb kind 3 && eqb (length body) (firstLength dating family)
+
+  abbrev IsSecond : Bool
+  IsSecond = eqb kind 4 && eqb (length body) 8
+
+  sized-by-kind : SizedIn (commandOf dating family kind body) (length body)
+  unfolding commandOf
+  sized-by-kind = by (eqb kind 2 && eqb (length body) (startLength family)) IsFirst IsSecond refl refl where
+    by : (start first second : Bool) → IsFirst ≡ first → IsSecond ≡ second
+        → SizedIn
+        (cond start (Taken (StartCommand (startOf family body)))
+        (cond first (Taken (FirstCommand (firstOf dating family body))) (cond second (Taken (SecondCommand (secondOf body))) (NotTaken Unreadable))))
+        (length body)
+    by true first second e f = tt
+    by false true second e f =
+        let size = eqb-true (length body) (firstLength dating family) (second-of-both (eqb kind 3) (eqb (length body) (firstLength dating family)) e) in
+        omega (arith, first-length dating family)
+    by false false true e f = eqb-true (length body) 8 (second-of-both (eqb kind 4) (eqb (length body) 8) f)
+    by false false false e f = tt
+
+  sized-selected : (chosen : Selection) → SizedIn (startSelected family chosen body) (length body)
+  unfolding startSelected
+  sized-selected chosen = by (isCpace family && eqb (length body) 0) where
+    by : (b : Bool) → SizedIn (cond b (NotTaken Unreadable) (Taken (StartCommand (record { interface = interfaceOf family body; chosen = chosen }))))
+        (length body)
+    by true = tt
+    by false = tt
+
+  sized : (selecting : Selecting) (slots : Slots) (paper : List ℕ) → SizedIn (readBy selecting dating family slots paper kind body) (length body)
+  unfolding selectingOf
+  sized Off slots paper = sized-by-kind
+  sized (On start end entries) slots paper = by (eqb kind 2) refl where
+    by : (b : Bool) → eqb kind 2 ≡ b → SizedIn (selectingOf dating family slots (fileIn paper start end) entries kind body) (length body)
+    by true e = rw e (sized-selected (selectionOf (fileIn paper start end) entries body slots))
+    by false e = rw e sized-by-kind
 
 module _ (rules : Rules) (state : State) where
   start-gives-none : (start : Start) → NotGiven (stepOf rules state (StartCommand start) .answer)
   unfolding stepOf startStep
-  start-gives-none start = by (ruleStart rules (state .atc) (start .chosen)) where
+  start-gives-none start = by (ruleStart rules (state .atc) start) where
     by : (ruling : Ruling Place) → NotGiven (carried state (startPerformed state (visitsOf (start .chosen))) ruling .answer)
     by (refuse refusal) = tt
     by (rule place) = tt
@@ -161,5 +183,6 @@ record-short rules shape state paper at number = by (nextAt paper at) refl where
       let size = part-length paper start end (omega (arith, i .holds, i .start-is)) (i .fits) in
       let holds = i .holds in
       let begins = i .start-is in
-      by-read end (length (part paper start end)) (commandIn shape paper kind (part paper start end))
-      (unfold commandIn in sized (shape .selecting) (shape .dating) paper kind (part paper start end)) (omega arith)
+      by-read end (length (part paper start end)) (commandIn shape (state .values) paper kind (part paper start end))
+      (unfold commandIn in sized (shape .dating) (shape .family) kind (part paper start end) (shape .selecting) (slotsOf (shape .family) (state .values)) paper)
+      (omega arith)

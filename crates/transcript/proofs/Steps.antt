@@ -21,7 +21,7 @@ use Rattle.setup.specs.Setup.{readSetup}
 use Rattle.shape.specs.declared.Shape.{Shape}
 use Rattle.shape.specs.declared.ReadShape.{ReadShape}
 use Rattle.shape.specs.declared.ReadShape.the-variants.{Taken as ShapeTaken, Refused as ShapeRefused}
-use Rattle.shape.specs.Shape.{basePart, cyclesPart, shapeOf, shapeAt}
+use Rattle.shape.specs.Shape.{basePart, cyclesPart, familyPart, shapeOf, shapeAt}
 use Rattle.paper.specs.declared.Next.{Next}
 use Rattle.paper.specs.declared.Next.the-variants.{Record, Fault, End as PaperEnd}
 use Rattle.paper.specs.declared.Opened.{Opened}
@@ -60,7 +60,7 @@ never-set-up rules shape state paper at = by (nextAt paper at) where
   by : (next : Next) → nextTaken rules shape state paper at next .event ≡ SetUp → ⊥
   by PaperEnd e = let z : _≡_ {A = ℕ} 0 1 = cc in omega arith
   by Fault e = let z : _≡_ {A = ℕ} 0 1 = cc in omega arith
-  by (Record kind start end) e = by-read end (commandIn shape paper kind (part paper start end)) e
+  by (Record kind start end) e = by-read end (commandIn shape (state .values) paper kind (part paper start end)) e
 
 module _ (rules : Rules) (shape : Shape) (state : State) (paper : List ℕ) (at number : ℕ) where
   abbrev taken : Taken
@@ -145,17 +145,19 @@ opening paper version start end = by (isUnreadable paper) (nextAt paper 1) refl 
 pub begins : (paper : List ℕ) → Beginning paper (begunOf paper)
 unfolding begunOf baseBegun
 begins paper = by (openPaper paper) refl where
-  by-answer : (shape : Shape) (base cycles : List ℕ) (end : ℕ) → Opening paper end
-      → (answer : SetupAnswer) → readSetup base cycles (shape .unnamed) .answer ≡ answer → Beginning paper (baseBegun shape base cycles end)
-  by-answer shape base cycles end o Done e = accepted (ap setUpEvent e) o
-  by-answer shape base cycles end o (SetupRefused refusal) e = refused refusal (ap setUpEvent e)
+  by-answer : (shape : Shape) (base cycles family : List ℕ) (end : ℕ) → Opening paper end
+      → (answer : SetupAnswer) → readSetup base cycles family (shape .unnamed) .answer ≡ answer
+      → Beginning paper (baseBegun shape base cycles family end)
+  by-answer shape base cycles family end o Done e = accepted (ap setUpEvent e) o
+  by-answer shape base cycles family end o (SetupRefused refusal) e = refused refusal (ap setUpEvent e)
 
   by-shape : (body : List ℕ) (place end : ℕ) → Opening paper end → (read : ReadShape) → Beginning paper (shapedBegun body place end read)
   by-shape body place end o (ShapeRefused refusal) = refused refusal refl
   by-shape body place end o (ShapeTaken shape) =
       let base = basePart shape body in
       let cycles = cyclesPart (shape .dating) body in
-      by-answer (shapeAt place shape) base cycles end o (readSetup base cycles (shape .unnamed) .answer) refl
+      let family = familyPart (shape .family) body in
+      by-answer (shapeAt place shape) base cycles family end o (readSetup base cycles family (shape .unnamed) .answer) refl
 
   by : (opened : Opened) → openPaper paper ≡ opened → Beginning paper (openedBegun paper opened)
   by (OpenRefused refusal) e = refused refusal refl

@@ -1,7 +1,8 @@
 // Profile selection at work: the two examples of CPA Annex A, comparisons and masks, each cause of
-// refusal 12, and what is not judged. A row is the data, then the profile and the entries visited,
-// or 12.
+// refusal 12, what is not judged, and the entries of a CPACE card that test an accumulator or a counter.
+// A row is the data, then the profile and the entries visited, or 12.
 use selection::Selection;
+use slot::Slots;
 
 fn wide(byte: u8) -> u64 {
     byte as u64
@@ -29,15 +30,151 @@ fn show_selection(selection: Selection) {
     }
 }
 
-fn row(file: &[u8], entries: u8, data: &[u8]) {
+fn show_row(file: &[u8], entries: u8, data: &[u8], slots: Slots) {
     show_bytes(data);
     io::write_all(1, b" -> ");
-    show_selection(selection::select(file, entries, data));
+    show_selection(selection::select(file, entries, data, slots));
+}
+
+// Of a CPA card no slot is tested, however high it is.
+fn row(file: &[u8], entries: u8, data: &[u8]) {
+    let cpa = Slots {
+        testable: false,
+        amounts: [999_999_999_999; 4],
+        counts: [255; 4],
+    };
+    show_row(file, entries, data, cpa);
 }
 
 fn case(name: &[u8], file: &[u8], entries: u8, data: &[u8]) {
     io::write_all(1, name);
     row(file, entries, data);
+}
+
+// A CPACE card: accumulators 1 to 4 at 600, 601, MAX, 5, and counters at 2, 3, 255, 9.
+fn slot_row(name: &[u8], file: &[u8], data: &[u8]) {
+    let slots = Slots {
+        testable: true,
+        amounts: [600, 601, 999_999_999_999, 5],
+        counts: [2, 3, 255, 9],
+    };
+    io::write_all(1, name);
+    show_row(file, 1, data, slots);
+}
+
+// Contact opens 1; contactless asks whether accumulator 1 with the amount is greater than 1000, then
+// whether counter 1 is greater than 2.
+fn contactless(amount: u64, count: u8, data: &[u8]) {
+    let slots = Slots {
+        testable: true,
+        amounts: [amount, 0, 0, 0],
+        counts: [count, 0, 0, 0],
+    };
+    io::print_decimal(1, amount);
+    io::write_all(1, b", ");
+    io::print_decimal(1, wide(count));
+    io::write_all(1, b": ");
+    show_row(
+        b"\x08\x01\x01\x02\xFF\x01\x00\x81\x01\
+          \x0C\x02\x06\x01\x00\x00\x00\x00\x10\x00\xD3\x02\x81\
+          \x07\x00\x01\x01\x02\x91\x02\x01",
+        3,
+        data,
+        slots,
+    );
+}
+
+fn show_contactless() {
+    io::write_all(1, b"Accumulator 1, counter 1\n");
+    contactless(600, 2, b"\x00\x00");
+    contactless(600, 2, b"\x01\x00\x00\x00\x00\x04\x00");
+    contactless(601, 2, b"\x01\x00\x00\x00\x00\x04\x00");
+    contactless(600, 3, b"\x01\x00\x00\x00\x00\x04\x00");
+    contactless(600, 2, b"\x01");
+    contactless(600, 2, b"\x01\x00\x00\x00\x00\x00\x0A");
+}
+
+fn show_tests() {
+    slot_row(
+        b"accumulator 1 less than 601: ",
+        b"\x0C\x00\x06\x01\x00\x00\x00\x00\x06\x01\xD0\x03\x04",
+        b"",
+    );
+    slot_row(
+        b"accumulator 2 less than 601: ",
+        b"\x0C\x00\x06\x01\x00\x00\x00\x00\x06\x01\xE0\x03\x04",
+        b"",
+    );
+    slot_row(
+        b"accumulator 3 and 1 greater than 999999999998: ",
+        b"\x0C\x01\x06\x01\x99\x99\x99\x99\x99\x98\xF3\x03\x04",
+        b"\x00\x00\x00\x00\x00\x01",
+    );
+    slot_row(
+        b"accumulator 3 and 1 greater than MAX: ",
+        b"\x0C\x01\x06\x01\x99\x99\x99\x99\x99\x99\xF3\x03\x04",
+        b"\x00\x00\x00\x00\x00\x01",
+    );
+    slot_row(
+        b"counter 3 and 1 greater than 255: ",
+        b"\x07\x00\x01\x01\xFF\xB3\x03\x04",
+        b"",
+    );
+    slot_row(
+        b"counter 3 and 1 less than 255: ",
+        b"\x07\x00\x01\x01\xFF\xB2\x03\x04",
+        b"",
+    );
+    slot_row(
+        b"counter 00 greater than 8: ",
+        b"\x07\x00\x01\x01\x08\x81\x03\x04",
+        b"",
+    );
+    slot_row(
+        b"counter 00, b4 and b3 set, greater than 9: ",
+        b"\x07\x00\x01\x01\x09\x8D\x03\x04",
+        b"",
+    );
+}
+
+fn show_refused_tests() {
+    slot_row(
+        b"accumulator 00: ",
+        b"\x0C\x01\x06\x01\x00\x00\x00\x00\x06\x01\xC0\x03\x04",
+        b"",
+    );
+    slot_row(
+        b"a block with a digit above 9: ",
+        b"\x0C\x01\x06\x01\x00\x00\x00\x00\x06\x0A\xD0\x03\x04",
+        b"",
+    );
+    slot_row(
+        b"an accumulator, L 5: ",
+        b"\x0B\x01\x05\x01\x00\x00\x00\x06\x01\xD0\x03\x04",
+        b"",
+    );
+    slot_row(
+        b"a counter, L 2: ",
+        b"\x08\x01\x02\x01\x00\x02\x90\x03\x04",
+        b"",
+    );
+    slot_row(
+        b"a counter, n 2: ",
+        b"\x08\x01\x01\x02\x00\x02\x90\x03\x04",
+        b"",
+    );
+    slot_row(b"a counter, n 0: ", b"\x06\x01\x01\x00\x90\x03\x04", b"");
+    slot_row(
+        b"an amount at P 0: ",
+        b"\x0C\x00\x06\x01\x00\x00\x00\x00\x06\x01\xD2\x03\x04",
+        b"\x00\x00\x00\x00\x00\x01",
+    );
+    case(
+        b"a CPA card's entry of 91: ",
+        b"\x07\x00\x01\x01\x02\x91\x03\x04",
+        1,
+        b"\x10",
+    );
 }
 
 fn reading(name: &[u8], file: &[u8], entries: u8) {
@@ -243,4 +380,7 @@ fn main() {
     show_refused_entries();
     show_not_judged();
     show_files();
+    show_contactless();
+    show_tests();
+    show_refused_tests();
 }

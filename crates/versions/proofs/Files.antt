@@ -1,44 +1,93 @@
 -- Where selection is on, the Starts of a paper are read by the file behind its switch, whatever its version. Assumes nothing.
-use mathlib.Core.Path.{_≡_, refl, sym, ap, _∙_}
-use mathlib.Core.Bool.{true}
+use mathlib.Core.Path.{_≡_, refl, sym, ap, subst₂, _∙_}
+use mathlib.Core.Bool.{Bool, true, false, cond}
 use mathlib.Core.List.{List, [], _∷_, _++_}
 use Prim.Native.Nat.{ℕ, _+_, _-_, _*_, _≤_}
 use native.Mathlib.Omega.{arith}
-use borrow.Author.Tests.{le-leb, lt-leb, le-ltb, eq-eqb, eqb-true}
-use lib.Dec.{lit≤}
+use borrow.Author.Tests.{lt-leb, le-ltb, eq-eqb, ne-eqb, eqb-true}
+use lib.Dec.{lit≤, eqb, ltb, leb}
 use lib.ListN.{length, take, drop, length-append, List·getD-append}
 use lib.Seq.{getD-append-add, getD-append-seam, drop-append-add, take-append-seam}
 use Rattle.wire.specs.Wire.{byte}
+use Rattle.rules.specs.declared.Values.{Values}
+use Rattle.slot.specs.declared.Slots.{Slots}
+use Rattle.selection.specs.declared.Selection.{Selection}
 use Rattle.selection.specs.Selection.{isFile, selectionOf}
 use Rattle.shape.specs.declared.Selecting.the-variants.{On}
 use Rattle.shape.specs.declared.Dating.the-variants.{Off as DatesOff, On as DatesOn}
+use Rattle.shape.specs.declared.Family.{Family}
+use Rattle.shape.specs.declared.Family.the-variants.{Cpa, Cpace}
 use Rattle.shape.specs.declared.Shape.{Shape}
-use Rattle.shape.specs.declared.Tails.the-variants.{Ended}
+use Rattle.shape.specs.declared.Tails.the-variants.{Ended, Wrong}
 use Rattle.shape.specs.declared.ReadShape.the-variants.{Taken}
-use Rattle.shape.specs.Shape.{based, baseTail, entriesEnd, selects, selectionTail, follows, syllabusTail, dates, datingTail, tailsOf, shapeOf, shapeAt}
+use Rattle.shape.specs.Shape.{based, baseTail, entriesEnd, selects, selectionTail, follows, syllabusTail, dates, datingTail}
+use Rattle.shape.specs.Shape.{families, familyTail, tailsOf, shapeOf, shapeAt}
 use Rattle.shape.proofs.Files.{file-ends}
 use Rattle.shape.proofs.Inside.{inside}
 use Rattle.paper.specs.Walk.{part}
-use Rattle.command.specs.Command.{selectingOf, commandIn}
+use Rattle.command.specs.Command.{isCpace, startSelected, selectingOf, slotsOf, commandIn}
 use Rattle.command.specs.declared.Command.the-variants.{Start as StartCommand}
 use Rattle.command.specs.declared.ReadCommand.the-variants.{Taken as CommandTaken}
 use Rattle.conversation.specs.declared.Begun.{Begun}
 use Rattle.conversation.specs.Conversation.{baseBegun, setupBegun, begunOf}
-use Rattle.versions.proofs.Papers.{Known, paperOf, by-body, begun-is}
+use Rattle.versions.proofs.Papers.{Known, Reads, readsOf, paperOf, file-there, by-body, begun-is}
 
--- what stands behind the file: nothing in version 02; the syllabus in version 03; behind it dates in version 04, off, or on with 27 + 18p bytes
--- behind their switch
-pub data Behind (p : ℕ) : (version : ℕ) → List ℕ → Type 0 where
-  nothing : Behind p 2 []
-  syllabus-alone : (syllabus : ℕ) → syllabus ≤ 1 → Behind p 3 (syllabus ∷ [])
-  with-dates-off : (syllabus : ℕ) → syllabus ≤ 1 → Behind p 4 (syllabus ∷ 0 ∷ [])
-  with-dates : (syllabus : ℕ) → syllabus ≤ 1 → (cycles : List ℕ) → length cycles ≡ 27 + 18 * p → Behind p 4 (syllabus ∷ 1 ∷ cycles)
+-- a tail that is off, or on with so many bytes in all
+pub data Switched (size : ℕ) : (on : Bool) → List ℕ → Type 0 where
+  switched-off : Switched size false (0 ∷ [])
+  switched-on : (more : List ℕ) → length (1 ∷ more) ≡ size → Switched size true (1 ∷ more)
 
-known-behind : {p version : ℕ} {tails : List ℕ} → Behind p version tails → Known version
+-- what stands behind the file, with p profiles: nothing in version 02; the syllabus in version 03; behind it dates in version 04; behind them
+-- in version 05 the family, which is on where it is CPACE
+pub data Behind (p : ℕ) : (version : ℕ) → (cpace : Bool) → List ℕ → Type 0 where
+  nothing : Behind p 2 false []
+  syllabus-alone : (syllabus : ℕ) → syllabus ≤ 1 → Behind p 3 false (syllabus ∷ [])
+  with-dates : (syllabus : ℕ) → syllabus ≤ 1 → {dated : Bool} {dates : List ℕ} → Switched (28 + 18 * p) dated dates → Behind p 4 false (syllabus ∷ dates)
+  with-family : (syllabus : ℕ) → syllabus ≤ 1 → {dated : Bool} {dates : List ℕ} → Switched (28 + 18 * p) dated dates
+      → {cpace : Bool} {family : List ℕ} → Switched (9 + p) cpace family → Behind p 5 cpace (syllabus ∷ dates ++ family)
+
+known-behind : {p version : ℕ} {cpace : Bool} {tails : List ℕ} → Behind p version cpace tails → Known version
 known-behind nothing = (lit≤ tt, lit≤ tt)
 known-behind (syllabus-alone syllabus h) = (lit≤ tt, lit≤ tt)
-known-behind (with-dates-off syllabus h) = (lit≤ tt, lit≤ tt)
-known-behind (with-dates syllabus h cycles l) = (lit≤ tt, lit≤ tt)
+known-behind (with-dates syllabus h dates) = (lit≤ tt, lit≤ tt)
+known-behind (with-family syllabus h dates family) = (lit≤ tt, lit≤ tt)
+
+-- a CPACE Start begins with its interface
+abbrev pub Asks : (cpace : Bool) (terminal : List ℕ) → Type 0
+Asks false terminal = Unit
+Asks true terminal = 1 ≤ length terminal
+
+-- a card's slots, by whether it is a CPACE card: where its tail stands does not matter to them
+abbrev pub slotsBy : (cpace : Bool) → Values → Slots
+slotsBy cpace = slotsOf (cond cpace (Cpace 0 0) Cpa)
+
+slots-are : (family : Family) → slotsOf family ≡ slotsBy (isCpace family)
+unfolding slotsOf
+slots-are Cpa = refl
+slots-are (Cpace start end) = refl
+
+-- a Start is read as what a file of so many entries selects by its body and the card's present values, to a CPACE card with the interface
+abbrev pub Selects : (file : List ℕ) (entries : ℕ) (cpace : Bool) → Reads → Type 0
+Selects file entries cpace reads =
+    (values : Values) (terminal : List ℕ) → Asks cpace terminal
+    → reads values 2 terminal
+    ≡ CommandTaken (StartCommand (record { interface = cond cpace (byte terminal 0) 0; chosen = selectionOf file entries terminal (slotsBy cpace values) }))
+
+started : (family : Family) (chosen : Selection) (terminal : List ℕ) → Asks (isCpace family) terminal
+    → startSelected family chosen terminal
+    ≡ CommandTaken (StartCommand (record { interface = cond (isCpace family) (byte terminal 0) 0; chosen = chosen }))
+unfolding startSelected
+started Cpa chosen terminal asks = refl
+started (Cpace start end) chosen terminal asks = rw (ne-eqb (length terminal) 0 (omega arith))
+
+-- a tail's first byte is where it begins
+starts : {size : ℕ} {on : Bool} {tail : List ℕ} → Switched size on tail → (more : List ℕ) → byte (tail ++ more) 0 ≡ byte tail 0
+starts switched-off more = refl
+starts (switched-on others sized) more = refl
+
+cpace-is : (cpace : Bool) (start end : ℕ) → isCpace (cond cpace (Cpace start end) Cpa) ≡ cpace
+cpace-is false start end = refl
+cpace-is true start end = refl
 
 module _ (s : List ℕ) (sized : length s ≡ 52 + 107 * byte s 3 + 7 * byte s 4) (entries : ℕ) (file : List ℕ) (good : isFile file entries ≡ true) where
   abbrev selecting-tail : List ℕ
@@ -94,91 +143,131 @@ module _ (s : List ℕ) (sized : length s ≡ 52 + 107 * byte s 3 + 7 * byte s 4
         let count : byte body (length s + 1) ≡ entries = getD-append-add s (selecting-tail ++ behind) 1 0 in
         rw (switch, count, entries-end, lt-leb (length body) (length s) (omega (arith, long)), le-ltb (length body) end (omega (arith, long)))
 
+    -- ---- the tails behind the file
+
+    -- one that begins at a place of what is behind
+    switched-ends : {A : Type 0} (shaped : A → Shape) (when-off when-on : A) (i : ℕ) {size : ℕ} {on : Bool} {tail : List ℕ} → Switched size on tail
+        → byte behind i ≡ byte tail 0 → i + length tail ≤ length behind
+        → cond (leb (length body) (end + i)) Wrong
+        (cond (eqb (byte body (end + i)) 0) (Ended (shaped when-off) (end + i + 1))
+        (cond (ltb 1 (byte body (end + i))) Wrong
+        (cond (ltb (length body) (end + i + size)) Wrong (Ended (shaped when-on) (end + i + size)))))
+        ≡ Ended (shaped (cond on when-on when-off)) (end + i + length tail)
+    switched-ends shaped when-off when-on i switched-off first fits =
+        rw (behind-is i, first, lt-leb (length body) (end + i) (omega (arith, long)))
+    switched-ends shaped when-off when-on i (switched-on more size) first fits =
+        let last = le-ltb (length body) (end + i + length (1 ∷ more)) (omega (arith, long)) in
+        rw (behind-is i, first, lt-leb (length body) (end + i) (omega (arith, long)), ← size, last)
+
+    syllabus-ends : (syllabus : ℕ) → syllabus ≤ 1 → byte behind 0 ≡ syllabus → 1 ≤ length behind
+        → syllabusTail body with-file end ≡ Ended (follows with-file syllabus) (end + 1)
+    unfolding syllabusTail
+    syllabus-ends syllabus h first fits =
+        let none : end ≡ end + 0 = omega arith in
+        let here : byte body end ≡ syllabus = ap (byte body) none ∙ behind-is 0 ∙ first in
+        rw (here, lt-leb (length body) end (omega (arith, long)), le-ltb 1 syllabus h)
+
+    module _ (shape : Shape) (i : ℕ) where
+      abbrev at : ℕ
+      at = end + i
+
+      abbrev dated-shape : Bool → Shape
+      dated-shape dated = dates shape (cond dated (DatesOn at (at + (28 + 18 * byte s 3))) DatesOff)
+
+      abbrev family-shape : Bool → Shape
+      family-shape cpace = families shape (cond cpace (Cpace at (at + (9 + byte s 3))) Cpa)
+
+      dates-end : {dated : Bool} {tail : List ℕ} → Switched (28 + 18 * byte s 3) dated tail → byte behind i ≡ byte tail 0 → i + length tail ≤ length behind
+          → datingTail body shape at ≡ Ended (dated-shape dated) (at + length tail)
+      unfolding datingTail
+      dates-end = rw profiles (switched-ends (dates shape) DatesOff (DatesOn at (at + (28 + 18 * byte s 3))) i)
+
+      family-ends : {cpace : Bool} {tail : List ℕ} → Switched (9 + byte s 3) cpace tail → byte behind i ≡ byte tail 0 → i + length tail ≤ length behind
+          → familyTail body shape at ≡ Ended (family-shape cpace) (at + length tail)
+      unfolding familyTail
+      family-ends = rw profiles (switched-ends (families shape) Cpa (Cpace at (at + (9 + byte s 3))) i)
+
     -- a Start is read by the file in the body
-    by-file : (shape : Shape) → shape .selecting ≡ On start end entries → (terminal : List ℕ) → commandIn shape body 2 terminal
-        ≡ CommandTaken (StartCommand (record { chosen = selectionOf file entries terminal }))
+    by-file : (shape : Shape) → shape .selecting ≡ On start end entries → Selects file entries (isCpace (shape .family)) (readsOf shape body)
     unfolding commandIn selectingOf
-    by-file shape on terminal = rw (on, le-leb start end (omega arith), le-leb end (length body) (omega (arith, long)), file-is)
+    by-file shape selecting values terminal asks =
+        rw (selecting, file-there body start end (omega arith) (omega (arith, long)), file-is, slots-are (shape .family))
+        (started (shape .family) (selectionOf file entries terminal (slotsBy (isCpace (shape .family)) values)) terminal asks)
 
   -- ---- the shape of each version
 
-  module _ (syllabus : ℕ) (h : syllabus ≤ 1) (more : List ℕ) where
-    syllabus-ends : syllabusTail (body (syllabus ∷ more)) with-file end ≡ Ended (follows with-file syllabus) (end + 1)
-    unfolding syllabusTail
-    syllabus-ends =
-        let none : end ≡ end + 0 = omega arith in
-        let here : byte (body (syllabus ∷ more)) end ≡ syllabus = ap (byte (body (syllabus ∷ more))) none ∙ behind-is (syllabus ∷ more) 0 in
-        rw (here, lt-leb (length (body (syllabus ∷ more))) end (omega (arith, long (syllabus ∷ more))), le-ltb 1 syllabus h)
+  record Takes (version : ℕ) (cpace : Bool) (behind : List ℕ) : Type 0 where
+    shape : Shape
+    is : shapeOf version (body behind) ≡ Taken shape
+    on : shape .selecting ≡ On start end entries
+    family : isCpace (shape .family) ≡ cpace
 
-  module _ (syllabus : ℕ) where
-    abbrev followed : Shape
-    followed = follows with-file syllabus
-
-    dates-off-end : datingTail (body (syllabus ∷ 0 ∷ [])) followed (end + 1) ≡ Ended (dates followed DatesOff) (end + 1 + 1)
-    unfolding datingTail
-    dates-off-end =
-        let l = syllabus ∷ 0 ∷ [] in
-        rw (behind-is l 1, lt-leb (length (body l)) (end + 1) (omega (arith, long l)))
-
-    module _ (cycles : List ℕ) (size : length cycles ≡ 27 + 18 * byte s 3) where
-      abbrev last : ℕ
-      last = end + 1 + (28 + 18 * byte s 3)
-
-      dates-end : datingTail (body (syllabus ∷ 1 ∷ cycles)) followed (end + 1) ≡ Ended (dates followed (DatesOn (end + 1) last)) last
-      unfolding datingTail
-      dates-end =
-          let l = syllabus ∷ 1 ∷ cycles in
-          rw (behind-is l 1, profiles l, lt-leb (length (body l)) (end + 1) (omega (arith, long l)), le-ltb (length (body l)) last (omega (arith, long l)))
-
-  pub record Takes (version : ℕ) (behind : List ℕ) : Type 0 where
-    pub shape : Shape
-    pub is : shapeOf version (body behind) ≡ Taken shape
-    pub on : shape .selecting ≡ On start end entries
-
-  takes : (version : ℕ) (behind : List ℕ) → Behind (byte s 3) version behind → Takes version behind
+  takes : (version : ℕ) (cpace : Bool) (behind : List ℕ) → Behind (byte s 3) version cpace behind → Takes version cpace behind
   unfolding shapeOf tailsOf
-  takes version behind nothing =
+  takes version cpace behind nothing =
       record {
         shape = with-file;
         is = rw (base-ends [], selection-ends [], eq-eqb end (length (body [])) (omega (arith, long [])));
         on = refl;
+        family = refl;
       }
-  takes version behind (syllabus-alone syllabus h) =
+  takes version cpace behind (syllabus-alone syllabus h) =
       let l = syllabus ∷ [] in
+      let last = eq-eqb (end + 1) (length (body l)) (omega (arith, long l)) in
       record {
-        shape = followed syllabus;
-        is = rw (base-ends l, selection-ends l, syllabus-ends syllabus h [], eq-eqb (end + 1) (length (body l)) (omega (arith, long l)));
+        shape = follows with-file syllabus;
+        is = rw (base-ends l, selection-ends l, syllabus-ends l syllabus h refl (omega arith), last);
         on = refl;
+        family = refl;
       }
-  takes version behind (with-dates-off syllabus h) =
-      let l = syllabus ∷ 0 ∷ [] in
-      let ends = eq-eqb (end + 1 + 1) (length (body l)) (omega (arith, long l)) in
+  takes version cpace behind (with-dates syllabus h {dated} {dates = tail} d) =
+      let l = syllabus ∷ tail in
+      let followed = follows with-file syllabus in
+      let last = eq-eqb (end + 1 + length tail) (length (body l)) (omega (arith, long l)) in
       record {
-        shape = dates (followed syllabus) DatesOff;
-        is = rw (base-ends l, selection-ends l, syllabus-ends syllabus h (0 ∷ []), dates-off-end syllabus, ends);
+        shape = dated-shape l followed 1 dated;
+        is = rw (base-ends l, selection-ends l, syllabus-ends l syllabus h refl (omega arith), dates-end l followed 1 d refl (omega arith), last);
         on = refl;
+        family = refl;
       }
-  takes version behind (with-dates syllabus h cycles size) =
-      let l = syllabus ∷ 1 ∷ cycles in
-      let ends = eq-eqb (last syllabus cycles size) (length (body l)) (omega (arith, long l)) in
+  takes version cpace behind (with-family syllabus h {dated} {dates = tail} d {family = more} f) =
+      let l = syllabus ∷ tail ++ more in
+      let fits = length-append tail more in
+      let followed = follows with-file syllabus in
+      let dated-too = dated-shape l followed 1 dated in
+      let i = 1 + length tail in
+      let place : end + 1 + length tail ≡ end + i = omega arith in
+      let none : i ≡ length (syllabus ∷ tail) + 0 = omega arith in
+      let first = ap (byte l) none ∙ getD-append-add (syllabus ∷ tail) more 0 0 in
+      let dates-there = dates-end l followed 1 d (starts d more) (omega arith) in
+      let last = eq-eqb (end + i + length more) (length (body l)) (omega (arith, long l)) in
       record {
-        shape = dates (followed syllabus) (DatesOn (end + 1) (last syllabus cycles size));
-        is = rw (base-ends l, selection-ends l, syllabus-ends syllabus h (1 ∷ cycles), dates-end syllabus cycles size, ends);
+        shape = family-shape l dated-too i cpace;
+        is = rw (
+          base-ends l,
+          selection-ends l,
+          syllabus-ends l syllabus h refl (omega arith),
+          dates-there,
+          place,
+          family-ends l dated-too i f first (omega arith),
+          last,
+        );
         on = refl;
+        family = cpace-is cpace _ _;
       }
 
   -- A PAPER'S STARTS ARE READ BY THE FILE BEHIND ITS SWITCH
-  pub file-selects : (version : ℕ) (behind : List ℕ) → Behind (byte s 3) version behind
-      → (rest : List ℕ) → length (paperOf version (body behind) rest) ≤ 65536 → (terminal : List ℕ)
-      → commandIn (begunOf (paperOf version (body behind) rest) .shape) (paperOf version (body behind) rest) 2 terminal
-      ≡ CommandTaken (StartCommand (record { chosen = selectionOf file entries terminal }))
+  pub file-selects : (version : ℕ) (cpace : Bool) (behind : List ℕ) → Behind (byte s 3) version cpace behind
+      → (rest : List ℕ) → length (paperOf version (body behind) rest) ≤ 65536
+      → Selects file entries cpace (readsOf (begunOf (paperOf version (body behind) rest) .shape) (paperOf version (body behind) rest))
   unfolding setupBegun baseBegun
-  file-selects version behind b rest short terminal =
-      let t = takes version behind b in
+  file-selects version cpace behind b rest short =
+      let t = takes version cpace behind b in
       let known = known-behind b in
       let paper = paperOf version (body behind) rest in
       let shaped : begunOf paper .shape ≡ shapeAt 4 (t .shape) =
       ap (λ (x : Begun). x .shape) (begun-is version known (body behind) rest short) ∙ rw (t .is) in
-      rw shaped
-      (by-body version known (body behind) rest short (t .shape) (inside (body behind) version (t .shape) (t .is) .file) 2 terminal
-      ∙ by-file behind (t .shape) (t .on) terminal)
+      let lies = inside (body behind) version (t .shape) (t .is) .file in
+      let reads : readsOf (begunOf paper .shape) paper ≡ readsOf (t .shape) (body behind) =
+      ap (λ (shape : Shape). readsOf shape paper) shaped ∙ by-body version known (body behind) rest short (t .shape) lies in
+      subst₂ (Selects file entries) (t .family) (sym reads) (by-file behind (t .shape) (t .on))

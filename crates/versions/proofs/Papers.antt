@@ -11,23 +11,26 @@ use lib.ListN.{length, drop, length-append, length-drop}
 use lib.Seq.{getD-append-add, drop-append-add, drop-append-le, take-append-le, take-at}
 use Rattle.wire.specs.Wire.{byte, number}
 use Rattle.refusal.specs.declared.Refusal.the-variants.{Unreadable}
+use Rattle.rules.specs.declared.Values.{Values}
 use Rattle.rules.specs.Rules.{Rules, rulesOf}
 use Rattle.setup.specs.Setup.{readSetup, wordsAfter}
 use Rattle.shape.specs.declared.Selecting.{Selecting}
 use Rattle.shape.specs.declared.Selecting.the-variants.{Off, On}
 use Rattle.shape.specs.declared.Dating.{Dating}
 use Rattle.shape.specs.declared.Dating.the-variants.{Off as DatesOff, On as DatesOn}
+use Rattle.shape.specs.declared.Family.{Family}
+use Rattle.shape.specs.declared.Family.the-variants.{Cpa, Cpace}
 use Rattle.shape.specs.declared.Shape.{Shape}
 use Rattle.shape.specs.declared.ReadShape.{ReadShape}
 use Rattle.shape.specs.declared.ReadShape.the-variants.{Taken as ShapeTaken, Refused as ShapeRefused}
-use Rattle.shape.specs.Shape.{Lies, basePart, cyclesPart, shapeOf, selectingAt, datingAt, shapeAt}
+use Rattle.shape.specs.Shape.{Lies, basePart, cyclesPart, familyPart, shapeOf, selectingAt, datingAt, familyAt, shapeAt}
 use Rattle.shape.proofs.Inside.{inside}
 use Rattle.paper.specs.declared.Next.{Next}
 use Rattle.paper.specs.declared.Next.the-variants.{Record, Fault, End}
 use Rattle.paper.specs.declared.Opened.the-variants.{Setup}
 use Rattle.paper.specs.Paper.{endAt, nextAt, openPaper}
 use Rattle.paper.specs.Walk.{part, written}
-use Rattle.command.specs.Command.{firstOf, commandOf, selectingOf, readBy, commandIn}
+use Rattle.command.specs.Command.{startOf, firstOf, commandOf, startSelected, selectingOf, fileIn, slotsOf, readBy, commandIn}
 use Rattle.command.specs.declared.ReadCommand.{ReadCommand}
 use Rattle.command.specs.declared.ReadCommand.the-variants.{Taken as CommandTaken, Refused as CommandRefused}
 use Rattle.state.specs.declared.State.{State}
@@ -41,17 +44,30 @@ use Rattle.conversation.proofs.Events.{settled}
 
 -- ---- what stands in front of a record does not matter, but for the file
 
+-- what reads a record, by the card's present values
+abbrev pub Reads : Type 0
+Reads = (values : Values) (kind : ℕ) (body : List ℕ) → ReadCommand
+
+abbrev pub readsOf : Shape → (paper : List ℕ) → Reads
+readsOf shape paper values = commandIn shape values paper
+
 -- the events of n records over a rest, whatever reads them
-abbrev pub takenBy : Rules → (ℕ → List ℕ → ReadCommand) → State → List ℕ → (at : ℕ) → Next → Taken
+abbrev pub takenBy : Rules → Reads → State → List ℕ → (at : ℕ) → Next → Taken
 takenBy rules reads state s at End = record { state = state; at = at; event = EndEvent }
 takenBy rules reads state s at Fault = record { state = state; at = at; event = Refused Unreadable }
-takenBy rules reads state s at (Record kind start end) = answeredBy rules state end (reads kind (part s start end))
+takenBy rules reads state s at (Record kind start end) = answeredBy rules state end (reads (state .values) kind (part s start end))
 
-unfoldable pub eventsBy : ℕ → Rules → (ℕ → List ℕ → ReadCommand) → State → List ℕ → (at : ℕ) → List Event
+unfoldable pub eventsBy : ℕ → Rules → Reads → State → List ℕ → (at : ℕ) → List Event
 eventsBy zero rules reads state s at = []
 eventsBy (suc n) rules reads state s at =
     let taken = takenBy rules reads state s at (nextAt s at) in
     following (taken .event) (eventsBy n rules reads (taken .state) s (taken .at))
+
+-- a part of a list is one of a longer list
+pub part-before : (s more : List ℕ) (start end : ℕ) → start ≤ end → end ≤ length s → part (s ++ more) start end ≡ part s start end
+part-before s more start end l h =
+    let left : end - start ≤ length (drop start s) = omega (arith, length-drop start s) in
+    rw (drop-append-le start s more (omega arith)) (take-append-le (end - start) (drop start s) more left)
 
 module _ (front s : List ℕ) where
   abbrev from : ℕ → ℕ
@@ -104,8 +120,10 @@ module _ (front s : List ℕ) where
       by false true = refl
       by false false = refl
 
-  module _ (rules : Rules) (shape : Shape) (reads : ℕ → List ℕ → ReadCommand)
-      (agrees : (kind : ℕ) (body : List ℕ) → commandIn shape all kind body ≡ reads kind body) where
+  module _ (rules : Rules) (shape : Shape) where
+    abbrev reads : Reads
+    reads = readsOf shape all
+
     -- what is taken, its place counted from the front
     abbrev further-on : Taken → Taken
     further-on t = record { state = t .state; at = from (t .at); event = t .event }
@@ -120,7 +138,7 @@ module _ (front s : List ℕ) where
       by : (n : Next) → nextTaken rules shape state all (from at) (shift n) ≡ further-on (takenBy rules reads state s at n)
       by End = refl
       by Fault = refl
-      by (Record kind start end) = rw (part-behind start end, agrees kind (part s start end)) (answered end (reads kind (part s start end)))
+      by (Record kind start end) = rw (part-behind start end) (answered end (reads (state .values) kind (part s start end)))
 
     events-behind : (n : ℕ) (state : State) (at : ℕ) → eventsFrom n rules shape state all (from at) ≡ eventsBy n rules reads state s at
     unfolding eventsFrom eventsBy
@@ -146,31 +164,53 @@ front version body = version ∷ written (record { kind = 1; body = body })
 abbrev pub paperOf : (version : ℕ) (body rest : List ℕ) → List ℕ
 paperOf version body rest = front version body ++ rest
 
--- the events of a paper, from its base and its tail with dates, what stands behind its set-up, what reads its records, and the shape that
--- was read
-abbrev pub eventsShaped : (words base cycles rest : List ℕ) → (ℕ → List ℕ → ReadCommand) → ReadShape → List Event
-eventsShaped words base cycles rest reads (ShapeRefused refusal) = Refused refusal ∷ []
-eventsShaped words base cycles rest reads (ShapeTaken shape) =
-    let read = readSetup base cycles (shape .unnamed) in
-    following (setUpEvent (read .answer))
-    (eventsBy (length rest) (rulesOf (wordsAfter words base cycles (shape .syllabus) (shape .unnamed))) reads (freshState (read .fresh)) rest 0)
+-- what a body of a shape says: its base, its tails with dates and with a family, and how a record is read
+pub record Parts : Type 0 where
+  pub base : List ℕ
+  pub cycles : List ℕ
+  pub family : List ℕ
+  pub reads : Reads
 
--- its base and its tail are these, and its records are so read
-abbrev pub Agrees : (body base cycles : List ℕ) → (ℕ → List ℕ → ReadCommand) → ReadShape → Type 0
-Agrees body base cycles reads (ShapeRefused refusal) = Unit
-Agrees body base cycles reads (ShapeTaken shape) =
-    (basePart shape body ≡ base) × (cyclesPart (shape .dating) body ≡ cycles)
-    × ((kind : ℕ) (b : List ℕ) → commandIn shape body kind b ≡ reads kind b)
+abbrev pub partsOf : Shape → (body : List ℕ) → Parts
+partsOf shape body =
+    record {
+      base = basePart shape body;
+      cycles = cyclesPart (shape .dating) body;
+      family = familyPart (shape .family) body;
+      reads = readsOf shape body;
+    }
 
--- 01 to 04
+-- the events of a paper, from what its set-up's body says and what stands behind it
+abbrev pub eventsWith : (words rest : List ℕ) → Parts → (syllabus unnamed : ℕ) → List Event
+eventsWith words rest parts syllabus unnamed =
+    let read = readSetup (parts .base) (parts .cycles) (parts .family) unnamed in
+    let rules = rulesOf (wordsAfter words (parts .base) (parts .cycles) (parts .family) syllabus unnamed) in
+    following (setUpEvent (read .answer)) (eventsBy (length rest) rules (parts .reads) (freshState (read .fresh)) rest 0)
+
+abbrev pub eventsShaped : (words rest body : List ℕ) → ReadShape → List Event
+eventsShaped words rest body (ShapeRefused refusal) = Refused refusal ∷ []
+eventsShaped words rest body (ShapeTaken shape) = eventsWith words rest (partsOf shape body) (shape .syllabus) (shape .unnamed)
+
+-- 01 to 05
 abbrev pub Known : ℕ → Type 0
-Known version = (1 ≤ version) × (version ≤ 4)
+Known version = (1 ≤ version) × (version ≤ 5)
 
--- where its tail stands does not matter to a First, only whether there is one
-same-dates : (place : ℕ) (dating : Dating) (kind : ℕ) (b : List ℕ) → commandOf (datingAt place dating) kind b ≡ commandOf dating kind b
-unfolding commandOf firstOf
-same-dates place DatesOff kind b = refl
-same-dates place (DatesOn start end) kind b = refl
+-- where its tails stand does not matter to a command, only whether they are there
+record SamePlaces (place : ℕ) (dating : Dating) (family : Family) : Type 0 where
+  command : commandOf (datingAt place dating) (familyAt place family) ≡ commandOf dating family
+  selecting : selectingOf (datingAt place dating) (familyAt place family) ≡ selectingOf dating family
+  slots : slotsOf (familyAt place family) ≡ slotsOf family
+
+same-places : (place : ℕ) (dating : Dating) (family : Family) → SamePlaces place dating family
+unfolding commandOf startOf firstOf selectingOf startSelected slotsOf
+same-places place DatesOff Cpa = record { command = refl; selecting = refl; slots = refl }
+same-places place DatesOff (Cpace start end) = record { command = refl; selecting = refl; slots = refl }
+same-places place (DatesOn from to) Cpa = record { command = refl; selecting = refl; slots = refl }
+same-places place (DatesOn from to) (Cpace start end) = record { command = refl; selecting = refl; slots = refl }
+
+-- a file that lies in a list
+pub file-there : (s : List ℕ) (start end : ℕ) → start ≤ end → end ≤ length s → fileIn s start end ≡ part s start end
+file-there s start end l h = rw (le-leb start end l, le-leb end (length s) h)
 
 module _ (version : ℕ) (known : Known version) (body rest : List ℕ) (short : length (paperOf version body rest) ≤ 65536) where
   said : number (paperOf version body rest) 1 2 ≡ length body + 1
@@ -192,7 +232,7 @@ module _ (version : ℕ) (known : Known version) (body rest : List ℕ) (short :
       (simp (
         le-ltb 65536 (length (paperOf version body rest)) short,
         ne-eqb version 0 (omega (arith, known .0)),
-        le-ltb 4 version (known .1),
+        le-ltb 5 version (known .1),
         ne-eqb (length body + 1) 0 (omega arith),
         le-ltb (length (paperOf version body rest)) (4 + length body) (omega arith),
         ne-eqb (length (paperOf version body rest)) 0 (omega arith),
@@ -202,49 +242,42 @@ module _ (version : ℕ) (known : Known version) (body rest : List ℕ) (short :
   its-body : part (paperOf version body rest) 4 (4 + length body) ≡ body
   its-body = take-at body rest (4 + length body - 4) (omega arith)
 
-  -- a part of the body, by its places in the paper
-  part-of-body : (start end : ℕ) → start ≤ end → end ≤ length body → part (paperOf version body rest) (4 + start) (4 + end) ≡ part body start end
-  part-of-body start end l h =
-      let size : 4 + end - (4 + start) ≡ end - start = omega arith in
-      let left : end - start ≤ length (drop start body) = omega (arith, length-drop start body) in
+  -- a file in the body, by its places in the paper
+  same-file : (start end : ℕ) → start ≤ end → end ≤ length body → fileIn (paperOf version body rest) (4 + start) (4 + end) ≡ fileIn body start end
+  same-file start end l h =
       let head : List ℕ = version ∷ (length body + 1) / 256 ∷ (length body + 1) % 256 ∷ 1 ∷ [] in
-      rw (size, drop-append-add head (body ++ rest) start, drop-append-le start body rest (omega arith))
-      (take-append-le (end - start) (drop start body) rest left)
+      file-there (paperOf version body rest) (4 + start) (4 + end) (omega arith) (omega (arith, whole-length))
+      ∙ part-behind head (body ++ rest) start end
+      ∙ part-before body rest start end l h
+      ∙ sym (file-there body start end l h)
 
   -- its records are read by the file in its body
-  pub by-body : (shape : Shape) → Lies (shape .selecting) (length body) → (kind : ℕ) (b : List ℕ)
-      → commandIn (shapeAt 4 shape) (paperOf version body rest) kind b ≡ commandIn shape body kind b
-  unfolding commandIn selectingOf
-  by-body shape lies kind b = by (shape .selecting) lies where
-    by : (selecting : Selecting) → Lies selecting (length body)
-        → readBy (selectingAt 4 selecting) (datingAt 4 (shape .dating)) (paperOf version body rest) kind b
-        ≡ readBy selecting (shape .dating) body kind b
-    by Off l = same-dates 4 (shape .dating) kind b
-    by (On start end entries) l =
-        rw (
-          le-leb (4 + start) (4 + end) (omega (arith, l .0)),
-          le-leb (4 + end) (length (paperOf version body rest)) (omega (arith, whole-length, l .1)),
-          le-leb start end (l .0),
-          le-leb end (length body) (l .1),
-          part-of-body start end (l .0) (l .1),
-          same-dates 4 (shape .dating) kind b,
-        )
+  pub by-body : (shape : Shape) → Lies (shape .selecting) (length body) → readsOf (shapeAt 4 shape) (paperOf version body rest) ≡ readsOf shape body
+  unfolding commandIn
+  by-body shape lies = λ i values. by (shape .selecting) lies (same-places 4 (shape .dating) (shape .family)) values i where
+    by : (selecting : Selecting) → Lies selecting (length body) → SamePlaces 4 (shape .dating) (shape .family)
+        → (values : Values)
+        → readBy (selectingAt 4 selecting) (datingAt 4 (shape .dating)) (familyAt 4 (shape .family)) (slotsOf (familyAt 4 (shape .family)) values) (paperOf version body rest)
+        ≡ readBy selecting (shape .dating) (shape .family) (slotsOf (shape .family) values) body
+    by Off l same values = same .command
+    by (On start end entries) l same values = λ i. same .selecting i (same .slots i values) (same-file start end (l .0) (l .1) i) entries
 
   -- ITS EVENTS, BY ITS BODY'S SHAPE
-  pub events-are : (words base cycles : List ℕ) (reads : ℕ → List ℕ → ReadCommand) (read : ReadShape) → shapeOf version body ≡ read
-      → Agrees body base cycles reads read → eventsOf words (paperOf version body rest) ≡ eventsShaped words base cycles rest reads read
+  pub events-are : (words : List ℕ) (read : ReadShape) → shapeOf version body ≡ read
+      → eventsOf words (paperOf version body rest) ≡ eventsShaped words rest body read
   unfolding eventsOf begunOf setupBegun baseBegun wordsBegun setupWords
-  events-are words base cycles reads (ShapeRefused refusal) e agrees = rw (opened, its-body, e)
-  events-are words base cycles reads (ShapeTaken shape) e agrees =
-      let rules = rulesOf (wordsAfter words base cycles (shape .syllabus) (shape .unnamed)) in
-      let read = readSetup base cycles (shape .unnamed) in
+  events-are words (ShapeRefused refusal) e = rw (opened, its-body, e)
+  events-are words (ShapeTaken shape) e =
+      let parts = partsOf shape body in
+      let rules = rulesOf (wordsAfter words (parts .base) (parts .cycles) (parts .family) (shape .syllabus) (shape .unnamed)) in
+      let read = readSetup (parts .base) (parts .cycles) (parts .family) (shape .unnamed) in
       let state = freshState (read .fresh) in
       let paper = paperOf version body rest in
-      rw (opened, its-body, e, agrees .0, agrees .1)
+      rw (opened, its-body, e)
       (ap (following (setUpEvent (read .answer)))
       (ap (eventsFrom (length paper) rules (shapeAt 4 shape) state paper) (sym front-length)
-      ∙ events-of-rest (front version body) rest rules (shapeAt 4 shape) reads
-      (λ kind b. by-body shape (inside body version shape e .file) kind b ∙ agrees .2 kind b) (length paper) state (omega (arith, whole-length))))
+      ∙ events-of-rest (front version body) rest rules (shapeAt 4 shape) (length paper) state (omega (arith, whole-length))
+      ∙ ap (λ (reads : Reads). eventsBy (length rest) rules reads state rest 0) (by-body shape (inside body version shape e .file))))
 
   -- what it begins with is what its body says
   pub begun-is : begunOf (paperOf version body rest) ≡ setupBegun version body 4 (4 + length body)

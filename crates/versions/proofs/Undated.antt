@@ -1,9 +1,10 @@
--- Up to version 03 nothing is dated and mask bits 0 to 21 are named; what a set-up says with no bit above them, it says with more bits named
--- too. Assumes nothing.
+-- Up to version 03 nothing is dated and mask bits 0 to 21 are named, up to version 04 a card is a CPA one and bits 0 to 24 are; what a set-up
+-- says with no bit above them, it says with more bits named too. Assumes nothing.
 use mathlib.Core.Path.{_≡_, refl, sym, subst, _∙_}
 use mathlib.Core.Bool.{Bool, true, false}
 use mathlib.Core.List.{List}
-use Prim.Native.Nat.{ℕ, _+_, _*_, _^_, _<_}
+use Prim.Native.Nat.{ℕ, _+_, _*_, _^_, _≤_, _<_}
+use native.Mathlib.Omega.{arith}
 use lib.Dec.{eqb, ltb, leb}
 use lib.ListN.{length}
 use Rattle.wire.specs.Wire.{byte, number}
@@ -11,72 +12,100 @@ use Rattle.refusal.specs.declared.Refusal.the-variants.{BadSetup}
 use Rattle.layout.specs.Layout.{profileFrom}
 use Rattle.ranges.specs.Ranges.{isSetup}
 use Rattle.ranges.proofs.Accepted.{Accepted, ProfileRanges, accepted, complete}
-use Rattle.shape.specs.declared.Dating.the-variants.{Off as DatesOff}
+use Rattle.shape.specs.declared.Dating.{Dating}
+use Rattle.shape.specs.declared.Dating.the-variants.{Off as DatesOff, On as DatesOn}
+use Rattle.shape.specs.declared.Family.the-variants.{Cpa}
 use Rattle.shape.specs.declared.Shape.{Shape}
 use Rattle.shape.specs.declared.Tails.{Tails}
 use Rattle.shape.specs.declared.Tails.the-variants.{Ended, Wrong}
 use Rattle.shape.specs.declared.ReadShape.{ReadShape}
 use Rattle.shape.specs.declared.ReadShape.the-variants.{Taken, Refused}
-use Rattle.shape.specs.Shape.{baseLength, based, baseTail, fileEnd, selects, selectionTail, follows, syllabusTail, behind, tailsOf, whole, shapeOf}
+use Rattle.shape.specs.Shape.{baseLength, based, baseTail, fileEnd, selects, selectionTail, follows, syllabusTail, dates, datesEnd, datingTail}
+use Rattle.shape.specs.Shape.{behind, tailsOf, whole, shapeOf}
 use Rattle.shape.proofs.Either.{choose}
 
 -- ---- shapes
 
 pub record Undated (shape : Shape) : Type 0 where
   pub dating : shape .dating ≡ DatesOff
+  pub family : shape .family ≡ Cpa
   pub unnamed : shape .unnamed ≡ 2 ^ 22
 
-module _ (body : List ℕ) where
-  abbrev Ends : Tails → Type 0
-  Ends Wrong = Unit
-  Ends (Ended shape at) = Undated shape
+pub record OfCpa (shape : Shape) : Type 0 where
+  pub family : shape .family ≡ Cpa
+  pub unnamed : shape .unnamed ≡ 2 ^ 25
 
-  base-undated : Ends (baseTail body)
+-- what holds of the shape that tails end with
+abbrev Ends : (Shape → Type 0) → Tails → Type 0
+Ends P Wrong = Unit
+Ends P (Ended shape at) = P shape
+
+abbrev Read : (Shape → Type 0) → ReadShape → Type 0
+Read P (Taken shape) = P shape
+Read P (Refused refusal) = Unit
+
+behind-ends : (P Q : Shape → Type 0) (tails : Tails) (tail : Shape → ℕ → Tails) → ((shape : Shape) (at : ℕ) → P shape → Ends Q (tail shape at))
+    → Ends P tails → Ends Q (behind tails tail)
+behind-ends P Q Wrong tail keeps u = tt
+behind-ends P Q (Ended shape at) tail keeps u = keeps shape at u
+
+module _ (body : List ℕ) where
+  whole-reads : (P : Shape → Type 0) (tails : Tails) → Ends P tails → Read P (whole body tails)
+  whole-reads P Wrong u = tt
+  whole-reads P (Ended shape at) u = choose (Read P) (eqb at (length body)) (Taken shape) (Refused BadSetup) (λ _. u) (λ _. tt)
+
+  base-undated : Ends Undated (baseTail body)
   unfolding baseTail
   base-undated =
-      choose Ends (ltb (length body) (baseLength body)) Wrong (Ended (based (baseLength body)) (baseLength body)) (λ _. tt)
-      (λ _. record { dating = refl; unnamed = refl })
+      choose (Ends Undated) (ltb (length body) (baseLength body)) Wrong (Ended (based (baseLength body)) (baseLength body)) (λ _. tt)
+      (λ _. record { dating = refl; family = refl; unnamed = refl })
 
-  selection-undated : (shape : Shape) (at : ℕ) → Undated shape → Ends (selectionTail body shape at)
+  selection-undated : (shape : Shape) (at : ℕ) → Undated shape → Ends Undated (selectionTail body shape at)
   unfolding selectionTail
   selection-undated shape at u =
-      choose Ends (leb (length body) at) Wrong _ (λ _. tt)
-      (λ _. choose Ends (eqb (byte body at) 0) (Ended shape (at + 1)) _ (λ _. u)
-      (λ _. choose Ends (ltb 1 (byte body at)) Wrong _ (λ _. tt)
-      (λ _. choose Ends (ltb (length body) (fileEnd body at)) Wrong
+      choose (Ends Undated) (leb (length body) at) Wrong _ (λ _. tt)
+      (λ _. choose (Ends Undated) (eqb (byte body at) 0) (Ended shape (at + 1)) _ (λ _. u)
+      (λ _. choose (Ends Undated) (ltb 1 (byte body at)) Wrong _ (λ _. tt)
+      (λ _. choose (Ends Undated) (ltb (length body) (fileEnd body at)) Wrong
       (Ended (selects shape (at + 2) (fileEnd body at) (byte body (at + 1))) (fileEnd body at)) (λ _. tt)
-      (λ _. record { dating = u .dating; unnamed = u .unnamed }))))
+      (λ _. record { dating = u .dating; family = u .family; unnamed = u .unnamed }))))
 
-  syllabus-undated : (shape : Shape) (at : ℕ) → Undated shape → Ends (syllabusTail body shape at)
+  syllabus-undated : (shape : Shape) (at : ℕ) → Undated shape → Ends Undated (syllabusTail body shape at)
   unfolding syllabusTail
   syllabus-undated shape at u =
-      choose Ends (leb (length body) at) Wrong _ (λ _. tt)
-      (λ _. choose Ends (ltb 1 (byte body at)) Wrong (Ended (follows shape (byte body at)) (at + 1)) (λ _. tt)
-      (λ _. record { dating = u .dating; unnamed = u .unnamed }))
+      choose (Ends Undated) (leb (length body) at) Wrong _ (λ _. tt)
+      (λ _. choose (Ends Undated) (ltb 1 (byte body at)) Wrong (Ended (follows shape (byte body at)) (at + 1)) (λ _. tt)
+      (λ _. record { dating = u .dating; family = u .family; unnamed = u .unnamed }))
 
-  behind-undated : (tails : Tails) (tail : Shape → ℕ → Tails) → ((shape : Shape) (at : ℕ) → Undated shape → Ends (tail shape at))
-      → Ends tails → Ends (behind tails tail)
-  behind-undated Wrong tail keeps u = tt
-  behind-undated (Ended shape at) tail keeps u = keeps shape at u
+  dating-cpa : (shape : Shape) (at : ℕ) → Undated shape → Ends OfCpa (datingTail body shape at)
+  unfolding datingTail
+  dating-cpa shape at u =
+      let cpa : (dating : Dating) → OfCpa (dates shape dating) = λ dating. record { family = u .family; unnamed = refl } in
+      choose (Ends OfCpa) (leb (length body) at) Wrong _ (λ _. tt)
+      (λ _. choose (Ends OfCpa) (eqb (byte body at) 0) (Ended (dates shape DatesOff) (at + 1)) _ (λ _. cpa DatesOff)
+      (λ _. choose (Ends OfCpa) (ltb 1 (byte body at)) Wrong _ (λ _. tt)
+      (λ _. choose (Ends OfCpa) (ltb (length body) (datesEnd body at)) Wrong
+      (Ended (dates shape (DatesOn at (datesEnd body at))) (datesEnd body at)) (λ _. tt) (λ _. cpa (DatesOn at (datesEnd body at))))))
 
-  tails-undated : Ends (tailsOf 3 body)
+  tails-undated : Ends Undated (tailsOf 3 body)
   unfolding tailsOf
   tails-undated =
-      behind-undated (behind (baseTail body) (selectionTail body)) (syllabusTail body) syllabus-undated
-      (behind-undated (baseTail body) (selectionTail body) selection-undated base-undated)
+      behind-ends Undated Undated (behind (baseTail body) (selectionTail body)) (syllabusTail body) syllabus-undated
+      (behind-ends Undated Undated (baseTail body) (selectionTail body) selection-undated base-undated)
 
-  abbrev Read : ReadShape → Type 0
-  Read (Taken shape) = Undated shape
-  Read (Refused refusal) = Unit
-
-  whole-undated : (tails : Tails) → Ends tails → Read (whole body tails)
-  whole-undated Wrong u = tt
-  whole-undated (Ended shape at) u = choose Read (eqb at (length body)) (Taken shape) (Refused BadSetup) (λ _. u) (λ _. tt)
+  tails-cpa : Ends OfCpa (tailsOf 4 body)
+  unfolding tailsOf
+  tails-cpa = behind-ends Undated OfCpa (tailsOf 3 body) (datingTail body) dating-cpa tails-undated
 
   -- A SHAPE OF VERSION 03
   pub undated : (shape : Shape) → shapeOf 3 body ≡ Taken shape → Undated shape
   unfolding shapeOf
-  undated shape e = subst Read e (whole-undated (tailsOf 3 body) tails-undated)
+  undated shape e = subst (Read Undated) e (whole-reads Undated (tailsOf 3 body) tails-undated)
+
+  -- A SHAPE OF VERSION 04
+  pub of-cpa : (shape : Shape) → shapeOf 4 body ≡ Taken shape → OfCpa shape
+  unfolding shapeOf
+  of-cpa shape e = subst (Read OfCpa) e (whole-reads OfCpa (tailsOf 4 body) tails-cpa)
 
 -- ---- masks
 
@@ -85,6 +114,14 @@ pub record MasksBelow (s : List ℕ) (unnamed : ℕ) : Type 0 where
   pub online : (i : ℕ) → i < byte s 3 → number s (52 + 107 * i + 1) 4 < unnamed
   pub decline : (i : ℕ) → i < byte s 3 → number s (52 + 107 * i + 5) 4 < unnamed
   pub default : (i : ℕ) → i < byte s 3 → number s (52 + 107 * i + 9) 4 < unnamed
+
+pub below-more : (s : List ℕ) (fewer more : ℕ) → fewer ≤ more → MasksBelow s fewer → MasksBelow s more
+below-more s fewer more h low =
+    record {
+      online = λ i l. let m = low .online i l in omega arith;
+      decline = λ i l. let m = low .decline i l in omega arith;
+      default = λ i l. let m = low .default i l in omega arith;
+    }
 
 pub accepted-below : (s : List ℕ) (unnamed : ℕ) → isSetup s unnamed ≡ true → MasksBelow s unnamed
 accepted-below s unnamed e =

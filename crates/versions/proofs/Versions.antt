@@ -1,19 +1,20 @@
 -- An older paper reads as the newer one with the addition off: the lines of a version 01 paper are those of the version 02 paper with
--- selection off; those of a version 02 paper, whether or not it selects, those of the version 03 paper with syllabus 0; and those of a version
--- 03 paper whose masks have no bit from 22 on, as one that is accepted, those of the version 04 paper with dates off. Assumes nothing.
+-- selection off; those of a version 02 paper, whether or not it selects, those of the version 03 paper with syllabus 0; those of a version
+-- 03 paper whose masks have no bit from 22 on, as one that is accepted, those of the version 04 paper with dates off; and those of a version 04
+-- paper whose masks have no bit from 25 on, as one that is accepted, those of the version 05 paper of a CPA card. Assumes nothing.
 use mathlib.Core.Path.{_≡_, refl, sym, ap, _∙_}
-use mathlib.Core.Bool.{Bool, true, false}
+use mathlib.Core.Bool.{Bool, true, false, _&&_}
 use mathlib.Core.List.{List, [], _∷_, _++_, append-assoc}
-use Prim.Native.Nat.{ℕ, _+_, _-_, _*_, _^_, _≤_}
+use Prim.Native.Nat.{ℕ, _+_, _*_, _^_, _≤_}
 use native.Mathlib.Omega.{arith}
-use borrow.Author.Tests.{le-leb, le-ltb, eq-eqb}
+use borrow.Author.Tests.{le-ltb, eq-eqb}
 use lib.Dec.{lit≤}
-use lib.ListN.{length, take, drop, length-append, length-drop}
-use lib.Seq.{drop-append-le, take-append-le, take-append-seam}
+use lib.ListN.{length, length-append}
+use lib.Seq.{take-append-le, take-append-seam}
 use Rattle.wire.specs.Wire.{byte}
 use Rattle.wire.proofs.Pairs.{both}
 use Rattle.refusal.specs.declared.Refusal.{Refusal}
-use Rattle.ranges.specs.Ranges.{isSetup, areCycles}
+use Rattle.ranges.specs.Ranges.{isSetup, areCycles, isFamily}
 use Rattle.setup.specs.declared.ReadSetup.{ReadSetup}
 use Rattle.setup.specs.Setup.{isAccepted, readSetup, wordsAfter}
 use Rattle.setup.proofs.Faithful.{untouched}
@@ -21,40 +22,46 @@ use Rattle.shape.specs.declared.Selecting.{Selecting}
 use Rattle.shape.specs.declared.Selecting.the-variants.{Off, On}
 use Rattle.shape.specs.declared.Dating.{Dating}
 use Rattle.shape.specs.declared.Dating.the-variants.{Off as DatesOff, On as DatesOn}
+use Rattle.shape.specs.declared.Family.{Family}
+use Rattle.shape.specs.declared.Family.the-variants.{Cpa, Cpace}
 use Rattle.shape.specs.declared.Shape.{Shape}
 use Rattle.shape.specs.declared.ReadShape.{ReadShape}
 use Rattle.shape.specs.declared.ReadShape.the-variants.{Taken, Refused}
-use Rattle.shape.specs.Shape.{Lies, Spans, based, baseTail, dates, tailsOf, shapeOf, basePart, cyclesPart}
-use Rattle.shape.proofs.Inside.{inside}
-use Rattle.shape.proofs.Older.{selection-off, syllabus-off, dates-off}
-use Rattle.command.specs.Command.{readBy, commandIn}
+use Rattle.shape.specs.Shape.{Lies, Spans, Holds, based, baseTail, dates, families, tailsOf, shapeOf, basePart, cyclesPart, familyPart}
+use Rattle.shape.proofs.Inside.{Inside, inside}
+use Rattle.shape.proofs.Older.{selection-off, syllabus-off, dates-off, family-off}
+use Rattle.slot.specs.declared.Slots.{Slots}
+use Rattle.command.specs.Command.{selectingOf, fileIn, readBy, slotsOf, commandIn}
 use Rattle.conversation.specs.declared.Begun.{Begun}
 use Rattle.conversation.specs.declared.Event.the-variants.{SetUp, Refused as EndRefused}
 use Rattle.conversation.specs.Conversation.{setUpEvent, baseBegun, shapedBegun, setupBegun, begunOf}
-use Rattle.conversation.specs.Events.{eventsOf}
 use Rattle.lines.specs.Sitting.{linesOf, sittingLines}
-use Rattle.versions.proofs.Papers.{Known, paperOf, eventsShaped, whole-length, events-are, begun-is}
-use Rattle.versions.proofs.Undated.{undated, MasksBelow, accepted-below, same-judged}
+use Rattle.versions.proofs.Papers.{Known, readsOf, paperOf, Parts, partsOf, eventsWith, eventsShaped}
+use Rattle.versions.proofs.Papers.{part-before, file-there, whole-length, events-are, begun-is}
+use Rattle.versions.proofs.Undated.{undated, of-cpa, MasksBelow, below-more, accepted-below, same-judged}
 
 -- ---- the byte 00 behind a body, in the next version
 
 abbrev pub newer : (body : List ℕ) → List ℕ
 newer body = body ++ 0 ∷ []
 
+-- a paper is shorter than the one with a byte more in its set-up
+shorter : (older later : ℕ) → Known later → (b more rest : List ℕ) → length (paperOf later (b ++ more) rest) ≤ 65536
+    → length (paperOf older b rest) ≤ 65536
+shorter older later known b more rest short =
+    omega (arith, whole-length later known (b ++ more) rest short, length-append b more, length-append b rest)
+
 -- a shape, but for the mask bits that are named
 abbrev naming : Shape → (unnamed : ℕ) → Shape
 naming shape unnamed =
-    record { base = shape .base; selecting = shape .selecting; syllabus = shape .syllabus; dating = shape .dating; unnamed = unnamed }
-
--- masks that are judged alike give one set-up
-module _ (base cycles : List ℕ) (one other : ℕ) (alike : isSetup base one ≡ isSetup base other) where
-  same-setup : readSetup base cycles one ≡ readSetup base cycles other
-  unfolding readSetup
-  same-setup = rw alike
-
-  same-words : (words : List ℕ) (syllabus : ℕ) → wordsAfter words base cycles syllabus one ≡ wordsAfter words base cycles syllabus other
-  unfolding wordsAfter
-  same-words words syllabus = rw alike
+    record {
+      base = shape .base;
+      selecting = shape .selecting;
+      syllabus = shape .syllabus;
+      dating = shape .dating;
+      family = shape .family;
+      unnamed = unnamed;
+    }
 
 -- the newer shape is the older one, but that other mask bits may be named where the base is judged alike
 data Alike (body : List ℕ) : ReadShape → ReadShape → Type 0 where
@@ -68,57 +75,63 @@ the-same body later (Taken shape) e = rw e (taken shape (shape .unnamed) refl)
 
 module _ (body : List ℕ) where
   -- what lies in the body lies at the same places of both
-  same-part : (start end : ℕ) → start ≤ end → end ≤ length body → take (end - start) (drop start (newer body)) ≡ take (end - start) (drop start body)
-  same-part start end l h =
-      let left : end - start ≤ length (drop start body) = omega (arith, length-drop start body) in
-      rw (drop-append-le start body (0 ∷ []) (omega arith)) (take-append-le (end - start) (drop start body) (0 ∷ []) left)
-
   same-cycles : (dating : Dating) → Spans dating (length body) → cyclesPart dating (newer body) ≡ cyclesPart dating body
   same-cycles DatesOff s = refl
-  same-cycles (DatesOn start end) s = same-part start end (s .0) (s .1)
+  same-cycles (DatesOn start end) s = part-before body (0 ∷ []) start end (s .0) (s .1)
 
-  same-reads : (shape : Shape) (unnamed : ℕ) → Lies (shape .selecting) (length body) → (kind : ℕ) (b : List ℕ)
-      → commandIn (naming shape unnamed) (newer body) kind b ≡ commandIn shape body kind b
+  same-family : (family : Family) → Holds family (length body) → familyPart family (newer body) ≡ familyPart family body
+  same-family Cpa s = refl
+  same-family (Cpace start end) s = part-before body (0 ∷ []) start end (s .0) (s .1)
+
+  same-reads : (shape : Shape) (unnamed : ℕ) → Lies (shape .selecting) (length body)
+      → readsOf (naming shape unnamed) (newer body) ≡ readsOf shape body
   unfolding commandIn
-  same-reads shape unnamed lies kind b = by (shape .selecting) lies where
-    by : (selecting : Selecting) → Lies selecting (length body)
-        → readBy selecting (shape .dating) (newer body) kind b ≡ readBy selecting (shape .dating) body kind b
-    by Off l = refl
-    by (On start end entries) l =
-        rw (
-          le-leb start end (l .0),
-          le-leb end (length (newer body)) (omega (arith, length-append body (0 ∷ []), l .1)),
-          le-leb end (length body) (l .1),
-          same-part start end (l .0) (l .1),
-        )
+  same-reads shape unnamed lies = λ i values. by (shape .selecting) lies (slotsOf (shape .family) values) i where
+    by : (selecting : Selecting) → Lies selecting (length body) → (slots : Slots)
+        → readBy selecting (shape .dating) (shape .family) slots (newer body) ≡ readBy selecting (shape .dating) (shape .family) slots body
+    by Off l slots = refl
+    by (On start end entries) l slots =
+        let same : fileIn (newer body) start end ≡ fileIn body start end =
+        file-there (newer body) start end (l .0) (omega (arith, length-append body (0 ∷ []), l .1))
+        ∙ part-before body (0 ∷ []) start end (l .0) (l .1)
+        ∙ sym (file-there body start end (l .0) (l .1)) in
+        ap (λ (file : List ℕ). selectingOf (shape .dating) (shape .family) slots file entries) same
 
-  module _ (older later : ℕ) (known : Known older) (known-later : Known later) (words rest : List ℕ) where
-    -- THE LINES ARE THE SAME WHERE THE SHAPES ARE ALIKE
-    lines-as-older : Alike body (shapeOf later (newer body)) (shapeOf older body) → length (paperOf later (newer body) rest) ≤ 65536
-        → sittingLines words (paperOf later (newer body) rest) ≡ sittingLines words (paperOf older body rest)
-    unfolding sittingLines
-    lines-as-older alike short = ap (linesOf 0) (by (shapeOf later (newer body)) (shapeOf older body) refl refl alike) where
-      before : length (paperOf older body rest) ≤ 65536
-      before =
-          let size : length (newer body) ≡ length body + 1 = length-append body (0 ∷ []) in
-          omega (arith, whole-length later known-later (newer body) rest short, length-append body rest)
+  same-base : (shape : Shape) → Inside shape (length body) → basePart shape (newer body) ≡ basePart shape body
+  same-base shape lies = take-append-le (shape .base) body (0 ∷ []) (lies .base)
 
-      by : (now then : ReadShape) → shapeOf later (newer body) ≡ now → shapeOf older body ≡ then → Alike body now then
-          → eventsOf words (paperOf later (newer body) rest) ≡ eventsOf words (paperOf older body rest)
-      by now then f e (refused refusal) =
-          events-are later known-later (newer body) rest short words [] [] (commandIn (based 0) []) (Refused refusal) f tt
-          ∙ sym (events-are older known body rest before words [] [] (commandIn (based 0) []) (Refused refusal) e tt)
-      by now then f e (taken shape unnamed same) =
-          let lies = inside body older shape e in
-          let base = basePart shape body in
-          let cycles = cyclesPart (shape .dating) body in
-          let reads = commandIn shape body in
-          let alike : eventsShaped words base cycles rest reads (Taken (naming shape unnamed)) ≡ eventsShaped words base cycles rest reads (Taken shape) =
-          rw (same-setup base cycles unnamed (shape .unnamed) same, same-words base cycles unnamed (shape .unnamed) same words (shape .syllabus)) in
-          events-are later known-later (newer body) rest short words base cycles reads (Taken (naming shape unnamed)) f
-          (take-append-le (shape .base) body (0 ∷ []) (lies .base), same-cycles (shape .dating) (lies .tail), same-reads shape unnamed (lies .file))
-          ∙ alike
-          ∙ sym (events-are older known body rest before words base cycles reads (Taken shape) e (refl, refl, λ kind b. refl))
+  same-parts : (shape : Shape) (unnamed : ℕ) → Inside shape (length body) → partsOf (naming shape unnamed) (newer body) ≡ partsOf shape body
+  same-parts shape unnamed lies =
+      λ i. record {
+        base = same-base shape lies i;
+        cycles = same-cycles (shape .dating) (lies .tail) i;
+        family = same-family (shape .family) (lies .family) i;
+        reads = same-reads shape unnamed (lies .file) i;
+      }
+
+-- masks that are judged alike give one set-up
+same-judgement : (words rest : List ℕ) (parts : Parts) (syllabus one other : ℕ) → isSetup (parts .base) one ≡ isSetup (parts .base) other
+    → eventsWith words rest parts syllabus one ≡ eventsWith words rest parts syllabus other
+unfolding readSetup wordsAfter
+same-judgement words rest parts syllabus one other alike = rw alike
+
+module _ (body : List ℕ) (older later : ℕ) (known : Known older) (known-later : Known later) (words rest : List ℕ) where
+  -- THE LINES ARE THE SAME WHERE THE SHAPES ARE ALIKE
+  lines-as-older : Alike body (shapeOf later (newer body)) (shapeOf older body) → length (paperOf later (newer body) rest) ≤ 65536
+      → sittingLines words (paperOf later (newer body) rest) ≡ sittingLines words (paperOf older body rest)
+  unfolding sittingLines
+  lines-as-older alike short =
+      ap (linesOf 0)
+      (events-are later known-later (newer body) rest short words (shapeOf later (newer body)) refl
+      ∙ by (shapeOf later (newer body)) (shapeOf older body) refl alike
+      ∙ sym (events-are older known body rest (shorter older later known-later body (0 ∷ []) rest short) words (shapeOf older body) refl))
+    where
+      by : (now then : ReadShape) → shapeOf older body ≡ then → Alike body now then
+          → eventsShaped words rest (newer body) now ≡ eventsShaped words rest body then
+      by now then e (refused refusal) = refl
+      by now then e (taken shape unnamed same) =
+          ap (λ (parts : Parts). eventsWith words rest parts (shape .syllabus) unnamed) (same-parts body shape unnamed (inside body older shape e))
+          ∙ same-judgement words rest (partsOf shape body) (shape .syllabus) unnamed (shape .unnamed) same
 
 -- ---- a version 02 set-up with syllabus 0 behind it
 
@@ -129,82 +142,150 @@ module _ (b : List ℕ) (words rest : List ℕ) where
   syllabus-0-reads-as-older =
       lines-as-older b 2 3 (lit≤ tt, lit≤ tt) (lit≤ tt, lit≤ tt) words rest (the-same b (shapeOf 3 (newer b)) (shapeOf 2 b) (syllabus-off b))
 
+-- ---- an addition that, off, names more mask bits and changes nothing else of a shape
+
+record Adds (older later fewer more : ℕ) (b : List ℕ) : Type 0 where
+  known : Known older
+  known-later : Known later
+  rises : fewer ≤ more
+  fewer-named : (shape : Shape) → shapeOf older b ≡ Taken shape → shape .unnamed ≡ fewer
+  more-named : (shape : Shape) → shapeOf older b ≡ Taken shape → shapeOf later (newer b) ≡ Taken (naming shape more)
+
+module _ (older later fewer more : ℕ) (b : List ℕ) (adds : Adds older later fewer more b) (words rest : List ℕ)
+    (short : length (paperOf later (newer b) rest) ≤ 65536) where
+  -- with no bit that is only now named
+  masks-as-older : (shape : Shape) → shapeOf older b ≡ Taken shape → MasksBelow (basePart shape b) fewer
+      → sittingLines words (paperOf later (newer b) rest) ≡ sittingLines words (paperOf older b rest)
+  masks-as-older shape e low =
+      let base = basePart shape b in
+      let judged : isSetup base more ≡ isSetup base (shape .unnamed) =
+      same-judged base more fewer (below-more base fewer more (adds .rises) low) low ∙ ap (isSetup base) (sym (adds .fewer-named shape e)) in
+      lines-as-older b older later (adds .known) (adds .known-later) words rest (rw (adds .more-named shape e, e) (taken shape more judged)) short
+
+  -- as in a set-up that is accepted
+  accepted-as-older : begunOf (paperOf older b rest) .event ≡ SetUp
+      → sittingLines words (paperOf later (newer b) rest) ≡ sittingLines words (paperOf older b rest)
+  unfolding setupBegun baseBegun
+  accepted-as-older e = by (shapeOf older b) refl (ap (λ (x : Begun). x .event) (sym (begun-is older (adds .known) b rest before)) ∙ e) where
+    before : length (paperOf older b rest) ≤ 65536
+    before = shorter older later (adds .known-later) b (0 ∷ []) rest short
+
+    never : (refusal : Refusal) → EndRefused refusal ≡ SetUp → ⊥
+    never refusal f = let z : _≡_ {A = ℕ} 0 1 = cc in omega arith
+
+    by-parts : (shape : Shape) → shapeOf older b ≡ Taken shape → (base cycles family : List ℕ) → basePart shape b ≡ base → (judged : Bool)
+        → isAccepted base cycles family (shape .unnamed) ≡ judged → setUpEvent (readSetup base cycles family (shape .unnamed) .answer) ≡ SetUp
+        → sittingLines words (paperOf later (newer b) rest) ≡ sittingLines words (paperOf older b rest)
+    by-parts shape f base cycles family is true good g =
+        let dated = both (isSetup base (shape .unnamed) && areCycles cycles) (isFamily family) good .0 in
+        let named = both (isSetup base (shape .unnamed)) (areCycles cycles) dated .0 in
+        let taken-base : isSetup base fewer ≡ true = ap (isSetup base) (sym (adds .fewer-named shape f)) ∙ named in
+        masks-as-older shape f (rw is (accepted-below base fewer taken-base))
+    by-parts shape f base cycles family is false bad g =
+        absurd (never _ (sym (ap (λ (r : ReadSetup). setUpEvent (r .answer)) (untouched [] base cycles family 0 (shape .unnamed) bad .1)) ∙ g))
+
+    by : (read : ReadShape) → shapeOf older b ≡ read → shapedBegun b 4 (4 + length b) read .event ≡ SetUp
+        → sittingLines words (paperOf later (newer b) rest) ≡ sittingLines words (paperOf older b rest)
+    by (Refused refusal) f g = absurd (never refusal g)
+    by (Taken shape) f g =
+        let parts = partsOf shape b in
+        by-parts shape f (parts .base) (parts .cycles) (parts .family) refl
+        (isAccepted (parts .base) (parts .cycles) (parts .family) (shape .unnamed)) refl g
+
 -- ---- a version 03 set-up with dates off behind it
+
+dates-added : (b : List ℕ) → Adds 3 4 (2 ^ 22) (2 ^ 25) b
+dates-added b =
+    record {
+      known = (lit≤ tt, lit≤ tt);
+      known-later = (lit≤ tt, lit≤ tt);
+      rises = lit≤ tt;
+      fewer-named = λ shape e. undated b shape e .unnamed;
+      more-named = λ shape e. dates-off b shape e ∙ ap (λ (dating : Dating). Taken (dates shape dating)) (sym (undated b shape e .dating));
+    }
 
 module _ (b : List ℕ) (words rest : List ℕ) (short : length (paperOf 4 (newer b) rest) ≤ 65536) where
   -- A VERSION 03 PAPER'S LINES ARE THOSE OF THE VERSION 04 PAPER WITH DATES OFF, if its body has a shape and its masks no bit from 22 on.
   -- Without a shape, what was cut off of a tail with dates may be the byte 00; bits 22 to 24 are refused in version 03 alone.
   pub dates-off-read-as-older : (shape : Shape) → shapeOf 3 b ≡ Taken shape → MasksBelow (basePart shape b) (2 ^ 22)
       → sittingLines words (paperOf 4 (newer b) rest) ≡ sittingLines words (paperOf 3 b rest)
-  dates-off-read-as-older shape e low =
-      let u = undated b shape e in
-      let base = basePart shape b in
-      let more : MasksBelow base (2 ^ 25) =
-      record {
-        online = λ i h. let l = low .online i h in omega arith;
-        decline = λ i h. let l = low .decline i h in omega arith;
-        default = λ i h. let l = low .default i h in omega arith;
-      } in
-      let judged : isSetup base (2 ^ 25) ≡ isSetup base (shape .unnamed) = same-judged base (2 ^ 25) (2 ^ 22) more low ∙ ap (isSetup base) (sym (u .unnamed)) in
-      let same : dates shape DatesOff ≡ naming shape (2 ^ 25) = ap (dates shape) (sym (u .dating)) in
-      lines-as-older b 3 4 (lit≤ tt, lit≤ tt) (lit≤ tt, lit≤ tt) words rest
-      (rw (dates-off b shape e, same, e) (taken shape (2 ^ 25) judged)) short
+  dates-off-read-as-older = masks-as-older 3 4 (2 ^ 22) (2 ^ 25) b (dates-added b) words rest short
 
   -- so it is if the version 03 paper's set-up is accepted
   pub accepted-reads-as-older : begunOf (paperOf 3 b rest) .event ≡ SetUp
       → sittingLines words (paperOf 4 (newer b) rest) ≡ sittingLines words (paperOf 3 b rest)
-  unfolding setupBegun baseBegun
-  accepted-reads-as-older e = by (shapeOf 3 b) refl (ap (λ (x : Begun). x .event) (sym (begun-is 3 (lit≤ tt, lit≤ tt) b rest before)) ∙ e) where
-    before : length (paperOf 3 b rest) ≤ 65536
-    before =
-        let size : length (newer b) ≡ length b + 1 = length-append b (0 ∷ []) in
-        omega (arith, whole-length 4 (lit≤ tt, lit≤ tt) (newer b) rest short, length-append b rest)
+  accepted-reads-as-older = accepted-as-older 3 4 (2 ^ 22) (2 ^ 25) b (dates-added b) words rest short
 
-    never : (refusal : Refusal) → EndRefused refusal ≡ SetUp → ⊥
-    never refusal f = let z : _≡_ {A = ℕ} 0 1 = cc in omega arith
+-- ---- a version 04 set-up with the family CPA behind it
 
-    by-base : (shape : Shape) → shapeOf 3 b ≡ Taken shape → (base cycles : List ℕ) → basePart shape b ≡ base → (judged : Bool)
-        → isAccepted base cycles (shape .unnamed) ≡ judged → setUpEvent (readSetup base cycles (shape .unnamed) .answer) ≡ SetUp
-        → sittingLines words (paperOf 4 (newer b) rest) ≡ sittingLines words (paperOf 3 b rest)
-    by-base shape f base cycles is true good g =
-        let named = both (isSetup base (shape .unnamed)) (areCycles cycles) good .0 in
-        let taken-base : isSetup base (2 ^ 22) ≡ true = ap (isSetup base) (sym (undated b shape f .unnamed)) ∙ named in
-        dates-off-read-as-older shape f (rw is (accepted-below base (2 ^ 22) taken-base))
-    by-base shape f base cycles is false bad g =
-        absurd (never _ (sym (ap (λ (r : ReadSetup). setUpEvent (r .answer)) (untouched [] base cycles 0 (shape .unnamed) bad .1)) ∙ g))
+family-added : (b : List ℕ) → Adds 4 5 (2 ^ 25) (2 ^ 26) b
+family-added b =
+    record {
+      known = (lit≤ tt, lit≤ tt);
+      known-later = (lit≤ tt, lit≤ tt);
+      rises = lit≤ tt;
+      fewer-named = λ shape e. of-cpa b shape e .unnamed;
+      more-named = λ shape e. family-off b shape e ∙ ap (λ (family : Family). Taken (families shape family)) (sym (of-cpa b shape e .family));
+    }
 
-    by : (read : ReadShape) → shapeOf 3 b ≡ read → shapedBegun b 4 (4 + length b) read .event ≡ SetUp
-        → sittingLines words (paperOf 4 (newer b) rest) ≡ sittingLines words (paperOf 3 b rest)
-    by (Refused refusal) f g = absurd (never refusal g)
-    by (Taken shape) f g =
-        let base = basePart shape b in
-        let cycles = cyclesPart (shape .dating) b in
-        by-base shape f base cycles refl (isAccepted base cycles (shape .unnamed)) refl g
+module _ (b : List ℕ) (words rest : List ℕ) (short : length (paperOf 5 (newer b) rest) ≤ 65536) where
+  -- A VERSION 04 PAPER'S LINES ARE THOSE OF THE VERSION 05 PAPER OF A CPA CARD, if its body has a shape and its masks no bit from 25 on.
+  -- Without a shape, what was cut off of a CPACE card's tail may be the byte 00; bit 25 is refused in version 04 alone.
+  pub family-off-reads-as-older : (shape : Shape) → shapeOf 4 b ≡ Taken shape → MasksBelow (basePart shape b) (2 ^ 25)
+      → sittingLines words (paperOf 5 (newer b) rest) ≡ sittingLines words (paperOf 4 b rest)
+  family-off-reads-as-older = masks-as-older 4 5 (2 ^ 25) (2 ^ 26) b (family-added b) words rest short
+
+  -- so it is if the version 04 paper's set-up is accepted
+  pub accepted-cpa-reads-as-older : begunOf (paperOf 4 b rest) .event ≡ SetUp
+      → sittingLines words (paperOf 5 (newer b) rest) ≡ sittingLines words (paperOf 4 b rest)
+  accepted-cpa-reads-as-older = accepted-as-older 4 5 (2 ^ 25) (2 ^ 26) b (family-added b) words rest short
 
 -- ---- the same set-up in all versions
-
--- a paper is shorter than the one with a byte more in its set-up
-shorter : (older later : ℕ) → Known later → (b more rest : List ℕ) → length (paperOf later (b ++ more) rest) ≤ 65536
-    → length (paperOf older b rest) ≤ 65536
-shorter older later known b more rest short =
-    omega (arith, whole-length later known (b ++ more) rest short, length-append b more, length-append b rest)
 
 -- the shape of a base alone
 alone : (s : List ℕ) → length s ≡ 52 + 107 * byte s 3 + 7 * byte s 4 → shapeOf 1 s ≡ Taken (based (length s))
 unfolding shapeOf tailsOf baseTail
 alone s sized = rw (← sized, le-ltb (length s) (length s) (omega arith), eq-eqb (length s) (length s) refl)
 
+-- the masks of the newer body are those of the older one
+still-below : (b : List ℕ) (shape : Shape) (version unnamed : ℕ) → shapeOf version b ≡ Taken shape → MasksBelow (basePart shape b) unnamed
+    → MasksBelow (basePart shape (newer b)) unnamed
+still-below b shape version unnamed e low = rw (same-base b shape (inside b version shape e)) low
+
 module _ (words rest : List ℕ) where
+  -- one version further and then as many as are left
+  chain : (older next later : ℕ) → Known later → (b more : List ℕ)
+      → (length (paperOf next (newer b) rest) ≤ 65536 → sittingLines words (paperOf next (newer b) rest) ≡ sittingLines words (paperOf older b rest))
+      → (length (paperOf later (newer b ++ more) rest) ≤ 65536
+      → sittingLines words (paperOf later (newer b ++ more) rest) ≡ sittingLines words (paperOf next (newer b) rest))
+      → length (paperOf later (b ++ 0 ∷ more) rest) ≤ 65536
+      → sittingLines words (paperOf later (b ++ 0 ∷ more) rest) ≡ sittingLines words (paperOf older b rest)
+  chain older next later known b more one others short =
+      let joined : newer b ++ more ≡ b ++ 0 ∷ more = append-assoc b (0 ∷ []) more in
+      let long : length (paperOf later (newer b ++ more) rest) ≤ 65536 = rw joined short in
+      rw (← joined) (others long) ∙ one (shorter next later known (newer b) more rest long)
+
   -- A VERSION 02 PAPER'S LINES ARE THOSE OF THE VERSION 04 PAPER WITH SYLLABUS 0 AND DATES OFF
   pub two-off-read-as-older : (b : List ℕ) → length (paperOf 4 (b ++ 0 ∷ 0 ∷ []) rest) ≤ 65536 → (shape : Shape) → shapeOf 2 b ≡ Taken shape
       → MasksBelow (basePart shape b) (2 ^ 22) → sittingLines words (paperOf 4 (b ++ 0 ∷ 0 ∷ []) rest) ≡ sittingLines words (paperOf 2 b rest)
   two-off-read-as-older b short shape e low =
-      let twice : newer b ++ 0 ∷ [] ≡ b ++ 0 ∷ 0 ∷ [] = append-assoc b (0 ∷ []) (0 ∷ []) in
-      let lies = inside b 2 shape e in
-      let long : length (paperOf 4 (newer (newer b)) rest) ≤ 65536 = rw twice short in
-      let base : basePart shape (newer b) ≡ basePart shape b = take-append-le (shape .base) b (0 ∷ []) (lies .base) in
-      rw (← twice) (dates-off-read-as-older (newer b) words rest long shape (syllabus-off b ∙ e) (rw base low))
-      ∙ syllabus-0-reads-as-older b words rest (shorter 3 4 (lit≤ tt, lit≤ tt) (newer b) (0 ∷ []) rest long)
+      chain 2 3 4 (lit≤ tt, lit≤ tt) b (0 ∷ []) (syllabus-0-reads-as-older b words rest)
+      (λ long. dates-off-read-as-older (newer b) words rest long shape (syllabus-off b ∙ e) (still-below b shape 2 (2 ^ 22) e low)) short
+
+  -- A VERSION 03 PAPER'S LINES ARE THOSE OF THE VERSION 05 PAPER WITH DATES OFF, OF A CPA CARD
+  pub last-two-off-read-as-older : (b : List ℕ) → length (paperOf 5 (b ++ 0 ∷ 0 ∷ []) rest) ≤ 65536 → (shape : Shape) → shapeOf 3 b ≡ Taken shape
+      → MasksBelow (basePart shape b) (2 ^ 22) → sittingLines words (paperOf 5 (b ++ 0 ∷ 0 ∷ []) rest) ≡ sittingLines words (paperOf 3 b rest)
+  last-two-off-read-as-older b short shape e low =
+      let below = below-more _ (2 ^ 22) (2 ^ 25) (lit≤ tt) (still-below b shape 3 (2 ^ 22) e low) in
+      chain 3 4 5 (lit≤ tt, lit≤ tt) b (0 ∷ []) (λ fits. dates-off-read-as-older b words rest fits shape e low)
+      (λ long. family-off-reads-as-older (newer b) words rest long (dates shape DatesOff) (dates-off b shape e) below) short
+
+  -- A VERSION 02 PAPER'S LINES ARE THOSE OF THE VERSION 05 PAPER WITH SYLLABUS 0 AND DATES OFF, OF A CPA CARD
+  pub three-off-read-as-older : (b : List ℕ) → length (paperOf 5 (b ++ 0 ∷ 0 ∷ 0 ∷ []) rest) ≤ 65536 → (shape : Shape) → shapeOf 2 b ≡ Taken shape
+      → MasksBelow (basePart shape b) (2 ^ 22) → sittingLines words (paperOf 5 (b ++ 0 ∷ 0 ∷ 0 ∷ []) rest) ≡ sittingLines words (paperOf 2 b rest)
+  three-off-read-as-older b short shape e low =
+      chain 2 3 5 (lit≤ tt, lit≤ tt) b (0 ∷ 0 ∷ []) (syllabus-0-reads-as-older b words rest)
+      (λ long. last-two-off-read-as-older (newer b) long shape (syllabus-off b ∙ e) (still-below b shape 2 (2 ^ 22) e low)) short
 
   module _ (s : List ℕ) (sized : length s ≡ 52 + 107 * byte s 3 + 7 * byte s 4) where
     -- A VERSION 01 PAPER'S LINES ARE THOSE OF THE VERSION 02 PAPER WITH SELECTION OFF
@@ -216,18 +297,26 @@ module _ (words rest : List ℕ) where
     -- OF THE VERSION 03 PAPER WITH SELECTION OFF AND SYLLABUS 0
     pub both-off-read-as-older : length (paperOf 3 (s ++ 0 ∷ 0 ∷ []) rest) ≤ 65536
         → sittingLines words (paperOf 3 (s ++ 0 ∷ 0 ∷ []) rest) ≡ sittingLines words (paperOf 1 s rest)
-    both-off-read-as-older short =
-        let twice : newer s ++ 0 ∷ [] ≡ s ++ 0 ∷ 0 ∷ [] = append-assoc s (0 ∷ []) (0 ∷ []) in
-        let long : length (paperOf 3 (newer (newer s)) rest) ≤ 65536 = rw twice short in
-        rw (← twice) (syllabus-0-reads-as-older (newer s) words rest long)
-        ∙ off-reads-as-older (shorter 2 3 (lit≤ tt, lit≤ tt) (newer s) (0 ∷ []) rest long)
+    both-off-read-as-older =
+        chain 1 2 3 (lit≤ tt, lit≤ tt) s (0 ∷ []) off-reads-as-older (syllabus-0-reads-as-older (newer s) words rest)
 
-    -- AND OF THE VERSION 04 PAPER WITH ALL THREE OFF
+    -- the shape and the masks of the version 02 paper
+    off-shape : shapeOf 2 (newer s) ≡ Taken (based (length s))
+    off-shape = selection-off s sized ∙ alone s sized
+
+    off-below : MasksBelow s (2 ^ 22) → MasksBelow (basePart (based (length s)) (newer s)) (2 ^ 22)
+    off-below low = rw (take-append-seam s (0 ∷ [])) low
+
+    -- OF THE VERSION 04 PAPER WITH ALL THREE OFF
     pub all-off-read-as-older : length (paperOf 4 (s ++ 0 ∷ 0 ∷ 0 ∷ []) rest) ≤ 65536 → MasksBelow s (2 ^ 22)
         → sittingLines words (paperOf 4 (s ++ 0 ∷ 0 ∷ 0 ∷ []) rest) ≡ sittingLines words (paperOf 1 s rest)
     all-off-read-as-older short low =
-        let thrice : newer s ++ 0 ∷ 0 ∷ [] ≡ s ++ 0 ∷ 0 ∷ 0 ∷ [] = append-assoc s (0 ∷ []) (0 ∷ 0 ∷ []) in
-        let long : length (paperOf 4 (newer s ++ 0 ∷ 0 ∷ []) rest) ≤ 65536 = rw thrice short in
-        let base : basePart (based (length s)) (newer s) ≡ s = take-append-seam s (0 ∷ []) in
-        rw (← thrice) (two-off-read-as-older (newer s) long (based (length s)) (selection-off s sized ∙ alone s sized) (rw base low))
-        ∙ off-reads-as-older (shorter 2 4 (lit≤ tt, lit≤ tt) (newer s) (0 ∷ 0 ∷ []) rest long)
+        chain 1 2 4 (lit≤ tt, lit≤ tt) s (0 ∷ 0 ∷ []) off-reads-as-older
+        (λ long. two-off-read-as-older (newer s) long (based (length s)) off-shape (off-below low)) short
+
+    -- AND OF THE VERSION 05 PAPER WITH ALL FOUR OFF
+    pub four-off-read-as-older : length (paperOf 5 (s ++ 0 ∷ 0 ∷ 0 ∷ 0 ∷ []) rest) ≤ 65536 → MasksBelow s (2 ^ 22)
+        → sittingLines words (paperOf 5 (s ++ 0 ∷ 0 ∷ 0 ∷ 0 ∷ []) rest) ≡ sittingLines words (paperOf 1 s rest)
+    four-off-read-as-older short low =
+        chain 1 2 5 (lit≤ tt, lit≤ tt) s (0 ∷ 0 ∷ 0 ∷ []) off-reads-as-older
+        (λ long. three-off-read-as-older (newer s) long (based (length s)) off-shape (off-below low)) short

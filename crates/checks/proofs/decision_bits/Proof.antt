@@ -7,11 +7,14 @@ use Rattle.checks.proofs.decision_bits.Tie as tie
 returns : tie.Need-returns
 unfolding decisionBits accumulatorsLower accumulatorsUpper countersLower countersUpper datingFlags
 returns c =
-    let accumulators = c .before .before in
+    let dating = c .before .before in
+    let accumulators = dating .before .before in
     let maximum = accumulators .before in
     simp (
-      c .test-dating .ensures .0,
-      c .before .test-counters .ensures,
+      c .bit2 .ensures .0,
+      c .before .finds-cashback .ensures,
+      dating .test-dating .ensures .0,
+      dating .before .test-counters .ensures,
       accumulators .test-accumulators .ensures,
       maximum .bit .ensures .0,
       maximum .before .exceeds-maximum .ensures,
@@ -21,6 +24,7 @@ returns c =
 pub decision-bits-spec : {M : Type 1} → statement M
 decision-bits-spec =
     tie.close
-    (tie.spec (search needs) (search needs) (search needs) (search needs) (search needs) (search needs) (search needs) (search needs)
-    (search needs) (search needs) (search needs) (search needs) (search needs) (search needs) (search needs) (search needs) (search needs)
-    (search needs) (search needs) returns)
+    (tie.spec (search needs) (search needs) (search needs) (search needs) (search needs) (search needs) (search needs)
+    (search needs) (search needs) (search needs) (search needs) (search needs) (search needs) (search needs) (search needs)
+    (search needs) (search needs) (search needs) (search needs) (search needs) (search needs) (search needs) (search needs)
+    (search needs) returns)

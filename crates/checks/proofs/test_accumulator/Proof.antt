@@ -51,5 +51,5 @@ returns-4 c =
 pub test-accumulator-spec : {M : Type 1} → statement M
 test-accumulator-spec =
     tie.close
-    (tie.spec (search needs) returns
-    (search needs) (search needs) (search needs) (search needs) (search needs) (search needs) returns-2 returns-3 returns-4)
+    (tie.spec (search needs) returns (search needs) (search needs) (search needs) (search needs) (search needs)
+    (search needs) returns-2 returns-3 returns-4)

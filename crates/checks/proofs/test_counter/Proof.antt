@@ -18,18 +18,18 @@ returns-2 c =
     let active = more .before in
     let rule = active .before .before .counter-rule in (
       simp (
-        c .bit3 .ensures .0,
-        lower .bit2 .ensures .0,
-        more .bit .ensures .0,
+        c .bit2 .ensures .0,
+        lower .bit .ensures .0,
+        more .one-included .ensures .0,
         ← rule .ensures,
         not-false (rule .result .active) (active .if1 .left),
         exceeds-once,
       ),
-      omega (arith, c .bit3 .ensures .1, lower .bit2 .ensures .1),
+      omega (arith, c .bit2 .ensures .1, lower .bit .ensures .1),
     )
 
 pub test-counter-spec : {M : Type 1} → statement M
 test-counter-spec =
     tie.close
-    (tie.spec (search needs) returns (search needs) (search needs) (search needs) (search needs) (search needs) (search needs) (search needs)
-    (search needs) (search needs) returns-2)
+    (tie.spec (search needs) returns (search needs) (search needs) (search needs) (search needs) (search needs)
+    (search needs) (search needs) (search needs) (search needs) returns-2)

@@ -8,13 +8,19 @@ returns : tie.Need-returns
 unfolding firstOf
 returns c =
     let read = c .before .before in
+    let terminal = read .before in
     simp (
-      c .read-when .ensures,
-      c .before .byte-at2 .ensures,
-      read .byte-at .ensures,
-      read .before .u16-at .ensures,
-      read .before .before .u64-at .ensures,
+      c .read-cashback .ensures,
+      c .before .read-cvm .ensures,
+      read .read-when .ensures,
+      terminal .byte-at2 .ensures,
+      terminal .before .byte-at .ensures,
+      terminal .before .before .u16-at .ensures,
+      terminal .before .before .before .u64-at .ensures,
     )
 
 pub read-first-spec : {M : Type 1} → statement M
-read-first-spec = tie.close (tie.spec (search needs) (search needs) (search needs) (search needs) (search needs) returns)
+read-first-spec =
+    tie.close
+    (tie.spec (search needs) (search needs) (search needs) (search needs) (search needs) (search needs) (search needs)
+    returns)

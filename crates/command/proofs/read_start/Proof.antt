@@ -1,4 +1,3 @@
--- Each field is the number at its place.
 use borrow.Author.Needs.{needs}
 use Rattle.command.specs.Command.{startOf}
 use Rattle.command.proofs.read_start.Statement.{statement}
@@ -6,7 +5,7 @@ use Rattle.command.proofs.read_start.Tie as tie
 
 returns : tie.Need-returns
 unfolding startOf
-returns c = simp (c .byte-at .ensures)
+returns c = simp (c .profile-named .ensures, c .before .interface-of .ensures)
 
 pub read-start-spec : {M : Type 1} → statement M
-read-start-spec = tie.close (tie.spec (search needs) returns)
+read-start-spec = tie.close (tie.spec (search needs) (search needs) returns)

@@ -8,8 +8,11 @@ select-in-requires c κs = search needs
 date-in-requires : tie.Need-date-in-requires
 date-in-requires c κs = search needs
 
+family-in-requires : tie.Need-family-in-requires
+family-in-requires c κs = search needs
+
 returns : tie.Need-returns
-returns c = simp (c .date-in .ensures, c .before .select-in .ensures)
+returns c = simp (c .family-in .ensures, c .before .date-in .ensures, c .before .before .select-in .ensures)
 
 pub place-in-spec : {M : Type 1} → statement M
-place-in-spec = tie.close (tie.spec select-in-requires date-in-requires returns)
+place-in-spec = tie.close (tie.spec select-in-requires date-in-requires family-in-requires returns)

@@ -8,15 +8,17 @@ use Rattle.conversation.proofs.take.Tie as tie
 
 sub-read-record : tie.Need-sub-read-record
 sub-read-record c =
-    let read = c .before .before .before in
+    let told = c .before .before in
+    let read = told .before .before in
     let a = read .before .before .args in
-    record-inside (now (a .paper)) (a .at) _ _ _ (sym (read .record-at .ensures) ∙ c .before .kind .given .1) .0
+    record-inside (now (a .paper)) (a .at) _ _ _ (sym (read .record-at .ensures) ∙ told .kind .given .1) .0
 
 part-read-record-end : tie.Need-part-read-record-end
 part-read-record-end c =
-    let read = c .before .before .before in
+    let told = c .before .before in
+    let read = told .before .before in
     let a = read .before .before .args in
-    record-inside (now (a .paper)) (a .at) _ _ _ (sym (read .record-at .ensures) ∙ c .before .kind .given .1) .1
+    record-inside (now (a .paper)) (a .at) _ _ _ (sym (read .record-at .ensures) ∙ told .kind .given .1) .1
 
 returns : tie.Need-returns
 unfolding takenOf
@@ -30,7 +32,7 @@ returns-3 : tie.Need-returns-3
 unfolding takenOf
 returns-3 c =
     let part = c .before .before in
-    let record-met = part .before .before in
+    let record-met = part .before .before .before in
     let next = sym (record-met .before .before .record-at .ensures) ∙ record-met .kind .given .1 in
     simp (next, c .answer .ensures, c .before .read-record .ensures)
 

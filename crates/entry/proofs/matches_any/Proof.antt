@@ -2,7 +2,8 @@
 use borrow.Author.Needs.{needs}
 use mathlib.Core.Path.{_≡_, sym, _∙_}
 use Prim.Native.Nat.{_-_}
-use Rattle.entry.specs.Entry.{blocks, masked, isAnyOf}
+use Rattle.fields.specs.Fields.{blocks}
+use Rattle.entry.specs.Entry.{masked, isAnyOf}
 use Rattle.entry.proofs.Compared.{is-told, none-left, found, passed}
 use Rattle.entry.proofs.matches_any.Statement.{statement}
 use Rattle.entry.proofs.matches_any.Tie as tie

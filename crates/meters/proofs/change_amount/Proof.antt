@@ -25,12 +25,14 @@ returns c =
 returns-2 : tie.Need-returns-2
 returns-2 c =
     let counted = c .before .before in
-    let told = counted .before .before in
+    let opened = counted .before .before in
+    let told = opened .before .before in
     let active = told .before .before in
     let rule = active .before .before .accumulator-rule in
     simp (
       ← rule .ensures,
       not-false (rule .result .active) (active .if1 .left),
+      ← opened .is-open .ensures,
       counted .if2 .taken,
       told .change .given .1,
       c .grow .ensures,
@@ -39,10 +41,17 @@ returns-2 c =
 
 returns-3 : tie.Need-returns-3
 returns-3 c =
-    let told = c .before .before in
+    let opened = c .before .before in
+    let told = opened .before .before in
     let active = told .before .before in
     let rule = active .before .before .accumulator-rule in
-    simp (← rule .ensures, not-false (rule .result .active) (active .if1 .left), c .if2 .left, told .change .given .1)
+    simp (
+      ← rule .ensures,
+      not-false (rule .result .active) (active .if1 .left),
+      ← opened .is-open .ensures,
+      c .if2 .left,
+      told .change .given .1,
+    )
 
 returns-4 : tie.Need-returns-4
 returns-4 c =
@@ -65,5 +74,5 @@ returns-6 c =
 pub change-amount-spec : {M : Type 1} → statement M
 change-amount-spec =
     tie.close
-    (tie.spec (search needs) returns (search needs) (search needs) (search needs) returns-2
+    (tie.spec (search needs) returns (search needs) (search needs) (search needs) (search needs) returns-2
     (search needs) (search needs) (search needs) returns-3 returns-4 returns-5 returns-6)

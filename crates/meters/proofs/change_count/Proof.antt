@@ -23,14 +23,16 @@ returns c =
 
 returns-2 : tie.Need-returns-2
 returns-2 c =
-    let told = c .before .before in
+    let opened = c .before .before .before in
+    let told = opened .before .before in
     let active = told .before .before in
     let rule = active .before .before .counter-rule in
     simp (
       ← rule .ensures,
       not-false (rule .result .active) (active .if1 .left),
+      ← opened .is-open .ensures,
       c .before .if2 .taken,
-      told .enum-told .given .1,
+      told .change .given .1,
       c .next .ensures,
     )
 
@@ -43,38 +45,45 @@ returns-3 c =
       ← rule .ensures,
       not-false (rule .result .active) (active .if1 .left),
       c .before .if3 .taken,
-      told .enum-told2 .given .1,
+      told .enum-told .given .1,
       c .next2 .ensures,
     )
 
 returns-4 : tie.Need-returns-4
 returns-4 c =
-    let told = c .before in
+    let opened = c .before .before in
+    let told = opened .before .before in
     let active = told .before .before in
     let rule = active .before .before .counter-rule in
-    simp (← rule .ensures, not-false (rule .result .active) (active .if1 .left), c .if2 .left, told .enum-told .given .1)
+    simp (
+      ← rule .ensures,
+      not-false (rule .result .active) (active .if1 .left),
+      ← opened .is-open .ensures,
+      c .if2 .left,
+      told .change .given .1,
+    )
 
 returns-5 : tie.Need-returns-5
 returns-5 c =
     let told = c .before .before in
     let active = told .before .before in
     let rule = active .before .before .counter-rule in
-    simp (← rule .ensures, not-false (rule .result .active) (active .if1 .left), c .if3 .left, told .enum-told2 .given .1)
+    simp (← rule .ensures, not-false (rule .result .active) (active .if1 .left), c .if3 .left, told .enum-told .given .1)
 
 returns-6 : tie.Need-returns-6
 returns-6 c =
     let active = c .before .before in
     let rule = active .before .before .counter-rule in
-    simp (← rule .ensures, not-false (rule .result .active) (active .if1 .left), c .enum-told3 .given .1)
+    simp (← rule .ensures, not-false (rule .result .active) (active .if1 .left), c .enum-told2 .given .1)
 
 returns-7 : tie.Need-returns-7
 returns-7 c =
     let active = c .before .before in
     let rule = active .before .before .counter-rule in
-    simp (← rule .ensures, not-false (rule .result .active) (active .if1 .left), c .enum-told4 .given .1)
+    simp (← rule .ensures, not-false (rule .result .active) (active .if1 .left), c .enum-told3 .given .1)
 
 pub change-count-spec : {M : Type 1} → statement M
 change-count-spec =
     tie.close
-    (tie.spec (search needs) returns (search needs) (search needs) returns-2
-    (search needs) (search needs) returns-3 (search needs) (search needs) returns-4 returns-5 returns-6 returns-7)
+    (tie.spec (search needs) returns (search needs) (search needs) (search needs) (search needs) returns-2 (search needs)
+    (search needs) returns-3 (search needs) (search needs) returns-4 returns-5 returns-6 returns-7)

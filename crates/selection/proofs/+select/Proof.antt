@@ -33,18 +33,18 @@ unfolding follow
     (first-entry.Asked, first-entry.Learnt, take-action.Asked, take-action.Learnt, move-down.Asked, move-down.Learnt, select-below t, select.Post)
     (select-at t)
     select.Post
-    (λ c. sym (none _ _ _ (c .if1 .taken)))
+    (λ c. sym (none _ _ _ _ (c .if1 .taken)))
     (search needs) (search needs) (search needs) (search needs)
     (λ c.
     let to = c .before .before in
     let t = to .before .before in
-    let v = visit _ _ _ _ _ (t .before .before .if1 .left) (t .before .first-entry .ensures) (t .take-action .ensures) in
+    let v = visit _ _ _ _ _ _ (t .before .before .if1 .left) (t .before .first-entry .ensures) (t .take-action .ensures) in
     sym (moves-past v (to .down .given .1) (c .if2 .taken)))
     (search needs) (search needs)
     (λ c κs.
     let to = c .before .before .before in
     let t = to .before .before in
-    (omega (arith, moves-down _ _ _ (sym (t .take-action .ensures) ∙ to .down .given .1)), tt))
+    (omega (arith, moves-down _ _ _ _ (sym (t .take-action .ensures) ∙ to .down .given .1)), tt))
     (search needs)
     (λ c.
     let again = c .before .before .before in
@@ -52,28 +52,28 @@ unfolding follow
     let to = cut .before .before in
     let t = to .before .before in
     let first = t .before .before .before in
-    let few = few-told _ _ _ _ _ _ (again .select .ensures) (c .before .profile2 .given .1) in
-    omega (arith, few, first .before .before .fits .entries, moves-down _ _ _ (sym (t .take-action .ensures) ∙ to .down .given .1)))
+    let few = few-told _ _ _ _ _ _ _ (again .select .ensures) (c .before .profile2 .given .1) in
+    omega (arith, few, first .before .before .fits .entries, moves-down _ _ _ _ (sym (t .take-action .ensures) ∙ to .down .given .1)))
     (search needs) (search needs)
     (λ c.
     let t = c .before .before .before in
-    let v = visit _ _ _ _ _ (t .before .before .if1 .left) (t .before .first-entry .ensures) (t .take-action .ensures) in
+    let v = visit _ _ _ _ _ _ (t .before .before .if1 .left) (t .before .first-entry .ensures) (t .take-action .ensures) in
     sym (step v _ (c .before .profile .given .1)))
     (λ c.
     let again = c .before .before .before in
     let cut = again .before .before in
     let to = cut .before .before in
     let t = to .before .before in
-    let v = visit _ _ _ _ _ (t .before .before .if1 .left) (t .before .first-entry .ensures) (t .take-action .ensures) in
+    let v = visit _ _ _ _ _ _ (t .before .before .if1 .left) (t .before .first-entry .ensures) (t .take-action .ensures) in
     moves-on v (to .down .given .1) (again .before .move-down .ensures) (again .select .ensures) (c .before .profile2 .given .1))
     (λ c.
     let again = c .before .before in
     let cut = again .before .before in
     let to = cut .before .before in
     let t = to .before .before in
-    let v = visit _ _ _ _ _ (t .before .before .if1 .left) (t .before .first-entry .ensures) (t .take-action .ensures) in
+    let v = visit _ _ _ _ _ _ (t .before .before .if1 .left) (t .before .first-entry .ensures) (t .take-action .ensures) in
     moves-on v (to .down .given .1) (again .before .move-down .ensures) (again .select .ensures) (c .enum-told .given .1))
     (λ c.
     let t = c .before .before in
-    let v = visit _ _ _ _ _ (t .before .before .if1 .left) (t .before .first-entry .ensures) (t .take-action .ensures) in
+    let v = visit _ _ _ _ _ _ (t .before .before .if1 .left) (t .before .first-entry .ensures) (t .take-action .ensures) in
     sym (step v _ (c .enum-told2 .given .1)))

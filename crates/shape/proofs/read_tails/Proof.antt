@@ -6,8 +6,14 @@ use Rattle.shape.proofs.read_tails.Tie as tie
 returns : tie.Need-returns
 unfolding tailsOf
 returns c =
-    let selecting = c .before .before in
-    simp (c .add-dating .ensures, c .before .add-syllabus .ensures, selecting .add-selection .ensures, selecting .before .read-base .ensures)
+    let rounding = c .before .before in
+    simp (
+      c .add-family .ensures,
+      c .before .add-dating .ensures,
+      rounding .add-syllabus .ensures,
+      rounding .before .add-selection .ensures,
+      rounding .before .before .read-base .ensures,
+    )
 
 pub read-tails-spec : {M : Type 1} → statement M
-read-tails-spec = tie.close (tie.spec (search needs) (search needs) (search needs) (search needs) returns)
+read-tails-spec = tie.close (tie.spec (search needs) (search needs) (search needs) (search needs) (search needs) returns)

@@ -1,0 +1,273 @@
+-- A body of version 04 or 05 of which one of the causes holds has the number 1. Assumes nothing.
+use mathlib.Core.Path.{_≡_, refl, sym, ap, subst, _∙_}
+use mathlib.Core.Bool.{Bool, true, false, cond}
+use mathlib.Core.List.{List, [], _∷_, _++_}
+use Prim.Native.Nat.{ℕ, suc, _+_, _*_, _≤_, _<_}
+use native.Mathlib.Nat.{add-zero}
+use native.Mathlib.Omega.{arith}
+use borrow.Author.Tests.{lt-ltb, ltb-true, ltb-false, le-leb, lt-leb, leb-false, eqb-true, eqb-false, ne-eqb}
+use lib.Dec.{leb, ltb, eqb}
+use lib.ListN.{length, take, drop, length-append, length-drop, take-append-drop, List·getD-eq-default}
+use lib.Seq.{getD-take, getD-drop, drop-drop}
+use Rattle.wire.specs.Wire.{byte}
+use Rattle.shape.specs.declared.Dating.the-variants.{Off as DatesOff, On as DatesOn}
+use Rattle.shape.specs.declared.Family.the-variants.{Cpa, Cpace}
+use Rattle.shape.specs.declared.Shape.{Shape}
+use Rattle.shape.specs.declared.Tails.{Tails}
+use Rattle.shape.specs.declared.Tails.the-variants.{Ended, Wrong}
+use Rattle.shape.specs.declared.ReadShape.{ReadShape}
+use Rattle.shape.specs.Shape.{based, baseTail, entriesEnd, fileEnd, selectionTail, follows, syllabusTail, dates, datesEnd, datingTail}
+use Rattle.shape.specs.Shape.{families, familyEnd, familyTail, behind, tailsOf, whole, shapeOf, shapeNumber}
+use Rattle.shape.proofs.Files.{first-entry}
+use Rattle.shape.proofs.Inside.{not-before}
+use Rattle.rows.specs.Tails.{Choosing, choosingBytes, baseLength, Base, datesAt, CutFile, cut-here, cut-below, NoChoosing, no-choice, choice-above, no-count, cut-file}
+use Rattle.rows.specs.Tails.{BadEnd, behind-dates, no-family, family-above, behind-cpa, cpace-length}
+use Rattle.rows.specs.Tails.{BadDates, nothing-behind, follows-above, no-dated, dated-above, behind-undated, dated-short, behind-dated}
+use Rattle.rows.specs.Tails.{BadTail, other-length, choosing, no-syllabus, syllabus-above, between, no-choosing, behind-choosing}
+use Rattle.rows.proofs.Entries.{only-one}
+use Rattle.rows.proofs.Behind.{byte-kept, base-sized, some-bytes, choosingEnd, chosen, selection-read}
+use Rattle.rows.proofs.Behind.{syllabus-byte, rest-size, syllabus-read, rest-there, rest-byte}
+use Rattle.rows.proofs.Later.{Late, four, five, from-four}
+
+module _ (body : List ℕ) where
+  -- entries that are cut short end past the body
+  past-end : (n at : ℕ) {file : List ℕ} → CutFile file n → file ≡ drop at body → at ≤ length body → length body < entriesEnd body at n
+  past-end (suc n) at {file} (cut-here h) e l =
+      let here : byte file 0 ≡ byte body at = ap (λ (t : List ℕ). byte t 0) e ∙ getD-drop at body 0 0 ∙ ap (byte body) (add-zero at) in
+      let size : length file ≡ length (drop at body) = ap length e in
+      omega (arith, first-entry body at n, not-before body (at + 1 + byte body at) n, length-drop at body)
+  past-end (suc n) at {file} (cut-below h r) e l =
+      let here : byte file 0 ≡ byte body at = ap (λ (t : List ℕ). byte t 0) e ∙ getD-drop at body 0 0 ∙ ap (byte body) (add-zero at) in
+      let size : length file ≡ length (drop at body) = ap length e in
+      let next : at + (byte file 0 + 1) ≡ at + 1 + byte body at = omega arith in
+      let more : drop (byte file 0 + 1) file ≡ drop (at + 1 + byte body at) body =
+      ap (drop (byte file 0 + 1)) e ∙ drop-drop (byte file 0 + 1) at body ∙ ap (λ n. drop n body) next in
+      rw (first-entry body at n) (past-end n (at + 1 + byte body at) r more (omega (arith, length-drop at body)))
+
+  -- a byte that is not 0 is there
+  there : (at : ℕ) → 1 ≤ byte body at → at < length body
+  there at h = by (ltb at (length body)) refl where
+    by : (b : Bool) → ltb at (length body) ≡ b → at < length body
+    by true e = ltb-true at (length body) e
+    by false e = let none : byte body at ≡ 0 = List·getD-eq-default body 0 (ltb-false at (length body) e) in absurd (omega arith)
+
+  module _ (at : ℕ) (shape : Shape) (whole-base : at ≤ length body) where
+    behind-byte : (k : ℕ) → byte (drop at body) k ≡ byte body (at + k)
+    behind-byte k = getD-drop at body k 0
+
+    switch : byte (drop at body) 0 ≡ byte body at
+    switch = behind-byte 0 ∙ ap (byte body) (add-zero at)
+
+    not-chosen : NoChoosing (drop at body) → selectionTail body shape at ≡ Wrong
+    unfolding selectionTail
+    not-chosen (no-choice h) = rw (le-leb (length body) at (omega (arith, length-drop at body)))
+    not-chosen (choice-above h) =
+        let e = switch in
+        let t = there at (omega arith) in
+        rw (lt-leb (length body) at t, ne-eqb (byte body at) 0 (λ z. omega arith), lt-ltb 1 (byte body at) (omega arith))
+    not-chosen (no-count o h) =
+        let size = length-drop at body in
+        let e : byte body at ≡ 1 = sym switch ∙ o in
+        rw (
+          e,
+          lt-leb (length body) at (omega arith),
+          lt-ltb (length body) (fileEnd body at) (omega (arith, not-before body (at + 2) (byte body (at + 1)))),
+        )
+    not-chosen (cut-file o more cut) =
+        let size = length-drop at body in
+        let e : byte body at ≡ 1 = sym switch ∙ o in
+        let cut-at = subst (CutFile (drop 2 (drop at body))) (behind-byte 1) cut in
+        rw (
+          e,
+          lt-leb (length body) at (omega arith),
+          lt-ltb (length body) (fileEnd body at) (past-end (byte body (at + 1)) (at + 2) cut-at (drop-drop 2 at body) (omega arith)),
+        )
+
+-- ---- what reads the tails behind the dates, and the end
+
+abbrev closing : {version : ℕ} → Late version → (body : List ℕ) → Tails → ReadShape
+closing four body t = whole body t
+closing five body t = whole body (behind t (familyTail body))
+
+abbrev number : {version : ℕ} → Late version → (body : List ℕ) → Tails → ℕ
+number late body t = shapeNumber (closing late body t)
+
+closed : {version : ℕ} (late : Late version) (body : List ℕ)
+    → shapeOf version body ≡ closing late body (behind (behind (behind (baseTail body) (selectionTail body)) (syllabusTail body)) (datingTail body))
+unfolding shapeOf tailsOf
+closed four body = refl
+closed five body = refl
+
+wrong : {version : ℕ} (late : Late version) (body : List ℕ) → number late body Wrong ≡ 1
+wrong four body = refl
+wrong five body = refl
+
+module _ (body : List ℕ) where
+  not-ended : (shape : Shape) (at : ℕ) → (at ≡ length body → ⊥) → shapeNumber (whole body (Ended shape at)) ≡ 1
+  not-ended shape at n = rw (ne-eqb at (length body) n)
+
+  -- a tail with a switch is refused if it is where it is off, and where it is on and whole
+  switched-refused : (refused : Tails → ℕ) → refused Wrong ≡ 1 → (at : ℕ) (off on : Shape) (end : ℕ)
+      → (at < length body → byte body at ≡ 0 → refused (Ended off (at + 1)) ≡ 1)
+      → (at < length body → byte body at ≡ 1 → end ≤ length body → refused (Ended on end) ≡ 1)
+      → refused (cond (leb (length body) at) Wrong (cond (eqb (byte body at) 0) (Ended off (at + 1))
+      (cond (ltb 1 (byte body at)) Wrong (cond (ltb (length body) end) Wrong (Ended on end)))))
+      ≡ 1
+  switched-refused refused w at off on end none some =
+      by (leb (length body) at) refl (eqb (byte body at) 0) refl (ltb 1 (byte body at)) refl (ltb (length body) end) refl
+    where
+      by : (short : Bool) → leb (length body) at ≡ short → (clear : Bool) → eqb (byte body at) 0 ≡ clear → (high : Bool) → ltb 1 (byte body at) ≡ high
+          → (cut : Bool) → ltb (length body) end ≡ cut
+          → refused (cond short Wrong (cond clear (Ended off (at + 1)) (cond high Wrong (cond cut Wrong (Ended on end))))) ≡ 1
+      by true e clear f high g cut h = w
+      by false e true f high g cut h = none (leb-false (length body) at e) (eqb-true (byte body at) 0 f)
+      by false e false f true g cut h = w
+      by false e false f false g true h = w
+      by false e false f false g false h =
+          let one = only-one (byte body at) (eqb-false (byte body at) 0 f) (ltb-false 1 (byte body at) g) in
+          some (leb-false (length body) at e) one (ltb-false (length body) end h)
+
+  -- what stands behind the dates
+  module _ (at : ℕ) (rest : List ℕ) (there : drop at body ≡ rest) (within : at ≤ length body) where
+    long : length body ≡ at + length rest
+    long = omega (arith, ap length there, length-drop at body)
+
+    first-byte : byte rest 0 ≡ byte body at
+    first-byte = ap (λ (t : List ℕ). byte t 0) (sym there) ∙ getD-drop at body 0 0 ∙ ap (byte body) (add-zero at)
+
+    end-refused : {version : ℕ} (late : Late version) (shape : Shape) → BadEnd version (byte body 3) rest → number late body (Ended shape at) ≡ 1
+    unfolding familyTail
+    end-refused four shape (behind-dates v h) = not-ended shape at (λ e. omega (arith, long))
+    end-refused four shape (no-family v h) = absurd (omega arith)
+    end-refused four shape (family-above v h) = absurd (omega arith)
+    end-refused four shape (behind-cpa v o h) = absurd (omega arith)
+    end-refused four shape (cpace-length v o h) = absurd (omega arith)
+    end-refused five shape bad =
+        switched-refused (λ t. shapeNumber (whole body t)) refl at (families shape Cpa) (families shape (Cpace at (familyEnd body at))) (familyEnd body at)
+        (λ l z. not-ended (families shape Cpa) (at + 1) (not-cpa bad l z))
+        (λ l o e. not-ended (families shape (Cpace at (familyEnd body at))) (familyEnd body at) (not-cpace bad l o))
+      where
+        not-cpa : BadEnd 5 (byte body 3) rest → at < length body → byte body at ≡ 0 → at + 1 ≡ length body → ⊥
+        not-cpa (behind-dates v h) l z e = omega arith
+        not-cpa (no-family v h) l z e = omega (arith, long)
+        not-cpa (family-above v h) l z e = omega (arith, first-byte)
+        not-cpa (behind-cpa v o h) l z e = omega (arith, long)
+        not-cpa (cpace-length v o h) l z e = omega (arith, first-byte)
+
+        not-cpace : BadEnd 5 (byte body 3) rest → at < length body → byte body at ≡ 1 → familyEnd body at ≡ length body → ⊥
+        not-cpace (behind-dates v h) l z e = omega arith
+        not-cpace (no-family v h) l z e = omega (arith, long)
+        not-cpace (family-above v h) l z e = omega (arith, first-byte)
+        not-cpace (behind-cpa v o h) l z e = omega (arith, first-byte)
+        not-cpace (cpace-length v o h) l z e = h (omega (arith, long))
+
+  -- no selection behind the base
+  no-selection : {version : ℕ} → Late version → NoChoosing (drop (baseLength body) body) → shapeNumber (shapeOf version body) ≡ 1
+  unfolding baseTail
+  no-selection late bad =
+      ap shapeNumber (closed late body)
+      ∙ ap (λ (t : Tails). number late body (behind (behind t (syllabusTail body)) (datingTail body))) (by (ltb (length body) (baseLength body)) refl)
+      ∙ wrong late body
+    where
+      by : (b : Bool) → ltb (length body) (baseLength body) ≡ b
+          → behind (cond b Wrong (Ended (based (baseLength body)) (baseLength body))) (selectionTail body) ≡ Wrong
+      by true e = refl
+      by false e = not-chosen body (baseLength body) (based (baseLength body)) (ltb-false (length body) (baseLength body) e) bad
+
+-- ---- what stands behind a selection
+
+module _ {version : ℕ} (late : Late version) (base : List ℕ) (sized : Base base) (c : Choosing) where
+  module _ (y : ℕ) (low : y ≤ 1) (rest : List ℕ) (shape : Shape) where
+    abbrev body : List ℕ
+    body = base ++ (choosingBytes c ++ y ∷ rest)
+
+    abbrev at : ℕ
+    at = datesAt base c
+
+    size : length body ≡ at + length rest
+    size = rest-size base c y rest
+
+    dated-byte : byte body at ≡ byte rest 0
+    dated-byte = ap (byte body) (sym (add-zero at)) ∙ rest-byte base c y rest 0
+
+    profiles : byte body 3 ≡ byte base 3
+    profiles = byte-kept base sized (choosingBytes c ++ y ∷ rest) 3 (omega arith)
+
+    -- so many bytes on
+    rest-from : (n : ℕ) → drop (at + n) body ≡ drop n rest
+    rest-from n = sym (drop-drop n at body) ∙ ap (drop n) (rest-there base c y rest)
+
+    end-there : (n : ℕ) → at + n ≤ length body → (sh : Shape) → BadEnd version (byte base 3) (drop n rest) → number late body (Ended sh (at + n)) ≡ 1
+    end-there n h sh bad = end-refused body (at + n) (drop n rest) (rest-from n) h late sh (subst (λ p. BadEnd version p (drop n rest)) (sym profiles) bad)
+
+    when-off : BadDates version (byte base 3) (y ∷ rest) → at < length body → byte body at ≡ 0 → number late body (Ended (dates shape DatesOff) (at + 1)) ≡ 1
+    when-off (nothing-behind h) l z = absurd (omega arith)
+    when-off (follows-above h) l z = absurd (omega arith)
+    when-off (no-dated h) l z = absurd (omega (arith, size))
+    when-off (dated-above h) l z = absurd (omega (arith, dated-byte))
+    when-off (behind-undated o bad) l z = end-there 1 (omega arith) (dates shape DatesOff) bad
+    when-off (dated-short o h) l z = absurd (omega (arith, dated-byte))
+    when-off (behind-dated o bad) l z = absurd (omega (arith, dated-byte))
+
+    when-on : BadDates version (byte base 3) (y ∷ rest) → at < length body → byte body at ≡ 1 → datesEnd body at ≤ length body → (sh : Shape)
+        → number late body (Ended sh (datesEnd body at)) ≡ 1
+    when-on (nothing-behind h) l z e sh = absurd (omega arith)
+    when-on (follows-above h) l z e sh = absurd (omega arith)
+    when-on (no-dated h) l z e sh = absurd (omega (arith, size))
+    when-on (dated-above h) l z e sh = absurd (omega (arith, dated-byte))
+    when-on (behind-undated o bad) l z e sh = absurd (omega (arith, dated-byte))
+    when-on (dated-short o h) l z e sh = absurd (omega (arith, size, profiles))
+    when-on (behind-dated o bad) l z e sh =
+        let next : 1 + (28 + 18 * byte base 3) ≡ suc (28 + 18 * byte body 3) = omega (arith, profiles) in
+        end-there (28 + 18 * byte body 3) e sh (subst (λ k. BadEnd version (byte base 3) (drop k (y ∷ rest))) next bad)
+
+    dates-refused : BadDates version (byte base 3) (y ∷ rest) → number late body (datingTail body shape at) ≡ 1
+    unfolding datingTail
+    dates-refused bad =
+        switched-refused body (number late body) (wrong late body) at (dates shape DatesOff) (dates shape (DatesOn at (datesEnd body at))) (datesEnd body at)
+        (when-off bad)
+        (λ l o e. when-on bad l o e (dates shape (DatesOn at (datesEnd body at))))
+
+  by-syllabus : (rest : List ℕ) (t : Tails) → syllabusTail (base ++ (choosingBytes c ++ rest)) (chosen base c) (choosingEnd base c) ≡ t
+      → number late (base ++ (choosingBytes c ++ rest)) (behind t (datingTail (base ++ (choosingBytes c ++ rest)))) ≡ 1
+      → shapeNumber (shapeOf version (base ++ (choosingBytes c ++ rest))) ≡ 1
+  by-syllabus rest t e f =
+      let body = base ++ (choosingBytes c ++ rest) in
+      ap shapeNumber (closed late body)
+      ∙ ap (λ (u : Tails). number late body (behind (behind u (syllabusTail body)) (datingTail body))) (selection-read base sized c rest)
+      ∙ ap (λ (u : Tails). number late body (behind u (datingTail body))) e
+      ∙ f
+
+  behind-refused : (rest : List ℕ) → BadDates version (byte base 3) rest → shapeNumber (shapeOf version (base ++ (choosingBytes c ++ rest))) ≡ 1
+  unfolding syllabusTail
+  behind-refused [] bad =
+      let body = base ++ (choosingBytes c ++ []) in
+      let size : length body ≤ choosingEnd base c = omega (arith, length-append base (choosingBytes c ++ []), length-append (choosingBytes c) []) in
+      by-syllabus [] Wrong (rw (le-leb (length body) (choosingEnd base c) size)) (wrong late body)
+  behind-refused (y ∷ rest) bad = by (ltb 1 y) refl where
+    by : (high : Bool) → ltb 1 y ≡ high → shapeNumber (shapeOf version (base ++ (choosingBytes c ++ y ∷ rest))) ≡ 1
+    by true e =
+        let body = base ++ (choosingBytes c ++ y ∷ rest) in
+        by-syllabus (y ∷ rest) Wrong
+        (rw (lt-leb (length body) (choosingEnd base c) (omega (arith, rest-size base c y rest)), syllabus-byte base c y rest, e)) (wrong late body)
+    by false e =
+        let low = ltb-false 1 y e in
+        by-syllabus (y ∷ rest) (Ended (follows (chosen base c) y) (datesAt base c)) (syllabus-read base c y rest low (chosen base c))
+        (dates-refused y low rest (follows (chosen base c) y) bad)
+
+-- THE STATEMENT
+pub late-refused : {version : ℕ} → Late version → (body : List ℕ) → BadTail version body → shapeNumber (shapeOf version body) ≡ 1
+late-refused late body (other-length v n) = absurd (omega (arith, from-four late))
+late-refused late body (choosing v b) = absurd (omega (arith, from-four late))
+late-refused late body (no-syllabus v l) = absurd (omega (arith, from-four late))
+late-refused late body (syllabus-above v l) = absurd (omega (arith, from-four late))
+late-refused late body (between v b) = absurd (omega (arith, from-four late))
+late-refused late body (no-choosing v b) = no-selection body late b
+late-refused {version} late body (behind-choosing v c tail e b) =
+    let base = take (baseLength body) body in
+    let long = length-append (choosingBytes c) tail in
+    let more : baseLength body ≤ length body = omega (arith, some-bytes c, ap length e, length-drop (baseLength body) body) in
+    let p : byte base 3 ≡ byte body 3 = getD-take (baseLength body) body 3 0 (omega arith) in
+    let is : base ++ (choosingBytes c ++ tail) ≡ body = ap (λ (t : List ℕ). base ++ t) (sym e) ∙ take-append-drop (baseLength body) body in
+    subst (λ (t : List ℕ). shapeNumber (shapeOf version t) ≡ 1) is
+    (behind-refused late base (base-sized body more) c tail (subst (λ n. BadDates version n tail) (sym p) b))
