@@ -1,11 +1,11 @@
--- Numbers in decimal: how many digits they have, and that these read back. Assumes nothing.
+-- Numbers in decimal: that the digits of the tens stand before the last one, how many there are, and that they read back. Assumes nothing.
 use mathlib.Core.Path.{_≡_, refl, sym}
 use mathlib.Core.Bool.{Bool, true, false}
 use mathlib.Core.List.{List, [], _∷_, _++_}
 use Prim.Native.Nat.{ℕ, _+_, _*_, _-_, _/_, _%_, _≤_, _<_}
 use native.Mathlib.Nat.{div-div-eq-div-mul, div-eq-of-lt}
 use native.Mathlib.Omega.{arith}
-use borrow.Author.Tests.{ltb-true}
+use borrow.Author.Tests.{ltb-true, ltb-false, lt-ltb, le-ltb}
 use lib.Dec.{ltb}
 use lib.ListN.{length, length-append}
 use Rattle.lines.specs.Lines.{digit, decimal}
@@ -14,6 +14,39 @@ use Rattle.lines.proofs.Each.{Each, none, more, append}
 pub zero : decimal 0 ≡ 48 ∷ []
 unfolding decimal digit
 zero = refl
+
+no-digit : (n unit : ℕ) → n < unit → digit n unit ≡ []
+unfolding digit
+no-digit n unit h = simp (lt-ltb n unit h)
+
+its-digit : (n unit : ℕ) → unit ≤ n → digit n unit ≡ (48 + n / unit % 10) ∷ []
+unfolding digit
+its-digit n unit h = simp (le-ltb n unit h)
+
+pub ones : (n : ℕ) → n < 10 → (48 + n) ∷ [] ≡ decimal n
+unfolding decimal
+ones n h =
+    let same : n % 10 ≡ n = omega arith in
+    simp (no-digit n 10_000 (omega arith), no-digit n 1_000 (omega arith), no-digit n 100 (omega arith), no-digit n 10 h, same)
+
+-- a unit's digit is the tens' digit of a tenth of it
+module _ (n unit unit' : ℕ) (same : n / 10 / unit ≡ n / unit') (below : n / 10 < unit → n < unit') (from : unit ≤ n / 10 → unit' ≤ n) where
+  tenth : digit (n / 10) unit ≡ digit n unit'
+  unfolding digit
+  tenth = by (ltb (n / 10) unit) refl where
+    by : (t : Bool) → ltb (n / 10) unit ≡ t → digit (n / 10) unit ≡ digit n unit'
+    by true e = simp (e, lt-ltb n unit' (below (ltb-true (n / 10) unit e)))
+    by false e = simp (e, le-ltb n unit' (from (ltb-false (n / 10) unit e)), same)
+
+pub tens : (n : ℕ) → 10 ≤ n → n < 100_000 → decimal (n / 10) ++ (48 + n % 10) ∷ [] ≡ decimal n
+unfolding decimal
+tens n h small =
+    let none : digit (n / 10) 10_000 ≡ [] = no-digit (n / 10) 10_000 (omega arith) in
+    let ten : digit n 10 ≡ (48 + n / 10 % 10) ∷ [] = its-digit n 10 h in
+    let thousand = tenth n 100 1_000 (div-div-eq-div-mul n 10 100) (λ l. omega arith) (λ l. omega arith) in
+    let ten-thousand = tenth n 1_000 10_000 (div-div-eq-div-mul n 10 1_000) (λ l. omega arith) (λ l. omega arith) in
+    let hundred = tenth n 10 100 (div-div-eq-div-mul n 10 10) (λ l. omega arith) (λ l. omega arith) in
+    simp (none, ten-thousand, thousand, hundred, ten)
 
 -- "0" to "9"
 abbrev pub IsDigit : ℕ → Type 0

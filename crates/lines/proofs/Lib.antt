@@ -2,6 +2,7 @@ pub mod Stores
 pub mod Placed
 pub mod Each
 pub mod Decimal
+pub mod Tens
 pub mod Hex
 pub mod Fields
 pub mod Laws

@@ -5,7 +5,7 @@ ghost use mathlib.Core.List.{[], _∷_, _++_};
 ghost use Prim.Native.Nat.{_+_, _*_, _-_, _/_, _%_, _≤_, _<_};
 ghost use lib.ListN.{length, replicate};
 ghost use Rattle.iad.specs.Iad.{written};
-ghost use Rattle.lines.specs.Lines.{digit, decimal, hexDigit, hexByte, hex};
+ghost use Rattle.lines.specs.Lines.{decimal, hexDigit, hexByte, hex};
 ghost use Rattle.lines.specs.Lines.{refusalLine, cryptogramLine, placed, placeBehind};
 ghost use Rattle.lines.specs.Sitting.{startedLine, answerLine};
 ghost use Rattle.lines.specs.Stored.{Stored};
@@ -30,15 +30,49 @@ fn put_byte(room: &mut [u8], at: usize, byte: u8) -> usize
     at + 1
 }
 
-// The digit of a unit, and nothing where the number is smaller.
-fn put_digit(room: &mut [u8], at: usize, n: u16, unit: u16) -> usize
-    requires { ⌜ (at + 1 ≤ length (now room)) × (0 < unit) ⌝ }
-    ensures { λ r. ⌜ Stored (now (room .entry)) at (digit n unit) 1 r (now (room .exit)) ⌝ }
+fn put_digit(room: &mut [u8], at: usize, digit: u16) -> usize
+    requires { ⌜ (at + 1 ≤ length (now room)) × (digit < 10) ⌝ }
+    ensures { λ r. ⌜ Stored (now (room .entry)) at ((48 + digit) ∷ []) 1 r (now (room .exit)) ⌝ }
 {
-    if n < unit {
-        return at;
+    put_byte(room, at, b'0' + digit as u8)
+}
+
+// A number below 100 in decimal.
+fn put_below_100(room: &mut [u8], at: usize, n: u16) -> usize
+    requires { ⌜ (at + 2 ≤ length (now room)) × (n < 100) ⌝ }
+    ensures { λ r. ⌜ Stored (now (room .entry)) at (decimal n) 2 r (now (room .exit)) ⌝ }
+{
+    if n < 10 {
+        return put_digit(room, at, n);
     }
-    put_byte(room, at, b'0' + (n / unit % 10) as u8)
+    let tens = n / 10;
+    let at = put_digit(room, at, tens);
+    put_digit(room, at, n - tens * 10)
+}
+
+// A number below 1,000: its tens, and the digit that they leave.
+fn put_below_1000(room: &mut [u8], at: usize, n: u16) -> usize
+    requires { ⌜ (at + 3 ≤ length (now room)) × (n < 1000) ⌝ }
+    ensures { λ r. ⌜ Stored (now (room .entry)) at (decimal n) 3 r (now (room .exit)) ⌝ }
+{
+    if n < 100 {
+        return put_below_100(room, at, n);
+    }
+    let tens = n / 10;
+    let at = put_below_100(room, at, tens);
+    put_digit(room, at, n - tens * 10)
+}
+
+// A number from 100 on: its hundreds, and the two digits that they leave.
+fn put_hundreds(room: &mut [u8], at: usize, n: u16) -> usize
+    requires { ⌜ (at + 5 ≤ length (now room)) × (100 ≤ n) ⌝ }
+    ensures { λ r. ⌜ Stored (now (room .entry)) at (decimal n) 5 r (now (room .exit)) ⌝ }
+{
+    let tens = n / 10;
+    let hundreds = tens / 10;
+    let at = put_below_1000(room, at, hundreds);
+    let at = put_digit(room, at, tens - hundreds * 10);
+    put_digit(room, at, n - tens * 10)
 }
 
 // A number in decimal, and the mark behind it.
@@ -46,11 +80,11 @@ fn put_decimal(room: &mut [u8], at: usize, n: u16, mark: u8) -> usize
     requires { ⌜ at + 6 ≤ length (now room) ⌝ }
     ensures { λ r. ⌜ Stored (now (room .entry)) at (decimal n ++ mark ∷ []) 6 r (now (room .exit)) ⌝ }
 {
-    let at = put_digit(room, at, n, 10_000);
-    let at = put_digit(room, at, n, 1_000);
-    let at = put_digit(room, at, n, 100);
-    let at = put_digit(room, at, n, 10);
-    let at = put_byte(room, at, b'0' + (n % 10) as u8);
+    if n < 100 {
+        let at = put_below_100(room, at, n);
+        return put_byte(room, at, mark);
+    }
+    let at = put_hundreds(room, at, n);
     put_byte(room, at, mark)
 }
 
