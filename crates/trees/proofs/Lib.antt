@@ -1,0 +1,5 @@
+pub mod Octets
+pub mod Laid
+pub mod There
+pub mod Heads
+pub mod Back
