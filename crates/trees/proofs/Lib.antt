@@ -3,3 +3,4 @@ pub mod Laid
 pub mod There
 pub mod Heads
 pub mod Back
+pub mod Faults
