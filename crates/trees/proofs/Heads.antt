@@ -48,12 +48,11 @@ length-by k s h r l true y p q =
     let i : k + 1 + 1 ≡ k + 2 = omega arith in
     let u : n / 256 ≡ byte s (k + 1) = omega arith in
     let w : n % 256 ≡ byte s (k + 2) = omega arith in
+    let x : spell k 3 s ≡ 0x82 ∷ byte s (k + 1) ∷ byte s (k + 2) ∷ [] = ap₂ (λ m z. m ∷ byte s (k + 1) ∷ byte s z ∷ []) (eqb-true (byte s k) 0x82 p) i in
+    let y : 0x82 ∷ byte s (k + 1) ∷ byte s (k + 2) ∷ [] ≡ lengthBytes with82 n = ap₂ (λ m z. 0x82 ∷ m ∷ z ∷ []) (sym u) (sym w) in
     record {
       form = with82;
-      bytes = ap (λ m. take m (drop k s)) e ∙ spelled k 3 s (omega arith)
-          ∙ ap₂ (λ m z. m ∷ byte s (k + 1) ∷ byte s z ∷ []) (eqb-true (byte s k) 0x82 p) i
-          ∙ ap₂ (λ m z. 0x82 ∷ m ∷ z ∷ []) (sym u) (sym w)
-          ∙ ap (lengthBytes with82) (sym v);
+      bytes = ap (λ m. take m (drop k s)) e ∙ spelled k 3 s (omega arith) ∙ x ∙ y ∙ ap (lengthBytes with82) (sym v);
       fits = omega arith;
     }
 length-by k s h r l false true p q =

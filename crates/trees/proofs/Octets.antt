@@ -23,10 +23,15 @@ joined [] b h g = g
 joined (x ∷ a) b h g = one-more x (a ++ b) (h 0) (joined a b (λ i. h (suc i)) g)
 
 length-bytes : (f : Form) (n : ℕ) → n < limit f → Bytes (lengthBytes f n)
-length-bytes plain n h = one-more n [] (omega arith) none
-length-bytes with81 n h = one-more 0x81 (n ∷ []) (omega arith) (one-more n [] (omega arith) none)
-length-bytes with82 n h =
-    one-more 0x82 (n / 256 ∷ n % 256 ∷ []) (omega arith) (one-more (n / 256) (n % 256 ∷ []) (omega arith) (one-more (n % 256) [] (omega arith) none))
+length-bytes plain n h zero = omega arith
+length-bytes plain n h (suc i) = omega arith
+length-bytes with81 n h zero = omega arith
+length-bytes with81 n h (suc zero) = omega arith
+length-bytes with81 n h (suc (suc i)) = omega arith
+length-bytes with82 n h zero = omega arith
+length-bytes with82 n h (suc zero) = omega arith
+length-bytes with82 n h (suc (suc zero)) = omega arith
+length-bytes with82 n h (suc (suc (suc i))) = omega arith
 
 head-bytes : (q : ℕ) (t : Tag) (f : Form) (n : ℕ) → Tagged q t → n < limit f → Bytes (head t f n)
 head-bytes q (short b) f n g h = one-more b (lengthBytes f n) (g .0) (length-bytes f n h)
@@ -35,11 +40,16 @@ head-bytes q (long b c) f n g h = let l = g .1 in one-more b (c ∷ lengthBytes 
 object-bytes : (q : ℕ) (t : Tag) (f : Form) (v r : List ℕ) → Tagged q t → length v < limit f → Bytes v → Bytes r → Bytes (objectBytes t f v r)
 object-bytes q t f v r g h x y = joined (head t f (length v)) (v ++ r) (head-bytes q t f (length v) g h) (joined v r x y)
 
+filler-bytes : (r : Objects) → Bytes (written r) → Bytes (written (filler r))
+unfolding written
+filler-bytes r h zero = omega arith
+filler-bytes r h (suc i) = h i
+
 -- THEOREM: what is written of good objects are bytes
 pub written-bytes : (i : Objects) → Good i → Bytes (written i)
 unfolding Good written
 written-bytes end g = none
-written-bytes (filler r) g = one-more 0 (written r) (omega arith) (written-bytes r g)
+written-bytes (filler r) g = filler-bytes r (written-bytes r g)
 written-bytes (primitive t f v r) g = object-bytes 0 t f v (written r) (g .0) (g .1) (g .2) (written-bytes r (g .3))
 written-bytes (constructed t f o r) g = object-bytes 1 t f (written o) (written r) (g .0) (g .1) (written-bytes o (g .2)) (written-bytes r (g .3))
 

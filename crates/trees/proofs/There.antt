@@ -24,7 +24,7 @@ unfolding Good depth written readList readBehind
 in-front k end w g d = refl
 in-front k (filler r) w g d = filler-list k (written r ++ w) ∙ in-front k r w g d
 in-front k (primitive t f v r) w g d =
-    ap (readList (suc k)) (behind t f v (written r) w) ∙ primitive-list k t f v (written r ++ w) (g .0) (g .1) ∙ in-front k r w (g .3) d
+    ap (readList (suc k)) (behind t f v (written r) w) ∙ primitive-list k t f v (written r ++ w) (g .0) (g .1) ∙ in-front k r w (g .3) (omega arith)
 in-front zero (constructed t f o r) w g d = absurd (omega arith)
 in-front (suc k) (constructed t f o r) w g d =
     let v = written o in
@@ -47,7 +47,7 @@ deep : (k : ℕ) (i : Objects) → Good i → k < depth i → readList (suc k) (
 unfolding Good depth written readList
 deep k end g d = absurd (omega arith)
 deep k (filler r) g d = filler-list k (written r) ∙ deep k r g d
-deep k (primitive t f v r) g d = primitive-list k t f v (written r) (g .0) (g .1) ∙ deep k r (g .3) d
+deep k (primitive t f v r) g d = primitive-list k t f v (written r) (g .0) (g .1) ∙ deep k r (g .3) (omega arith)
 deep zero (constructed t f o r) g d = constructed-list 0 t f (written o) (written r) (g .0) (g .1)
 deep (suc k) (constructed t f o r) g d =
     constructed-list (suc k) t f (written o) (written r) (g .0) (g .1)
