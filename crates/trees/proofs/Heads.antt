@@ -36,6 +36,13 @@ record Length (k : ℕ) (s : List ℕ) : Type 0 where
   bytes : take (lengthSize (byte s k)) (drop k s) ≡ lengthBytes form (valueAt k s)
   fits : valueAt k s < limit form
 
+two-bytes : (k : ℕ) (s : List ℕ) (n : ℕ) → k + 3 ≤ length s → byte s k ≡ 0x82 → n / 256 ≡ byte s (k + 1) → n % 256 ≡ byte s (k + 2)
+    → take 3 (drop k s) ≡ lengthBytes with82 n
+unfolding spell
+two-bytes k s n l e u w =
+    let i : k + 1 + 1 ≡ k + 2 = omega arith in
+    spelled k 3 s l ∙ ap₂ (λ m z. m ∷ byte s (k + 1) ∷ byte s z ∷ []) e i ∙ ap₂ (λ m z. 0x82 ∷ m ∷ z ∷ []) (sym u) (sym w)
+
 length-by : (k : ℕ) (s : List ℕ) → Bytes s → lengthRight (byte s k) ≡ true → k + lengthSize (byte s k) ≤ length s
     → (x y : Bool) → eqb (byte s k) 0x82 ≡ x → eqb (byte s k) 0x81 ≡ y → Length k s
 unfolding lengthSize valueAt spell
@@ -45,14 +52,9 @@ length-by k s h r l true y p q =
     let n = byte s (k + 1) * 256 + byte s (k + 2) in
     let e : lengthSize (byte s k) ≡ 3 = simp (p) in
     let v : valueAt k s ≡ n = simp (p) in
-    let i : k + 1 + 1 ≡ k + 2 = omega arith in
-    let u : n / 256 ≡ byte s (k + 1) = omega arith in
-    let w : n % 256 ≡ byte s (k + 2) = omega arith in
-    let x : spell k 3 s ≡ 0x82 ∷ byte s (k + 1) ∷ byte s (k + 2) ∷ [] = ap₂ (λ m z. m ∷ byte s (k + 1) ∷ byte s z ∷ []) (eqb-true (byte s k) 0x82 p) i in
-    let y : 0x82 ∷ byte s (k + 1) ∷ byte s (k + 2) ∷ [] ≡ lengthBytes with82 n = ap₂ (λ m z. 0x82 ∷ m ∷ z ∷ []) (sym u) (sym w) in
     record {
       form = with82;
-      bytes = ap (λ m. take m (drop k s)) e ∙ spelled k 3 s (omega arith) ∙ x ∙ y ∙ ap (lengthBytes with82) (sym v);
+      bytes = ap (λ m. take m (drop k s)) e ∙ two-bytes k s n (omega arith) (eqb-true (byte s k) 0x82 p) (omega arith) (omega arith) ∙ ap (lengthBytes with82) (sym v);
       fits = omega arith;
     }
 length-by k s h r l false true p q =
