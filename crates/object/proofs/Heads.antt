@@ -1,20 +1,20 @@
 -- Laws of parts of a list and of heads. Assumes nothing.
 use mathlib.Core.Path.{_≡_, refl, sym, ap, ap₂, _∙_}
 use mathlib.Core.List.{List}
-use mathlib.Core.Bool.{Bool, true, false, _&&_, _||_, not, cond}
+use mathlib.Core.Bool.{Bool, true, false, cond}
 use Prim.Native.Nat.{ℕ, _+_, _-_, _*_, _%_, _≤_, _<_}
 use native.Mathlib.Nat.{add-zero, le-refl}
 use native.Mathlib.Omega.{arith}
 use lib.ListN.{length, take, drop, length-drop, length-take}
 use lib.Seq.{take-all, getD-drop}
-use lib.Dec.{ltb, leb, eqb}
-use borrow.Author.Tests.{lt-ltb, le-ltb, eq-eqb, ne-eqb, leb-true, leb-false}
+use lib.Dec.{leb, eqb}
+use borrow.Author.Tests.{lt-ltb, le-ltb, ne-eqb, leb-true}
 use Rattle.wire.specs.Wire.{byte, number}
 use Rattle.wire.proofs.Pairs.{both}
 use Rattle.wire.proofs.Numbers.{halves, one}
 use Rattle.object.specs.declared.Head.{Head}
 use Rattle.object.specs.declared.Head.the-variants.{Right, Wrong}
-use Rattle.object.specs.Object.{tagSize, tagRight, lead, lengthRight, lengthSize, valueSize, headSize, objectSize, headFormed, headRight, headWithin, headOf}
+use Rattle.object.specs.Object.{tagSize, tagRight, lead, lengthRight, lengthSize, lengthAt, valueSize, headSize, objectSize, headFormed, headRight, headWithin, headBehind, headOf}
 
 -- ---- parts of a list
 pub rest-all : (s : List ℕ) (k : ℕ) → take (length s - k) (drop k s) ≡ drop k s
@@ -92,49 +92,39 @@ pub wrong-at : (s : List ℕ) (at : ℕ) (h : Head) → h ≡ headOf (take (leng
 wrong-at s at h e w = is-wrong (drop at s) (ap headOf (sym (rest-all s at)) ∙ sym e ∙ w)
 
 -- ---- the ways through a head
-turned : (c : ℕ) → (t : Bool) → leb 0x80 c ≡ t → t ≡ not (ltb c 0x80)
-turned c true e = simp (le-ltb c 0x80 (leb-true 0x80 c e))
-turned c false e = simp (lt-ltb c 0x80 (leb-false 0x80 c e))
-
-long-tag : (p : Bool) (c : ℕ) → (eqb (cond p 2 1) 2 && leb 0x80 c) ≡ not (not p || ltb c 0x80)
-long-tag true c = turned c (leb 0x80 c) refl
-long-tag false c = refl
-
-turn : (a b : Bool) → a ≡ not b → b ≡ not a
-turn a true e = simp (e)
-turn a false e = simp (e)
-
-pub tag-tested : (s : List ℕ) → tagRight s ≡ not (eqb (tagSize s) 2 && leb 0x80 (byte s 1))
-tag-tested s = turn (eqb (tagSize s) 2 && leb 0x80 (byte s 1)) (tagRight s) (long-tag (eqb (byte s 0 % 32) 31) (byte s 1))
-
 pub tag-wrong : (s : List ℕ) → tagRight s ≡ false → headOf s ≡ Wrong
 unfolding headOf headRight headFormed
 tag-wrong s e = simp (e)
 
-module _ (s : List ℕ) (r : tagRight s ≡ true) where
-  formed : (m n : ℕ) → lengthRight (lead s) ≡ true → headSize s ≡ m → valueSize s ≡ n → headOf s ≡ headWithin s m n
-  unfolding headOf headRight headFormed
-  formed m n l p q = simp (r, l) (ap₂ (headWithin s) p q)
+pub tag-right : (s : List ℕ) (t : ℕ) → tagRight s ≡ true → tagSize s ≡ t → headOf s ≡ headBehind s t
+unfolding headOf headRight headFormed headSize valueSize
+tag-right s t r e = go (lengthRight (lead s)) refl ∙ ap (headBehind s) e
+  where
+    go : (l : Bool) → lengthRight (lead s) ≡ l → headOf s ≡ headBehind s (tagSize s)
+    go true l = simp (r, l)
+    go false l = simp (r, l)
 
-  pub plain-length : lead s < 0x80 → headOf s ≡ headWithin s (tagSize s + 1) (lead s)
-  unfolding headSize lengthSize valueSize
+module _ (s : List ℕ) (t : ℕ) where
+  formed : (m n : ℕ) → lengthRight (byte s t) ≡ true → lengthSize (byte s t) ≡ m → lengthAt s t ≡ n → headBehind s t ≡ headWithin s (t + m) n
+  formed m n l p q = simp (l) (ap₂ (λ x y. headWithin s (t + x) y) p q)
+
+  pub plain-length : byte s t < 0x80 → headBehind s t ≡ headWithin s (t + 1) (byte s t)
+  unfolding lengthSize lengthAt
   plain-length h =
-      let x = ne-eqb (lead s) 0x82 (λ z. omega arith) in
-      let y = ne-eqb (lead s) 0x81 (λ z. omega arith) in
-      formed (tagSize s + 1) (lead s) (simp (lt-ltb (lead s) 0x80 h)) (simp (x, y)) (simp (x, y))
+      let x = ne-eqb (byte s t) 0x82 (λ z. omega arith) in
+      let y = ne-eqb (byte s t) 0x81 (λ z. omega arith) in
+      formed 1 (byte s t) (simp (lt-ltb (byte s t) 0x80 h)) (simp (x, y)) (simp (x, y))
 
-  pub length-81 : lead s ≡ 0x81 → headOf s ≡ headWithin s (tagSize s + 2) (byte s (tagSize s + 1))
-  unfolding headSize lengthSize valueSize
-  length-81 e = formed (tagSize s + 2) (byte s (tagSize s + 1)) (ap lengthRight e) (simp (e)) (simp (e))
+  pub length-81 : byte s t ≡ 0x81 → headBehind s t ≡ headWithin s (t + 2) (byte s (t + 1))
+  unfolding lengthSize lengthAt
+  length-81 e = formed 2 (byte s (t + 1)) (ap lengthRight e) (simp (e)) (simp (e))
 
-  pub length-82 : lead s ≡ 0x82 → headOf s ≡ headWithin s (tagSize s + 3) (number s (tagSize s + 1) 2)
-  unfolding headSize lengthSize valueSize
+  pub length-82 : byte s t ≡ 0x82 → headBehind s t ≡ headWithin s (t + 3) (number s (t + 1) 2)
+  unfolding lengthSize lengthAt
   length-82 e =
-      let t = tagSize s + 1 in
-      let k : tagSize s + 2 ≡ t + 1 = omega arith in
-      let n = ap (λ i. byte s t * 256 + byte s i) k ∙ halves 1 s t (byte s t) (byte s (t + 1)) (sym (one s t)) (sym (one s (t + 1))) in
-      formed (tagSize s + 3) (number s t 2) (ap lengthRight e) (simp (e)) (simp (e) n)
+      let k : t + 2 ≡ t + 1 + 1 = omega arith in
+      let n = ap (λ i. byte s (t + 1) * 256 + byte s i) k ∙ halves 1 s (t + 1) (byte s (t + 1)) (byte s (t + 1 + 1)) (sym (one s (t + 1))) (sym (one s (t + 1 + 1))) in
+      formed 3 (number s (t + 1) 2) (ap lengthRight e) (simp (e)) (simp (e) n)
 
-  pub other-length : (lead s < 0x80 → ⊥) → (lead s ≡ 0x81 → ⊥) → (lead s ≡ 0x82 → ⊥) → headOf s ≡ Wrong
-  unfolding headOf headRight headFormed
-  other-length h x y = simp (r, le-ltb (lead s) 0x80 (omega arith), ne-eqb (lead s) 0x81 x, ne-eqb (lead s) 0x82 y)
+  pub other-length : (byte s t < 0x80 → ⊥) → (byte s t ≡ 0x81 → ⊥) → (byte s t ≡ 0x82 → ⊥) → headBehind s t ≡ Wrong
+  other-length h x y = simp (le-ltb (byte s t) 0x80 (omega arith), ne-eqb (byte s t) 0x81 x, ne-eqb (byte s t) 0x82 y)

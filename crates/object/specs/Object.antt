@@ -21,23 +21,27 @@ tagSize s = cond (eqb (byte s 0 % 32) 31) 2 1
 abbrev pub tagRight : List ℕ → Bool
 tagRight s = not (eqb (byte s 0 % 32) 31) || ltb (byte s 1) 0x80
 
--- the length, by its first byte: 00 to 7F alone, or 81 and one byte, or 82 and two
-abbrev pub lead : List ℕ → ℕ
-lead s = byte s (tagSize s)
-
+-- a length at a place, by its first byte: 00 to 7F alone, or 81 and one byte, or 82 and two
 abbrev pub lengthRight : ℕ → Bool
 lengthRight b = ltb b 0x80 || eqb b 0x81 || eqb b 0x82
 
 unfoldable pub lengthSize : ℕ → ℕ
 lengthSize b = cond (eqb b 0x82) 3 (cond (eqb b 0x81) 2 1)
 
-unfoldable pub valueSize : List ℕ → ℕ
-valueSize s =
-    cond (eqb (lead s) 0x82) (byte s (tagSize s + 1) * 256 + byte s (tagSize s + 2))
-    (cond (eqb (lead s) 0x81) (byte s (tagSize s + 1)) (lead s))
+unfoldable pub lengthAt : List ℕ → (at : ℕ) → ℕ
+lengthAt s at =
+    cond (eqb (byte s at) 0x82) (byte s (at + 1) * 256 + byte s (at + 2))
+    (cond (eqb (byte s at) 0x81) (byte s (at + 1)) (byte s at))
+
+-- it stands behind the tag
+abbrev pub lead : List ℕ → ℕ
+lead s = byte s (tagSize s)
 
 unfoldable pub headSize : List ℕ → ℕ
 headSize s = tagSize s + lengthSize (lead s)
+
+unfoldable pub valueSize : List ℕ → ℕ
+valueSize s = lengthAt s (tagSize s)
 
 abbrev pub objectSize : List ℕ → ℕ
 objectSize s = headSize s + valueSize s
@@ -49,11 +53,15 @@ headFormed s = tagRight s && lengthRight (lead s)
 unfoldable pub headRight : List ℕ → Bool
 headRight s = headFormed s && leb (objectSize s) (length s)
 
+unfoldable pub headOf : List ℕ → Head
+headOf s = cond (headRight s) (Right (headSize s) (valueSize s)) Wrong
+
+-- the same of a head by its two sizes, and of one behind a tag that is right
 abbrev pub headWithin : List ℕ → (size length : ℕ) → Head
 headWithin s m n = cond (leb (m + n) (length s)) (Right m n) Wrong
 
-unfoldable pub headOf : List ℕ → Head
-headOf s = cond (headRight s) (Right (headSize s) (valueSize s)) Wrong
+abbrev pub headBehind : List ℕ → (tag : ℕ) → Head
+headBehind s t = cond (lengthRight (byte s t)) (headWithin s (t + lengthSize (byte s t)) (lengthAt s t)) Wrong
 
 unfoldable pub valueOf : List ℕ → List ℕ
 valueOf s = take (valueSize s) (drop (headSize s) s)

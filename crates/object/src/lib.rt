@@ -5,7 +5,7 @@ use wire::byte_at;
 use wire::u16_at;
 ghost use mathlib.Core.Path.{_≡_};
 ghost use Prim.Native.Nat.{_+_, _≤_, _<_};
-ghost use Rattle.object.specs.Object.{tagSize, isConstructed, headOf, headWithin, readObject, readList, readTemplate, nextCommand};
+ghost use Rattle.object.specs.Object.{isConstructed, headWithin, headBehind, headOf, readObject, readList, readTemplate, nextCommand};
 ghost use Rattle.object.specs.declared.Head.the-variants.{Right};
 
 // A template and its first fault in reading order.
@@ -30,13 +30,6 @@ enum Head {
     Wrong,
 }
 
-// A tag has a second byte where the low five bits of its first are all ones.
-fn tag_size(s: &[u8]) -> usize
-    ensures { λ r. ⌜ (r ≡ tagSize (now (s .entry))) × (r ≤ 2) ⌝ }
-{
-    if byte_at(s, 0) % 32 == 31 { 2 } else { 1 }
-}
-
 // Bit 6 of a tag's first byte.
 fn is_constructed(tag: u8) -> bool
     ensures { λ r. ⌜ r ≡ isConstructed tag ⌝ }
@@ -55,15 +48,11 @@ fn head_within(s: &[u8], size: usize, length: usize) -> Head
     Head::Right { size, length }
 }
 
-// The head of the object with which the bytes begin. A tag of three bytes, a length of another form
-// and a value past the end are wrong.
-fn read_head(s: &[u8]) -> Head
-    ensures { λ r. ⌜ r ≡ headOf (now (s .entry)) ⌝ }
+// The head behind a tag of one byte or two. A length is 00 to 7F, or 81 and one byte, or 82 and two.
+fn read_length(s: &[u8], tag: usize) -> Head
+    requires { ⌜ tag ≤ 2 ⌝ }
+    ensures { λ r. ⌜ r ≡ headBehind (now (s .entry)) tag ⌝ }
 {
-    let tag = tag_size(s);
-    if (tag == 2) & (0x80 <= byte_at(s, 1)) {
-        return Head::Wrong;
-    }
     let lead = byte_at(s, tag);
     if lead < 0x80 {
         return head_within(s, tag + 1, lead as usize);
@@ -75,6 +64,20 @@ fn read_head(s: &[u8]) -> Head
         return head_within(s, tag + 3, u16_at(s, tag + 1) as usize);
     }
     Head::Wrong
+}
+
+// The head of the object with which the bytes begin. A tag has a second byte where the low five bits
+// of its first are all ones; a second byte of 80 or more would announce a third.
+fn read_head(s: &[u8]) -> Head
+    ensures { λ r. ⌜ r ≡ headOf (now (s .entry)) ⌝ }
+{
+    if byte_at(s, 0) % 32 != 31 {
+        return read_length(s, 1);
+    }
+    if 0x80 <= byte_at(s, 1) {
+        return Head::Wrong;
+    }
+    read_length(s, 2)
 }
 
 // The object with which the bytes begin, its head being right; `depths` more may be opened.

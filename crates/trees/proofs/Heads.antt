@@ -10,7 +10,7 @@ use lib.Dec.{ltb, leb, eqb}
 use borrow.Author.Tests.{ltb-true, eqb-true, eqb-false}
 use Rattle.wire.specs.Wire.{byte}
 use Rattle.wire.proofs.Pairs.{both}
-use Rattle.object.specs.Object.{tagSize, tagRight, lead, lengthRight, lengthSize, valueSize, headSize, headFormed, headRight, isConstructed, objectSize, valueOf}
+use Rattle.object.specs.Object.{tagSize, tagRight, lead, lengthRight, lengthSize, lengthAt, valueSize, headSize, headFormed, headRight, isConstructed, objectSize, valueOf}
 use Rattle.object.proofs.Heads.{right-fits, head-some, part-length}
 use Rattle.trees.specs.Tree.{Tag, short, long, Form, plain, with81, with82, tagBytes, lengthBytes, head, objectBytes, limit, Tagged, Bytes}
 use Rattle.trees.proofs.Octets.{drop-bytes, take-bytes}
@@ -28,13 +28,10 @@ spelled k (suc n) s h =
     ap (take (suc n)) (drop-cons s k 0 (omega arith)) ∙ ap (λ l. byte s k ∷ l) (ap (λ m. take n (drop m s)) e ∙ spelled (k + 1) n s (omega arith))
 
 -- ---- the length at a place is one of the forms
-unfoldable valueAt : ℕ → List ℕ → ℕ
-valueAt k s = cond (eqb (byte s k) 0x82) (byte s (k + 1) * 256 + byte s (k + 2)) (cond (eqb (byte s k) 0x81) (byte s (k + 1)) (byte s k))
-
 record Length (k : ℕ) (s : List ℕ) : Type 0 where
   form : Form
-  bytes : take (lengthSize (byte s k)) (drop k s) ≡ lengthBytes form (valueAt k s)
-  fits : valueAt k s < limit form
+  bytes : take (lengthSize (byte s k)) (drop k s) ≡ lengthBytes form (lengthAt s k)
+  fits : lengthAt s k < limit form
 
 two-bytes : (k : ℕ) (s : List ℕ) (n : ℕ) → k + 3 ≤ length s → byte s k ≡ 0x82 → n / 256 ≡ byte s (k + 1) → n % 256 ≡ byte s (k + 2)
     → take 3 (drop k s) ≡ lengthBytes with82 n
@@ -45,13 +42,13 @@ two-bytes k s n l e u w =
 
 length-by : (k : ℕ) (s : List ℕ) → Bytes s → lengthRight (byte s k) ≡ true → k + lengthSize (byte s k) ≤ length s
     → (x y : Bool) → eqb (byte s k) 0x82 ≡ x → eqb (byte s k) 0x81 ≡ y → Length k s
-unfolding lengthSize valueAt spell
+unfolding lengthSize lengthAt spell
 length-by k s h r l true y p q =
     let b = h (k + 1) in
     let c = h (k + 2) in
     let n = byte s (k + 1) * 256 + byte s (k + 2) in
     let e : lengthSize (byte s k) ≡ 3 = simp (p) in
-    let v : valueAt k s ≡ n = simp (p) in
+    let v : lengthAt s k ≡ n = simp (p) in
     record {
       form = with82;
       bytes = ap (λ m. take m (drop k s)) e ∙ two-bytes k s n (omega arith) (eqb-true (byte s k) 0x82 p) (omega arith) (omega arith) ∙ ap (lengthBytes with82) (sym v);
@@ -60,7 +57,7 @@ length-by k s h r l true y p q =
 length-by k s h r l false true p q =
     let b = h (k + 1) in
     let e : lengthSize (byte s k) ≡ 2 = simp (p, q) in
-    let v : valueAt k s ≡ byte s (k + 1) = simp (p, q) in
+    let v : lengthAt s k ≡ byte s (k + 1) = simp (p, q) in
     record {
       form = with81;
       bytes = ap (λ m. take m (drop k s)) e ∙ spelled k 2 s (omega arith) ∙ ap₂ (λ m z. m ∷ z ∷ []) (eqb-true (byte s k) 0x81 q) (sym v);
@@ -68,7 +65,7 @@ length-by k s h r l false true p q =
     }
 length-by k s h r l false false p q =
     let e : lengthSize (byte s k) ≡ 1 = simp (p, q) in
-    let v : valueAt k s ≡ byte s k = simp (p, q) in
+    let v : lengthAt s k ≡ byte s k = simp (p, q) in
     let t : ltb (byte s k) 0x80 ≡ true = only (ltb (byte s k) 0x80) (simp (p, q) at r) in
     let d = ltb-true (byte s k) 0x80 t in
     record {
@@ -90,9 +87,9 @@ record Headed (s : List ℕ) : Type 0 where
   fits : valueSize s < limit form
 
 with-tag : (s : List ℕ) (k : ℕ) (t : Tag) → tagSize s ≡ k → take k s ≡ tagBytes t → Tagged (byte s 0 / 32 % 2) t → Length k s → Headed s
-unfolding headSize valueSize valueAt
+unfolding headSize valueSize
 with-tag s k t e b g l =
-    let v : valueSize s ≡ valueAt k s = ap (λ m. valueAt m s) e in
+    let v : valueSize s ≡ lengthAt s k = ap (λ m. lengthAt s m) e in
     record {
       tag = t;
       form = l .form;

@@ -9,7 +9,7 @@ use lib.Seq.{take-append-seam, drop-append-seam, drop-append-add}
 use lib.Dec.{eqb}
 use borrow.Author.Tests.{lt-ltb, le-leb, eq-eqb, ne-eqb}
 use Rattle.wire.specs.Wire.{byte}
-use Rattle.object.specs.Object.{lengthSize, valueSize, headSize, headFormed, headRight, isConstructed, objectSize, valueOf, firstFault, readList}
+use Rattle.object.specs.Object.{lengthSize, lengthAt, valueSize, headSize, headFormed, headRight, isConstructed, objectSize, valueOf, firstFault, readList}
 use Rattle.object.proofs.Lists.{object-constructed, object-primitive, list-filler, list-object}
 use Rattle.trees.specs.Tree.{Tag, short, long, Form, plain, with81, with82, head, objectBytes, limit, Tagged}
 
@@ -23,7 +23,7 @@ halves : (n : ℕ) → n / 256 * 256 + n % 256 ≡ n
 halves n = omega arith
 
 headed : (q : ℕ) (t : Tag) (f : Form) (n : ℕ) (w : List ℕ) → Tagged q t → n < limit f → Head (head t f n ++ w) (length (head t f n)) n
-unfolding headFormed headSize lengthSize valueSize
+unfolding headFormed headSize lengthSize lengthAt valueSize
 headed q (short b) plain n w g h =
     let e = ne-eqb (b % 32) 31 (g .2) in
     let x = ne-eqb n 0x82 (λ z. omega arith) in

@@ -6,7 +6,7 @@ use mathlib.Core.List.{List, [], _∷_}
 use Prim.Native.Nat.{ℕ}
 use lib.Dec.{T, eqb}
 use lib.ListN.{replicate}
-use Rattle.object.specs.Object.{lengthSize, valueSize, headSize, headFormed, headRight, valueOf, readObject, readBehind, readList, isTemplate, readTemplate, readingNumber}
+use Rattle.object.specs.Object.{lengthSize, lengthAt, valueSize, headSize, headFormed, headRight, valueOf, readObject, readBehind, readList, isTemplate, readTemplate, readingNumber}
 use Rattle.object.specs.Object.{placesBehind, placesFrom, cut, commandsOf}
 use Rattle.trees.specs.Tree.{Tag, short, long, Form, plain, with81, with82, Objects, end, filler, primitive, constructed, Template, tree, written, commands}
 
@@ -95,7 +95,7 @@ pub record Samples : Type 0 where
   pub template-cut : T (faulty 18 (0x71 ∷ 0x01 ∷ []))
 
 pub samples : Samples
-unfolding written commands lengthSize valueSize headSize headFormed headRight valueOf readObject readBehind readList isTemplate readTemplate placesBehind placesFrom cut commandsOf
+unfolding written commands lengthSize lengthAt valueSize headSize headFormed headRight valueOf readObject readBehind readList isTemplate readTemplate placesBehind placesFrom cut commandsOf
 samples =
     record {
       empty = tt;

@@ -4,7 +4,7 @@ use mathlib.Core.List.{List, [], _∷_, map}
 use mathlib.Core.Bool.{cond}
 use Prim.Native.Nat.{ℕ}
 use lib.Dec.{eqb}
-use Rattle.object.specs.Object.{lengthSize, valueSize, headSize, headFormed, headRight, valueOf, readObject, readBehind, readList, isTemplate, readTemplate, readingNumber}
+use Rattle.object.specs.Object.{lengthSize, lengthAt, valueSize, headSize, headFormed, headRight, valueOf, readObject, readBehind, readList, isTemplate, readTemplate, readingNumber}
 use Rattle.object.specs.Object.{placesBehind, placesFrom, cut, commandsOf}
 
 pub record Row : Type 0 where
@@ -85,5 +85,5 @@ pub read : List ℕ → Row
 read s = let n = readingNumber (readTemplate s) in record { template = s; number = n; commands = cond (eqb n 0) (commandsOf s) [] }
 
 pub as-read : map (λ (r : Row). read (r .template)) table ≡ table
-unfolding read lengthSize valueSize headSize headFormed headRight valueOf readObject readBehind readList isTemplate readTemplate placesBehind placesFrom cut commandsOf
+unfolding read lengthSize lengthAt valueSize headSize headFormed headRight valueOf readObject readBehind readList isTemplate readTemplate placesBehind placesFrom cut commandsOf
 as-read = refl

@@ -1,84 +1,45 @@
 use borrow.Author.Needs.{needs}
-use native.Mathlib.Omega.{arith}
+use borrow.Author.Tests.{eq-eqb, ne-eqb, lt-ltb, le-ltb}
 use denote.Ref.{now}
-use mathlib.Core.Path.{_≡_, sym, ap, ap₂, _∙_}
+use mathlib.Core.Path.{_≡_, sym, ap, _∙_}
 use mathlib.Core.List.{List}
-use mathlib.Core.Bool.{true, not, _&&_}
-use Prim.Native.Nat.{ℕ, _+_}
-use lib.Dec.{leb, eqb}
-use Rattle.wire.specs.Wire.{byte, number}
-use Rattle.object.specs.Object.{tagSize, tagRight, lead, headWithin}
-use Rattle.object.proofs.Heads.{tag-tested, tag-wrong, plain-length, length-81, length-82, other-length}
+use mathlib.Core.Bool.{true, false}
+use Prim.Native.Nat.{ℕ, _%_, _≤_, _<_}
+use Rattle.wire.specs.Wire.{byte}
+use Rattle.object.specs.Object.{headOf, headBehind}
+use Rattle.object.specs.declared.Head.the-variants.{Wrong}
+use Rattle.object.proofs.Heads.{tag-right, tag-wrong}
 use Rattle.object.proofs.read_head.Statement.{statement}
 use Rattle.object.proofs.read_head.Tie as tie
 
--- a tag that is right, its size, and the first byte of the length
-record Known (s : List ℕ) (t b : ℕ) : Type 0 where
-  size : t ≡ tagSize s
-  first : b ≡ lead s
-  right : tagRight s ≡ true
+short : (s : List ℕ) (b : ℕ) → b ≡ byte s 0 → (b % 32 ≡ 31 → ⊥) → headOf s ≡ headBehind s 1
+short s b e h = let x = ap (λ n. n % 32) e in let p = ne-eqb (byte s 0 % 32) 31 (λ z. h (x ∙ z)) in tag-right s 1 (simp (p)) (simp (p))
 
-known : (c : tie.After-byte-at2) → let tag = c .before .before .before in Known (now (tag .before .before .args .s)) (tag .tag-size .result) (c .byte-at2 .result)
-known c =
-    let tag = c .before .before .before in
-    let s = now (tag .before .before .args .s) in
-    let t = tag .tag-size .ensures .0 in
-    record {
-      size = t;
-      first = c .byte-at2 .ensures ∙ ap (byte s) t;
-      right = tag-tested s ∙ ap not (ap₂ (λ x y. eqb x 2 && leb 0x80 y) (sym t) (sym (c .before .before .byte-at .ensures)) ∙ c .before .if1 .left);
-    }
+module _ (s : List ℕ) (b c : ℕ) (e : b ≡ byte s 0) (g : c ≡ byte s 1) (h : b % 32 ≡ 31) where
+  long : c < 0x80 → headOf s ≡ headBehind s 2
+  long l = let p = eq-eqb (byte s 0 % 32) 31 (ap (λ n. n % 32) (sym e) ∙ h) in tag-right s 2 (simp (p, ← g, lt-ltb c 0x80 l)) (simp (p))
+
+  longer : 0x80 ≤ c → headOf s ≡ Wrong
+  longer l = let p = eq-eqb (byte s 0 % 32) 31 (ap (λ n. n % 32) (sym e) ∙ h) in tag-wrong s (simp (p, ← g, le-ltb c 0x80 l))
 
 returns : tie.Need-returns
 returns c =
-    let tag = c .before .before in
-    let s = now (tag .before .before .args .s) in
-    sym (tag-wrong s (tag-tested s ∙ ap not (ap₂ (λ x y. eqb x 2 && leb 0x80 y) (sym (tag .tag-size .ensures .0)) (sym (c .before .byte-at .ensures)) ∙ c .if1 .taken)))
+    let b = c .before .before in
+    let s = now (b .before .before .args .s) in
+    c .read-length .ensures ∙ sym (short s _ (b .byte-at .ensures) (c .before .if1 .taken))
 
 returns-2 : tie.Need-returns-2
 returns-2 c =
-    let l = c .before .before in
-    let tag = l .before .before .before in
-    let s = now (tag .before .before .args .s) in
-    let k = known l in
-    let f = k .first in
-    c .head-within .ensures ∙ ap₂ (λ x y. headWithin s (x + 1) y) (k .size) (k .first) ∙ sym (plain-length s (k .right) (omega (arith, c .before .if2 .taken)))
+    let b = c .before .before .before in
+    let s = now (b .before .before .args .s) in
+    sym (longer s _ _ (b .byte-at .ensures) (c .before .byte-at2 .ensures) (c .before .before .if1 .left) (c .if2 .taken))
 
 returns-3 : tie.Need-returns-3
 returns-3 c =
-    let e = c .before .before in
-    let l = e .before .before in
-    let tag = l .before .before .before in
-    let s = now (tag .before .before .args .s) in
-    let k = known l in
-    c .head-within2 .ensures
-    ∙ ap₂ (λ x y. headWithin s (x + 2) y) (k .size) (c .before .byte-at3 .ensures ∙ ap (λ x. byte s (x + 1)) (k .size))
-    ∙ sym (length-81 s (k .right) (sym (k .first) ∙ e .if3 .taken))
-
-returns-4 : tie.Need-returns-4
-returns-4 c =
-    let e = c .before .before in
-    let l = e .before .before .before in
-    let tag = l .before .before .before in
-    let s = now (tag .before .before .args .s) in
-    let k = known l in
-    c .head-within3 .ensures
-    ∙ ap₂ (λ x y. headWithin s (x + 3) y) (k .size) (c .before .u16-at .ensures ∙ ap (λ x. number s (x + 1) 2) (k .size))
-    ∙ sym (length-82 s (k .right) (sym (k .first) ∙ e .if4 .taken))
-
-returns-5 : tie.Need-returns-5
-returns-5 c =
-    let l = c .before .before .before in
-    let tag = l .before .before .before in
-    let s = now (tag .before .before .args .s) in
-    let k = known l in
-    let f = k .first in
-    let h = c .before .before .if2 .left in
-    sym (other-length s (k .right) (λ z. omega arith) (λ z. c .before .if3 .left (f ∙ z)) (λ z. c .if4 .left (f ∙ z)))
+    let d = c .before .before in
+    let b = d .before .before in
+    let s = now (b .before .before .args .s) in
+    c .read-length2 .ensures ∙ sym (long s _ _ (b .byte-at .ensures) (d .byte-at2 .ensures) (d .before .if1 .left) (c .before .if2 .left))
 
 pub read-head-spec : {M : Type 1} → statement M
-read-head-spec =
-    tie.close
-    (tie.spec (search needs) (search needs) returns (search needs) (search needs) (search needs) (search needs) returns-2 (search needs)
-    (search needs) (search needs) (search needs) (search needs) returns-3 (search needs) (search needs) (search needs) (search needs) (search needs)
-    returns-4 returns-5)
+read-head-spec = tie.close (tie.spec (search needs) (search needs) returns (search needs) returns-2 (search needs) returns-3)
