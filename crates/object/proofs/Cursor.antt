@@ -2,14 +2,13 @@
 -- end on. Assumes nothing.
 use mathlib.Core.Path.{_≡_, refl, sym, ap, ap₂, subst, _∙_}
 use mathlib.Core.List.{List, [], _∷_}
-use mathlib.Core.Bool.{Bool, true, false, cond}
+use mathlib.Core.Bool.{Bool, true, false}
 use Prim.Native.Nat.{ℕ, zero, suc, _+_, _-_, _≤_, _<_}
 use native.Mathlib.Omega.{arith}
 use lib.ListN.{length, drop, length-drop}
 use lib.Seq.{drop-drop}
 use lib.Dec.{ltb, eqb}
 use borrow.Author.Tests.{ltb-true, ltb-false, eqb-true}
-use Rattle.object.specs.declared.Next.{Next}
 use Rattle.object.specs.declared.Next.the-variants.{Command, End}
 use Rattle.object.specs.Object.{valueSize, headSize, headRight, isConstructed, objectSize, Place, placesBehind, placesFrom, firstOf, nextCommand}
 use Rattle.object.proofs.Heads.{right-fits, head-some}

@@ -56,12 +56,12 @@ headRight s = headFormed s && leb (objectSize s) (length s)
 unfoldable pub headOf : List ℕ → Head
 headOf s = cond (headRight s) (Right (headSize s) (valueSize s)) Wrong
 
--- the same of a head by its two sizes, and of one behind a tag that is right
+-- the same of a head by its two sizes, and of one whose tag is right and whose length stands at a place
 abbrev pub headWithin : List ℕ → (size length : ℕ) → Head
 headWithin s m n = cond (leb (m + n) (length s)) (Right m n) Wrong
 
-abbrev pub headBehind : List ℕ → (tag : ℕ) → Head
-headBehind s t = cond (lengthRight (byte s t)) (headWithin s (t + lengthSize (byte s t)) (lengthAt s t)) Wrong
+abbrev pub headBehind : List ℕ → (at : ℕ) → Head
+headBehind s at = cond (lengthRight (byte s at)) (headWithin s (at + lengthSize (byte s at)) (lengthAt s at)) Wrong
 
 unfoldable pub valueOf : List ℕ → List ℕ
 valueOf s = take (valueSize s) (drop (headSize s) s)

@@ -4,7 +4,7 @@
 use wire::byte_at;
 use wire::u16_at;
 ghost use mathlib.Core.Path.{_≡_};
-ghost use Prim.Native.Nat.{_+_, _≤_, _<_};
+ghost use Prim.Native.Nat.{_+_, _≤_};
 ghost use Rattle.object.specs.Object.{isConstructed, headWithin, headBehind, headOf, readObject, readList, readTemplate, nextCommand};
 ghost use Rattle.object.specs.declared.Head.the-variants.{Right};
 
@@ -39,7 +39,7 @@ fn is_constructed(tag: u8) -> bool
 
 // The value ends within the bytes.
 fn head_within(s: &[u8], size: usize, length: usize) -> Head
-    requires { ⌜ size + length < 65_792 ⌝ }
+    requires { ⌜ size + length ≤ 65_540 ⌝ }
     ensures { λ r. ⌜ r ≡ headWithin (now (s .entry)) size length ⌝ }
 {
     if s.len() < size + length {
@@ -48,20 +48,21 @@ fn head_within(s: &[u8], size: usize, length: usize) -> Head
     Head::Right { size, length }
 }
 
-// The head behind a tag of one byte or two. A length is 00 to 7F, or 81 and one byte, or 82 and two.
-fn read_length(s: &[u8], tag: usize) -> Head
-    requires { ⌜ tag ≤ 2 ⌝ }
-    ensures { λ r. ⌜ r ≡ headBehind (now (s .entry)) tag ⌝ }
+// The head whose length stands at a place, behind a tag of one byte or two. A length is 00 to 7F, or
+// 81 and one byte, or 82 and two.
+fn read_length(s: &[u8], at: usize) -> Head
+    requires { ⌜ at ≤ 2 ⌝ }
+    ensures { λ r. ⌜ r ≡ headBehind (now (s .entry)) at ⌝ }
 {
-    let lead = byte_at(s, tag);
+    let lead = byte_at(s, at);
     if lead < 0x80 {
-        return head_within(s, tag + 1, lead as usize);
+        return head_within(s, at + 1, lead as usize);
     }
     if lead == 0x81 {
-        return head_within(s, tag + 2, byte_at(s, tag + 1) as usize);
+        return head_within(s, at + 2, byte_at(s, at + 1) as usize);
     }
     if lead == 0x82 {
-        return head_within(s, tag + 3, u16_at(s, tag + 1) as usize);
+        return head_within(s, at + 3, u16_at(s, at + 1) as usize);
     }
     Head::Wrong
 }

@@ -1,8 +1,8 @@
 -- What is sound is written of a proper template, and of no other bytes. Assumes nothing.
 use mathlib.Core.Path.{_≡_, refl, sym, ap, ap₂, subst, _∙_}
-use mathlib.Core.List.{List, [], _∷_, _++_, append-nil}
-use mathlib.Core.Bool.{Bool, true, false, _&&_, _||_, cond}
-use Prim.Native.Nat.{ℕ, zero, suc, _+_, _-_, _/_, _%_, _≤_, _<_, max}
+use mathlib.Core.List.{List, [], _∷_}
+use mathlib.Core.Bool.{Bool, true, false, _&&_}
+use Prim.Native.Nat.{ℕ, zero, suc, _-_, _%_, _≤_, _<_}
 use native.Mathlib.Nat.{le-refl}
 use native.Mathlib.Omega.{arith}
 use lib.ListN.{length, drop, length-drop}
@@ -17,7 +17,7 @@ use Rattle.object.specs.declared.Reading.the-variants.{Sound, Malformed, TooDee
 use Rattle.object.proofs.Heads.{right-fits, head-some}
 use Rattle.object.proofs.Lists.{object-constructed, object-malformed, list-filler, list-object, not-malformed, not-deep}
 use Rattle.trees.specs.Tree.{Tag, short, long, Form, Objects, end, filler, primitive, constructed, tree, objectBytes, written, depth, commands}
-use Rattle.trees.specs.Tree.{limit, Tagged, Bytes, Good, Proper, Written, Framed}
+use Rattle.trees.specs.Tree.{limit, Tagged, Bytes, Good, Written, Framed}
 use Rattle.trees.proofs.Octets.{written-bytes, drop-bytes}
 use Rattle.trees.proofs.There.{either-root, root-tagged, within, sound-if-proper, commands-in-order}
 use Rattle.trees.proofs.Heads.{value-length, value-bytes, First, first, bit-set, bit-clear}

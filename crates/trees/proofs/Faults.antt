@@ -1,11 +1,11 @@
 -- The fault of a template is the first, in reading order and of an object its head before its depth. Assumes nothing.
 use mathlib.Core.Path.{_≡_, refl, sym, ap, subst, _∙_}
-use mathlib.Core.List.{List, [], _∷_, _++_, append-nil}
+use mathlib.Core.List.{List, [], _∷_, _++_}
 use mathlib.Core.Bool.{Bool, true, false, cond}
-use Prim.Native.Nat.{ℕ, zero, suc, _+_, _-_, _/_, _%_, _≤_, _<_, max}
+use Prim.Native.Nat.{ℕ, zero, suc, _-_, _/_, _%_, _≤_, _<_}
 use native.Mathlib.Nat.{le-refl}
 use native.Mathlib.Omega.{arith}
-use lib.ListN.{length, getD, take, drop, length-drop}
+use lib.ListN.{length, drop, length-drop}
 use lib.Seq.{drop-append-seam, take-append-seam}
 use lib.Dec.{eqb}
 use borrow.Author.Tests.{eqb-true, eqb-false}
@@ -15,13 +15,13 @@ use Rattle.object.specs.declared.Reading.{Reading}
 use Rattle.object.specs.declared.Reading.the-variants.{Sound, Malformed, TooDeep}
 use Rattle.object.proofs.Heads.{right-fits, head-some}
 use Rattle.object.proofs.Lists.{object-malformed, list-object, not-malformed, not-deep, first-fault}
-use Rattle.trees.specs.Tree.{Tag, short, Form, Objects, end, filler, primitive, constructed, head, objectBytes, written, depth, limit, Tagged, Bytes, Good}
+use Rattle.trees.specs.Tree.{Tag, Form, Objects, end, filler, primitive, constructed, head, objectBytes, written, depth, limit, Bytes, Good}
 use Rattle.trees.specs.Tree.{NoObject, Fault, malformed, tooDeep, inside, Framed, TemplateFault, unframed, framed}
 use Rattle.trees.proofs.Octets.{drop-bytes, take-bytes}
-use Rattle.trees.proofs.Laid.{Laid, laid, behind, filler-list, primitive-list, constructed-list}
+use Rattle.trees.proofs.Laid.{laid, behind, filler-list, primitive-list, constructed-list}
 use Rattle.trees.proofs.There.{in-front, within, frame-there}
 use Rattle.trees.proofs.Heads.{value-length, value-bytes, First, first, bit-set, bit-clear}
-use Rattle.trees.proofs.Back.{Found, back, Frame, frame-back, without}
+use Rattle.trees.proofs.Back.{back, frame-back, without}
 
 -- ---- where no object begins
 wrong-list : (k : ℕ) (w : List ℕ) → (length w ≡ 0 → ⊥) → (byte w 0 ≡ 0 → ⊥) → headRight w ≡ false → readList (suc k) w ≡ Malformed

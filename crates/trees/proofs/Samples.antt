@@ -8,7 +8,7 @@ use lib.Dec.{T, eqb}
 use lib.ListN.{replicate}
 use Rattle.object.specs.Object.{lengthSize, lengthAt, valueSize, headSize, headFormed, headRight, valueOf, readObject, readBehind, readList, isTemplate, readTemplate, readingNumber}
 use Rattle.object.specs.Object.{placesBehind, placesFrom, cut, commandsOf}
-use Rattle.trees.specs.Tree.{Tag, short, long, Form, plain, with81, with82, Objects, end, filler, primitive, constructed, Template, tree, written, commands}
+use Rattle.trees.specs.Tree.{short, long, plain, with81, with82, Objects, end, filler, primitive, constructed, Template, tree, written, commands}
 
 abbrev same : List ℕ → List ℕ → Bool
 same [] [] = true

@@ -2,21 +2,21 @@
 use mathlib.Core.Path.{_≡_, refl, sym, ap, ap₂, subst, _∙_}
 use mathlib.Core.List.{List, [], _∷_, _++_, map, append-assoc, append-nil}
 use mathlib.Core.Bool.{Bool, true, false, _||_, cond}
-use Prim.Native.Nat.{ℕ, zero, suc, _+_, _/_, _%_, _≤_, _<_, max}
+use Prim.Native.Nat.{ℕ, zero, suc, _+_, _≤_, _<_, max}
 use native.Mathlib.Nat.{add-zero}
 use native.Mathlib.Omega.{arith}
-use lib.ListN.{length, take, drop, length-append}
+use lib.ListN.{length, take, drop}
 use lib.Seq.{drop-append-seam, drop-drop}
 use lib.Dec.{ltb, eqb}
 use borrow.Author.Tests.{eq-eqb, eqb-true, eqb-false, ltb-true, ltb-false}
 use Rattle.object.specs.Object.{valueSize, headSize, objectSize, valueOf, firstFault, readBehind, readList, isTemplate, readTemplate}
-use Rattle.object.specs.Object.{Place, placesBehind, placesFrom, cut, commandsOf}
+use Rattle.object.specs.Object.{placesBehind, placesFrom, cut, commandsOf}
 use Rattle.object.specs.declared.Reading.{Reading}
-use Rattle.object.specs.declared.Reading.the-variants.{Sound, Malformed, TooDeep}
+use Rattle.object.specs.declared.Reading.the-variants.{Sound, TooDeep}
 use Rattle.object.proofs.Places.{filler-first, constructed-first, command-first, other-first}
-use Rattle.trees.specs.Tree.{Tag, short, long, Form, Objects, end, filler, primitive, constructed, Template, tree, head, objectBytes, written, depth}
+use Rattle.trees.specs.Tree.{Tag, short, long, Form, Objects, end, filler, primitive, constructed, Template, tree, objectBytes, written, depth}
 use Rattle.trees.specs.Tree.{is86, ifCommand, commands, limit, Tagged, Good, Root, Proper}
-use Rattle.trees.proofs.Laid.{Laid, laid, behind, filler-list, primitive-list, constructed-list}
+use Rattle.trees.proofs.Laid.{laid, behind, filler-list, primitive-list, constructed-list}
 
 -- ---- good objects that are not too deep change nothing of what is behind them
 pub in-front : (k : ℕ) (i : Objects) (w : List ℕ) → Good i → depth i ≤ k → readList (suc k) (written i ++ w) ≡ readList (suc k) w

@@ -14,7 +14,7 @@ returns c =
     let a = b .before .before .args in
     let e = b .byte-at .ensures in
     let s = now (a .s) in
-    c .head-within .ensures ∙ ap (headWithin s (a .tag + 1)) e ∙ sym (plain-length s (a .tag) (omega (arith, c .before .if1 .taken)))
+    c .head-within .ensures ∙ ap (headWithin s (a .at + 1)) e ∙ sym (plain-length s (a .at) (omega (arith, c .before .if1 .taken)))
 
 returns-2 : tie.Need-returns-2
 returns-2 c =
@@ -22,7 +22,7 @@ returns-2 c =
     let b = i .before .before in
     let a = b .before .before .args in
     let s = now (a .s) in
-    c .head-within2 .ensures ∙ ap (headWithin s (a .tag + 2)) (c .before .byte-at2 .ensures) ∙ sym (length-81 s (a .tag) (sym (b .byte-at .ensures) ∙ i .if2 .taken))
+    c .head-within2 .ensures ∙ ap (headWithin s (a .at + 2)) (c .before .byte-at2 .ensures) ∙ sym (length-81 s (a .at) (sym (b .byte-at .ensures) ∙ i .if2 .taken))
 
 returns-3 : tie.Need-returns-3
 returns-3 c =
@@ -30,7 +30,7 @@ returns-3 c =
     let b = i .before .before .before in
     let a = b .before .before .args in
     let s = now (a .s) in
-    c .head-within3 .ensures ∙ ap (headWithin s (a .tag + 3)) (c .before .u16-at .ensures) ∙ sym (length-82 s (a .tag) (sym (b .byte-at .ensures) ∙ i .if3 .taken))
+    c .head-within3 .ensures ∙ ap (headWithin s (a .at + 3)) (c .before .u16-at .ensures) ∙ sym (length-82 s (a .at) (sym (b .byte-at .ensures) ∙ i .if3 .taken))
 
 returns-4 : tie.Need-returns-4
 returns-4 c =
@@ -38,7 +38,7 @@ returns-4 c =
     let a = b .before .before .args in
     let e = b .byte-at .ensures in
     let h = c .before .before .if1 .left in
-    sym (other-length (now (a .s)) (a .tag) (λ z. omega arith) (λ z. c .before .if2 .left (e ∙ z)) (λ z. c .if3 .left (e ∙ z)))
+    sym (other-length (now (a .s)) (a .at) (λ z. omega arith) (λ z. c .before .if2 .left (e ∙ z)) (λ z. c .if3 .left (e ∙ z)))
 
 pub read-length-spec : {M : Type 1} → statement M
 read-length-spec =

@@ -9,7 +9,7 @@ use Prim.Native.Nat.{ℕ, _+_, _-_}
 use lib.Dec.{eqb}
 use lib.ListN.{length, take, drop}
 use Rattle.wire.specs.Wire.{byte}
-use Rattle.object.specs.Object.{valueSize, headSize, objectSize, headRight, valueOf, isRoot, isTemplate, readList, readTemplate}
+use Rattle.object.specs.Object.{valueSize, headSize, objectSize, valueOf, isRoot, isTemplate, readList, readTemplate}
 use Rattle.object.specs.declared.Reading.the-variants.{Malformed}
 use Rattle.object.proofs.Heads.{IsRight, is-right, is-wrong, right-fits}
 use Rattle.object.proofs.read_template.Statement.{statement}
