@@ -23,6 +23,9 @@ rest-all s k = take-all (length s - k) (drop k s) (simp (length-drop) (le-refl _
 pub part-length : (s : List ℕ) (k n : ℕ) → k + n ≤ length s → length (take n (drop k s)) ≡ n
 part-length s k n h = simp (length-take, length-drop) (omega arith)
 
+pub rest-length : (s : List ℕ) (k : ℕ) → k < length s → length (take (length s - k) (drop k s)) ≡ length s - k
+rest-length s k h = part-length s k (length s - k) (omega arith)
+
 pub first-byte : (s : List ℕ) (at : ℕ) → byte (drop at s) 0 ≡ byte s at
 first-byte s at = getD-drop at s 0 0 ∙ ap (λ n. byte s n) (add-zero at)
 

@@ -5,16 +5,17 @@ use borrow.Fn.PlainCycle.{Measures, is, falls, and}
 use denote.Enum.Declared.{tagOf}
 use denote.Ref.{now}
 use native.Mathlib.Omega.{arith}
-use mathlib.Core.List.{[], _∷_}
+use mathlib.Core.List.{List, [], _∷_}
 use mathlib.Core.Logic.{inl, inr}
 use mathlib.Core.Path.{_≡_, refl, sym, ap, ap₂, _∙_}
-use Prim.Native.Nat.{ℕ, _+_, _-_, _<_}
+use Prim.Native.Nat.{ℕ, _+_, _-_, _≤_, _<_}
 use lib.ListN.{length, take, drop}
 use types.Run.{OneOf}
+use Rattle.wire.specs.Wire.{byte}
 use Rattle.object.specs.Object.{isConstructed, valueSize, valueOf, readObject, readList}
 use Rattle.object.specs.declared.Reading.{Reading}
 use Rattle.object.specs.declared.Reading.the-variants.{Sound, Malformed, TooDeep}
-use Rattle.object.proofs.Heads.{rest-all, part-length, right-fits, head-some, is-right, At, right-at, wrong-at}
+use Rattle.object.proofs.Heads.{rest-all, part-length, rest-length, right-fits, head-some, is-right, At, right-at, wrong-at}
 use Rattle.object.proofs.Lists.{object-constructed, object-primitive, object-malformed, object-deep}
 use Rattle.object.proofs.Lists.{list-end, list-pass, list-fault, list-more, not-malformed, not-deep}
 use Rattle.object.proofs.Reading as R
@@ -64,7 +65,15 @@ not-sound Sound (inr e) z = omega arith
 not-sound Malformed e z = not-malformed z
 not-sound TooDeep e z = not-deep z
 
--- the object that a list reader stands at
+-- an object at a place of a list, to which the reader has come
+record Object (s : List ℕ) (k at m n : ℕ) : Type 0 where
+  depths : 1 ≤ k
+  led : readList k s ≡ readList k (drop at s)
+  there : at < length s
+  no-filler : byte s at ≡ 0 → ⊥
+  place : At s at m n
+  rest : length (take (length s - at) (drop at s)) ≡ length s - at
+
 object : (t : ℕ) (c : read-list-lts.After-known-told (
   byte-at-reads.Asked,
   byte-at-reads.Learnt,
@@ -73,15 +82,38 @@ object : (t : ℕ) (c : read-list-lts.After-known-told (
   read-object-below t,
   read-object.Post,
 ) (read-list-at t) read-list.Post read-list-Inv-loop read-list-μ-loop) →
-    let b = c .before .before .before in
-    let l = b .before .before .before in
-    let at = l .before .before in
+    let h = c .before .before .before in
+    let b = h .before .before .before in
+    let l = b .before .before in
+    let a = l .before .before .args in
     let sizes = c .before .size .given .0 in
-    At (now (at .before .before .args .s)) (at .loop .at) (sizes .0) (sizes .1 .0)
+    Object (now (a .s)) (a .depths) (l .loop .at) (sizes .0) (sizes .1 .0)
 object t c =
     let h = c .before .before .before in
     let b = h .before .before .before in
-    right-at _ _ _ _ _ (b .before .loop-test .taken) (h .read-head .ensures) (c .before .size .given .1)
+    let l = b .before .before in
+    let i = b .before .loop-test .taken in
+    record {
+      depths = l .before .before .pre .1;
+      led = l .loop .inv;
+      there = i;
+      no-filler = λ z. h .before .before .if1 .left (b .byte-at .ensures ∙ z);
+      place = right-at _ _ _ _ _ i (h .read-head .ensures) (c .before .size .given .1);
+      rest = rest-length (now (l .before .before .args .s)) (l .loop .at) i;
+    }
+
+module _ {s : List ℕ} {k at m n : ℕ} (o : Object s k at m n) (r : Reading) (e : r ≡ readObject (readList (k - 1)) (take (length s - at) (drop at s))) where
+  is-read : r ≡ readObject (readList (k - 1)) (drop at s)
+  is-read = e ∙ ap (readObject (readList (k - 1))) (rest-all s at)
+
+  faulty : (r ≡ Sound → ⊥) → r ≡ readList k s
+  faulty f = list-fault k at s (o .depths) (o .there) (o .no-filler) r is-read f ∙ sym (o .led)
+
+  passed : r ≡ Sound → readList k s ≡ readList k (drop (at + (m + n)) s)
+  passed f =
+      o .led
+      ∙ list-more k at s (o .depths) (o .there) (o .no-filler) r is-read f
+      ∙ ap₂ (λ m n. readList k (drop (at + (m + n)) s)) (sym (o .place .head .size)) (sym (o .place .head .value))
 
 pub +read-list+read-object-spec : {M : Type 1} → statement M
 unfolding valueOf
@@ -119,51 +151,22 @@ unfolding valueOf
     (search needs) (search needs) (search needs) (search needs)
     (λ c κs. let known = c .before in
     let h = known .before .before .before in
-    let b = h .before .before .before in
-    let l = b .before .before in
-    let start = l .before .before in
-    let s = now (start .args .s) in
-    let at = l .loop .at in
-    let i = b .before .loop-test .taken in
-    let k = start .pre .1 in
-    let p = part-length s at (length s - at) (omega arith) in
-    (omega arith, sym (h .read-head .ensures) ∙ known .before .size .given .1))
-    (search needs)
-    (λ c. let known = c .before .before .before in
-    let h = known .before .before .before in
-    let b = h .before .before .before in
-    let l = b .before .before in
-    let start = l .before .before in
-    let s = now (start .args .s) in
-    let k = start .args .depths in
-    let at = l .loop .at in
-    let r = c .before .read-object in
-    list-fault k at s (start .pre .1) (b .before .loop-test .taken) (λ z. h .before .before .if1 .left (b .byte-at .ensures ∙ z)) (r .result)
-    (r .ensures ∙ ap (readObject (readList (k - 1))) (rest-all s at)) (not-sound (r .result) (c .match2 .keys2))
-    ∙ sym (l .loop .inv))
-    (λ c. let r = c .before .before in
-    let o = object t (r .before .before) in
-    omega (arith, o .within))
-    (λ c. let r = c .before .before in
-    let o = object t (r .before .before) in
-    omega (arith, o .within))
-    (λ c. let r = c .before .before in
-    let o = object t (r .before .before) in
-    omega (arith, o .some, o .within))
-    (λ c. let r = c .before .before in
-    let known = r .before .before in
-    let h = known .before .before .before in
-    let b = h .before .before .before in
-    let l = b .before .before in
-    let start = l .before .before in
-    let s = now (start .args .s) in
-    let k = start .args .depths in
-    let at = l .loop .at in
     let o = object t known in
-    l .loop .inv
-    ∙ list-more k at s (start .pre .1) (b .before .loop-test .taken) (λ z. h .before .before .if1 .left (b .byte-at .ensures ∙ z)) (r .read-object .result)
-    (r .read-object .ensures ∙ ap (readObject (readList (k - 1))) (rest-all s at)) (c .enum-told2 .given .1)
-    ∙ ap₂ (λ m n. readList k (drop (at + (m + n)) s)) (sym (o .head .size)) (sym (o .head .value)))
+    (omega (arith, o .rest, o .there, o .depths), sym (h .read-head .ensures) ∙ known .before .size .given .1))
+    (search needs)
+    (λ c. let r = c .before .read-object in
+    faulty (object t (c .before .before .before)) (r .result) (r .ensures) (not-sound (r .result) (c .match2 .keys2)))
+    (λ c. let r = c .before .before in
+    let o = object t (r .before .before) in
+    omega (arith, o .place .within))
+    (λ c. let r = c .before .before in
+    let o = object t (r .before .before) in
+    omega (arith, o .place .within))
+    (λ c. let r = c .before .before in
+    let o = object t (r .before .before) in
+    omega (arith, o .place .some, o .place .within))
+    (λ c. let r = c .before .before in
+    passed (object t (r .before .before)) (r .read-object .result) (r .read-object .ensures) (c .enum-told2 .given .1))
     (λ c. let l = c .before in
     let start = l .before .before in
     sym (l .loop .inv ∙ list-end (start .args .depths) (l .loop .at) (now (start .args .s)) (start .pre .1) (c .loop-test .left))))
