@@ -10,8 +10,6 @@ use lib.Seq.{drop-drop}
 use lib.Dec.{leb, eqb}
 use Rattle.wire.specs.Wire.{byte, number}
 use Rattle.put_data.specs.declared.Write.{Write}
-use Rattle.put_data.specs.declared.Meaning.{Meaning}
-use Rattle.put_data.specs.declared.Meaning.the-variants.{Writes, Fails}
 use Rattle.put_data.specs.declared.Next.{Next}
 use Rattle.put_data.specs.declared.Next.the-variants.{Element, End, Fault}
 use Rattle.put_data.specs.PutData.{isLength, lengthAt, headSize, elementSize, meaningOf, elementMeaning}
@@ -20,11 +18,11 @@ use Rattle.put_data.specs.PutData.{objectOf, isPutData, isSecured, eleme
 use Rattle.put_data.proofs.Laws.{and-fits, element-some}
 
 -- ---- an element that writes lies within the list
-by-test : (t : Bool) (m : Meaning) (w : Write) → cond t m Fails ≡ Writes w → t ≡ true
+by-test : (t : Bool) (m : Option Write) (w : Write) → cond t m none ≡ some w → t ≡ true
 by-test true m w e = refl
 by-test false m w e = let z : _≡_ {A = ℕ} 0 1 = cc in absurd (omega arith)
 
-pub element-fits : (o : ℕ) (s : List ℕ) (w : Write) → elementMeaning o s ≡ Writes w → elementSize s ≤ length s
+pub element-fits : (o : ℕ) (s : List ℕ) (w : Write) → elementMeaning o s ≡ some w → elementSize s ≤ length s
 unfolding elementMeaning
 element-fits o s w e =
     let m = meaningOf o (number s 0 2) (take (lengthAt s 2) (drop (headSize s) s)) in
@@ -45,7 +43,7 @@ behind o b s =
 
 -- ---- the writes from a place of the list u on, by what the next element is told to be; and where that ends
 abbrev pub after : (o : ℕ) → List ℕ → Next → Option (List Write)
-after o u (Element w e) = before (Writes w) (writesIn o (drop e u))
+after o u (Element w e) = before (some w) (writesIn o (drop e u))
 after o u End = some []
 after o u Fault = none
 
@@ -58,7 +56,7 @@ pub record Left (o : ℕ) (u : List ℕ) (at : ℕ) (s : List ℕ) (n : Next) : 
   pub is : writesIn o s ≡ after o u n
   pub within : Within u at n
 
-some-before : (w : Write) (ws : Option (List Write)) → isSome (before (Writes w) ws) ≡ isSome ws
+some-before : (w : Write) (ws : Option (List Write)) → isSome (before (some w) ws) ≡ isSome ws
 some-before w none = refl
 some-before w (some ws) = refl
 
@@ -69,19 +67,19 @@ module _ (o : ℕ) (u : List ℕ) where
   earlier at Fault h = tt
 
   -- at an element
-  here : (at b : ℕ) (s : List ℕ) → drop at u ≡ b ∷ s → eqb b 0 ≡ false → (m : Meaning) → elementMeaning o (b ∷ s) ≡ m
+  here : (at b : ℕ) (s : List ℕ) → drop at u ≡ b ∷ s → eqb b 0 ≡ false → (m : Option Write) → elementMeaning o (b ∷ s) ≡ m
       → Left o u at (b ∷ s) (told m (at + elementSize (b ∷ s)))
   unfolding writesBy
-  here at b s d z (Writes w) e =
+  here at b s d z (some w) e =
       let n = elementSize (b ∷ s) in
       let l = element-some (b ∷ s) in
       let f = element-fits o (b ∷ s) w e in
       let r : drop n (b ∷ s) ≡ drop (at + n) u = ap (drop n) (sym d) ∙ drop-drop n at u in
       record {
-        is = simp (z, e) (ap (before (Writes w)) (behind o b s ∙ ap (writesIn o) r));
+        is = simp (z, e) (ap (before (some w)) (behind o b s ∙ ap (writesIn o) r));
         within = (omega arith, omega (arith, ap length d, length-drop at u));
       }
-  here at b s d z Fails e = record { is = simp (z, e); within = tt }
+  here at b s d z none e = record { is = simp (z, e); within = tt }
 
   by-first : (at b : ℕ) (s : List ℕ) → drop at u ≡ b ∷ s → Left o u (at + 1) s (nextBy o (at + 1) s) → (t : Bool) → eqb b 0 ≡ t
       → Left o u at (b ∷ s) (nextBy o at (b ∷ s))
@@ -135,7 +133,7 @@ pub record Step (c : List ℕ) (at : ℕ) (w : Write) (end : ℕ) : Type 0 where
   pub later : at < end
   pub within : end ≤ length (elementsOf c)
 
-first-left : (w : Write) (ws : Option (List Write)) → isSome ws ≡ true → orNone (before (Writes w) ws) ≡ w ∷ orNone ws
+first-left : (w : Write) (ws : Option (List Write)) → isSome ws ≡ true → orNone (before (some w) ws) ≡ w ∷ orNone ws
 first-left w none h = let z : _≡_ {A = ℕ} 0 1 = cc in absurd (omega arith)
 first-left w (some ws) h = refl
 

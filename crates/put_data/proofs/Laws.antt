@@ -1,6 +1,7 @@
 -- Laws of the definitions, as the code goes through the bytes. Assumes nothing.
 use mathlib.Core.Path.{_≡_, refl, sym, ap, ap₂, _∙_}
 use mathlib.Core.List.{List, [], _∷_}
+use mathlib.Core.Option.{Option, none, some}
 use mathlib.Core.Bool.{Bool, true, false, _&&_, cond}
 use Prim.Native.Nat.{ℕ, _+_, _-_, _≤_, _<_}
 use native.Mathlib.Nat.{add-zero, le-refl}
@@ -11,8 +12,10 @@ use lib.Dec.{leb, eqb}
 use borrow.Author.Tests.{eq-eqb, ne-eqb, leb-true}
 use Rattle.wire.specs.Wire.{byte}
 use Rattle.wire.proofs.Pairs.{both}
+use Rattle.put_data.specs.declared.Write.{Write}
+use Rattle.put_data.specs.declared.Meaning.the-variants.{Writes, Fails}
 use Rattle.put_data.specs.declared.Next.the-variants.{End}
-use Rattle.put_data.specs.PutData.{lengthSize, isOf, headSize, elementSize, elementMeaning, told, nextBy, nextIn}
+use Rattle.put_data.specs.PutData.{asMeaning, lengthSize, isOf, headSize, elementSize, elementMeaning, told, nextBy, nextIn}
 
 -- ---- parts of a list
 pub rest-all : (s : List ℕ) (k : ℕ) → take (length s - k) (drop k s) ≡ drop k s
@@ -47,6 +50,15 @@ head-some s = omega (arith, some-bytes (eqb (byte s 2) 0x81))
 pub element-some : (s : List ℕ) → 3 ≤ elementSize s
 unfolding elementSize
 element-some s = omega (arith, head-some s)
+
+-- what the code's answer says of a meaning
+pub meant : (m : Option Write) (w : Write) → asMeaning m ≡ Writes w → m ≡ some w
+meant (some v) w e = let same : v ≡ w = cc in ap some same
+meant none w e = let z : _≡_ {A = ℕ} 0 1 = cc in absurd (omega arith)
+
+pub fails : (m : Option Write) → asMeaning m ≡ Fails → m ≡ none
+fails (some v) e = let z : _≡_ {A = ℕ} 0 1 = cc in absurd (omega arith)
+fails none e = refl
 
 -- ---- the next element, at a place
 pub next-end : (o : ℕ) (s : List ℕ) (at : ℕ) → length s ≤ at → nextIn o s at ≡ End

@@ -7,7 +7,7 @@ use wire::u16_at;
 ghost use mathlib.Core.Path.{_≡_};
 ghost use Prim.Native.Nat.{_+_, _<_, _≤_};
 ghost use lib.ListN.{length, drop};
-ghost use Rattle.put_data.specs.PutData.{isLength, lengthSize, lengthAt, isOf, valueWritten, limitsWritten, countsWritten, meaningOf};
+ghost use Rattle.put_data.specs.PutData.{asMeaning, isLength, lengthSize, lengthAt, isOf, valueWritten, limitsWritten, countsWritten, meaningOf};
 ghost use Rattle.put_data.specs.PutData.{headSize, elementSize, elementMeaning, writesIn, told, nextIn, isSome};
 ghost use Rattle.put_data.specs.PutData.{objectOf, isPutData, listPlace, macPlace, isSecured, elementsOf, isValid, nextWrite};
 
@@ -84,7 +84,7 @@ fn is_of(first: u16, tag: u16) -> bool
 
 // Six bytes: an accumulator's value.
 fn value_written(slot: usize, value: &[u8]) -> Meaning
-    ensures { λ r. ⌜ r ≡ valueWritten slot (now (value .entry)) ⌝ }
+    ensures { λ r. ⌜ r ≡ asMeaning (valueWritten slot (now (value .entry))) ⌝ }
 {
     if (value.len() == 6) & are_pairs(value, 0) {
         return Meaning::Writes(Write::Value {
@@ -97,7 +97,7 @@ fn value_written(slot: usize, value: &[u8]) -> Meaning
 
 // Twelve bytes: an accumulator's lower limit and its upper.
 fn limits_written(slot: usize, value: &[u8]) -> Meaning
-    ensures { λ r. ⌜ r ≡ limitsWritten slot (now (value .entry)) ⌝ }
+    ensures { λ r. ⌜ r ≡ asMeaning (limitsWritten slot (now (value .entry))) ⌝ }
 {
     if (value.len() == 12) & are_pairs(value, 0) & are_pairs(value, 6) {
         return Meaning::Writes(Write::AccumulatorLimits {
@@ -111,7 +111,7 @@ fn limits_written(slot: usize, value: &[u8]) -> Meaning
 
 // Two bytes: a counter's lower limit and its upper.
 fn counts_written(slot: usize, value: &[u8]) -> Meaning
-    ensures { λ r. ⌜ r ≡ countsWritten slot (now (value .entry)) ⌝ }
+    ensures { λ r. ⌜ r ≡ asMeaning (countsWritten slot (now (value .entry))) ⌝ }
 {
     if value.len() == 2 {
         return Meaning::Writes(Write::CounterLimits {
@@ -125,7 +125,7 @@ fn counts_written(slot: usize, value: &[u8]) -> Meaning
 
 // What an element writes, by P1 P2 and its tag.
 fn meaning_of(object: u16, tag: u16, value: &[u8]) -> Meaning
-    ensures { λ r. ⌜ r ≡ meaningOf object tag (now (value .entry)) ⌝ }
+    ensures { λ r. ⌜ r ≡ asMeaning (meaningOf object tag (now (value .entry))) ⌝ }
 {
     if (object == ACCUMULATORS) & is_of(0xDF01, tag) {
         return value_written((tag - 0xDF01) as usize, value);
@@ -153,7 +153,7 @@ fn element_size(list: &[u8]) -> usize
 }
 
 fn element_meaning(object: u16, list: &[u8]) -> Meaning
-    ensures { λ r. ⌜ r ≡ elementMeaning object (now (list .entry)) ⌝ }
+    ensures { λ r. ⌜ r ≡ asMeaning (elementMeaning object (now (list .entry))) ⌝ }
 {
     let size = element_size(list);
     if is_length(byte_at(list, 2)) & (size <= list.len()) {

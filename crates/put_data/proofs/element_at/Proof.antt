@@ -1,8 +1,8 @@
 use denote.Ref.{now}
-use mathlib.Core.Path.{sym, ap, _∙_}
+use mathlib.Core.Path.{sym, _∙_}
 use borrow.Author.Needs.{needs}
 use Rattle.put_data.specs.PutData.{elementMeaning}
-use Rattle.put_data.proofs.Laws.{rest-all}
+use Rattle.put_data.proofs.Laws.{rest-all, meant, fails}
 use Rattle.put_data.proofs.element_at.Statement.{statement}
 use Rattle.put_data.proofs.element_at.Tie as tie
 
@@ -12,15 +12,15 @@ returns c =
     let made = arm .before .before in
     let a = made .before .before .before .args in
     let all = rest-all (now (a .list)) (a .at) in
-    let meant = ap (elementMeaning (a .object)) (sym all) ∙ sym (made .element-meaning .ensures) ∙ arm .write .given .1 in
-    simp (meant, c .element-size .ensures .0, all)
+    let write = meant (elementMeaning (a .object) _) _ (sym (made .element-meaning .ensures) ∙ arm .write .given .1) in
+    simp (rw all at write, c .element-size .ensures .0, all)
 
 returns-2 : tie.Need-returns-2
 returns-2 c =
     let made = c .before .before in
     let a = made .before .before .before .args in
     let all = rest-all (now (a .list)) (a .at) in
-    simp (ap (elementMeaning (a .object)) (sym all) ∙ sym (made .element-meaning .ensures) ∙ c .enum-told .given .1)
+    simp (rw all at (fails (elementMeaning (a .object) _) (sym (made .element-meaning .ensures) ∙ c .enum-told .given .1)))
 
 pub element-at-spec : {M : Type 1} → statement M
 element-at-spec =

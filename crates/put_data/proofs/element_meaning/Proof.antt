@@ -3,7 +3,7 @@ use mathlib.Core.Path.{ap₂, _∙_}
 use native.Mathlib.Omega.{arith}
 use lib.ListN.{length}
 use borrow.Author.Needs.{needs}
-use Rattle.put_data.specs.PutData.{meaningOf, elementSize, elementMeaning}
+use Rattle.put_data.specs.PutData.{asMeaning, meaningOf, elementSize, elementMeaning}
 use Rattle.put_data.proofs.Laws.{and-fits, part}
 use Rattle.put_data.proofs.element_meaning.Statement.{statement}
 use Rattle.put_data.proofs.element_meaning.Tie as tie
@@ -33,7 +33,9 @@ returns c =
     let size = sized .element-size .ensures .0 in
     simp (rw (tested .is-length .ensures, tested .before .byte-at .ensures, size) at (head .before .if1 .taken))
     (c .meaning-of .ensures
-    ∙ ap₂ (meaningOf (a .object)) (c .before .before .u16-at .ensures) (part (now (a .list)) _ _ _ _ (head .head-size .ensures .0) size))
+    ∙ ap₂ (λ t v. asMeaning (meaningOf (a .object) t v))
+    (c .before .before .u16-at .ensures)
+    (part (now (a .list)) _ _ _ _ (head .head-size .ensures .0) size))
 
 returns-2 : tie.Need-returns-2
 unfolding elementMeaning
