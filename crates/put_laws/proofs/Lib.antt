@@ -1,0 +1,4 @@
+pub mod Digits
+pub mod There
+pub mod Octets
+pub mod Back
