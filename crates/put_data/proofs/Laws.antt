@@ -15,7 +15,7 @@ use Rattle.wire.proofs.Pairs.{both}
 use Rattle.put_data.specs.declared.Write.{Write}
 use Rattle.put_data.specs.declared.Meaning.the-variants.{Writes, Fails}
 use Rattle.put_data.specs.declared.Next.the-variants.{End}
-use Rattle.put_data.specs.PutData.{asMeaning, lengthSize, isOf, headSize, elementSize, elementMeaning, told, nextBy, nextIn}
+use Rattle.put_data.specs.PutData.{asMeaning, lengthSize, isOneOf, headSize, elementSize, elementMeaning, told, nextBy, nextIn}
 
 -- ---- parts of a list
 pub rest-all : (s : List ℕ) (k : ℕ) → take (length s - k) (drop k s) ≡ drop k s
@@ -36,7 +36,7 @@ pub and-fits : (a : Bool) (m n : ℕ) → (a && leb m n) ≡ true → m ≤ n
 and-fits a m n h = leb-true m n (both a (leb m n) h .1)
 
 -- a tag that is one of four is not before the first
-pub from-first : (object wanted first tag : ℕ) (r : Bool) → r ≡ isOf first tag → (eqb object wanted && r) ≡ true → first ≤ tag
+pub from-first : (object wanted first tag : ℕ) (r : Bool) → r ≡ isOneOf first tag → (eqb object wanted && r) ≡ true → first ≤ tag
 from-first object wanted first tag r e h = leb-true first tag (both _ (leb tag (first + 3)) (sym e ∙ both (eqb object wanted) r h .1) .0)
 
 some-bytes : (b : Bool) → 1 ≤ cond b 2 1

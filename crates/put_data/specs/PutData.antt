@@ -49,14 +49,14 @@ unfoldable pub countsWritten : (slot : ℕ) → List ℕ → Option Write
 countsWritten slot v = cond (eqb (length v) 2) (some (CounterLimits slot (byte v 0) (byte v 1))) none
 
 -- one of the four tags from the first on
-abbrev pub isOf : (first tag : ℕ) → Bool
-isOf first tag = leb first tag && leb tag (first + 3)
+abbrev pub isOneOf : (first tag : ℕ) → Bool
+isOneOf first tag = leb first tag && leb tag (first + 3)
 
 unfoldable pub meaningOf : (object tag : ℕ) → List ℕ → Option Write
 meaningOf object tag v =
-    cond (eqb object 0xBF30 && isOf 0xDF01 tag) (valueWritten (tag - 0xDF01) v)
-    (cond (eqb object 0xBF30 && isOf 0xDF11 tag) (limitsWritten (tag - 0xDF11) v)
-    (cond (eqb object 0xBF35 && isOf 0xDF11 tag) (countsWritten (tag - 0xDF11) v)
+    cond (eqb object 0xBF30 && isOneOf 0xDF01 tag) (valueWritten (tag - 0xDF01) v)
+    (cond (eqb object 0xBF30 && isOneOf 0xDF11 tag) (limitsWritten (tag - 0xDF11) v)
+    (cond (eqb object 0xBF35 && isOneOf 0xDF11 tag) (countsWritten (tag - 0xDF11) v)
     none))
 
 -- AN ELEMENT, with which a list begins: a tag of two bytes, a length, a value that ends within the list

@@ -7,13 +7,14 @@ use wire::u16_at;
 ghost use mathlib.Core.Path.{_≡_};
 ghost use Prim.Native.Nat.{_+_, _<_, _≤_};
 ghost use lib.ListN.{length, drop};
-ghost use Rattle.put_data.specs.PutData.{asMeaning, isLength, lengthSize, lengthAt, isOf, valueWritten, limitsWritten, countsWritten, meaningOf};
+ghost use Rattle.put_data.specs.PutData.{asMeaning, isLength, lengthSize, lengthAt, isOneOf, valueWritten, limitsWritten, countsWritten, meaningOf};
 ghost use Rattle.put_data.specs.PutData.{headSize, elementSize, elementMeaning, writesIn, told, nextIn, isSome};
 ghost use Rattle.put_data.specs.PutData.{objectOf, isPutData, listPlace, macPlace, isSecured, elementsOf, isValid, nextWrite};
 
-// P1 P2: the limits and values of accumulators, the limits of counters.
+// P1 P2: values and limits of accumulators.
 const ACCUMULATORS: u16 = 0xBF30;
 
+// P1 P2: limits of counters.
 const COUNTERS: u16 = 0xBF35;
 
 // What an element writes. Slots count from 0.
@@ -34,8 +35,8 @@ pub enum Write {
     },
 }
 
-// What stands at or behind a place: an element, which ends before another place, the list's end, or
-// something that fails the command.
+// What comes next among the elements: one of them, and where it ends; their end; or something that
+// fails the command.
 pub enum Next {
     Element { write: Write, end: usize },
     End,
@@ -74,10 +75,10 @@ fn length_at(s: &[u8], at: usize) -> usize
     lead as usize
 }
 
-// Whether a tag is one of four.
-fn is_of(first: u16, tag: u16) -> bool
+// Whether a tag is one of the four from the first on.
+fn is_one_of(first: u16, tag: u16) -> bool
     requires { ⌜ first < 65532 ⌝ }
-    ensures { λ r. ⌜ r ≡ isOf first tag ⌝ }
+    ensures { λ r. ⌜ r ≡ isOneOf first tag ⌝ }
 {
     (first <= tag) & (tag <= first + 3)
 }
@@ -127,13 +128,13 @@ fn counts_written(slot: usize, value: &[u8]) -> Meaning
 fn meaning_of(object: u16, tag: u16, value: &[u8]) -> Meaning
     ensures { λ r. ⌜ r ≡ asMeaning (meaningOf object tag (now (value .entry))) ⌝ }
 {
-    if (object == ACCUMULATORS) & is_of(0xDF01, tag) {
+    if (object == ACCUMULATORS) & is_one_of(0xDF01, tag) {
         return value_written((tag - 0xDF01) as usize, value);
     }
-    if (object == ACCUMULATORS) & is_of(0xDF11, tag) {
+    if (object == ACCUMULATORS) & is_one_of(0xDF11, tag) {
         return limits_written((tag - 0xDF11) as usize, value);
     }
-    if (object == COUNTERS) & is_of(0xDF11, tag) {
+    if (object == COUNTERS) & is_one_of(0xDF11, tag) {
         return counts_written((tag - 0xDF11) as usize, value);
     }
     Meaning::Fails

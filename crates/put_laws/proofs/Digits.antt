@@ -1,16 +1,15 @@
 -- Amounts in 12 digits, there and back. Assumes nothing.
-use mathlib.Core.Path.{_≡_, refl, sym, ap, ap₂, subst, _∙_}
+use mathlib.Core.Path.{_≡_, refl, sym, ap, _∙_}
 use mathlib.Core.Bool.{Bool, true, _&&_}
-use mathlib.Core.List.{List, [], _∷_, _++_}
-use Prim.Native.Nat.{ℕ, zero, suc, _+_, _*_, _^_, _≤_, _<_}
+use mathlib.Core.List.{List, _++_}
+use Prim.Native.Nat.{ℕ, zero, suc, _+_, _*_, _≤_}
 use native.Mathlib.Omega.{arith}
-use lib.ListN.{length, take}
 use Rattle.wire.specs.Wire.{byte, isPair, pairValue}
 use Rattle.wire.proofs.Pairs.{pair-value, pair-is}
 use Rattle.money.specs.Money.{max}
 use Rattle.digits.specs.Digits.{arePairs, pairsValue}
 use Rattle.iad.specs.Iad.{pairsOf, arePairs as iadPairs, pairsValue as iadValue}
-use Rattle.iad.proofs.Runs.{run, run-take, pairs-run, pairs-below}
+use Rattle.iad.proofs.Runs.{run, pairs-run, pairs-below}
 
 -- an amount, and each of two
 pub are-pairs : (a : ℕ) → arePairs (pairsOf a 6) 0 6 ≡ true

@@ -1,4 +1,8 @@
 pub mod Digits
-pub mod There
+pub mod Rows
+pub mod Elements
 pub mod Octets
+pub mod There
+pub mod Parts
+pub mod Items
 pub mod Back

@@ -1,10 +1,10 @@
 -- What is written are bytes, and parts of bytes are. Assumes nothing.
-use mathlib.Core.List.{List, [], _∷_, _++_}
 use mathlib.Core.Path.{_≡_, refl}
+use mathlib.Core.List.{List, [], _∷_, _++_}
 use mathlib.Core.Bool.{Bool, true, false}
-use Prim.Native.Nat.{ℕ, zero, suc, _+_, _/_, _<_}
+use Prim.Native.Nat.{ℕ, zero, suc, _+_, _<_, _/_}
 use native.Mathlib.Omega.{arith}
-use lib.ListN.{length, getD, take, drop, length-take, List·getD-eq-default}
+use lib.ListN.{length, take, drop, length-take, getD, List·getD-eq-default}
 use lib.Seq.{getD-drop, getD-take}
 use lib.Dec.{ltb}
 use borrow.Author.Tests.{ltb-true, ltb-false}
@@ -12,9 +12,10 @@ use Rattle.wire.specs.Wire.{pairOf}
 use Rattle.iad.specs.Iad.{pairsOf}
 use Rattle.put_data.specs.declared.Write.{Write}
 use Rattle.put_data.specs.declared.Write.the-variants.{Value, AccumulatorLimits, CounterLimits}
-use Rattle.put_laws.specs.Written.{Form, short, long, lengthBytes, limit, tagByte, valueBytes, Object, accumulators, counters, secondByte, IsOf}
-use Rattle.put_laws.specs.Written.{Item, filler, element, itemBytes, listBytes, AreOf, Command, dataBytes, written, Bytes, Proper}
-use Rattle.put_laws.proofs.There.{value-fits}
+use Rattle.put_laws.specs.Written.{Form, short, long, lengthBytes, limit, tagByte, valueBytes, Object}
+use Rattle.put_laws.specs.Written.{accumulators, counters, secondByte, IsOf, Item, filler, element, itemBytes}
+use Rattle.put_laws.specs.Written.{listBytes, AreOf, Command, written, Bytes, Proper}
+use Rattle.put_laws.proofs.Elements.{value-fits}
 
 -- ---- parts
 pub drop-bytes : (n : ℕ) (s : List ℕ) → Bytes s → Bytes (drop n s)
@@ -28,8 +29,8 @@ pub take-bytes : (n : ℕ) (s : List ℕ) → Bytes s → Bytes (take n s)
 take-bytes n s h i = take-by n s h i (ltb i n) refl
 
 -- ---- what is written
-none : Bytes []
-none i = omega arith
+no-bytes : Bytes []
+no-bytes i = omega arith
 
 byte-first : (b : ℕ) (s : List ℕ) → b < 256 → Bytes s → Bytes (b ∷ s)
 byte-first b s h g zero = h
@@ -41,12 +42,12 @@ joined (x ∷ a) b h g = byte-first x (a ++ b) (h 0) (joined a b (λ i. h (suc i
 
 pairs-bytes : (a n : ℕ) → Bytes (pairsOf a n)
 unfolding pairsOf
-pairs-bytes a zero = none
-pairs-bytes a (suc n) = joined (pairsOf (a / 100) n) (pairOf a ∷ []) (pairs-bytes (a / 100) n) (byte-first (pairOf a) [] (omega arith) none)
+pairs-bytes a zero = no-bytes
+pairs-bytes a (suc n) = joined (pairsOf (a / 100) n) (pairOf a ∷ []) (pairs-bytes (a / 100) n) (byte-first (pairOf a) [] (omega arith) no-bytes)
 
 length-bytes : (f : Form) (n : ℕ) → n < limit f → Bytes (lengthBytes f n)
-length-bytes short n h = byte-first n [] (omega arith) none
-length-bytes long n h = byte-first 0x81 (n ∷ []) (omega arith) (byte-first n [] h none)
+length-bytes short n h = byte-first n [] (omega arith) no-bytes
+length-bytes long n h = byte-first 0x81 (n ∷ []) (omega arith) (byte-first n [] h no-bytes)
 
 value-bytes : (o : Object) (w : Write) → IsOf o w → Bytes (valueBytes w)
 value-bytes accumulators (Value slot a) h = pairs-bytes (a .0) 6
@@ -54,7 +55,7 @@ value-bytes accumulators (AccumulatorLimits slot a b) h = joined (pairsOf (a .0)
 value-bytes accumulators (CounterLimits slot a b) h = absurd h
 value-bytes counters (Value slot a) h = absurd h
 value-bytes counters (AccumulatorLimits slot a b) h = absurd h
-value-bytes counters (CounterLimits slot a b) h = byte-first a (b ∷ []) (h .1) (byte-first b [] (h .2) none)
+value-bytes counters (CounterLimits slot a b) h = byte-first a (b ∷ []) (h .1) (byte-first b [] (h .2) no-bytes)
 
 pub tag-small : (o : Object) (w : Write) → IsOf o w → tagByte w < 256
 tag-small accumulators (Value slot a) h = let l = h .0 in omega arith
@@ -66,7 +67,7 @@ tag-small counters (CounterLimits slot a b) h = let l = h .0 in omega arith
 
 list-bytes : (o : Object) (is : List Item) → AreOf o is → Bytes (listBytes is)
 unfolding AreOf listBytes
-list-bytes o [] h = none
+list-bytes o [] h = no-bytes
 list-bytes o (filler ∷ is) h = byte-first 0 (listBytes is) (omega arith) (list-bytes o is h)
 list-bytes o (element f w ∷ is) h =
     let v = valueBytes w in

@@ -1,7 +1,7 @@
 -- A PUT DATA command written from what it is to write, apart from any reader: P1 P2, fillers and elements, a MAC, and for each length one of its two forms.
-use Prim.Native.Nat.{ℕ, _+_, _≤_, _<_}
 use mathlib.Core.Path.{_≡_}
 use mathlib.Core.List.{List, [], _∷_, _++_}
+use Prim.Native.Nat.{ℕ, _+_, _≤_, _<_}
 use lib.ListN.{length, getD}
 use Rattle.money.specs.Money.{max}
 use Rattle.iad.specs.Iad.{pairsOf}

@@ -7,25 +7,25 @@ use Rattle.put_data.proofs.meaning_of.Tie as tie
 sub-value-written : tie.Need-sub-value-written
 sub-value-written c =
     let a = c .before .before .before .args in
-    from-first (a .object) 0xBF30 0xDF01 _ _ (c .before .is-of .ensures) (c .if1 .taken)
+    from-first (a .object) 0xBF30 0xDF01 _ _ (c .before .is-one-of .ensures) (c .if1 .taken)
 
 returns : tie.Need-returns
 unfolding meaningOf
-returns c = simp (rw (c .before .before .is-of .ensures) at (c .before .if1 .taken), c .value-written .ensures)
+returns c = simp (rw (c .before .before .is-one-of .ensures) at (c .before .if1 .taken), c .value-written .ensures)
 
 sub-limits-written : tie.Need-sub-limits-written
 sub-limits-written c =
     let first = c .before .before in
     let a = first .before .before .before .args in
-    from-first (a .object) 0xBF30 0xDF11 _ _ (c .before .is-of2 .ensures) (c .if2 .taken)
+    from-first (a .object) 0xBF30 0xDF11 _ _ (c .before .is-one-of2 .ensures) (c .if2 .taken)
 
 returns-2 : tie.Need-returns-2
 unfolding meaningOf
 returns-2 c =
     let second = c .before .before in
     simp (
-      rw (second .before .before .is-of .ensures) at (second .before .if1 .left),
-      rw (second .is-of2 .ensures) at (c .before .if2 .taken),
+      rw (second .before .before .is-one-of .ensures) at (second .before .if1 .left),
+      rw (second .is-one-of2 .ensures) at (c .before .if2 .taken),
       c .limits-written .ensures,
     )
 
@@ -34,7 +34,7 @@ sub-counts-written c =
     let second = c .before .before in
     let first = second .before .before in
     let a = first .before .before .before .args in
-    from-first (a .object) 0xBF35 0xDF11 _ _ (c .before .is-of3 .ensures) (c .if3 .taken)
+    from-first (a .object) 0xBF35 0xDF11 _ _ (c .before .is-one-of3 .ensures) (c .if3 .taken)
 
 returns-3 : tie.Need-returns-3
 unfolding meaningOf
@@ -42,9 +42,9 @@ returns-3 c =
     let third = c .before .before in
     let second = third .before .before in
     simp (
-      rw (second .before .before .is-of .ensures) at (second .before .if1 .left),
-      rw (second .is-of2 .ensures) at (third .before .if2 .left),
-      rw (third .is-of3 .ensures) at (c .before .if3 .taken),
+      rw (second .before .before .is-one-of .ensures) at (second .before .if1 .left),
+      rw (second .is-one-of2 .ensures) at (third .before .if2 .left),
+      rw (third .is-one-of3 .ensures) at (c .before .if3 .taken),
       c .counts-written .ensures,
     )
 
@@ -53,9 +53,9 @@ unfolding meaningOf
 returns-4 c =
     let second = c .before .before .before in
     simp (
-      rw (second .before .before .is-of .ensures) at (second .before .if1 .left),
-      rw (second .is-of2 .ensures) at (c .before .before .if2 .left),
-      rw (c .before .is-of3 .ensures) at (c .if3 .left),
+      rw (second .before .before .is-one-of .ensures) at (second .before .if1 .left),
+      rw (second .is-one-of2 .ensures) at (c .before .before .if2 .left),
+      rw (c .before .is-one-of3 .ensures) at (c .if3 .left),
     )
 
 pub meaning-of-spec : {M : Type 1} → statement M
