@@ -6,3 +6,5 @@ pub mod There
 pub mod Parts
 pub mod Items
 pub mod Back
+pub mod Vectors
+pub mod Samples

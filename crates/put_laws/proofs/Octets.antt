@@ -36,6 +36,9 @@ byte-first : (b : ℕ) (s : List ℕ) → b < 256 → Bytes s → Bytes (b ∷ s
 byte-first b s h g zero = h
 byte-first b s h g (suc i) = g i
 
+pub four-bytes : (a b c d : ℕ) → a < 256 → b < 256 → c < 256 → d < 256 → Bytes (a ∷ b ∷ c ∷ d ∷ [])
+four-bytes a b c d e f g h = byte-first a (b ∷ c ∷ d ∷ []) e (byte-first b (c ∷ d ∷ []) f (byte-first c (d ∷ []) g (byte-first d [] h no-bytes)))
+
 joined : (a b : List ℕ) → Bytes a → Bytes b → Bytes (a ++ b)
 joined [] b h g = g
 joined (x ∷ a) b h g = byte-first x (a ++ b) (h 0) (joined a b (λ i. h (suc i)) g)
