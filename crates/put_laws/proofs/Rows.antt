@@ -48,22 +48,22 @@ amount-of a n e = ap (λ (k : ℕ). record { 0 = k }) e
 pub row : (o : Object) (w : Write) (tag : ℕ) → IsOf o w → tag ≡ 0xDF00 + tagByte w → meaningOf (numberOf o) tag (valueBytes w) ≡ some w
 unfolding meaningOf valueWritten limitsWritten countsWritten
 row accumulators (Value slot a) tag h e =
-    let s = h .0 in
+    let s : slot < 4 = omega (arith, h .0) in
     let f : tag ≡ 0xDF01 + slot = omega arith in
     let l : length (pairsOf (a .0) 6) ≡ 6 = unfold pairsOf in refl in
     simp (of-four 0xDF01 slot tag f s, of-slot 0xDF01 slot tag f s, l, are-pairs (a .0))
-    (ap (λ b. some (Value slot b)) (amount-of a _ (amount (a .0) (h .1))))
+    (ap (λ b. some (Value slot b)) (amount-of a _ (amount (a .0) (omega (arith, h .1)))))
 row accumulators (AccumulatorLimits slot a b) tag h e =
-    let s = h .0 in
+    let s : slot < 4 = omega (arith, h .0) in
     let f : tag ≡ 0xDF11 + slot = omega arith in
     let l : length (pairsOf (a .0) 6 ++ pairsOf (b .0) 6) ≡ 12 = unfold pairsOf in refl in
     simp (not-a-value slot tag f, of-four 0xDF11 slot tag f s, of-slot 0xDF11 slot tag f s, l, are-first (a .0) (b .0), are-second (a .0) (b .0))
-    (ap₂ (λ x y. some (AccumulatorLimits slot x y)) (amount-of a _ (first (a .0) (b .0) (h .1))) (amount-of b _ (second (a .0) (b .0) (h .2))))
+    (ap₂ (λ x y. some (AccumulatorLimits slot x y)) (amount-of a _ (first (a .0) (b .0) (omega (arith, h .1)))) (amount-of b _ (second (a .0) (b .0) (omega (arith, h .2)))))
 row accumulators (CounterLimits slot a b) tag h e = absurd h
 row counters (Value slot a) tag h e = absurd h
 row counters (AccumulatorLimits slot a b) tag h e = absurd h
 row counters (CounterLimits slot a b) tag h e =
-    let s = h .0 in
+    let s : slot < 4 = omega (arith, h .0) in
     let f : tag ≡ 0xDF11 + slot = omega arith in
     simp (of-four 0xDF11 slot tag f s, of-slot 0xDF11 slot tag f s)
 
@@ -126,8 +126,10 @@ module _ (tag : ℕ) (v : List ℕ) (w : Write) where
       let a = not-before 0xDF11 tag h in
       let b = not-behind 0xDF11 tag h in
       let (l, x) = taken (eqb (length v) 2) (CounterLimits (tag - 0xDF11) (byte v 0) (byte v 1)) w e in
+      let lower = g 0 in
+      let upper = g 1 in
       subst (Row counters tag v) x
-      (record { is-of = (omega arith, g 0, g 1); tag-is = omega arith; value = whole 2 v (eqb-true (length v) 2 l) })
+      (record { is-of = (omega arith, omega arith, omega arith); tag-is = omega arith; value = whole 2 v (eqb-true (length v) 2 l) })
 
   by-tests : (o : Object) → Bytes v → (p q : Bool) → isOneOf 0xDF01 tag ≡ p → isOneOf 0xDF11 tag ≡ q → meaningOf (numberOf o) tag v ≡ some w → Row o tag v w
   unfolding meaningOf
