@@ -15,18 +15,14 @@ use Rattle.put_data.specs.declared.Next.the-variants.{Element, End, Faul
 use Rattle.put_data.specs.PutData.{isLength, lengthAt, headSize, elementSize, meaningOf, elementMeaning}
 use Rattle.put_data.specs.PutData.{before, writesBy, writesIn, isSome, told, nextBy, nextIn}
 use Rattle.put_data.specs.PutData.{objectOf, isPutData, isSecured, elementsOf, writesOf, isValid, nextWrite}
-use Rattle.put_data.proofs.Laws.{and-fits, element-some}
+use Rattle.put_data.proofs.Laws.{tested, and-fits, element-some}
 
 -- ---- an element that writes lies within the list
-by-test : (t : Bool) (m : Option Write) (w : Write) → cond t m none ≡ some w → t ≡ true
-by-test true m w e = refl
-by-test false m w e = let z : _≡_ {A = ℕ} 0 1 = cc in absurd (omega arith)
-
 pub element-fits : (o : ℕ) (s : List ℕ) (w : Write) → elementMeaning o s ≡ some w → elementSize s ≤ length s
 unfolding elementMeaning
 element-fits o s w e =
     let m = meaningOf o (number s 0 2) (take (lengthAt s 2) (drop (headSize s) s)) in
-    and-fits (isLength (byte s 2)) (elementSize s) (length s) (by-test (isLength (byte s 2) && leb (elementSize s) (length s)) m w e)
+    and-fits (isLength (byte s 2)) (elementSize s) (length s) (tested (isLength (byte s 2) && leb (elementSize s) (length s)) m w e .0)
 
 -- ---- the writes behind an element
 pub skip : (o n : ℕ) (s : List ℕ) → writesBy o n s ≡ writesIn o (drop n s)
@@ -126,6 +122,15 @@ first-of false ws h = let z : _≡_ {A = ℕ} 0 1 = cc in absurd (omega arith)
 pub at-start : (c : List ℕ) → isValid c ≡ true → AllWrite c 0 × (writesOf c ≡ some (left c 0))
 unfolding isValid writesOf left AllWrite
 at-start c h = first-of (isPutData c && isSecured c) (writesFrom c 0) h
+
+-- a command that is not valid writes nothing
+none-of : (ws : Option (List Write)) → isSome ws ≡ false → ws ≡ none
+none-of none h = refl
+none-of (some ws) h = let z : _≡_ {A = ℕ} 0 1 = cc in absurd (omega arith)
+
+pub not-valid : (c : List ℕ) → isValid c ≡ false → writesOf c ≡ none
+unfolding isValid
+not-valid c h = none-of (writesOf c) h
 
 pub record Step (c : List ℕ) (at : ℕ) (w : Write) (end : ℕ) : Type 0 where
   pub is : left c at ≡ w ∷ left c end

@@ -31,6 +31,11 @@ rest-some s at h e = omega (arith, length-drop at s)
 pub part : (s : List ℕ) (a e h n : ℕ) → a ≡ h → e ≡ h + n → take (e - a) (drop a s) ≡ take n (drop h s)
 part s a e h n p q = let r : e - a ≡ n = omega arith in ap₂ (λ (m k : ℕ). take m (drop k s)) r p
 
+-- ---- a test that something passed
+pub tested : {A : Type 0} (t : Bool) (m : Option A) (w : A) → cond t m none ≡ some w → (t ≡ true) × (m ≡ some w)
+tested true m w e = (refl, e)
+tested false m w e = let z : _≡_ {A = ℕ} 0 1 = cc in absurd (omega arith)
+
 -- ---- an element
 pub and-fits : (a : Bool) (m n : ℕ) → (a && leb m n) ≡ true → m ≤ n
 and-fits a m n h = leb-true m n (both a (leb m n) h .1)

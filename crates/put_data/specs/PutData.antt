@@ -15,11 +15,6 @@ use Rattle.put_data.specs.declared.Meaning.the-variants.{Writes, Fails}
 use Rattle.put_data.specs.declared.Next.{Next}
 use Rattle.put_data.specs.declared.Next.the-variants.{Element, End, Fault}
 
--- what an element comes to, as the code has it
-abbrev pub asMeaning : Option Write → Meaning
-asMeaning (some w) = Writes w
-asMeaning none = Fails
-
 -- A LENGTH: one byte, 00 to 7F, or 81 and one byte
 abbrev pub isLength : (lead : ℕ) → Bool
 isLength lead = ltb lead 0x80 || eqb lead 0x81
@@ -59,7 +54,8 @@ meaningOf object tag v =
     (cond (eqb object 0xBF35 && isOneOf 0xDF11 tag) (countsWritten (tag - 0xDF11) v)
     none))
 
--- AN ELEMENT, with which a list begins: a tag of two bytes, a length, a value that ends within the list
+-- AN ELEMENT, with which a list begins: a tag of two bytes, a length, a value that ends within the list. A byte that is missing reads as 0, and
+-- then the element does not end within the list
 unfoldable pub headSize : List ℕ → ℕ
 headSize s = 2 + lengthSize s 2
 
@@ -125,7 +121,12 @@ isSome (some ws) = true
 unfoldable pub isValid : List ℕ → Bool
 isValid c = isSome (writesOf c)
 
--- FROM ELEMENT TO ELEMENT: the first behind fillers, and where it ends; s lies at a place
+-- AS THE CODE ANSWERS IT: what an element comes to
+abbrev pub asMeaning : Option Write → Meaning
+asMeaning (some w) = Writes w
+asMeaning none = Fails
+
+-- from element to element: the first behind fillers, and where it ends; s lies at a place
 abbrev pub told : Option Write → (end : ℕ) → Next
 told (some w) end = Element w end
 told none end = Fault

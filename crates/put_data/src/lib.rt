@@ -140,19 +140,21 @@ fn meaning_of(object: u16, tag: u16, value: &[u8]) -> Meaning
     Meaning::Fails
 }
 
-// The element with which a list begins: a tag of two bytes, a length, a value.
+// How many bytes an element's tag, of two, and its length take. The list begins with it.
 fn head_size(list: &[u8]) -> usize
     ensures { λ r. ⌜ (r ≡ headSize (now (list .entry))) × (r ≤ 4) ⌝ }
 {
     2 + length_size(list, 2)
 }
 
+// How many bytes the element takes with which a list begins.
 fn element_size(list: &[u8]) -> usize
     ensures { λ r. ⌜ (r ≡ elementSize (now (list .entry))) × (r < 260) ⌝ }
 {
     head_size(list) + length_at(list, 2)
 }
 
+// What the element writes with which a list begins. It must end within the list.
 fn element_meaning(object: u16, list: &[u8]) -> Meaning
     ensures { λ r. ⌜ r ≡ asMeaning (elementMeaning object (now (list .entry))) ⌝ }
 {
@@ -273,7 +275,7 @@ pub fn is_valid(command: &[u8]) -> bool
     false
 }
 
-// The first element at or behind a place among the elements of a command: 0, or where an element ends.
+// The first element at or behind a place among the elements of a command, which begin at 0.
 pub fn next_write(command: &[u8], from: usize) -> Next
     ensures { λ r. ⌜ r ≡ nextWrite (now (command .entry)) from ⌝ }
 {

@@ -1,7 +1,7 @@
 -- A valid command is written of a proper one. Assumes nothing.
 use mathlib.Core.Path.{_≡_, refl, sym, ap, _∙_, subst}
 use mathlib.Core.List.{List, [], _∷_, _++_}
-use mathlib.Core.Option.{Option, none, some}
+use mathlib.Core.Option.{some}
 use mathlib.Core.Bool.{Bool, true, false, _&&_, _||_, cond}
 use Prim.Native.Nat.{ℕ, suc, _+_, _*_, _≤_, _<_}
 use native.Mathlib.Omega.{arith}
@@ -17,6 +17,7 @@ use Rattle.put_data.specs.declared.Write.{Write}
 use Rattle.put_data.specs.PutData.{isLength, lengthSize, lengthAt}
 use Rattle.put_data.specs.PutData.{writesIn, objectOf, isPutData}
 use Rattle.put_data.specs.PutData.{listPlace, macPlace, isSecured, elementsOf, writesOf, isSome, isValid}
+use Rattle.put_data.proofs.Laws.{tested}
 use Rattle.put_data.proofs.Cursor.{behind, left, at-start}
 use Rattle.put_laws.specs.Written.{long, lengthBytes, Object}
 use Rattle.put_laws.specs.Written.{accumulators, counters, secondByte}
@@ -153,15 +154,11 @@ elements-bytes c h =
     let v = take (lengthAt c 6) (drop (listPlace c) c) in
     cond-bytes (leb (macPlace c) (length c)) v (take-bytes (lengthAt c 6) (drop (listPlace c) c) (drop-bytes (listPlace c) c h))
 
-found-tests : (t : Bool) (x : Option (List Write)) (ws : List Write) → cond t x none ≡ some ws → (t ≡ true) × (x ≡ some ws)
-found-tests true x ws e = (refl, e)
-found-tests false x ws e = let z : _≡_ {A = ℕ} 0 1 = cc in absurd (omega arith)
-
 -- bytes that write something are written of a proper command
 spelled-back : (c : List ℕ) (ws : List Write) → Bytes c → writesOf c ≡ some ws → Spelled c
 unfolding writesOf
 spelled-back c ws h e =
-    let (t, x) = found-tests (isPutData c && isSecured c) (writesIn (objectOf c) (elementsOf c)) ws e in
+    let (t, x) = tested (isPutData c && isSecured c) (writesIn (objectOf c) (elementsOf c)) ws e in
     let (a, b) = both (isPutData c) (isSecured c) t in
     let p = put-parts c a in
     let o = object-by (objectOf c) (eqb (objectOf c) 0xBF30) (eqb (objectOf c) 0xBF35) refl refl (p .object) in

@@ -2,7 +2,7 @@
 use mathlib.Core.Path.{_≡_, refl, sym, ap, ap₂, _∙_}
 use mathlib.Core.List.{List, [], _∷_, _++_, append-assoc}
 use mathlib.Core.Option.{Option, none, some}
-use mathlib.Core.Bool.{Bool, true, false, _&&_, cond}
+use mathlib.Core.Bool.{Bool, true, false, _&&_}
 use Prim.Native.Nat.{ℕ, zero, suc, _+_, _*_, _≤_, _<_}
 use native.Mathlib.Omega.{arith}
 use lib.ListN.{length, take, drop, length-drop, take-append-drop}
@@ -14,11 +14,11 @@ use Rattle.wire.proofs.Pairs.{both}
 use Rattle.put_data.specs.declared.Write.{Write}
 use Rattle.put_data.specs.PutData.{isLength, lengthSize, lengthAt, meaningOf}
 use Rattle.put_data.specs.PutData.{headSize, elementSize, elementMeaning, before, writesBy, writesIn}
-use Rattle.put_data.proofs.Laws.{element-some}
+use Rattle.put_data.proofs.Laws.{tested, element-some}
 use Rattle.put_laws.specs.Written.{Form, lengthBytes, tagByte, valueBytes, Object}
 use Rattle.put_laws.specs.Written.{IsOf, Item, filler, element, itemBytes}
 use Rattle.put_laws.specs.Written.{listBytes, AreOf, Bytes}
-use Rattle.put_laws.proofs.Rows.{numberOf, row, no-write, row-back}
+use Rattle.put_laws.proofs.Rows.{numberOf, row, row-back}
 use Rattle.put_laws.proofs.Elements.{list-element}
 use Rattle.put_laws.proofs.Octets.{drop-bytes, take-bytes, tag-small}
 use Rattle.put_laws.proofs.Parts.{two-at, spell, spelled, behind-two, length-is}
@@ -31,10 +31,6 @@ record ElementIs (o : Object) (s : List ℕ) (w : Write) : Type 0 where
 
 two-bytes : (o : Object) (w : Write) (a b : ℕ) → IsOf o w → b < 256 → a * 256 + b ≡ 0xDF00 + tagByte w → (a ≡ 0xDF) × (b ≡ tagByte w)
 two-bytes o w a b g h e = let t = tag-small o w g in (omega arith, omega arith)
-
-tested : (t : Bool) (m : Option Write) (w : Write) → cond t m none ≡ some w → (t ≡ true) × (m ≡ some w)
-tested true m w e = (refl, e)
-tested false m w e = absurd (no-write w e)
 
 element-back : (o : Object) (s : List ℕ) (w : Write) → Bytes s → elementMeaning (numberOf o) s ≡ some w → ElementIs o s w
 unfolding elementMeaning elementSize headSize spell

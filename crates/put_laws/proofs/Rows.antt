@@ -20,6 +20,7 @@ use Rattle.put_data.specs.declared.Write.{Write}
 use Rattle.put_data.specs.declared.Write.the-variants.{Value, AccumulatorLimits, CounterLimits}
 use Rattle.put_data.specs.PutData.{valueWritten, limitsWritten, countsWritten, isOneOf, meaningOf}
 use Rattle.put_data.specs.PutData.{amountAt}
+use Rattle.put_data.proofs.Laws.{tested}
 use Rattle.put_laws.specs.Written.{tagByte, valueBytes, Object}
 use Rattle.put_laws.specs.Written.{accumulators, counters, IsOf}
 use Rattle.put_laws.specs.Written.{Bytes}
@@ -69,10 +70,9 @@ row counters (CounterLimits slot a b) tag h e =
 
 -- ---- and back
 taken : (t : Bool) (x w : Write) → cond t (some x) none ≡ some w → (t ≡ true) × (x ≡ w)
-taken true x w e = (refl, cc)
-taken false x w e = let z : _≡_ {A = ℕ} 0 1 = cc in absurd (omega arith)
+taken t x w e = let (p, q) = tested t (some x) w e in (p, cc)
 
-pub no-write : (w : Write) → _≡_ {A = Option Write} none (some w) → ⊥
+no-write : (w : Write) → _≡_ {A = Option Write} none (some w) → ⊥
 no-write w e = let z : _≡_ {A = ℕ} 0 1 = cc in omega arith
 
 pub record Row (o : Object) (tag : ℕ) (v : List ℕ) (w : Write) : Type 0 where
