@@ -4,8 +4,9 @@ use mathlib.Core.Path.{refl}
 use mathlib.Core.Option.{Option, none, some}
 use mathlib.Core.List.{List, [], _∷_, _++_}
 use mathlib.Core.Bool.{Bool, true, false, not, _&&_}
-use Prim.Native.Nat.{ℕ}
+use Prim.Native.Nat.{ℕ, _+_}
 use native.Mathlib.Omega.{arith}
+use lib.ListN.{length, replicate}
 use lib.Dec.{T, eqb}
 use Rattle.wire.specs.Wire.{number}
 use Rattle.digits.specs.Digits.{arePairs, pairsValue}
@@ -57,6 +58,10 @@ fails n hex = not (isValid (bytes n hex))
 
 abbrev next : (n hex from : ℕ) → Next → Bool
 next n hex from m = same (nextNumbers (nextWrite (bytes n hex) from)) (nextNumbers m)
+
+-- fillers alone, their length written so
+abbrev blank : (form : List ℕ) (n : ℕ) → List ℕ
+blank form n = 0x0C ∷ 0xDA ∷ 0xBF ∷ 0x30 ∷ (length form + n + 7) ∷ 0x81 ∷ (form ++ (replicate n 0 ++ 0x8E ∷ 0x04 ∷ 0 ∷ 0 ∷ 0 ∷ 0 ∷ []))
 
 -- two proper commands
 abbrev first : Command
@@ -166,8 +171,16 @@ pub record Samples : Type 0 where
   pub length-82 : T (fails 24 0x0CDABF301381820009DF01060000000000058E0411223344)
   pub element-82 : T (fails 24 0x0CDABF3013810BDF018200060000000000058E0411223344)
   pub into-the-mac : T (fails 16 0x0CDABF350B8103DF11028E0411223344)
+  pub longer-than-left : T (fails 18 0x0CDABF350D8105DF110507098E0411223344)
   pub cut-head : T (fails 14 0x0CDABF35098101DF8E0411223344)
   pub nothing : T (fails 5 0x0CDABF3000)
+  -- lengths of the list up to the longest, each in the form that can hold it
+  pub short-127 : T (isValid (blank (0x7F ∷ []) 127))
+  pub long-128 : T (isValid (blank (0x81 ∷ 0x80 ∷ []) 128))
+  pub longest : T (isValid (blank (0x81 ∷ 0xF7 ∷ []) 247))
+  pub one-byte-128 : T (not (isValid (blank (0x80 ∷ []) 128)))
+  pub one-byte-130 : T (not (isValid (blank (0x82 ∷ []) 130)))
+  pub three-bytes : T (not (isValid (blank (0x82 ∷ 0x00 ∷ 0x80 ∷ []) 128)))
   -- from element to element: places count from the first byte of the list
   pub next-first : T (next 34 0x0CDABF301D811500DF010600000000000500DF0206000000000006008E0411223344 0 (Element (Value 0 (amountOf 5)) 10))
   pub next-second : T (next 34 0x0CDABF301D811500DF010600000000000500DF0206000000000006008E0411223344 10 (Element (Value 1 (amountOf 6)) 20))
@@ -244,8 +257,15 @@ samples =
       length-82 = tt;
       element-82 = tt;
       into-the-mac = tt;
+      longer-than-left = tt;
       cut-head = tt;
       nothing = tt;
+      short-127 = tt;
+      long-128 = tt;
+      longest = tt;
+      one-byte-128 = tt;
+      one-byte-130 = tt;
+      three-bytes = tt;
       next-first = tt;
       next-second = tt;
       next-end = tt;
