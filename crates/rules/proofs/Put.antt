@@ -1,26 +1,18 @@
 -- What the words say once limits are put into them: what they said, with these limits. Assumes nothing.
-use mathlib.Core.Path.{_≡_, refl, sym, ap, subst, _∙_}
+use mathlib.Core.Path.{_≡_, refl, sym, ap, subst}
 use mathlib.Core.Bool.{Bool, true, false, cond}
 use mathlib.Core.List.{List, [], _∷_}
-use Prim.Native.Nat.{ℕ, zero, suc, _+_, _*_, _%_, _≤_, _<_}
+use Prim.Native.Nat.{ℕ, zero, suc, _+_, _*_, _%_, _<_}
 use native.Mathlib.Nat.{mod-eq-of-lt}
-use native.Mathlib.Omega.{arith}
 use borrow.Author.Tests.{ltb-true, ltb-false}
 use lib.Dec.{ltb}
 use lib.ListN.{length, getD, length-set}
 use Rattle.money.specs.declared.AccumulatorAmount.{AccumulatorAmount}
-use Rattle.rules.specs.Rules.{Rules, rulesOf, profileOf}
+use Rattle.rules.specs.Rules.{rulesOf, profileOf}
 use Rattle.rules.specs.Limits.{limitsPut, limitsPutInAll, accumulatorLimitsPut, counterLimitsPut, withAccumulatorLimits, withCounterLimits}
 use Rattle.rules.specs.Word as word
 use Rattle.rules.proofs.Places.{each}
-
--- what holds from 4 on
-past : (P : ℕ → Type 0) → ((i : ℕ) → P (suc (suc (suc (suc i))))) → (i : ℕ) → 4 ≤ i → P i
-past P f zero h = let z : ⊥ = omega arith in absurd z
-past P f (suc zero) h = let z : ⊥ = omega arith in absurd z
-past P f (suc (suc zero)) h = let z : ⊥ = omega arith in absurd z
-past P f (suc (suc (suc zero))) h = let z : ⊥ = omega arith in absurd z
-past P f (suc (suc (suc (suc i)))) h = f i
+use Rattle.rules.proofs.Limits.{words-whole, no-accumulator, no-counter}
 
 -- n words, by their places
 abbrev listed : ℕ → (ℕ → ℕ) → List ℕ
@@ -30,10 +22,6 @@ listed (suc n) f = f 0 ∷ listed n (λ k. f (suc k))
 listed-all : (w : List ℕ) → listed (length w) (λ k. getD w k 0) ≡ w
 listed-all [] = refl
 listed-all (x ∷ w) = ap (λ (r : List ℕ). x ∷ r) (listed-all w)
-
--- the words after, and the rules after
-Says : (List ℕ → List ℕ) → (Rules → Rules) → List ℕ → Type 0
-Says put with w = rulesOf (put w) ≡ with (rulesOf w)
 
 -- at the place of each rule, by computing
 module _ (f : ℕ → ℕ) where
@@ -50,15 +38,6 @@ module _ (f : ℕ → ℕ) where
   counter-computed lower upper = each _ refl refl refl refl
 
 module _ (w : List ℕ) where
-  -- there is no fifth
-  pub no-accumulator : (lower upper : AccumulatorAmount) (i : ℕ) → 4 ≤ i → rulesOf w ≡ withAccumulatorLimits (rulesOf w) i lower upper
-  unfolding rulesOf profileOf withAccumulatorLimits
-  no-accumulator lower upper = past _ (λ i. refl)
-
-  pub no-counter : (lower upper i : ℕ) → 4 ≤ i → rulesOf w ≡ withCounterLimits (rulesOf w) i lower upper
-  unfolding rulesOf profileOf withCounterLimits
-  no-counter lower upper = past _ (λ i. refl)
-
   -- they stay as many
   put-size : (rule lower upper : ℕ) → length (limitsPutInAll rule lower upper w) ≡ length w
   unfolding limitsPut limitsPutInAll
@@ -91,7 +70,7 @@ module _ (w : List ℕ) where
       by true e =
           subst (λ (v : List ℕ). rulesOf (put v) ≡ withAccumulatorLimits (rulesOf v) i lower upper) listed-words
           (accumulator-computed (λ k. getD w k 0) lower upper i (ltb-true i 4 e))
-      by false e = no-accumulator lower upper i (ltb-false i 4 e)
+      by false e = sym (no-accumulator (rulesOf w) i lower upper (words-whole w) (ltb-false i 4 e))
 
     pub counter-limits : (i lower upper : ℕ) → lower < 256 → upper < 256
         → rulesOf (counterLimitsPut w i lower upper) ≡ withCounterLimits (rulesOf w) i lower upper
@@ -104,4 +83,4 @@ module _ (w : List ℕ) where
       by true e =
           subst (λ (v : List ℕ). rulesOf (put v) ≡ withCounterLimits (rulesOf v) i lower upper) listed-words
           (simp (mod-eq-of-lt p, mod-eq-of-lt q) at (counter-computed (λ k. getD w k 0) lower upper i (ltb-true i 4 e)))
-      by false e = no-counter lower upper i (ltb-false i 4 e)
+      by false e = sym (no-counter (rulesOf w) i lower upper (words-whole w) (ltb-false i 4 e))
