@@ -8,11 +8,20 @@ use borrow.Author.Tests.{ltb-true, ltb-false}
 use lib.Dec.{ltb}
 use lib.ListN.{length, getD, length-set}
 use Rattle.money.specs.declared.AccumulatorAmount.{AccumulatorAmount}
+use Rattle.rules.specs.declared.Place.the-variants.{One, Two, Three, Four}
 use Rattle.rules.specs.Rules.{Rules, rulesOf, profileOf}
 use Rattle.rules.specs.Limits.{limitsPut, limitsPutInAll, accumulatorLimitsPut, counterLimitsPut, withAccumulatorLimits, withCounterLimits}
 use Rattle.rules.specs.Word as word
 use Rattle.rules.proofs.Places.{each}
 use Rattle.rules.proofs.Limits.{words-whole, no-accumulator, no-counter}
+
+-- one profile after the other
+pub in-all : (rule lower upper : ℕ) (w : List ℕ) {a b c d : List ℕ} → a ≡ limitsPut One rule lower upper w → b ≡ limitsPut Two rule lower upper a
+    → c ≡ limitsPut Three rule lower upper b
+    → d ≡ limitsPut Four rule lower upper c
+    → d ≡ limitsPutInAll rule lower upper w
+unfolding limitsPutInAll
+in-all rule lower upper w first second third fourth = simp (fourth, third, second, first)
 
 -- n words, by their places
 abbrev listed : ℕ → (ℕ → ℕ) → List ℕ
