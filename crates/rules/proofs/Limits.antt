@@ -37,7 +37,7 @@ words-whole w =
       counters = one-of-four (λ p. length (p .counters) ≡ 4) _ _ _ _ _ refl refl refl refl refl;
     }
 
--- what neither changes
+-- what no limits change
 pub record Stays (rules after : Rules) : Type 0 where
   pub key : after .key ≡ rules .key
   pub pin : after .pin ≡ rules .pin
@@ -54,7 +54,31 @@ pub record Stays (rules after : Rules) : Type 0 where
   pub control : (i : ℕ) → controlAt after i ≡ controlAt rules i
   pub cashback : (place : Place) → checksCashback after place ≡ checksCashback rules place
 
--- a change of every profile
+-- after new limits of accumulator or counter i + 1, whose rules these are, and those the other kind's
+pub record Limited {A B : Type 0} (rule : Rules → Place → ℕ → A) (other : Rules → Place → ℕ → B) (within : A → A) (i : ℕ) (rules after : Rules) : Type 0 where
+  pub there : Whole rules → i < 4 → (place : Place) → rule after place i ≡ within (rule rules place i)
+  pub others : (place : Place) (j : ℕ) → j ≢ i → rule after place j ≡ rule rules place j
+  pub apart : (place : Place) (j : ℕ) → other after place j ≡ other rules place j
+  pub stays : Stays rules after
+  pub whole : Whole rules → Whole after
+  -- there is no fifth
+  pub none : Whole rules → 4 ≤ i → after ≡ rules
+
+-- what a change leaves of every profile
+record Kept (change : Profile → Profile) : Type 0 where
+  number : (p : Profile) → change p .number ≡ p .number
+  masks : (p : Profile) → change p .masks ≡ p .masks
+  maximum : (p : Profile) → change p .maximum ≡ p .maximum
+  sent : (p : Profile) → change p .sent ≡ p .sent
+  accumulators : (p : Profile) → length (change p .accumulators) ≡ length (p .accumulators)
+  counters : (p : Profile) → length (change p .counters) ≡ length (p .counters)
+
+below : (place : Place) → indexOf place < 4
+below One = lit< tt
+below Two = lit< tt
+below Three = lit< tt
+below Four = lit< tt
+
 module _ (change : Profile → Profile) where
   changed : (ps : List Profile) (n : ℕ) → n < length ps → getD (map change ps) n blankProfile ≡ change (getD ps n blankProfile)
   changed [] n h = let z : ⊥ = omega arith in absurd z
@@ -76,13 +100,10 @@ module _ (change : Profile → Profile) where
         → part (profileAt (inEachProfile change rules) place) ≡ part (profileAt rules place)
     part-at part same place = part-kept part same (rules .profiles) (indexOf place)
 
-    stays : ((p : Profile) → change p .number ≡ p .number) → ((p : Profile) → change p .masks ≡ p .masks)
-        → ((p : Profile) → change p .maximum ≡ p .maximum)
-        → ((p : Profile) → change p .sent ≡ p .sent)
-        → Stays rules (inEachProfile change rules)
+    stay : Kept change → Stays rules (inEachProfile change rules)
     unfolding findProfile
-    stays number masks maximum sent =
-        let numbered = part-at (λ p. p .number) number in
+    stay kept =
+        let numbered = part-at (λ p. p .number) (kept .number) in
         record {
           key = refl;
           pin = refl;
@@ -90,9 +111,9 @@ module _ (change : Profile → Profile) where
           currency = λ i. refl;
           rates = refl;
           number = numbered;
-          masks = part-at (λ p. p .masks) masks;
-          maximum = part-at (λ p. p .maximum) maximum;
-          sent = part-at (λ p. p .sent) sent;
+          masks = part-at (λ p. p .masks) (kept .masks);
+          maximum = part-at (λ p. p .maximum) (kept .maximum);
+          sent = part-at (λ p. p .sent) (kept .sent);
           found = λ n. simp (numbered One, numbered Two, numbered Three, numbered Four);
           cycle = λ i. refl;
           cyclic = λ place i. refl;
@@ -100,24 +121,76 @@ module _ (change : Profile → Profile) where
           cashback = λ place. refl;
         }
 
--- where it changes rule i + 1 of a list that each profile has
-module _ {A : Type 0} (blank : A) (list : Profile → List A) (within : A → A) (i : ℕ) (change : Profile → Profile)
-    (is : (p : Profile) → list (change p) ≡ set (list p) i (within (getD (list p) i blank))) (rules : Rules) where
-  others : (place : Place) (j : ℕ) → j ≢ i
-      → getD (list (profileAt (inEachProfile change rules) place)) j blank ≡ getD (list (profileAt rules place)) j blank
-  others place j h =
-      part-at change rules (λ p. getD (list p) j blank) (λ p. ap (λ (l : List A). getD l j blank) (is p) ∙ getD-set-other (list p) i j _ blank h) place
+    still-whole : Kept change → Whole rules → Whole (inEachProfile change rules)
+    still-whole kept whole =
+        record {
+          profiles = length-map (rules .profiles) change ∙ whole .profiles;
+          accumulators = λ n. part-kept (λ p. length (p .accumulators)) (kept .accumulators) (rules .profiles) n ∙ whole .accumulators n;
+          counters = λ n. part-kept (λ p. length (p .counters)) (kept .counters) (rules .profiles) n ∙ whole .counters n;
+        }
 
-  there : (place : Place) → indexOf place < length (rules .profiles) → i < length (list (profileAt rules place))
-      → getD (list (profileAt (inEachProfile change rules) place)) i blank ≡ within (getD (list (profileAt rules place)) i blank)
-  there place h g =
-      let p = profileAt rules place in
-      ap (λ (q : Profile). getD (list q) i blank) (changed change (rules .profiles) (indexOf place) h)
-      ∙ ap (λ (l : List A). getD l i blank) (is p)
-      ∙ getD-set-same (list p) i (within (getD (list p) i blank)) blank g
+  -- where it changes rule i + 1 of a list, and nothing else
+  module _ {A B : Type 0} (list : Profile → List A) (blank : A) (other : Profile → List B) (empty : B) (within : A → A) (i : ℕ)
+      (is : (p : Profile) → list (change p) ≡ set (list p) i (within (getD (list p) i blank))) (apart : (p : Profile) → other (change p) ≡ other p)
+      (past : (p : Profile) → length (list p) ≤ i → change p ≡ p) (kept : Kept change) (rules : Rules)
+      (four : Whole rules → (n : ℕ) → length (list (getD (rules .profiles) n blankProfile)) ≡ 4) where
+    limited : Limited (λ r place j. getD (list (profileAt r place)) j blank) (λ r place j. getD (other (profileAt r place)) j empty) within i rules
+        (inEachProfile change rules)
+    limited =
+        record {
+          there = λ whole h place.
+              let p = profileAt rules place in
+              let here : indexOf place < length (rules .profiles) = omega (arith, below place, whole .profiles) in
+              ap (λ (q : Profile). getD (list q) i blank) (changed (rules .profiles) (indexOf place) here)
+              ∙ ap (λ (l : List A). getD l i blank) (is p)
+              ∙ getD-set-same (list p) i (within (getD (list p) i blank)) blank (omega (arith, h, four whole (indexOf place)));
+          others = λ place j h.
+              part-at rules (λ p. getD (list p) j blank)
+              (λ p. ap (λ (l : List A). getD l j blank) (is p) ∙ getD-set-other (list p) i j (within (getD (list p) i blank)) blank h) place;
+          apart = λ place j. part-at rules (λ p. getD (other p) j empty) (λ p. ap (λ (l : List B). getD l j empty) (apart p)) place;
+          stays = stay rules kept;
+          whole = still-whole rules kept;
+          none = λ whole h.
+              rw (unchanged (rules .profiles) (λ n. past (getD (rules .profiles) n blankProfile) (omega (arith, h, four whole n))));
+        }
 
-  as-many : (n : ℕ) → length (list (getD (map change (rules .profiles)) n blankProfile)) ≡ length (list (getD (rules .profiles) n blankProfile))
-  as-many = part-kept change (λ p. length (list p)) (λ p. ap length (is p) ∙ length-set (list p) i _) (rules .profiles)
+pub accumulator-limited : (rules : Rules) (i : ℕ) (lower upper : AccumulatorAmount)
+    → Limited accumulatorRule counterRule (accumulatorWithin lower upper) i rules (withAccumulatorLimits rules i lower upper)
+unfolding withAccumulatorLimits
+accumulator-limited rules i lower upper =
+    limited (accumulatorLimitsIn i lower upper) (λ p. p .accumulators) blankAccumulator (λ p. p .counters) blankCounter (accumulatorWithin lower upper) i
+    (λ p. refl)
+    (λ p. refl)
+    (λ p h. simp (set-out (p .accumulators) i))
+    (record {
+      number = λ p. refl;
+      masks = λ p. refl;
+      maximum = λ p. refl;
+      sent = λ p. refl;
+      accumulators = λ p. length-set (p .accumulators) i _;
+      counters = λ p. refl;
+    })
+    rules
+    (λ whole. whole .accumulators)
+
+pub counter-limited : (rules : Rules) (i lower upper : ℕ)
+    → Limited counterRule accumulatorRule (counterWithin lower upper) i rules (withCounterLimits rules i lower upper)
+unfolding withCounterLimits
+counter-limited rules i lower upper =
+    limited (counterLimitsIn i lower upper) (λ p. p .counters) blankCounter (λ p. p .accumulators) blankAccumulator (counterWithin lower upper) i
+    (λ p. refl)
+    (λ p. refl)
+    (λ p h. simp (set-out (p .counters) i))
+    (record {
+      number = λ p. refl;
+      masks = λ p. refl;
+      maximum = λ p. refl;
+      sent = λ p. refl;
+      accumulators = λ p. refl;
+      counters = λ p. length-set (p .counters) i _;
+    })
+    rules
+    (λ whole. whole .counters)
 
 -- of two changes of rule i + 1, and of every profile, the second, where it undoes the first
 twice : {A : Type 0} (d : A) (f g : A → A) → ((x : A) → g (f x) ≡ g x) → (l : List A) (i : ℕ)
@@ -130,108 +203,17 @@ last : (f g : Profile → Profile) → ((p : Profile) → g (f p) ≡ g p) → (
 last f g same [] = refl
 last f g same (p ∷ ps) = simp (same p, last f g same ps)
 
-below : (place : Place) → indexOf place < 4
-below One = lit< tt
-below Two = lit< tt
-below Three = lit< tt
-below Four = lit< tt
+-- of two writings the last counts
+pub accumulator-twice : (rules : Rules) (i : ℕ) (lower upper lower′ upper′ : AccumulatorAmount)
+    → withAccumulatorLimits (withAccumulatorLimits rules i lower upper) i lower′ upper′ ≡ withAccumulatorLimits rules i lower′ upper′
+unfolding withAccumulatorLimits
+accumulator-twice rules i lower upper lower′ upper′ =
+    let one = twice blankAccumulator (accumulatorWithin lower upper) (accumulatorWithin lower′ upper′) (λ x. refl) in
+    rw (last (accumulatorLimitsIn i lower upper) (accumulatorLimitsIn i lower′ upper′) (λ p. simp (one (p .accumulators) i)) (rules .profiles))
 
--- accumulator i + 1
-module _ (rules : Rules) (i : ℕ) (lower upper : AccumulatorAmount) where
-  pub accumulator-stays : Stays rules (withAccumulatorLimits rules i lower upper)
-  unfolding withAccumulatorLimits
-  accumulator-stays = stays (accumulatorLimitsIn i lower upper) rules (λ p. refl) (λ p. refl) (λ p. refl) (λ p. refl)
-
-  pub accumulator-counters : (place : Place) (j : ℕ) → counterRule (withAccumulatorLimits rules i lower upper) place j ≡ counterRule rules place j
-  unfolding withAccumulatorLimits
-  accumulator-counters place j = part-at (accumulatorLimitsIn i lower upper) rules (λ p. getD (p .counters) j blankCounter) (λ p. refl) place
-
-  pub accumulator-others : (place : Place) (j : ℕ) → j ≢ i → accumulatorRule (withAccumulatorLimits rules i lower upper) place j ≡ accumulatorRule rules place j
-  unfolding withAccumulatorLimits
-  accumulator-others = others blankAccumulator (λ p. p .accumulators) (accumulatorWithin lower upper) i (accumulatorLimitsIn i lower upper) (λ p. refl) rules
-
-  pub accumulator-twice : (lower′ upper′ : AccumulatorAmount)
-      → withAccumulatorLimits (withAccumulatorLimits rules i lower′ upper′) i lower upper ≡ withAccumulatorLimits rules i lower upper
-  unfolding withAccumulatorLimits
-  accumulator-twice lower′ upper′ =
-      let one = twice blankAccumulator (accumulatorWithin lower′ upper′) (accumulatorWithin lower upper) (λ x. refl) in
-      rw (last (accumulatorLimitsIn i lower′ upper′) (accumulatorLimitsIn i lower upper) (λ p. simp (one (p .accumulators) i)) (rules .profiles))
-
-  module _ (whole : Whole rules) where
-    pub accumulator-there : i < 4 → (place : Place)
-        → accumulatorRule (withAccumulatorLimits rules i lower upper) place i ≡ accumulatorWithin lower upper (accumulatorRule rules place i)
-    unfolding withAccumulatorLimits
-    accumulator-there h place =
-        there blankAccumulator (λ p. p .accumulators) (accumulatorWithin lower upper) i (accumulatorLimitsIn i lower upper) (λ p. refl) rules place
-        (omega (arith, below place, whole .profiles))
-        (omega (arith, whole .accumulators (indexOf place)))
-
-    -- there is no fifth
-    pub no-accumulator : 4 ≤ i → withAccumulatorLimits rules i lower upper ≡ rules
-    unfolding withAccumulatorLimits
-    no-accumulator h =
-        rw (unchanged (accumulatorLimitsIn i lower upper) (rules .profiles) (λ n. full (getD (rules .profiles) n blankProfile) (omega (arith, whole .accumulators n))))
-      where
-        full : (p : Profile) → length (p .accumulators) ≤ i → accumulatorLimitsIn i lower upper p ≡ p
-        full p g = simp (set-out (p .accumulators) i)
-
-    pub accumulator-whole : Whole (withAccumulatorLimits rules i lower upper)
-    unfolding withAccumulatorLimits
-    accumulator-whole =
-        let many = as-many blankAccumulator (λ p. p .accumulators) (accumulatorWithin lower upper) i (accumulatorLimitsIn i lower upper) (λ p. refl) rules in
-        let kept = part-kept (accumulatorLimitsIn i lower upper) (λ p. length (p .counters)) (λ p. refl) (rules .profiles) in
-        record {
-          profiles = length-map (rules .profiles) _ ∙ whole .profiles;
-          accumulators = λ n. many n ∙ whole .accumulators n;
-          counters = λ n. kept n ∙ whole .counters n;
-        }
-
--- counter i + 1
-module _ (rules : Rules) (i lower upper : ℕ) where
-  pub counter-stays : Stays rules (withCounterLimits rules i lower upper)
-  unfolding withCounterLimits
-  counter-stays = stays (counterLimitsIn i lower upper) rules (λ p. refl) (λ p. refl) (λ p. refl) (λ p. refl)
-
-  pub counter-accumulators : (place : Place) (j : ℕ) → accumulatorRule (withCounterLimits rules i lower upper) place j ≡ accumulatorRule rules place j
-  unfolding withCounterLimits
-  counter-accumulators place j = part-at (counterLimitsIn i lower upper) rules (λ p. getD (p .accumulators) j blankAccumulator) (λ p. refl) place
-
-  pub counter-others : (place : Place) (j : ℕ) → j ≢ i → counterRule (withCounterLimits rules i lower upper) place j ≡ counterRule rules place j
-  unfolding withCounterLimits
-  counter-others = others blankCounter (λ p. p .counters) (counterWithin lower upper) i (counterLimitsIn i lower upper) (λ p. refl) rules
-
-  pub counter-twice : (lower′ upper′ : ℕ)
-      → withCounterLimits (withCounterLimits rules i lower′ upper′) i lower upper ≡ withCounterLimits rules i lower upper
-  unfolding withCounterLimits
-  counter-twice lower′ upper′ =
-      let one = twice blankCounter (counterWithin lower′ upper′) (counterWithin lower upper) (λ x. refl) in
-      rw (last (counterLimitsIn i lower′ upper′) (counterLimitsIn i lower upper) (λ p. simp (one (p .counters) i)) (rules .profiles))
-
-  module _ (whole : Whole rules) where
-    pub counter-there : i < 4 → (place : Place)
-        → counterRule (withCounterLimits rules i lower upper) place i ≡ counterWithin lower upper (counterRule rules place i)
-    unfolding withCounterLimits
-    counter-there h place =
-        there blankCounter (λ p. p .counters) (counterWithin lower upper) i (counterLimitsIn i lower upper) (λ p. refl) rules place
-        (omega (arith, below place, whole .profiles))
-        (omega (arith, whole .counters (indexOf place)))
-
-    -- there is no fifth
-    pub no-counter : 4 ≤ i → withCounterLimits rules i lower upper ≡ rules
-    unfolding withCounterLimits
-    no-counter h =
-        rw (unchanged (counterLimitsIn i lower upper) (rules .profiles) (λ n. full (getD (rules .profiles) n blankProfile) (omega (arith, whole .counters n))))
-      where
-        full : (p : Profile) → length (p .counters) ≤ i → counterLimitsIn i lower upper p ≡ p
-        full p g = simp (set-out (p .counters) i)
-
-    pub counter-whole : Whole (withCounterLimits rules i lower upper)
-    unfolding withCounterLimits
-    counter-whole =
-        let many = as-many blankCounter (λ p. p .counters) (counterWithin lower upper) i (counterLimitsIn i lower upper) (λ p. refl) rules in
-        let kept = part-kept (counterLimitsIn i lower upper) (λ p. length (p .accumulators)) (λ p. refl) (rules .profiles) in
-        record {
-          profiles = length-map (rules .profiles) _ ∙ whole .profiles;
-          counters = λ n. many n ∙ whole .counters n;
-          accumulators = λ n. kept n ∙ whole .accumulators n;
-        }
+pub counter-twice : (rules : Rules) (i lower upper lower′ upper′ : ℕ)
+    → withCounterLimits (withCounterLimits rules i lower upper) i lower′ upper′ ≡ withCounterLimits rules i lower′ upper′
+unfolding withCounterLimits
+counter-twice rules i lower upper lower′ upper′ =
+    let one = twice blankCounter (counterWithin lower upper) (counterWithin lower′ upper′) (λ x. refl) in
+    rw (last (counterLimitsIn i lower upper) (counterLimitsIn i lower′ upper′) (λ p. simp (one (p .counters) i)) (rules .profiles))

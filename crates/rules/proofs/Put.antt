@@ -13,7 +13,7 @@ use Rattle.rules.specs.Rules.{Rules, rulesOf, profileOf}
 use Rattle.rules.specs.Limits.{limitsPut, limitsPutInAll, accumulatorLimitsPut, counterLimitsPut, withAccumulatorLimits, withCounterLimits}
 use Rattle.rules.specs.Word as word
 use Rattle.rules.proofs.Places.{each}
-use Rattle.rules.proofs.Limits.{words-whole, no-accumulator, no-counter}
+use Rattle.rules.proofs.Limits.{words-whole, accumulator-limited, counter-limited}
 
 -- one profile after the other
 pub in-all : (rule lower upper : ℕ) (w : List ℕ) {a b c d : List ℕ} → a ≡ limitsPut One rule lower upper w → b ≡ limitsPut Two rule lower upper a
@@ -87,7 +87,7 @@ module _ (w : List ℕ) where
     accumulator-limits i lower upper =
         settled i (word.accumulators + word.ruleLength * i) (lower .0) (upper .0) (λ r. withAccumulatorLimits r i lower upper)
         (accumulator-computed (λ k. getD w k 0) lower upper i)
-        (no-accumulator (rulesOf w) i lower upper (words-whole w))
+        (accumulator-limited (rulesOf w) i lower upper .none (words-whole w))
 
     pub counter-limits : (i lower upper : ℕ) → lower < 256 → upper < 256
         → rulesOf (counterLimitsPut w i lower upper) ≡ withCounterLimits (rulesOf w) i lower upper
@@ -95,4 +95,4 @@ module _ (w : List ℕ) where
     counter-limits i lower upper p q =
         settled i (word.counters + word.ruleLength * i) lower upper (λ r. withCounterLimits r i lower upper)
         (λ h. simp (mod-eq-of-lt p, mod-eq-of-lt q) at (counter-computed (λ k. getD w k 0) lower upper i h))
-        (no-counter (rulesOf w) i lower upper (words-whole w))
+        (counter-limited (rulesOf w) i lower upper .none (words-whole w))

@@ -6,7 +6,7 @@ use lib.ListN.{length}
 use Rattle.rules.specs.Rules.{rulesOf}
 use Rattle.rules.specs.Limits.{accumulatorLimitsPut}
 use Rattle.rules.specs.Word.{wordCount}
-use Rattle.rules.proofs.Limits.{words-whole, no-accumulator}
+use Rattle.rules.proofs.Limits.{words-whole, accumulator-limited}
 use Rattle.rules.proofs.Put.{accumulator-limits}
 use Rattle.rules.proofs.set_accumulator_limits.Statement.{statement}
 use Rattle.rules.proofs.set_accumulator_limits.Tie as tie
@@ -27,7 +27,7 @@ unfolding accumulatorLimitsPut
 returns-2 c =
     let a = c .before .args in
     let w = now (a .words) in
-    (simp (le-ltb _ _ (c .if1 .left)), sym (no-accumulator (rulesOf w) (a .i) (a .lower) (a .upper) (words-whole w) (c .if1 .left)))
+    (simp (le-ltb _ _ (c .if1 .left)), sym (accumulator-limited (rulesOf w) (a .i) (a .lower) (a .upper) .none (words-whole w) (c .if1 .left)))
 
 pub set-accumulator-limits-spec : {M : Type 1} → statement M
 set-accumulator-limits-spec = tie.close (tie.spec (search needs) (search needs) (search needs) returns returns-2)

@@ -7,7 +7,7 @@ use lib.ListN.{length}
 use Rattle.rules.specs.Rules.{rulesOf}
 use Rattle.rules.specs.Limits.{counterLimitsPut}
 use Rattle.rules.specs.Word.{wordCount}
-use Rattle.rules.proofs.Limits.{words-whole, no-counter}
+use Rattle.rules.proofs.Limits.{words-whole, counter-limited}
 use Rattle.rules.proofs.Put.{counter-limits}
 use Rattle.rules.proofs.set_counter_limits.Statement.{statement}
 use Rattle.rules.proofs.set_counter_limits.Tie as tie
@@ -28,7 +28,7 @@ unfolding counterLimitsPut
 returns-2 c =
     let a = c .before .args in
     let w = now (a .words) in
-    (simp (le-ltb _ _ (c .if1 .left)), sym (no-counter (rulesOf w) (a .i) (a .lower) (a .upper) (words-whole w) (c .if1 .left)))
+    (simp (le-ltb _ _ (c .if1 .left)), sym (counter-limited (rulesOf w) (a .i) (a .lower) (a .upper) .none (words-whole w) (c .if1 .left)))
 
 pub set-counter-limits-spec : {M : Type 1} → statement M
 set-counter-limits-spec = tie.close (tie.spec (search needs) (search needs) (search needs) returns returns-2)
