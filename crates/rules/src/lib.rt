@@ -380,7 +380,8 @@ pub fn profile_sent(words: &Words, place: Place) -> Sent
     }
 }
 
-// The limits of a rule in a profile; the rule stands this far behind the profile's first word.
+// The limits of a rule in a profile; the rule stands this far behind the profile's first word. The
+// words come as a slice, of which it is known how long it is.
 fn put_limits(words: &mut [u64], place: Place, rule: usize, lower: u64, upper: u64)
     requires { ⌜ (rule + ruleLength ≤ profileLength) × (length (now words) ≡ wordCount) ⌝ }
     ensures { λ _. ⌜ now (words .exit) ≡ limitsPut place rule lower upper (now (words .entry)) ⌝ }
