@@ -49,8 +49,9 @@ loop-again c =
 
 loop2-holds : tie.Need-loop2-holds Inv-loop μ-loop Inv-loop2 μ-loop2
 loop2-holds c =
-    let at-loop = c .before .loop in
-    let args = c .before .before .before .before .args in
+    let ended = c .before in
+    let at-loop = ended .loop in
+    let args = ended .before .before .before .args in
     let all : at-loop .k ≡ length (args .s .now) - args .at = omega arith in
     (rw all at (at-loop .inv .0), rw all at (at-loop .inv .1), omega arith, omega arith)
 
@@ -60,15 +61,19 @@ mul-n-2 c = let bound = small (c .before .loop2 .counter) (omega arith) in recor
 loop2-again : tie.Need-loop2-again Inv-loop μ-loop Inv-loop2 μ-loop2
 unfolding number
 loop2-again c =
-    let at-loop = c .before .loop2 in
-    let args = c .before .before .before .before .before .before .args in
+    let again = c .before in
+    let at-loop = again .loop2 in
+    let left = again .before .before .before in
+    let args = left .before .before .args in
     let zero : byte (args .s .now) (args .at + at-loop .counter) ≡ 0 = List·getD-eq-default (args .s .now) 0 (at-loop .inv .3) in
     (rw add-one (omega (arith, at-loop .inv .0)), rw add-one (omega (arith, pow-suc 256 (at-loop .counter))), search needs, search needs)
 
 returns-2 : tie.Need-returns-2 Inv-loop μ-loop Inv-loop2 μ-loop2
 returns-2 c =
-    let at-loop = c .before .loop2 in
-    let all : at-loop .counter ≡ c .before .before .before .before .before .before .args .bytes = omega arith in
+    let ended = c .before in
+    let at-loop = ended .loop2 in
+    let left = ended .before .before .before in
+    let all : at-loop .counter ≡ left .before .before .args .bytes = omega arith in
     (rw all at (at-loop .inv .0), rw all at (at-loop .inv .1))
 
 pub cut-number-spec : {M : Type 1} → statement M
