@@ -1,1 +1,3 @@
 pub mod Places
+pub mod Limits
+pub mod Put

@@ -1,2 +1,3 @@
 pub mod Word
 pub mod Rules
+pub mod Limits
