@@ -1,2 +1,4 @@
 pub mod Writes
 pub mod Commands
+pub mod Laws
+pub mod Stays
