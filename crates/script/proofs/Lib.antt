@@ -2,3 +2,4 @@ pub mod Writes
 pub mod Commands
 pub mod Laws
 pub mod Stays
+pub mod Vectors
