@@ -20,7 +20,10 @@ use Rattle.rules.proofs.Limits.{Whole, Stays, accumulator-stays, accumulator-co
 use Rattle.rules.proofs.Limits.{counter-stays, counter-accumulators, counter-others, counter-there, counter-whole, no-counter}
 use Rattle.put_data.specs.declared.Write.{Write}
 use Rattle.put_data.specs.declared.Write.the-variants.{Value, AccumulatorLimits, CounterLimits}
-use Rattle.script.specs.Script.{valueIn, valuesWith, rulesWith, valuesAfter, rulesAfter}
+use Rattle.object.specs.Object.{commandsOf}
+use Rattle.script.specs.declared.Scripts.{Scripts}
+use Rattle.script.specs.Script.{valueIn, valuesWith, rulesWith, valuesAfter, rulesAfter, templateTried, ranOf, rulesRun}
+use Rattle.script.proofs.Laws.{count-below}
 
 abbrev pub All : (Write → Type 0) → List Write → Type 0
 All P [] = Unit
@@ -246,3 +249,25 @@ module _ (r : Rules) (ws : List Write) where
         ap (λ y. counterRule y place i) (foldl-append rulesWith r ws (CounterLimits i lower upper ∷ rest))
         ∙ part-stays rulesWith (λ y. counterRule y place i) (OtherCounter i) (same-counter place i) rest others (withCounterLimits x i lower upper)
         ∙ counter-there x i lower upper (rules-whole whole) h place
+
+-- ---- A TEMPLATE, whatever its bytes
+module _ (scripts : Scripts) (verified : Bool) (template : List ℕ) where
+  pub run-counters : (v : Values) → ranOf v scripts verified template .values .counters ≡ v .counters
+  unfolding ranOf
+  run-counters v = counters-stay v (templateTried verified scripts template .writes)
+
+  pub run-cyclic : (v : Values) → ranOf v scripts verified template .values .cyclic ≡ v .cyclic
+  unfolding ranOf
+  run-cyclic v = cyclic-stays v (templateTried verified scripts template .writes)
+
+  pub run-count : (v : Values) → scripts .count < 16 → ranOf v scripts verified template .scripts .count < 16
+  unfolding ranOf templateTried
+  run-count v h = count-below verified (commandsOf template) scripts h
+
+  pub run-rules : (r : Rules) → Stays r (rulesRun r scripts verified template)
+  unfolding rulesRun
+  run-rules r = rules-stay r (templateTried verified scripts template .writes)
+
+  pub run-whole : (r : Rules) → Whole r → Whole (rulesRun r scripts verified template)
+  unfolding rulesRun
+  run-whole r = rules-whole r (templateTried verified scripts template .writes)

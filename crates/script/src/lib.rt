@@ -22,6 +22,25 @@ pub struct Scripts {
     pub here: bool,
 }
 
+impl Scripts {
+    // One more command done.
+    fn with_done(mut self) -> Scripts
+        ensures { λ r. ⌜ r ≡ oneDone self ⌝ }
+    {
+        self.count = (self.count % 16 + 1) % 16;
+        self
+    }
+
+    // A command failed.
+    fn with_failure(mut self) -> Scripts
+        ensures { λ r. ⌜ r ≡ oneFailed self ⌝ }
+    {
+        self.failed = true;
+        self.here = true;
+        self
+    }
+}
+
 // What a template leaves, beside the lent words.
 pub struct Ran {
     pub values: Values,
@@ -58,26 +77,24 @@ fn apply(words: &mut Words, values: Values, write: Write) -> Values
 }
 
 // What the elements of a valid command write, in order.
-fn write_elements(words: &mut Words, values: Values, command: &[u8]) -> Values
+fn write_elements(words: &mut Words, mut values: Values, command: &[u8]) -> Values
     requires { ⌜ isValid (now command) ≡ true ⌝ }
     ensures { λ r. ⌜ (r ≡ valuesAfter values (given (writesOf (now (command .entry)))))
         × (now (words .exit) ≡ wordsAfter (now (words .entry)) (given (writesOf (now (command .entry)))))
         × (rulesOf (now (words .exit)) ≡ rulesAfter (rulesOf (now (words .entry))) (given (writesOf (now (command .entry))))) ⌝ }
 {
-    let mut written = values;
     let mut at = 0;
     loop {
-        let next = next_write(command, at);
-        let put_data::Next::Element { write, end } = next else {
-            return written;
+        let put_data::Next::Element { write, end } = next_write(command, at) else {
+            return values;
         };
-        written = apply(words, written, write);
+        values = apply(words, values, write);
         at = end;
     }
 }
 
-// Whether a command is done: one fails that is not verified, behind one that failed in this
-// transaction, or that is not valid.
+// Whether a command is done. It fails where the result is not "verified", where one has already
+// failed in this transaction, and where it is not valid.
 fn is_done(verified: bool, scripts: Scripts, command: &[u8]) -> bool
     ensures { λ r. ⌜ r ≡ isSome (done verified scripts (now (command .entry))) ⌝ }
 {
@@ -87,28 +104,11 @@ fn is_done(verified: bool, scripts: Scripts, command: &[u8]) -> bool
     false
 }
 
-// One more command done.
-fn count_done(mut scripts: Scripts) -> Scripts
-    ensures { λ r. ⌜ r ≡ oneDone scripts ⌝ }
-{
-    scripts.count = (scripts.count % 16 + 1) % 16;
-    scripts
-}
-
-// A command failed.
-fn note_failure(mut scripts: Scripts) -> Scripts
-    ensures { λ r. ⌜ r ≡ oneFailed scripts ⌝ }
-{
-    scripts.failed = true;
-    scripts.here = true;
-    scripts
-}
-
 // The commands of a template in order until one fails. Limits are written into the lent words.
 pub fn run(
     words: &mut Words,
-    values: Values,
-    scripts: Scripts,
+    mut values: Values,
+    mut scripts: Scripts,
     verified: bool,
     template: &[u8],
 ) -> Ran
@@ -116,12 +116,9 @@ pub fn run(
         × (now (words .exit) ≡ wordsRun (now (words .entry)) scripts verified (now (template .entry)))
         × (rulesOf (now (words .exit)) ≡ rulesRun (rulesOf (now (words .entry))) scripts verified (now (template .entry))) ⌝ }
 {
-    let mut values = values;
-    let mut scripts = scripts;
     let mut at = 0;
     loop {
-        let next = next_command(template, at);
-        let Next::Command { start, size } = next else {
+        let Next::Command { start, size } = next_command(template, at) else {
             return Ran { values, scripts };
         };
         let end = start + size;
@@ -129,11 +126,11 @@ pub fn run(
         if !is_done(verified, scripts, command) {
             return Ran {
                 values,
-                scripts: note_failure(scripts),
+                scripts: scripts.with_failure(),
             };
         }
         values = write_elements(words, values, command);
-        scripts = count_done(scripts);
+        scripts = scripts.with_done();
         at = end;
     }
 }

@@ -12,10 +12,10 @@ use Rattle.script.proofs.run.Statement.{statement}
 use Rattle.script.proofs.run.Tie as tie
 
 abbrev Inv-loop : tie.InvT-loop
-Inv-loop words₀ verified template values₀ scripts₀ at₀ words values scripts at = Going verified template words values scripts at words₀ values₀ scripts₀
+Inv-loop words₀ values₀ scripts₀ verified template at₀ words values scripts at = Going verified template words values scripts at words₀ values₀ scripts₀
 
 abbrev μ-loop : tie.MeasureT-loop
-μ-loop words₀ verified template values₀ scripts₀ at₀ words values scripts at = length template - at
+μ-loop words₀ values₀ scripts₀ verified template at₀ words values scripts at = length template - at
 
 loop-holds : tie.Need-loop-holds Inv-loop μ-loop
 loop-holds c = starts _ _ _ _ _
@@ -29,9 +29,9 @@ returns c =
 -- at a command: where it lies, and what is left behind it
 step : (c : tie.After-known-told Inv-loop μ-loop) →
     let asked = c .before .before .before in
-    let told = c .before .next .given .0 in
+    let told = c .before .start .given .0 in
     Step (now (asked .before .before .before .args .template)) (asked .before .loop .at) (told .0) (told .1 .0)
-step c = let asked = c .before .before .before in next-command _ _ _ _ (sym (asked .next-command .ensures) ∙ c .before .next .given .1)
+step c = let asked = c .before .before .before in next-command _ _ _ _ (sym (asked .next-command .ensures) ∙ c .before .start .given .1)
 
 add-end : tie.Need-add-end Inv-loop μ-loop
 add-end c = let h = step c in omega (arith, h .within)
@@ -44,7 +44,7 @@ returns-2 c =
     let asked = c .before .before in
     let l = asked .before .before .before .before .before .before .loop in
     let failed = sym (asked .is-done .ensures) ∙ not-true _ (c .before .if1 .taken) in
-    simp (c .note-failure .ensures) (fails _ _ _ _ _ _ _ _ _ (l .inv) _ _ (step (asked .before .before)) failed)
+    simp (c .with-failure .ensures) (fails _ _ _ _ _ _ _ _ _ (l .inv) _ _ (step (asked .before .before)) failed)
 
 write-elements-requires : tie.Need-write-elements-requires Inv-loop μ-loop
 write-elements-requires c κs =
@@ -60,7 +60,7 @@ loop-again c =
     let asked = branch .before in
     let l = asked .before .before .before .before .before .before .loop in
     let is-done = sym (asked .is-done .ensures) ∙ not-false _ (branch .if1 .left) in
-    simp (c .count-done .ensures)
+    simp (c .with-done .ensures)
     (goes-on _ _ _ _ _ _ _ _ _ (l .inv) _ _ (step (asked .before .before)) is-done _ _ (c .before .write-elements .ensures))
 
 pub run-spec : {M : Type 1} → statement M

@@ -19,11 +19,11 @@ use Rattle.script.proofs.write_elements.Statement.{statement}
 use Rattle.script.proofs.write_elements.Tie as tie
 
 abbrev Inv-loop : tie.InvT-loop
-Inv-loop words₀ command written₀ at₀ words written at =
-    AllWrite command at × Alike words written (left command at) words₀ written₀ (given (writesOf command))
+Inv-loop words₀ values₀ command at₀ words values at =
+    AllWrite command at × Alike words values (left command at) words₀ values₀ (given (writesOf command))
 
 abbrev μ-loop : tie.MeasureT-loop
-μ-loop words₀ command written₀ at₀ words written at = length (elementsOf command) - at
+μ-loop words₀ values₀ command at₀ words values at = length (elementsOf command) - at
 
 -- what `let .. else` tells: there is no other element
 none-left : (s : List ℕ) (at : ℕ) → AllWrite s at → (n : Next) → nextWrite s at ≡ n → OneOf (1 ∷ 2 ∷ []) (tagOf N.the-type n) → left s at ≡ []
@@ -47,12 +47,12 @@ returns c =
 
 step : (c : tie.After-known-told Inv-loop μ-loop) →
     let asked = c .before .before .before in
-    let told = c .before .next .given .0 in
+    let told = c .before .write .given .0 in
     Step (now (asked .before .before .before .args .command)) (asked .before .loop .at) (told .0) (told .1 .0)
 step c =
     let asked = c .before .before .before in
     let l = asked .before .loop in
-    next-write _ _ _ _ (l .inv .0) (sym (asked .next-write .ensures) ∙ c .before .next .given .1)
+    next-write _ _ _ _ (l .inv .0) (sym (asked .next-write .ensures) ∙ c .before .write .given .1)
 
 loop-less : tie.Need-loop-less Inv-loop μ-loop
 loop-less c = let s = step (c .before .before) in omega (arith, s .later, s .within)
@@ -62,7 +62,7 @@ loop-again c =
     let told = c .before .before in
     let l = told .before .before .before .before .loop in
     let s = step told in
-    (s .goes-on, passed _ _ _ _ _ _ (told .before .next .given .0 .0 ∷ []) _ (s .is) (l .inv .1) _ _ (c .apply .ensures))
+    (s .goes-on, passed _ _ _ _ _ _ (told .before .write .given .0 .0 ∷ []) _ (s .is) (l .inv .1) _ _ (c .apply .ensures))
 
 pub write-elements-spec : {M : Type 1} → statement M
 write-elements-spec =
