@@ -1,6 +1,6 @@
 -- From command to command: what is still tried from a place of a template on. Assumes nothing.
 use mathlib.Core.Path.{_≡_, refl, sym, ap, ap₂, _∙_}
-use mathlib.Core.List.{List, [], _∷_, _++_, map}
+use mathlib.Core.List.{List, [], map}
 use mathlib.Core.Bool.{Bool, true, false, _&&_, not, cond}
 use mathlib.Core.Option.{Option, none, some}
 use Prim.Native.Nat.{ℕ, _+_, _-_}
@@ -13,7 +13,6 @@ use Rattle.object.proofs.Cursor.{Step}
 use Rattle.put_data.specs.declared.Write.{Write}
 use Rattle.put_data.specs.PutData.{writesOf, isSome, isValid}
 use Rattle.script.specs.declared.Scripts.{Scripts}
-use Rattle.script.specs.declared.Ran.{Ran}
 use Rattle.script.specs.Script.{done, given, oneDone, oneFailed, Tried, behind, triedNext, tried, templateTried, ranOf, rulesRun, wordsRun}
 use Rattle.script.proofs.Writes.{Left, Alike, at-first, passed, at-last}
 

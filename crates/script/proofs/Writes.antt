@@ -1,8 +1,7 @@
 -- Writes in their order, some of them done. Assumes nothing.
-use mathlib.Core.Path.{_≡_, refl, sym, ap, _∙_}
-use mathlib.Core.List.{List, [], _∷_, _++_, foldl, foldl-append}
+use mathlib.Core.Path.{_≡_, sym, ap, _∙_}
+use mathlib.Core.List.{List, [], _++_, foldl, foldl-append}
 use mathlib.Core.Bool.{true}
-use mathlib.Core.Option.{Option}
 use Prim.Native.Nat.{ℕ}
 use Rattle.rules.specs.declared.Values.{Values}
 use Rattle.rules.specs.Rules.{rulesOf}

@@ -2,10 +2,9 @@ use borrow.Author.Needs.{needs}
 use borrow.Author.Tests.{not-true, not-false}
 use denote.Ref.{now}
 use native.Mathlib.Omega.{arith}
-use mathlib.Core.Path.{_≡_, refl, sym, ap, _∙_}
-use mathlib.Core.List.{List}
-use Prim.Native.Nat.{ℕ, _+_, _-_, _≤_}
-use lib.ListN.{length, take, drop}
+use mathlib.Core.Path.{sym, _∙_}
+use Prim.Native.Nat.{_-_}
+use lib.ListN.{length}
 use Rattle.object.proofs.Cursor.{Step, next-command, next-end}
 use Rattle.script.proofs.Commands.{done-some, Going, starts, ends, fails, goes-on}
 use Rattle.script.proofs.run.Statement.{statement}
@@ -42,9 +41,10 @@ part-command-end c = let h = step c in omega (arith, h .within)
 returns-2 : tie.Need-returns-2 Inv-loop μ-loop
 returns-2 c =
     let asked = c .before .before in
-    let l = asked .before .before .before .before .before .before .loop in
+    let told = asked .before .before in
+    let next = told .before .before .before in
     let failed = sym (asked .is-done .ensures) ∙ not-true _ (c .before .if1 .taken) in
-    simp (c .with-failure .ensures) (fails _ _ _ _ _ _ _ _ _ (l .inv) _ _ (step (asked .before .before)) failed)
+    simp (c .with-failure .ensures) (fails _ _ _ _ _ _ _ _ _ (next .before .loop .inv) _ _ (step told) failed)
 
 write-elements-requires : tie.Need-write-elements-requires Inv-loop μ-loop
 write-elements-requires c κs =
@@ -52,16 +52,20 @@ write-elements-requires c κs =
     done-some _ _ _ (sym (asked .is-done .ensures) ∙ not-false _ (c .before .if1 .left)) .0
 
 loop-less : tie.Need-loop-less Inv-loop μ-loop
-loop-less c = let h = step (c .before .before .before .before .before .before) in omega (arith, h .later, h .within)
+loop-less c =
+    let branch = c .before .before .before in
+    let h = step (branch .before .before .before) in
+    omega (arith, h .later, h .within)
 
 loop-again : tie.Need-loop-again Inv-loop μ-loop
 loop-again c =
     let branch = c .before .before .before in
     let asked = branch .before in
-    let l = asked .before .before .before .before .before .before .loop in
+    let told = asked .before .before in
+    let next = told .before .before .before in
     let is-done = sym (asked .is-done .ensures) ∙ not-false _ (branch .if1 .left) in
     simp (c .with-done .ensures)
-    (goes-on _ _ _ _ _ _ _ _ _ (l .inv) _ _ (step (asked .before .before)) is-done _ _ (c .before .write-elements .ensures))
+    (goes-on _ _ _ _ _ _ _ _ _ (next .before .loop .inv) _ _ (step told) is-done _ _ (c .before .write-elements .ensures))
 
 pub run-spec : {M : Type 1} → statement M
 run-spec =

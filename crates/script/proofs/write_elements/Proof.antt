@@ -4,7 +4,7 @@ use denote.Ref.{now}
 use native.Mathlib.Omega.{arith}
 use mathlib.Core.List.{List, [], _∷_}
 use mathlib.Core.Logic.{inl, inr}
-use mathlib.Core.Path.{_≡_, refl, sym, subst, _∙_}
+use mathlib.Core.Path.{_≡_, sym, _∙_}
 use Prim.Native.Nat.{ℕ, _-_}
 use lib.ListN.{length}
 use types.Run.{OneOf}
@@ -60,9 +60,9 @@ loop-less c = let s = step (c .before .before) in omega (arith, s .later, s .wit
 loop-again : tie.Need-loop-again Inv-loop μ-loop
 loop-again c =
     let told = c .before .before in
-    let l = told .before .before .before .before .loop in
+    let asked = told .before .before .before in
     let s = step told in
-    (s .goes-on, passed _ _ _ _ _ _ (told .before .write .given .0 .0 ∷ []) _ (s .is) (l .inv .1) _ _ (c .apply .ensures))
+    (s .goes-on, passed _ _ _ _ _ _ (told .before .write .given .0 .0 ∷ []) _ (s .is) (asked .before .loop .inv .1) _ _ (c .apply .ensures))
 
 pub write-elements-spec : {M : Type 1} → statement M
 write-elements-spec =
