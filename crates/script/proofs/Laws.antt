@@ -138,7 +138,7 @@ next-below : (rest : Scripts → Tried) → ((k : Scripts) → k .count < 16 →
     → (ws : Option (List Write)) → triedNext rest scripts ws .scripts .count < 16
 unfolding oneFailed
 next-below rest more scripts h (some ws) = more (oneDone scripts) (done-below scripts)
-next-below rest more scripts h none = h
+next-below rest more scripts h none = omega arith
 
 pub count-below : (verified : Bool) (cs : List (List ℕ)) (scripts : Scripts) → scripts .count < 16 → tried verified cs scripts .scripts .count < 16
 unfolding tried

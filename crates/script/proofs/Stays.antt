@@ -55,7 +55,7 @@ same-cyclic v (CounterLimits slot lower upper) = refl
 
 same-length : (v : Values) (w : Write) → length (valuesWith v w .accumulators) ≡ length (v .accumulators)
 unfolding valueIn
-same-length v (Value slot amount) = length-set (v .accumulators) slot amount
+same-length v (Value slot amount) = length-set (v .accumulators) slot _
 same-length v (AccumulatorLimits slot lower upper) = refl
 same-length v (CounterLimits slot lower upper) = refl
 
@@ -68,7 +68,7 @@ OtherValue i (CounterLimits slot lower upper) = Unit
 module _ (i : ℕ) (d : AccumulatorAmount) where
   same-value : (v : Values) (w : Write) → OtherValue i w → getD (valuesWith v w .accumulators) i d ≡ getD (v .accumulators) i d
   unfolding valueIn
-  same-value v (Value slot amount) h = getD-set-other (v .accumulators) slot i amount d h
+  same-value v (Value slot amount) h = getD-set-other (v .accumulators) slot i _ d h
   same-value v (AccumulatorLimits slot lower upper) h = refl
   same-value v (CounterLimits slot lower upper) h = refl
 
