@@ -1,0 +1,5 @@
+pub mod Writes
+pub mod Commands
+pub mod Laws
+pub mod Stays
+pub mod Vectors

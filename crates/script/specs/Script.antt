@@ -1,0 +1,98 @@
+-- What the template of an issuer script does to a card (request Twelve; CPA 18.8 and 20): its commands are tried in order until one fails.
+use Prim.Native.Nat.{ℕ, _+_, _%_}
+use mathlib.Core.Bool.{Bool, true, _&&_, not, cond}
+use mathlib.Core.List.{List, [], _∷_, _++_, foldl}
+use mathlib.Core.Option.{Option, none, some}
+use lib.ListN.{set}
+use Rattle.money.specs.declared.AccumulatorAmount.{AccumulatorAmount}
+use Rattle.rules.specs.declared.Values.{Values}
+use Rattle.rules.specs.Rules.{Rules}
+use Rattle.rules.specs.Limits.{withAccumulatorLimits, withCounterLimits, accumulatorLimitsPut, counterLimitsPut}
+use Rattle.object.specs.Object.{commandsOf}
+use Rattle.put_data.specs.declared.Write.{Write}
+use Rattle.put_data.specs.declared.Write.the-variants.{Value, AccumulatorLimits, CounterLimits}
+use Rattle.put_data.specs.PutData.{writesOf}
+use Rattle.script.specs.declared.Scripts.{Scripts}
+use Rattle.script.specs.declared.Ran.{Ran}
+
+-- ONE WRITE: to a value, of an accumulator that is active or not; to limits, in every profile. Without such a slot nothing changes
+unfoldable pub valueIn : Values → (slot : ℕ) → AccumulatorAmount → Values
+valueIn values slot amount =
+    record { accumulators = set (values .accumulators) slot amount; counters = values .counters; cyclic = values .cyclic }
+
+abbrev pub valuesWith : Values → Write → Values
+valuesWith values (Value slot amount) = valueIn values slot amount
+valuesWith values (AccumulatorLimits slot lower upper) = values
+valuesWith values (CounterLimits slot lower upper) = values
+
+abbrev pub rulesWith : Rules → Write → Rules
+rulesWith rules (Value slot amount) = rules
+rulesWith rules (AccumulatorLimits slot lower upper) = withAccumulatorLimits rules slot lower upper
+rulesWith rules (CounterLimits slot lower upper) = withCounterLimits rules slot lower upper
+
+-- the words that hold the rules
+abbrev pub wordsWith : List ℕ → Write → List ℕ
+wordsWith words (Value slot amount) = words
+wordsWith words (AccumulatorLimits slot lower upper) = accumulatorLimitsPut words slot lower upper
+wordsWith words (CounterLimits slot lower upper) = counterLimitsPut words slot lower upper
+
+-- writes in their order
+abbrev pub valuesAfter : Values → List Write → Values
+valuesAfter values ws = foldl valuesWith values ws
+
+abbrev pub rulesAfter : Rules → List Write → Rules
+rulesAfter rules ws = foldl rulesWith rules ws
+
+abbrev pub wordsAfter : List ℕ → List Write → List ℕ
+wordsAfter words ws = foldl wordsWith words ws
+
+-- A COMMAND: what it writes where it is done; none where it fails, which it does too if the secure messaging result is not "verified", or if one
+-- has already failed since the last accepted Start
+unfoldable pub done : (verified : Bool) → Scripts → List ℕ → Option (List Write)
+done verified scripts command = cond (verified && not (scripts .here)) (writesOf command) none
+
+-- the writes of one that does not fail
+abbrev pub given : Option (List Write) → List Write
+given none = []
+given (some ws) = ws
+
+-- what the card keeps of it
+unfoldable pub oneDone : Scripts → Scripts
+oneDone scripts = record { count = (scripts .count + 1) % 16; failed = scripts .failed; here = scripts .here }
+
+unfoldable pub oneFailed : Scripts → Scripts
+oneFailed scripts = record { count = scripts .count; failed = true; here = true }
+
+-- THE COMMANDS in order until one fails, the rest not tried: what those done write, which stays, and what the card keeps of scripts
+pub record Tried : Type 0 where
+  pub writes : List Write
+  pub scripts : Scripts
+
+abbrev pub behind : List Write → Tried → Tried
+behind ws t = record { writes = ws ++ t .writes; scripts = t .scripts }
+
+-- the next command, and the rest where it is done
+abbrev pub triedNext : (rest : Scripts → Tried) → Scripts → Option (List Write) → Tried
+triedNext rest scripts (some ws) = behind ws (rest (oneDone scripts))
+triedNext rest scripts none = record { writes = []; scripts = oneFailed scripts }
+
+unfoldable pub tried : (verified : Bool) → List (List ℕ) → Scripts → Tried
+tried verified [] scripts = record { writes = []; scripts = scripts }
+tried verified (c ∷ cs) scripts = triedNext (tried verified cs) scripts (done verified scripts c)
+
+-- A TEMPLATE on a card
+unfoldable pub templateTried : (verified : Bool) → Scripts → List ℕ → Tried
+templateTried verified scripts template = tried verified (commandsOf template) scripts
+
+unfoldable pub ranOf : Values → Scripts → (verified : Bool) → List ℕ → Ran
+ranOf values scripts verified template =
+    record {
+      values = valuesAfter values (templateTried verified scripts template .writes);
+      scripts = templateTried verified scripts template .scripts;
+    }
+
+unfoldable pub rulesRun : Rules → Scripts → (verified : Bool) → List ℕ → Rules
+rulesRun rules scripts verified template = rulesAfter rules (templateTried verified scripts template .writes)
+
+unfoldable pub wordsRun : List ℕ → Scripts → (verified : Bool) → List ℕ → List ℕ
+wordsRun words scripts verified template = wordsAfter words (templateTried verified scripts template .writes)
