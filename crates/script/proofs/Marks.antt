@@ -57,7 +57,7 @@ kept-says n f h r small =
       count = omega arith;
       failed = ap (λ (k : ℕ). eqb k 1) fourth ∙ is-set f;
       here = ap (λ (k : ℕ). eqb k 1) first ∙ is-set h;
-      rest = ap (λ (k : ℕ). k % 4) half ∙ (omega arith);
+      rest = ap (λ (k : ℕ). k % 4) half ∙ omega arith;
     }
 
 module _ (scripts : Scripts) where
@@ -136,6 +136,10 @@ module _ (scripts : Scripts) where
   pub marks-say : Says (countOf scripts) (hasFailed scripts) false 0 (record { 0 = marksOf scripts })
   unfolding marksOf
   marks-say = kept-says _ _ _ 0 (lit< tt)
+
+  pub marks-low : marksOf scripts % 8 ≡ 0
+  unfolding marksOf kept
+  marks-low = omega (arith, fourth scripts)
 
 pub marks-alike : (s t : Scripts) → countOf s ≡ countOf t → hasFailed s ≡ hasFailed t → marksOf s ≡ marksOf t
 unfolding marksOf kept

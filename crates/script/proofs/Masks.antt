@@ -1,5 +1,5 @@
 -- What the code's masks make of a card's byte of scripts. Assumes nothing.
-use mathlib.Core.Path.{_≡_, refl, sym, ap, _∙_}
+use mathlib.Core.Path.{_≡_, refl, ap, _∙_}
 use mathlib.Core.Bool.{Bool, true, false, not, cond}
 use Prim.Native.Nat.{ℕ, _+_, _*_, _/_, _%_, _<_}
 use native.Mathlib.Nat.{div-div-eq-div-mul, mod-eq-of-lt}
@@ -8,7 +8,7 @@ use borrow.Author.Tests.{eqb-true, eqb-false, eq-eqb, ne-eqb}
 use lib.Bits.{bitAnd, bitOr, and-high, and-mask, and-block, or-add-and}
 use lib.Dec.{eqb, lit<}
 use Rattle.script.specs.declared.Scripts.{Scripts}
-use Rattle.script.specs.Script.{countOf, hasFailed, hasFailedHere, restOf, kept, oneDone, oneFailed, started, heard, marksOf}
+use Rattle.script.specs.Script.{hasFailed, hasFailedHere, kept, oneDone, oneFailed, started, heard, marksOf}
 use Rattle.script.proofs.Marks.{fourth, first, parts, heard-clears}
 
 -- of a bit it is one to be set and not to be 0
@@ -72,7 +72,7 @@ module _ (scripts : Scripts) where
         let upper : bitAnd (b / 16) 0x0F ≡ b / 16 = and-mask (b / 16) 4 ∙ mod-eq-of-lt (omega (arith, small)) in
         let lower : bitAnd (b % 16) 0x07 ≡ b / 2 % 4 * 2 = and-mask (b % 16) 3 ∙ low even in
         let e : bitAnd b 0xF7 ≡ b / 16 * 16 + 0 + b / 2 % 4 * 2 + 0 = omega (arith, halves, upper, lower) in
-        ap (λ (n : ℕ). record { 0 = n }) e ∙ sym (heard-clears scripts h)
+        rw (heard-clears scripts h) (ap (λ (n : ℕ). record { 0 = n }) e)
 
     pub are-marks : bitAnd b 0xF8 ≡ marksOf scripts
     unfolding marksOf kept
