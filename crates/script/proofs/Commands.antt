@@ -13,7 +13,7 @@ use Rattle.object.proofs.Cursor.{Step}
 use Rattle.put_data.specs.declared.Write.{Write}
 use Rattle.put_data.specs.PutData.{writesOf, isSome, isValid}
 use Rattle.script.specs.declared.Scripts.{Scripts}
-use Rattle.script.specs.Script.{done, given, oneDone, oneFailed, Tried, behind, triedNext, tried, templateTried, ranOf, rulesRun, wordsRun}
+use Rattle.script.specs.Script.{hasFailedHere, done, given, oneDone, oneFailed, Tried, behind, triedNext, tried, templateTried, ranOf, rulesRun, wordsRun}
 use Rattle.script.proofs.Writes.{Left, Alike, at-first, passed, at-last}
 
 -- ---- a command that is done, and one that fails
@@ -29,7 +29,7 @@ none-of (some ws) h = let z : _≡_ {A = ℕ} 0 1 = cc in absurd (omega arith)
 module _ (verified : Bool) (scripts : Scripts) (c : List ℕ) where
   pub done-some : isSome (done verified scripts c) ≡ true → (isValid c ≡ true) × (done verified scripts c ≡ some (given (writesOf c)))
   unfolding done isValid
-  done-some h = some-of (verified && not (scripts .here)) (writesOf c) h
+  done-some h = some-of (verified && not (hasFailedHere scripts)) (writesOf c) h
 
   pub done-none : isSome (done verified scripts c) ≡ false → done verified scripts c ≡ none
   done-none h = none-of (done verified scripts c) h

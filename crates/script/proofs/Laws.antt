@@ -11,11 +11,12 @@ use lib.ListN.{length}
 use Rattle.put_data.specs.declared.Write.{Write}
 use Rattle.put_data.specs.PutData.{writesOf}
 use Rattle.script.specs.declared.Scripts.{Scripts}
-use Rattle.script.specs.Script.{done, oneDone, oneFailed, Tried, behind, triedNext, tried}
+use Rattle.script.specs.Script.{countOf, hasFailed, hasFailedHere, restOf, kept, done, oneDone, oneFailed, Tried, behind, triedNext, tried}
+use Rattle.script.proofs.Marks.{Says, kept-says, itself, rest-small, done-says, failed-says}
 
 -- ---- a command is done exactly if the result is "verified", none has failed here, and it is valid; it writes all its elements or none
 module _ (scripts : Scripts) (c : List ℕ) where
-  pub does : scripts .here ≡ false → done true scripts c ≡ writesOf c
+  pub does : hasFailedHere scripts ≡ false → done true scripts c ≡ writesOf c
   unfolding done
   does h = simp (h)
 
@@ -23,14 +24,14 @@ module _ (scripts : Scripts) (c : List ℕ) where
   unfolding done
   not-verified = refl
 
-  pub failed-before : (verified : Bool) → scripts .here ≡ true → done verified scripts c ≡ none
+  pub failed-before : (verified : Bool) → hasFailedHere scripts ≡ true → done verified scripts c ≡ none
   unfolding done
   failed-before true h = simp (h)
   failed-before false h = refl
 
-  pub only-if : (verified : Bool) (ws : List Write) → done verified scripts c ≡ some ws → (verified ≡ true) × (scripts .here ≡ false) × (writesOf c ≡ some ws)
+  pub only-if : (verified : Bool) (ws : List Write) → done verified scripts c ≡ some ws → (verified ≡ true) × (hasFailedHere scripts ≡ false) × (writesOf c ≡ some ws)
   unfolding done
-  only-if verified ws e = by verified (scripts .here) e where
+  only-if verified ws e = by verified (hasFailedHere scripts) e where
     by : (v h : Bool) → cond (v && not h) (writesOf c) none ≡ some ws → (v ≡ true) × (h ≡ false) × (writesOf c ≡ some ws)
     by true false k = (refl, refl, k)
     by true true k = let z : _≡_ {A = ℕ} 0 1 = cc in absurd (omega arith)
@@ -75,72 +76,77 @@ parted (c ∷ cs) = by (writesOf c) refl (parted cs) where
 
 -- n more are done
 unfoldable pub manyDone : ℕ → Scripts → Scripts
-manyDone n scripts = record { count = (scripts .count + n) % 16; failed = scripts .failed; here = scripts .here }
+manyDone n scripts = kept ((countOf scripts + n) % 16) (hasFailed scripts) (hasFailedHere scripts) (restOf scripts)
+
+pub many-says : (n : ℕ) (scripts : Scripts)
+    → Says ((countOf scripts + n) % 16) (hasFailed scripts) (hasFailedHere scripts) (restOf scripts) (manyDone n scripts)
+unfolding manyDone
+many-says n scripts = kept-says _ _ _ _ (rest-small scripts)
 
 one-more : (n : ℕ) (scripts : Scripts) → manyDone n (oneDone scripts) ≡ manyDone (suc n) scripts
-unfolding manyDone oneDone
+unfolding manyDone
 one-more n scripts =
-    let k = scripts .count in
+    let k = countOf scripts in
+    let one = done-says scripts in
     let e : k + 1 + n ≡ k + suc n = omega arith in
     let m : ((k + 1) % 16 + n) % 16 ≡ (k + suc n) % 16 = mod-add-mod (k + 1) 16 n ∙ ap (λ x. x % 16) e in
-    simp (m)
+    simp (one .count, one .failed, one .here, one .rest, m)
 
-no-more : (scripts : Scripts) → scripts .count < 16 → manyDone 0 scripts ≡ scripts
+no-more : (scripts : Scripts) → countOf scripts < 16 → manyDone 0 scripts ≡ scripts
 unfolding manyDone
-no-more scripts h = let e : (scripts .count + 0) % 16 ≡ scripts .count = ap (λ x. x % 16) (add-zero (scripts .count)) ∙ mod-eq-of-lt h in simp (e)
+no-more scripts h =
+    let e : (countOf scripts + 0) % 16 ≡ countOf scripts = ap (λ x. x % 16) (add-zero (countOf scripts)) ∙ mod-eq-of-lt h in
+    ap (λ k. kept k (hasFailed scripts) (hasFailedHere scripts) (restOf scripts)) e ∙ itself scripts
 
-done-below : (scripts : Scripts) → oneDone scripts .count < 16
-unfolding oneDone
-done-below scripts = mod-lt (scripts .count + 1) (lit< tt)
+done-below : (scripts : Scripts) → countOf (oneDone scripts) < 16
+done-below scripts = rw (done-says scripts .count) (mod-lt (countOf scripts + 1) (lit< tt))
 
-here-stays : (scripts : Scripts) → scripts .here ≡ false → oneDone scripts .here ≡ false
-unfolding oneDone
-here-stays scripts h = h
+here-stays : (scripts : Scripts) → hasFailedHere scripts ≡ false → hasFailedHere (oneDone scripts) ≡ false
+here-stays scripts h = done-says scripts .here ∙ h
 
 -- these are done, and then the rest is tried
 pub front-done : {front : List (List ℕ)} {wss : List (List Write)} → Valid front wss → (rest : List (List ℕ)) (scripts : Scripts)
-    → scripts .here ≡ false → scripts .count < 16
+    → hasFailedHere scripts ≡ false → countOf scripts < 16
     → tried true (front ++ rest) scripts ≡ behind (flatten wss) (tried true rest (manyDone (length wss) scripts))
 unfolding flatten
 front-done end rest scripts h l = ap (tried true rest) (sym (no-more scripts l))
 front-done (next {c} {ws} {cs} {wss} e v) rest scripts h l =
     let after = oneDone scripts in
-    let below : after .count < 16 = done-below scripts in
+    let below : countOf after < 16 = done-below scripts in
     let ih = front-done v rest after (here-stays scripts h) below in
     let many = ap (λ k. behind (flatten wss) (tried true rest k)) (one-more (length wss) scripts) in
     when-done true scripts c (cs ++ rest) ws (does scripts c h ∙ e)
     ∙ ap (behind ws) (ih ∙ many)
     ∙ ap (λ l. record { writes = l; scripts = tried true rest (manyDone (suc (length wss)) scripts) .scripts }) (sym (append-assoc ws (flatten wss) _))
 
-module _ {front : List (List ℕ)} {wss : List (List Write)} (valid : Valid front wss) (scripts : Scripts) (here : scripts .here ≡ false)
-    (below : scripts .count < 16) where
+module _ {front : List (List ℕ)} {wss : List (List Write)} (valid : Valid front wss) (scripts : Scripts) (here : hasFailedHere scripts ≡ false)
+    (below : countOf scripts < 16) where
   -- none fails
   pub all-done : tried true front scripts ≡ record { writes = flatten wss; scripts = manyDone (length wss) scripts }
   all-done =
-      let kept = manyDone (length wss) scripts in
+      let after = manyDone (length wss) scripts in
       ap (λ cs. tried true cs scripts) (sym (append-nil front))
       ∙ front-done valid [] scripts here below
-      ∙ ap (behind (flatten wss)) (no-command true kept)
-      ∙ ap (λ ws. record { writes = ws; scripts = kept }) (append-nil (flatten wss))
+      ∙ ap (behind (flatten wss)) (no-command true after)
+      ∙ ap (λ ws. record { writes = ws; scripts = after }) (append-nil (flatten wss))
 
   -- one fails: what the others wrote stays, and whatever is behind it is not tried
   pub first-fails : (c : List ℕ) (rest : List (List ℕ)) → writesOf c ≡ none
       → tried true (front ++ (c ∷ rest)) scripts ≡ record { writes = flatten wss; scripts = oneFailed (manyDone (length wss) scripts) }
-  unfolding manyDone
   first-fails c rest e =
-      let kept = manyDone (length wss) scripts in
+      let before = manyDone (length wss) scripts in
+      let not-here = many-says (length wss) scripts .here ∙ here in
       front-done valid (c ∷ rest) scripts here below
-      ∙ ap (behind (flatten wss)) (when-failed true kept c rest (does kept c here ∙ e))
-      ∙ ap (λ ws. record { writes = ws; scripts = oneFailed kept }) (append-nil (flatten wss))
+      ∙ ap (behind (flatten wss)) (when-failed true before c rest (does before c not-here ∙ e))
+      ∙ ap (λ ws. record { writes = ws; scripts = oneFailed before }) (append-nil (flatten wss))
 
 -- the count stays below 16
-next-below : (rest : Scripts → Tried) → ((k : Scripts) → k .count < 16 → rest k .scripts .count < 16) → (scripts : Scripts) → scripts .count < 16
-    → (ws : Option (List Write)) → triedNext rest scripts ws .scripts .count < 16
-unfolding oneFailed
+next-below : (rest : Scripts → Tried) → ((k : Scripts) → countOf k < 16 → countOf (rest k .scripts) < 16) → (scripts : Scripts) → countOf scripts < 16
+    → (ws : Option (List Write)) → countOf (triedNext rest scripts ws .scripts) < 16
 next-below rest more scripts h (some ws) = more (oneDone scripts) (done-below scripts)
-next-below rest more scripts h none = omega arith
+next-below rest more scripts h none = rw (failed-says scripts .count) h
 
-pub count-below : (verified : Bool) (cs : List (List ℕ)) (scripts : Scripts) → scripts .count < 16 → tried verified cs scripts .scripts .count < 16
+pub count-below : (verified : Bool) (cs : List (List ℕ)) (scripts : Scripts) → countOf scripts < 16 → countOf (tried verified cs scripts .scripts) < 16
 unfolding tried
 count-below verified [] scripts h = h
 count-below verified (c ∷ cs) scripts h = next-below (tried verified cs) (count-below verified cs) scripts h (done verified scripts c)

@@ -1,3 +1,5 @@
+pub mod Marks
+pub mod Masks
 pub mod Writes
 pub mod Commands
 pub mod Laws

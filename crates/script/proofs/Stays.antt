@@ -16,13 +16,12 @@ use Rattle.rules.specs.declared.CounterRule.{CounterRule}
 use Rattle.rules.specs.declared.Values.{Values}
 use Rattle.rules.specs.Rules.{Rules, accumulatorRule, counterRule}
 use Rattle.rules.specs.Limits.{accumulatorWithin, counterWithin, withAccumulatorLimits, withCounterLimits}
-use Rattle.rules.proofs.Limits.{Whole, Stays, accumulator-stays, accumulator-counters, accumulator-others, accumulator-there, accumulator-whole, no-accumulator}
-use Rattle.rules.proofs.Limits.{counter-stays, counter-accumulators, counter-others, counter-there, counter-whole, no-counter}
+use Rattle.rules.proofs.Limits.{Whole, Stays, accumulator-limited, counter-limited}
 use Rattle.put_data.specs.declared.Write.{Write}
 use Rattle.put_data.specs.declared.Write.the-variants.{Value, AccumulatorLimits, CounterLimits}
 use Rattle.object.specs.Object.{commandsOf}
 use Rattle.script.specs.declared.Scripts.{Scripts}
-use Rattle.script.specs.Script.{valueIn, valuesWith, rulesWith, valuesAfter, rulesAfter, templateTried, ranOf, rulesRun}
+use Rattle.script.specs.Script.{valueIn, valuesWith, rulesWith, valuesAfter, rulesAfter, countOf, templateTried, ranOf, rulesRun}
 use Rattle.script.proofs.Laws.{count-below}
 
 abbrev pub All : (Write → Type 0) → List Write → Type 0
@@ -137,13 +136,13 @@ stays-trans q r s a b =
 
 one-stays : (r : Rules) (w : Write) → Stays r (rulesWith r w)
 one-stays r (Value slot amount) = stays-refl r
-one-stays r (AccumulatorLimits slot lower upper) = accumulator-stays r slot lower upper
-one-stays r (CounterLimits slot lower upper) = counter-stays r slot lower upper
+one-stays r (AccumulatorLimits slot lower upper) = accumulator-limited r slot lower upper .stays
+one-stays r (CounterLimits slot lower upper) = counter-limited r slot lower upper .stays
 
 one-whole : (r : Rules) (w : Write) → Whole r → Whole (rulesWith r w)
 one-whole r (Value slot amount) h = h
-one-whole r (AccumulatorLimits slot lower upper) h = accumulator-whole r slot lower upper h
-one-whole r (CounterLimits slot lower upper) h = counter-whole r slot lower upper h
+one-whole r (AccumulatorLimits slot lower upper) h = accumulator-limited r slot lower upper .whole h
+one-whole r (CounterLimits slot lower upper) h = counter-limited r slot lower upper .whole h
 
 -- a write of other limits
 abbrev pub OtherAccumulator : (i : ℕ) → Write → Type 0
@@ -159,13 +158,13 @@ OtherCounter i (CounterLimits slot lower upper) = i ≢ slot
 module _ (place : Place) (i : ℕ) where
   same-accumulator : (r : Rules) (w : Write) → OtherAccumulator i w → accumulatorRule (rulesWith r w) place i ≡ accumulatorRule r place i
   same-accumulator r (Value slot amount) h = refl
-  same-accumulator r (AccumulatorLimits slot lower upper) h = accumulator-others r slot lower upper place i h
-  same-accumulator r (CounterLimits slot lower upper) h = counter-accumulators r slot lower upper place i
+  same-accumulator r (AccumulatorLimits slot lower upper) h = accumulator-limited r slot lower upper .others place i h
+  same-accumulator r (CounterLimits slot lower upper) h = counter-limited r slot lower upper .apart place i
 
   same-counter : (r : Rules) (w : Write) → OtherCounter i w → counterRule (rulesWith r w) place i ≡ counterRule r place i
   same-counter r (Value slot amount) h = refl
-  same-counter r (AccumulatorLimits slot lower upper) h = accumulator-counters r slot lower upper place i
-  same-counter r (CounterLimits slot lower upper) h = counter-others r slot lower upper place i h
+  same-counter r (AccumulatorLimits slot lower upper) h = accumulator-limited r slot lower upper .apart place i
+  same-counter r (CounterLimits slot lower upper) h = counter-limited r slot lower upper .others place i h
 
 -- but for its limits a rule is as it was, one that is named too
 named : {A : Type 0} (part : Rules → A) (i slot : ℕ) (r after : Rules) → (i ≢ slot → part after ≡ part r) → (i ≡ slot → slot < 4 → part after ≡ part r)
@@ -183,12 +182,12 @@ module _ (lower upper : AccumulatorAmount) (place : Place) (i : ℕ) where
 
   accumulator-but : (r : Rules) → Whole r → (w : Write) → accumulatorIn (rulesWith r w) ≡ accumulatorIn r
   accumulator-but r whole (Value slot amount) = refl
-  accumulator-but r whole (CounterLimits slot l u) = ap (accumulatorWithin lower upper) (counter-accumulators r slot l u place i)
+  accumulator-but r whole (CounterLimits slot l u) = ap (accumulatorWithin lower upper) (counter-limited r slot l u .apart place i)
   accumulator-but r whole (AccumulatorLimits slot l u) =
       named accumulatorIn i slot r (withAccumulatorLimits r slot l u)
-      (λ h. ap (accumulatorWithin lower upper) (accumulator-others r slot l u place i h))
-      (λ e h. rw e (ap (accumulatorWithin lower upper) (accumulator-there r slot l u whole h place)))
-      (no-accumulator r slot l u whole)
+      (λ h. ap (accumulatorWithin lower upper) (accumulator-limited r slot l u .others place i h))
+      (λ e h. rw e (ap (accumulatorWithin lower upper) (accumulator-limited r slot l u .there whole h place)))
+      (accumulator-limited r slot l u .none whole)
 
 module _ (lower upper : ℕ) (place : Place) (i : ℕ) where
   abbrev counterIn : Rules → CounterRule
@@ -196,12 +195,12 @@ module _ (lower upper : ℕ) (place : Place) (i : ℕ) where
 
   counter-but : (r : Rules) → Whole r → (w : Write) → counterIn (rulesWith r w) ≡ counterIn r
   counter-but r whole (Value slot amount) = refl
-  counter-but r whole (AccumulatorLimits slot l u) = ap (counterWithin lower upper) (accumulator-counters r slot l u place i)
+  counter-but r whole (AccumulatorLimits slot l u) = ap (counterWithin lower upper) (accumulator-limited r slot l u .apart place i)
   counter-but r whole (CounterLimits slot l u) =
       named counterIn i slot r (withCounterLimits r slot l u)
-      (λ h. ap (counterWithin lower upper) (counter-others r slot l u place i h))
-      (λ e h. rw e (ap (counterWithin lower upper) (counter-there r slot l u whole h place)))
-      (no-counter r slot l u whole)
+      (λ h. ap (counterWithin lower upper) (counter-limited r slot l u .others place i h))
+      (λ e h. rw e (ap (counterWithin lower upper) (counter-limited r slot l u .there whole h place)))
+      (counter-limited r slot l u .none whole)
 
 whole-part : {A : Type 0} (part : Rules → A) → ((r : Rules) → Whole r → (w : Write) → part (rulesWith r w) ≡ part r) → (r : Rules) → Whole r
     → (ws : List Write) → part (rulesAfter r ws) ≡ part r
@@ -240,7 +239,7 @@ module _ (r : Rules) (ws : List Write) where
         let x = rulesAfter r ws in
         ap (λ y. accumulatorRule y place i) (foldl-append rulesWith r ws (AccumulatorLimits i lower upper ∷ rest))
         ∙ part-stays rulesWith (λ y. accumulatorRule y place i) (OtherAccumulator i) (same-accumulator place i) rest others (withAccumulatorLimits x i lower upper)
-        ∙ accumulator-there x i lower upper (rules-whole whole) h place
+        ∙ accumulator-limited x i lower upper .there (rules-whole whole) h place
 
     pub last-counter : (lower upper : ℕ) (rest : List Write) → Whole r → i < 4 → All (OtherCounter i) rest
         → counterRule (rulesAfter r (ws ++ (CounterLimits i lower upper ∷ rest))) place i ≡ counterWithin lower upper (counterRule (rulesAfter r ws) place i)
@@ -248,7 +247,7 @@ module _ (r : Rules) (ws : List Write) where
         let x = rulesAfter r ws in
         ap (λ y. counterRule y place i) (foldl-append rulesWith r ws (CounterLimits i lower upper ∷ rest))
         ∙ part-stays rulesWith (λ y. counterRule y place i) (OtherCounter i) (same-counter place i) rest others (withCounterLimits x i lower upper)
-        ∙ counter-there x i lower upper (rules-whole whole) h place
+        ∙ counter-limited x i lower upper .there (rules-whole whole) h place
 
 -- ---- A TEMPLATE, whatever its bytes
 module _ (scripts : Scripts) (verified : Bool) (template : List ℕ) where
@@ -260,7 +259,7 @@ module _ (scripts : Scripts) (verified : Bool) (template : List ℕ) where
   unfolding ranOf
   run-cyclic v = cyclic-stays v (templateTried verified scripts template .writes)
 
-  pub run-count : (v : Values) → scripts .count < 16 → ranOf v scripts verified template .scripts .count < 16
+  pub run-count : (v : Values) → countOf scripts < 16 → countOf (ranOf v scripts verified template .scripts) < 16
   unfolding ranOf templateTried
   run-count v h = count-below verified (commandsOf template) scripts h
 

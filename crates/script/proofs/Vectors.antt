@@ -16,7 +16,8 @@ use Rattle.object.specs.Object.{valueSize, headFormed, headRight, placesBehind,
 use Rattle.put_data.specs.PutData.{lengthSize, lengthAt, valueWritten, limitsWritten, countsWritten, meaningOf, headSize, elementSize, elementMeaning}
 use Rattle.put_data.specs.PutData.{writesBy, isPutData, listPlace, macPlace, isSecured, elementsOf, writesOf}
 use Rattle.script.specs.declared.Scripts.{Scripts}
-use Rattle.script.specs.Script.{valueIn, done, oneDone, oneFailed, tried, templateTried, ranOf, rulesRun}
+use Rattle.script.specs.Script.{valueIn, kept, freshScripts, oneDone, oneFailed, started, heard, marksOf, done, tried, templateTried, ranOf, rulesRun}
+use Rattle.script.proofs.Laws.{manyDone}
 
 -- n bytes, written as one number in hex
 abbrev bytes : (n : ℕ) → ℕ → List ℕ
@@ -29,9 +30,6 @@ amounts = map (λ n. record { 0 = n })
 -- the card: accumulators of 1, 2, 3, 4, and in no profile is anything active
 abbrev start : Values
 start = record { accumulators = amounts (1 ∷ 2 ∷ 3 ∷ 4 ∷ []); counters = 5 ∷ 6 ∷ 7 ∷ 8 ∷ []; cyclic = amounts (9 ∷ 10 ∷ []) }
-
-abbrev kept : (count : ℕ) (failed here : Bool) → Scripts
-kept count failed here = record { count = count; failed = failed; here = here }
 
 -- the limits of accumulators 1 and 2 and of counter 1, in a profile
 abbrev limitsIn : Rules → Place → List ℕ
@@ -48,12 +46,12 @@ pub record Row : Type 0 where
   pub size : ℕ
   pub hex : ℕ
   pub verified : Bool
-  pub before : Scripts
-  pub scripts : Scripts
+  pub before : ℕ
+  pub scripts : ℕ
   pub values : Values
   pub limits : List (List ℕ)
 
-abbrev row : (size hex : ℕ) → (verified : Bool) → (before scripts : Scripts) → (accumulators limits : List ℕ) → Row
+abbrev row : (size hex : ℕ) → (verified : Bool) → (before scripts : ℕ) → (accumulators limits : List ℕ) → Row
 row size hex verified before scripts accumulators limits =
     record {
       size = size;
@@ -74,46 +72,70 @@ none = 0 ∷ 0 ∷ 0 ∷ 0 ∷ 0 ∷ 0 ∷ []
 abbrev pub table : List Row
 table =
     -- a value; limits of accumulator 2; limits of counter 1; all of them in one template
-    row 26 0x711886160CDABF30118109DF01060000001234568E0411223344 true (kept 0 false false) (kept 1 false false) (123456 ∷ 2 ∷ 3 ∷ 4 ∷ []) none
-    ∷ row 32 0x721E861C0CDABF3017810FDF120C0000000050000000000100008E0411223344 true (kept 0 false false) (kept 1 false false)
+    row 26 0x711886160CDABF30118109DF01060000001234568E0411223344 true 0x00 0x10 (123456 ∷ 2 ∷ 3 ∷ 4 ∷ []) none
+    ∷ row 32 0x721E861C0CDABF3017810FDF120C0000000050000000000100008E0411223344 true 0x00 0x10
     as-were (0 ∷ 0 ∷ 5000 ∷ 10000 ∷ 0 ∷ 0 ∷ [])
-    ∷ row 22 0x711486120CDABF350D8105DF110207098E0411223344 true (kept 0 false false) (kept 1 false false) as-were (0 ∷ 0 ∷ 0 ∷ 0 ∷ 7 ∷ 9 ∷ [])
+    ∷ row 22 0x711486120CDABF350D8105DF110207098E0411223344 true 0x00 0x10 as-were (0 ∷ 0 ∷ 0 ∷ 0 ∷ 7 ∷ 9 ∷ [])
     ∷ row 76 0x714A86160CDABF30118109DF01060000001234568E0411223344861C0CDABF3017810FDF110C0000002000000000003000008E041122334486120CDABF350D8105DF110207098E0411223344
-    true (kept 0 false false) (kept 3 false false) (123456 ∷ 2 ∷ 3 ∷ 4 ∷ []) (200000 ∷ 300000 ∷ 0 ∷ 0 ∷ 7 ∷ 9 ∷ [])
+    true 0x00 0x30 (123456 ∷ 2 ∷ 3 ∷ 4 ∷ []) (200000 ∷ 300000 ∷ 0 ∷ 0 ∷ 7 ∷ 9 ∷ [])
     -- one slot twice in a command: the last counts; a command without elements is done
-    ∷ row 35 0x7121861F0CDABF301A8112DF0106000000000007DF01060000000000088E0411223344 true (kept 0 false false) (kept 1 false false) (8 ∷ 2 ∷ 3 ∷ 4 ∷ []) none
-    ∷ row 17 0x710F860D0CDABF300881008E0411223344 true (kept 0 false false) (kept 1 false false) as-were none
+    ∷ row 35 0x7121861F0CDABF301A8112DF0106000000000007DF01060000000000088E0411223344 true 0x00 0x10 (8 ∷ 2 ∷ 3 ∷ 4 ∷ []) none
+    ∷ row 17 0x710F860D0CDABF300881008E0411223344 true 0x00 0x10 as-were none
     -- the second of three fails at its second element: what the first wrote stays, the third is not tried
     ∷ row 83 0x715186160CDABF30118109DF01060000000040008E0411223344861F0CDABF301A8112DF0106000000000007DF020600000000000A8E041122334486160CDABF30118109DF01060000000000098E0411223344
-    true (kept 0 false false) (kept 1 true true) (4000 ∷ 2 ∷ 3 ∷ 4 ∷ []) none
+    true 0x00 0x19 (4000 ∷ 2 ∷ 3 ∷ 4 ∷ []) none
     -- not verified; one has failed in this transaction; one has failed in an earlier one
-    ∷ row 26 0x711886160CDABF30118109DF01060000001234568E0411223344 false (kept 0 false false) (kept 0 true true) as-were none
-    ∷ row 26 0x711886160CDABF30118109DF01060000001234568E0411223344 true (kept 5 true true) (kept 5 true true) as-were none
-    ∷ row 26 0x711886160CDABF30118109DF01060000001234568E0411223344 true (kept 5 true false) (kept 6 true false) (123456 ∷ 2 ∷ 3 ∷ 4 ∷ []) none
+    ∷ row 26 0x711886160CDABF30118109DF01060000001234568E0411223344 false 0x00 0x09 as-were none
+    ∷ row 26 0x711886160CDABF30118109DF01060000001234568E0411223344 true 0x59 0x59 as-were none
+    ∷ row 26 0x711886160CDABF30118109DF01060000001234568E0411223344 true 0x58 0x68 (123456 ∷ 2 ∷ 3 ∷ 4 ∷ []) none
     -- 15 and one more; 15 and one that fails
-    ∷ row 26 0x711886160CDABF30118109DF01060000001234568E0411223344 true (kept 15 false false) (kept 0 false false) (123456 ∷ 2 ∷ 3 ∷ 4 ∷ []) none
-    ∷ row 4 0x71028600 true (kept 15 false false) (kept 15 true true) as-were none
+    ∷ row 26 0x711886160CDABF30118109DF01060000001234568E0411223344 true 0xF0 0x00 (123456 ∷ 2 ∷ 3 ∷ 4 ∷ []) none
+    ∷ row 4 0x71028600 true 0xF0 0xF9 as-were none
     -- no command
-    ∷ row 2 0x7100 true (kept 0 false false) (kept 0 false false) as-were none
-    ∷ row 2 0x7200 false (kept 0 false false) (kept 0 false false) as-were none
+    ∷ row 2 0x7100 true 0x00 0x00 as-were none
+    ∷ row 2 0x7200 false 0x00 0x00 as-were none
     ∷ []
 
 pub run : Row → Row
 run r =
     let template = bytes (r .size) (r .hex) in
-    let ran = ranOf start (r .before) (r .verified) template in
+    let before : Scripts = record { 0 = r .before } in
+    let ran = ranOf start before (r .verified) template in
     record {
       size = r .size;
       hex = r .hex;
       verified = r .verified;
       before = r .before;
-      scripts = ran .scripts;
+      scripts = ran .scripts .0;
       values = ran .values;
-      limits = each (limitsIn (rulesRun (rulesOf blankWords) (r .before) (r .verified) template));
+      limits = each (limitsIn (rulesRun (rulesOf blankWords) before (r .verified) template));
     }
 
 pub as-run : map run table ≡ table
-unfolding run ranOf rulesRun templateTried tried done oneDone oneFailed valueIn commandsOf cut placesFrom placesBehind headRight headFormed valueSize
-    object.headSize object.lengthSize number arePairs pairsValue lengthSize lengthAt valueWritten limitsWritten countsWritten meaningOf headSize elementSize
+unfolding run ranOf rulesRun templateTried tried done kept oneDone oneFailed valueIn commandsOf cut placesFrom placesBehind headRight headFormed valueSize
+    object.headSize object.lengthSize object.lengthAt number arePairs pairsValue lengthSize lengthAt valueWritten limitsWritten countsWritten meaningOf headSize elementSize
     elementMeaning writesBy isPutData listPlace macPlace isSecured elementsOf writesOf rulesOf profileOf withAccumulatorLimits withCounterLimits
 as-run = refl
+
+-- CVR byte 4 after so many commands done, and after 15 and one that failed
+pub shown : (map (λ n. marksOf (manyDone n freshScripts)) (1 ∷ 15 ∷ 16 ∷ 17 ∷ []) ≡ 0x10 ∷ 0xF0 ∷ 0x00 ∷ 0x10 ∷ [])
+    × (marksOf (oneFailed (manyDone 15 freshScripts)) ≡ 0xF8)
+unfolding freshScripts manyDone oneFailed marksOf kept
+shown = (refl, refl)
+
+-- a byte; after a command done, one that failed, an accepted Start, an issuer that was heard; and CVR byte 4. The last has bits that no card has
+abbrev pub bytesOf : ℕ → List ℕ
+bytesOf n =
+    let s : Scripts = record { 0 = n } in
+    n ∷ oneDone s .0 ∷ oneFailed s .0 ∷ started s .0 ∷ heard s .0 ∷ marksOf s ∷ []
+
+pub changed : map bytesOf (0x00 ∷ 0x50 ∷ 0x58 ∷ 0x59 ∷ 0xF9 ∷ 0xFF ∷ []) ≡
+    (0x00 ∷ 0x10 ∷ 0x09 ∷ 0x00 ∷ 0x00 ∷ 0x00 ∷ [])
+    ∷ (0x50 ∷ 0x60 ∷ 0x59 ∷ 0x50 ∷ 0x50 ∷ 0x50 ∷ [])
+    ∷ (0x58 ∷ 0x68 ∷ 0x59 ∷ 0x58 ∷ 0x50 ∷ 0x58 ∷ [])
+    ∷ (0x59 ∷ 0x69 ∷ 0x59 ∷ 0x58 ∷ 0x59 ∷ 0x58 ∷ [])
+    ∷ (0xF9 ∷ 0x09 ∷ 0xF9 ∷ 0xF8 ∷ 0xF9 ∷ 0xF8 ∷ [])
+    ∷ (0xFF ∷ 0x0F ∷ 0xFF ∷ 0xFE ∷ 0xFF ∷ 0xF8 ∷ [])
+    ∷ []
+unfolding oneDone oneFailed started heard marksOf kept
+changed = refl

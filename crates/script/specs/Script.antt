@@ -1,8 +1,9 @@
 -- What the template of an issuer script does to a card (request Twelve; CPA 18.8 and 20): its commands are tried in order until one fails.
-use Prim.Native.Nat.{ℕ, _+_, _%_}
-use mathlib.Core.Bool.{Bool, true, _&&_, not, cond}
+use Prim.Native.Nat.{ℕ, _+_, _*_, _/_, _%_}
+use mathlib.Core.Bool.{Bool, true, false, _&&_, not, cond}
 use mathlib.Core.List.{List, [], _∷_, _++_, foldl}
 use mathlib.Core.Option.{Option, none, some}
+use lib.Dec.{eqb}
 use lib.ListN.{set}
 use Rattle.money.specs.declared.AccumulatorAmount.{AccumulatorAmount}
 use Rattle.rules.specs.declared.Values.{Values}
@@ -46,22 +47,55 @@ rulesAfter rules ws = foldl rulesWith rules ws
 abbrev pub wordsAfter : List ℕ → List Write → List ℕ
 wordsAfter words ws = foldl wordsWith words ws
 
+-- WHAT A CARD KEEPS OF SCRIPTS, in one byte: b8 to b5 count the commands done, b4 says whether one failed, b1 whether one failed since the last
+-- accepted Start. b3 and b2 are 0 on every card; where they are not, they stay
+abbrev pub countOf : Scripts → ℕ
+countOf scripts = scripts .0 / 16
+
+abbrev pub hasFailed : Scripts → Bool
+hasFailed scripts = eqb (scripts .0 / 8 % 2) 1
+
+abbrev pub hasFailedHere : Scripts → Bool
+hasFailedHere scripts = eqb (scripts .0 % 2) 1
+
+abbrev pub restOf : Scripts → ℕ
+restOf scripts = scripts .0 / 2 % 4
+
+-- the byte of these
+unfoldable pub kept : (count : ℕ) → (failed here : Bool) → (rest : ℕ) → Scripts
+kept count failed here rest = record { 0 = count * 16 + cond failed 8 0 + rest * 2 + cond here 1 0 }
+
+unfoldable pub freshScripts : Scripts
+freshScripts = kept 0 false false 0
+
+-- a command is done; one fails
+unfoldable pub oneDone : Scripts → Scripts
+oneDone scripts = kept ((countOf scripts + 1) % 16) (hasFailed scripts) (hasFailedHere scripts) (restOf scripts)
+
+unfoldable pub oneFailed : Scripts → Scripts
+oneFailed scripts = kept (countOf scripts) true true (restOf scripts)
+
+-- an accepted Start
+unfoldable pub started : Scripts → Scripts
+started scripts = kept (countOf scripts) (hasFailed scripts) false (restOf scripts)
+
+-- a Second that verified, or absent with authentication not required: failed is cleared if here is not set
+unfoldable pub heard : Scripts → Scripts
+heard scripts = kept (countOf scripts) (hasFailed scripts && hasFailedHere scripts) (hasFailedHere scripts) (restOf scripts)
+
+-- CVR byte 4 of a First: b8 to b5 the count, b4 failed
+unfoldable pub marksOf : Scripts → ℕ
+marksOf scripts = kept (countOf scripts) (hasFailed scripts) false 0 .0
+
 -- A COMMAND: what it writes where it is done; none where it fails, which it does too if the secure messaging result is not "verified", or if one
 -- has already failed since the last accepted Start
 unfoldable pub done : (verified : Bool) → Scripts → List ℕ → Option (List Write)
-done verified scripts command = cond (verified && not (scripts .here)) (writesOf command) none
+done verified scripts command = cond (verified && not (hasFailedHere scripts)) (writesOf command) none
 
 -- the writes of one that does not fail
 abbrev pub given : Option (List Write) → List Write
 given none = []
 given (some ws) = ws
-
--- what the card keeps of it
-unfoldable pub oneDone : Scripts → Scripts
-oneDone scripts = record { count = (scripts .count + 1) % 16; failed = scripts .failed; here = scripts .here }
-
-unfoldable pub oneFailed : Scripts → Scripts
-oneFailed scripts = record { count = scripts .count; failed = true; here = true }
 
 -- THE COMMANDS in order until one fails, the rest not tried: what those done write, which stays, and what the card keeps of scripts
 pub record Tried : Type 0 where

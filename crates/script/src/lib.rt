@@ -4,7 +4,8 @@ ghost use mathlib.Core.Bool.{true};
 ghost use Rattle.rules.specs.Rules.{rulesOf};
 ghost use Rattle.put_data.specs.PutData.{writesOf, isSome, isValid};
 ghost use Rattle.script.specs.Script.{valueIn, valuesWith, rulesWith, wordsWith, valuesAfter, rulesAfter, wordsAfter};
-ghost use Rattle.script.specs.Script.{done, given, oneDone, oneFailed, ranOf, rulesRun, wordsRun};
+ghost use Rattle.script.specs.Script.{done, given, ranOf, rulesRun, wordsRun};
+ghost use Rattle.script.specs.Script.{freshScripts, marksOf, hasFailedHere, started, heard, oneDone, oneFailed};
 use money::AccumulatorAmount;
 use object::Next;
 use object::next_command;
@@ -13,31 +14,77 @@ use put_data::is_valid;
 use put_data::next_write;
 use rules::Values;
 use rules::Words;
+use std::num::wrapping_add_u8;
 
-// What a card keeps of issuer scripts: the commands done, modulo 16; whether one failed; whether one
-// failed since the last accepted Start.
-pub struct Scripts {
-    pub count: u8,
-    pub failed: bool,
-    pub here: bool,
-}
+// What a card keeps of issuer scripts. As CVR byte 4 shows it: b8 to b5 count the commands done,
+// modulo 16, b4 says whether one failed. Not shown: b1, whether one failed since the last accepted
+// Start. b3 and b2 are 0.
+pub struct Scripts(pub u8);
+
+// One command, in the count.
+const DONE: u8 = 0x10;
+
+// b4: one failed.
+const FAILED: u8 = 0x08;
+
+// b1: one failed since the last accepted Start.
+const HERE: u8 = 0x01;
+
+// The count and b4.
+const SHOWN: u8 = 0xF8;
 
 impl Scripts {
+    // A fresh card's.
+    pub fn fresh() -> Scripts
+        ensures { λ r. ⌜ r ≡ freshScripts ⌝ }
+    {
+        Scripts(0)
+    }
+
+    // What CVR byte 4 shows of it.
+    pub fn marks(self) -> u8
+        ensures { λ r. ⌜ r ≡ marksOf self ⌝ }
+    {
+        self.0 & SHOWN
+    }
+
+    // Whether a command failed since the last accepted Start.
+    pub fn is_failed_here(self) -> bool
+        ensures { λ r. ⌜ r ≡ hasFailedHere self ⌝ }
+    {
+        self.0 & HERE != 0
+    }
+
+    // After an accepted Start: none has failed since.
+    pub fn started(self) -> Scripts
+        ensures { λ r. ⌜ r ≡ started self ⌝ }
+    {
+        Scripts(self.0 & !HERE)
+    }
+
+    // After a Second that verified, or whose data were absent where authentication is not required:
+    // the failure of an earlier transaction is forgotten.
+    pub fn heard(self) -> Scripts
+        ensures { λ r. ⌜ r ≡ heard self ⌝ }
+    {
+        if self.is_failed_here() {
+            return self;
+        }
+        Scripts(self.0 & !FAILED)
+    }
+
     // One more command done.
-    fn with_done(mut self) -> Scripts
+    fn with_done(self) -> Scripts
         ensures { λ r. ⌜ r ≡ oneDone self ⌝ }
     {
-        self.count = (self.count % 16 + 1) % 16;
-        self
+        Scripts(wrapping_add_u8(self.0, DONE))
     }
 
     // A command failed.
-    fn with_failure(mut self) -> Scripts
+    fn with_failure(self) -> Scripts
         ensures { λ r. ⌜ r ≡ oneFailed self ⌝ }
     {
-        self.failed = true;
-        self.here = true;
-        self
+        Scripts(self.0 | FAILED | HERE)
     }
 }
 
@@ -98,7 +145,7 @@ fn write_elements(words: &mut Words, mut values: Values, command: &[u8]) -> Valu
 fn is_done(verified: bool, scripts: Scripts, command: &[u8]) -> bool
     ensures { λ r. ⌜ r ≡ isSome (done verified scripts (now (command .entry))) ⌝ }
 {
-    if verified & !scripts.here {
+    if verified & !scripts.is_failed_here() {
         return is_valid(command);
     }
     false

@@ -1,12 +1,11 @@
 use borrow.Author.Needs.{needs}
-use native.Mathlib.Nat.{mod-add-mod}
-use Rattle.script.specs.Script.{oneDone}
+use native.Mathlib.Omega.{arith}
+use Rattle.script.proofs.Masks.{is-done}
 use Rattle.script.proofs.Scripts.with_done.Statement.{statement}
 use Rattle.script.proofs.Scripts.with_done.Tie as tie
 
 returns : tie.Need-returns
-unfolding oneDone
-returns c = simp (mod-add-mod)
+returns c = simp (c .wrapping-add-u8 .ensures) (is-done _ (omega arith))
 
 pub with-done-spec : {M : Type 1} → statement M
 with-done-spec = tie.close (tie.spec (search needs) returns)
