@@ -68,7 +68,7 @@ static void observe_setup(const struct setup *setup, unsigned version)
     else
         reached(SETUP_TAKEN + 1
                 + setup_kind(version, on, setup->cyclics > 0,
-                             is_cpace(setup)));
+                             is_cpace(setup), setup->scripts));
     reached_if(version >= VERSION_SYLLABUS,
                SYLLABUS_TAKEN + 2 * (version - VERSION_SYLLABUS)
                    + setup->syllabus);
