@@ -1,5 +1,5 @@
-/* Start, First, Second and Script. Section names in quotes are those of document
- * 01. */
+/* Start, First, Second and Script. Section names in quotes are those of
+ * document 01. */
 #include <string.h>
 
 #include "card.h"
