@@ -7,7 +7,7 @@
 
 enum { OF_ACCUMULATORS = 0xBF30, OF_COUNTERS = 0xBF35 };
 
-/* A command ----------------------------------------------------------------- */
+/* A command --------------------------------------------------------------- */
 
 struct command {
     size_t length;
@@ -65,7 +65,8 @@ static void add_element(struct chance *chance, const struct world *world,
     const unsigned slot = invent_slot(chance, bad);
     const bool value = of == OF_COUNTERS ? bad && percent(chance, 10)
                                          : percent(chance, 50);
-    const bool digits = value || of != OF_COUNTERS || (bad && percent(chance, 5));
+    const bool wide = bad && percent(chance, 5);
+    const bool digits = value || wide || of != OF_COUNTERS;
     const unsigned amounts = value ? 1 : 2;
     const size_t start = to->length;
 
@@ -185,7 +186,7 @@ static void invent_command(struct chance *chance, const struct world *world,
         spoil_command(chance, to);
 }
 
-/* Objects, written from the last byte to the first ---------------------------- */
+/* Objects, written from the last byte to the first -------------------------- */
 
 struct tail {
     uint8_t *at, *begin; /* what is written; where the room begins */
@@ -240,23 +241,29 @@ static void before_other(struct chance *chance, struct tail *tail)
     before_head(chance, tail, tag, length);
 }
 
+/* How many objects in a hundred are constructed, and how deep they go. */
+struct shape {
+    unsigned constructed, deepest;
+};
+
 static void before_list(struct chance *chance, const struct world *world,
-                        struct tail *tail, unsigned depth, unsigned wide);
+                        struct tail *tail, const struct shape *shape,
+                        unsigned depth);
 
 static void before_object(struct chance *chance, const struct world *world,
-                          struct tail *tail, unsigned depth, unsigned wide)
+                          struct tail *tail, const struct shape *shape,
+                          unsigned depth)
 {
     static const uint16_t tags[] = {0x71, 0x72, 0xE1,   0xA5,   0xBF0C,
                                     0xA6, 0x70, 0xFF01, 0x3F00, 0x20};
     const uint64_t which = below(chance, 100);
-    const unsigned deepest = percent(chance, 2) ? 5 : 4;
 
-    if (which < wide) {
+    if (which < shape->constructed) {
         const unsigned tag = PICK(chance, tags);
         const uint8_t *end = tail->at;
-        if (depth >= deepest)
+        if (depth == shape->deepest)
             return;
-        before_list(chance, world, tail, depth + 1, wide);
+        before_list(chance, world, tail, shape, depth + 1);
         before_head(chance, tail, tag, (size_t)(end - tail->at));
     } else if (which < 86) {
         struct command command;
@@ -276,7 +283,8 @@ static void before_object(struct chance *chance, const struct world *world,
 }
 
 static void before_list(struct chance *chance, const struct world *world,
-                        struct tail *tail, unsigned depth, unsigned wide)
+                        struct tail *tail, const struct shape *shape,
+                        unsigned depth)
 {
     static const uint8_t counts[] = {0, 1, 1, 1, 1, 2, 2, 2, 3, 4};
     unsigned count = PICK(chance, counts);
@@ -284,7 +292,7 @@ static void before_list(struct chance *chance, const struct world *world,
     if (depth > 2 && count > 2)
         count = 2;
     for (; count > 0; count--)
-        before_object(chance, world, tail, depth, wide);
+        before_object(chance, world, tail, shape, depth);
 }
 
 size_t invent_template(struct chance *chance, const struct world *world,
@@ -292,17 +300,19 @@ size_t invent_template(struct chance *chance, const struct world *world,
 {
     uint8_t room[TEMPLATE_ROOM];
     struct tail tail = {room + sizeof room, room};
-    const unsigned wide = percent(chance, 60) ? 5 : 45;
+    static const struct shape shapes[] = {{5, 4}, {5, 4}, {5, 4}, {45, 4},
+                                          {45, 4}, {75, 4}, {75, 5}};
+    const struct shape shape = PICK(chance, shapes);
     const unsigned tag = percent(chance, 60) ? 0x71 : 0x72;
 
-    before_list(chance, world, &tail, 1, wide);
+    before_list(chance, world, &tail, &shape, 1);
     before_head(chance, &tail, tag, (size_t)(room + sizeof room - tail.at));
     const size_t length = (size_t)(room + sizeof room - tail.at);
     memcpy(bytes, tail.at, length);
     return length;
 }
 
-/* Damage ----------------------------------------------------------------------- */
+/* Damage ------------------------------------------------------------------ */
 
 /* Bytes that mean something in a head. */
 static uint8_t invent_meaning(struct chance *chance)

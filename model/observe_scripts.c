@@ -309,7 +309,7 @@ static unsigned walk(const uint8_t *bytes, size_t length, bool counts)
     }
 }
 
-/* A command ------------------------------------------------------------------ */
+/* A command --------------------------------------------------------------- */
 
 /* What a command writes: values 0 to 3, limits of accumulators 4 to 7, of
  * counters 8 to 11. */
@@ -370,8 +370,9 @@ static bool see_command(const uint8_t *at, size_t length,
     if (at[length - 6] != 0x8E || at[length - 5] != 4)
         return false;
     writes->long_data = at[6] > 0x7F;
-    if (writes->long_data ? length < 14 || at[6] != 0x81 || at[7] + 14u != length
-                          : at[6] + 13u != length)
+    if (writes->long_data ? at[6] != 0x81 || length < 14 : at[6] + 13u != length)
+        return false;
+    if (writes->long_data && at[7] + 14u != length)
         return false;
 
     const uint8_t *next = at + 7 + writes->long_data, *end = at + length - 6;
