@@ -186,7 +186,7 @@ static void invent_command(struct chance *chance, const struct world *world,
         spoil_command(chance, to);
 }
 
-/* Objects, written from the last byte to the first -------------------------- */
+/* Objects, written from the last byte to the first ------------------------ */
 
 struct tail {
     uint8_t *at, *begin; /* what is written; where the room begins */

@@ -1109,4 +1109,6 @@ void listed_papers(uint64_t seed, void (*then)(struct draft *draft))
     listed_dates();
     listed_bounds();
     listed_cpace();
+    if (LATEST > 5)
+        listed_scripts();
 }

@@ -370,9 +370,9 @@ static bool see_command(const uint8_t *at, size_t length,
     if (at[length - 6] != 0x8E || at[length - 5] != 4)
         return false;
     writes->long_data = at[6] > 0x7F;
-    if (writes->long_data ? at[6] != 0x81 || length < 14 : at[6] + 13u != length)
+    if (writes->long_data && (at[6] != 0x81 || length < 14))
         return false;
-    if (writes->long_data && at[7] + 14u != length)
+    if (at[6 + writes->long_data] + 13u + writes->long_data != length)
         return false;
 
     const uint8_t *next = at + 7 + writes->long_data, *end = at + length - 6;
