@@ -505,6 +505,7 @@ static void failing_commands(void)
         "0CDABF3013810BDF01820006000000000007" MAC,
         "0CDABF3012810ADF018006000000000007" MAC,
         "0CDABF3012810ADF018206000000000007" MAC,
+        "0CDABF30088180" MAC, "0CDABF3009818000" MAC,
         "0CDABF30128009DF0106000000000007" MAC "00",
         "0CDABF301180DF0106000000000007" MAC "00",
         "0CDABF3013828109DF0106000000000007" MAC,
@@ -1093,6 +1094,38 @@ static void in_this_transaction(void)
     }
 }
 
+/* A Start that is refused, for each reason there is, while Second is due: the
+ * transaction goes on, and so does its failure. */
+static void refused_starts(void)
+{
+    static const uint8_t entry[] = {1, 1, 2, 0xFF, 0x01, 0, 0, 1};
+
+    for (unsigned reason = 0; reason < 5; reason++)
+        for (unsigned failed = 0; failed < 2; failed++) {
+            fresh(1, 1);
+            if (reason > 1)
+                cpace();
+            scripts();
+            if (reason > 2)
+                draft_entry(&setup.file, entry, sizeof entry);
+            setup.atc = reason == 1 ? 65534 : 7;
+            begin();
+            start(1);
+            first(ARQC, 1);
+            script(template(failed ? FAILS : put_value(1, 2)));
+            interface = reason == 2 || reason == 3 ? 2 : CONTACT;
+            if (reason == 4)
+                interface = CONTACTLESS; /* its action is 00 */
+            start(reason == 0 ? 2 : 1);
+            interface = CONTACT;
+            script(template(put_value(1, 3)));
+            second(TC, OTHER, VERIFIED, 0x80);
+            script(template(put_value(1, 4)));
+            see(1);
+            emit();
+        }
+}
+
 /* A command that fails among others, one of them with the result 0. */
 static void stopping(void)
 {
@@ -1522,6 +1555,7 @@ void listed_scripts(void)
     failures();
     shown_again();
     in_this_transaction();
+    refused_starts();
     stopping();
     bits_between();
     orders_between();
