@@ -1,19 +1,53 @@
 /* template_draw COUNT SEED: so many templates on standard output, each behind
  * its length in 4 bytes, the same for the same seed: trees that can be read,
- * the same damaged, and bytes that look like heads. */
+ * the same damaged, and bytes that look like heads or like elements. */
 #include <stdio.h>
 #include <stdlib.h>
+#include <string.h>
 
 #include "bytes.h"
 #include "invent_script.h"
 
 static struct draft_setup setup;
 
+/* One command, with bytes in it that mean something in an element; now and then
+ * it is cut. All lengths fit. */
+static size_t draw_command(struct chance *chance, uint8_t *bytes)
+{
+    static const uint8_t head[] = {0x71, 0, 0x86, 0, 0x0C, 0xDA, 0xBF, 0x30, 0};
+    static const uint8_t mac[] = {0x8E, 4, 1, 2, 3, 4};
+    static const uint8_t some[] = {0xDF, 0xDF, 0x01, 0x04, 0x11, 0x14, 0x00,
+                                   0x02, 0x06, 0x0C, 0x80, 0x81, 0x82};
+    const uint8_t count = (uint8_t)below(chance, 10);
+    size_t length = sizeof head;
+
+    memcpy(bytes, head, sizeof head);
+    if (percent(chance, 50))
+        bytes[7] = 0x35;
+    bytes[length++] = 0x81;
+    if (percent(chance, 10))
+        bytes[length++] = 0x81;
+    bytes[length++] = count;
+    for (unsigned i = 0; i < count; i++)
+        bytes[length++] = PICK(chance, some);
+    memcpy(bytes + length, mac, sizeof mac);
+    length += sizeof mac;
+    if (percent(chance, 20))
+        length = 4 + below(chance, length - 4);
+    if (length >= sizeof head)
+        bytes[8] = (uint8_t)(length - sizeof head);
+    bytes[3] = (uint8_t)(length - 4);
+    bytes[1] = (uint8_t)(length - 2);
+    return length;
+}
+
 static size_t draw_template(struct chance *chance, uint8_t *bytes)
 {
     struct world world;
     size_t length;
 
+    if (percent(chance, 10))
+        return draw_command(chance, bytes);
     invent_setup(chance, &world, &setup, 1, 0);
     if (percent(chance, 20)) {
         length = invent_heads(chance, bytes);
