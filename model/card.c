@@ -1,7 +1,10 @@
-/* Start, First and Second. Section names in quotes are those of document 01. */
+/* Start, First, Second and Script. Section names in quotes are those of
+ * document 01. */
 #include <string.h>
 
 #include "card.h"
+#include "put.h"
+#include "template.h"
 
 /* "Conversion", its fraction by the syllabus. The largest product, MAX x 9,999
  * x 1,000, is below 2^64. */
@@ -325,7 +328,11 @@ static void set_cvr(struct card *card, unsigned type)
     if (adr & DATE_ERROR)
         cvr[2] |= 0x02;
 
-    cvr[3] = adr & GO_ONLINE_NEXT ? 0x02 : 0;
+    cvr[3] = (uint8_t)(card->script_count << 4);
+    if (card->script_failed)
+        cvr[3] |= 0x08;
+    if (adr & GO_ONLINE_NEXT)
+        cvr[3] |= 0x02;
     cvr[4] = 0;
 }
 
@@ -382,6 +389,7 @@ unsigned card_start(struct card *card, const struct start *start,
     card->atc++;
     card->open.profile = profile;
     card->due = FIRST_DUE;
+    card->script_failed_here = false;
     return 0;
 }
 
@@ -455,12 +463,21 @@ static unsigned second_unable(struct card *card, const struct second *second)
     return type;
 }
 
+/* The issuer was heard of: a failed script is told, unless it failed in this
+ * transaction. */
+static void tell_script(struct card *card)
+{
+    if (!card->script_failed_here)
+        card->script_failed = false;
+}
+
 static unsigned second_verified(struct card *card, const struct second *second)
 {
     const uint8_t status = second->csu[1];
 
     card->history = status & 0x08 ? GO_ONLINE_NEXT : 0;
     card->open.cvr[0] &= (uint8_t)~0x03;
+    tell_script(card);
     update_as_ordered(card, status & 0x03);
     return second->type == TC && status & 0x80 ? TC : AAC;
 }
@@ -479,6 +496,7 @@ static unsigned second_absent(struct card *card, const struct second *second)
     if (card->setup.authentication_required)
         return AAC;
     card->history &= ~(uint32_t)LAST_ONLINE_NOT_COMPLETED;
+    tell_script(card);
     return second->type;
 }
 
@@ -509,5 +527,45 @@ unsigned card_second(struct card *card, const struct second *second,
     card->open.cvr[0] = (uint8_t)(type << 6 | (card->open.cvr[0] & 0x3F));
     card->due = NOTHING_DUE;
     give(card, type, answer);
+    return 0;
+}
+
+/* Request Twelve: the card that commands are for, and what the caller says of
+ * their secure messaging. */
+struct delivery {
+    struct card *card;
+    bool verified;
+};
+
+static bool try_command(void *with, const uint8_t *command, size_t length)
+{
+    const struct delivery *delivery = with;
+    struct card *card = delivery->card;
+    struct put put;
+
+    if (!delivery->verified || card->script_failed_here
+        || !put_read(&put, command, length)) {
+        card->script_failed = true;
+        card->script_failed_here = true;
+        return false;
+    }
+    put_write(card, &put);
+    card->script_count = (card->script_count + 1) % SCRIPT_COUNTS;
+    return true;
+}
+
+unsigned card_script(struct card *card, const struct script *script)
+{
+    struct delivery delivery = {card, script->messaging == MESSAGING_VERIFIED};
+
+    if (card->due == FIRST_DUE)
+        return 2;
+    if (script->messaging > MESSAGING_VERIFIED)
+        return 6;
+    const unsigned refusal =
+        template_read(script->template, script->length, NULL, NULL);
+    if (refusal > 0)
+        return refusal;
+    template_read(script->template, script->length, try_command, &delivery);
     return 0;
 }

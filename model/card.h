@@ -1,5 +1,5 @@
 /* The card of documents 01 and 02: what a set-up says, what the card
- * remembers, and its three commands. A command returns its refusal number, 0
+ * remembers, and its commands. A command returns its refusal number, 0
  * when done; a refused command has changed nothing. */
 #ifndef MODEL_CARD_H
 #define MODEL_CARD_H
@@ -9,6 +9,7 @@
 #include <stdint.h>
 
 #include "calendar.h"
+#include "latest.h"
 
 #define AMOUNT_MAX UINT64_C(999999999999)
 
@@ -21,12 +22,14 @@ enum {
     COUNTER_MAX = 255,
     ATC_MAX = 65535,
     IAD_BYTES = 32,
+    SCRIPT_COUNTS = 16,
 
     VERSION_SELECTION = 2, /* papers from this version on have it */
     VERSION_SYLLABUS = 3,
     VERSION_CYCLES = 4,
     VERSION_FAMILY = 5,
-    VERSION_MAX = 5
+    VERSION_SCRIPTS = 6,
+    VERSION_MAX = LATEST
 };
 
 /* The decision bits (ADR) in house order; bits 0 to 4 are the history. */
@@ -87,7 +90,13 @@ enum {
 };
 
 /* Kinds of record. */
-enum { KIND_SETUP = 1, KIND_START = 2, KIND_FIRST = 3, KIND_SECOND = 4 };
+enum {
+    KIND_SETUP = 1,
+    KIND_START = 2,
+    KIND_FIRST = 3,
+    KIND_SECOND = 4,
+    KIND_SCRIPT = 5 /* where scripts are on */
+};
 
 /* Type of a cryptogram, as requested and as given. */
 enum { AAC = 0, TC = 1, ARQC = 2 };
@@ -97,6 +106,9 @@ enum { UNABLE_Y3 = 0x5933, UNABLE_Z3 = 0x5A33 };
 
 /* Issuer data of a Second. */
 enum { ISSUER_ABSENT = 0, ISSUER_VERIFIED = 1, ISSUER_FAILED = 2 };
+
+/* The secure messaging result of a Script. */
+enum { MESSAGING_FAILED = 0, MESSAGING_VERIFIED = 1 };
 
 struct accumulator_rule {
     uint64_t lower, upper;
@@ -150,7 +162,7 @@ struct cyclic {
     uint8_t first_day; /* of a week */
 };
 
-/* What a set-up fixes for the whole paper. */
+/* What a set-up fixes for the whole paper; scripts change its limits. */
 struct setup {
     struct profile profile[PROFILES_MAX];
     struct conversion conversion[CONVERSIONS_MAX];
@@ -166,6 +178,7 @@ struct setup {
     uint8_t key_index;
     uint8_t pin_tries;
     bool authentication_required;
+    bool scripts;
 };
 
 /* What an amount is in another currency: nothing without an entry, an amount,
@@ -197,6 +210,9 @@ struct card {
     uint32_t history;
     uint16_t atc;
     struct date last; /* First's last date without error */
+    uint8_t script_count; /* commands done, from 0 again after 15 */
+    bool script_failed;   /* since the issuer was last heard of */
+    bool script_failed_here; /* since the last accepted Start */
     enum { NOTHING_DUE, FIRST_DUE, SECOND_DUE } due;
     struct transaction open; /* points into `setup`: a card stays where it is */
 };
@@ -223,6 +239,12 @@ struct second {
     uint16_t code;
     uint8_t issuer_data;
     const uint8_t *csu; /* 4 bytes */
+};
+
+struct script {
+    uint8_t messaging;
+    const uint8_t *template;
+    size_t length; /* of the template */
 };
 
 struct answer {
@@ -280,6 +302,9 @@ static inline bool counts_declines(uint8_t switches)
 bool card_set_up(struct card *card, unsigned version, const uint8_t *body,
                  size_t length);
 
+/* Twelve digits in six bytes; false if one of them is none. */
+bool read_digits(uint64_t *value, const uint8_t *at);
+
 /* The profile that the file gives for the terminal's data, the interface among
  * them, and how many entries were visited; false is refusal 12. */
 bool select_profile(const struct card *card, const struct start *start,
@@ -292,5 +317,6 @@ unsigned card_first(struct card *card, const struct first *first,
                     struct answer *answer);
 unsigned card_second(struct card *card, const struct second *second,
                      struct answer *answer);
+unsigned card_script(struct card *card, const struct script *script);
 
 #endif

@@ -1538,7 +1538,18 @@ static void family_tails(void)
         tail_case(5, tail, "", cases[i].lines);
         if (*cases[i].tail)
             tail_case(4, tail, "", refused);
-        tail_case(6, tail, "", "0 9\n");
+        tail_case(LATEST + 1, tail, "", "0 9\n");
+        if (LATEST < 6)
+            continue;
+        tail_case(6, tail, "", *cases[i].tail == '\0' ? refused
+                  : strcmp(cases[i].tail, "00 00") == 0 ? cpa
+                  : strcmp(cases[i].tail, "01 00000000 00000000 00 00") == 0
+                  ? cpace : refused);
+        tail_case(6, tail, "00", cases[i].lines);
+        tail_case(6, tail, "01", cases[i].lines);
+        tail_case(6, tail, "02", refused);
+        tail_case(6, tail, "FF", refused);
+        tail_case(6, tail, "01 00 00", refused);
     }
 }
 
@@ -1645,6 +1656,269 @@ static void refusals(void)
            "7 2\n");
 }
 
+/* The paper is these bytes, in hex. */
+static void expect_bytes(const char *name, const char *expected)
+{
+    char hex[2048];
+
+    for (size_t i = 0; i < draft->length; i++)
+        snprintf(hex + 2 * i, 3, "%02X", draft->bytes[i]);
+    cases++;
+    if (strcmp(hex, expected) != 0) {
+        wrong++;
+        printf("%s: expected\n%s\nbut got\n%s\n", name, expected, hex);
+    }
+}
+
+/* Request Twelve: its four sittings, byte for byte. */
+static void script_sittings(void)
+{
+    script_done();
+    expect_bytes("script done",
+                 "0600A5010103000100000000097800000000000000000000000000000000"
+                 "000000000000000000000000000000000000000000000000000001000000"
+                 "400000040000000400000000000000000000000007000000000000138800"
+                 "000000000027100000000000000000000000000000000000000000000000"
+                 "0000000000000000000000000000000000000000000000000000000003FF"
+                 "FF0000000000000000000101000000000001004E0501714A86160CDABF30"
+                 "118109DF01060000001234568E0411223344861C0CDABF3017810FDF110C"
+                 "0000002000000000003000008E041122334486120CDABF350D8105DF1102"
+                 "07098E041122334400020201000D03010000000000001388097822");
+    expect("script done",
+           "0 0\n"
+           "1 0\n"
+           "2 0 1\n"
+           "3 0 40 1 " IAD("9030003000", "000000128456", "0100"));
+    script_fails();
+    expect_bytes("script fails",
+                 "0600A5010103000100000000097800000000000000000000000000000000"
+                 "000000000000000000000000000000000000000000000000000001000000"
+                 "400000040000000400000000000000000000000007000000000000138800"
+                 "000000000027100000000000000000000000000000000000000000000000"
+                 "0000000000000000000000000000000000000000000000000000000003FF"
+                 "FF000000000000000000010100000000000100550501715186160CDABF30"
+                 "118109DF01060000000040008E0411223344861F0CDABF301A8112DF0106"
+                 "000000000007DF020600000000000A8E041122334486160CDABF30118109"
+                 "DF01060000000000098E0411223344001C0501711886160CDABF30118109"
+                 "DF01060000000000018E041122334400020201000D030200000000000000"
+                 "01097822000904013030010080000000020201000D030200000000000000"
+                 "01097822");
+    expect("script fails",
+           "0 0\n"
+           "1 0\n"
+           "2 0\n"
+           "3 0 1\n"
+           "4 0 80 1 " IAD("A030001800", "000000004000", "0000")
+           "5 0 40 1 " IAD("6030001800", "000000004000", "0000")
+           "6 0 2\n"
+           "7 0 80 2 " IAD("A030001000", "000000004000", "0000"));
+    script_between();
+    expect_bytes("script between",
+                 "0600A5010103000100000000097800000000000013880000000000000000"
+                 "000000000000000000000000000000000000000000000000000001000000"
+                 "400000000000000400000000000000000000000007000000000000138800"
+                 "000000000027100000000000000000000000000000000000000000000000"
+                 "0000000000000000000000000000000000000000000000000000000003FF"
+                 "FF000000000000000000010100000000000100020201000D030200000000"
+                 "00001770097822001C0501711886160CDABF30118109DF01060000000000"
+                 "008E0411223344000904015933000000000000020201000D030200000000"
+                 "00000FA009782200220501721E861C0CDABF3017810FDF110C0000000000"
+                 "000000000099998E0411223344000904015A33000000000000020201000D"
+                 "03000000000000000000097822");
+    expect("script between",
+           "0 0\n"
+           "1 0 1\n"
+           "2 0 80 1 " IAD("A030300000", "000000005000", "0000")
+           "3 0\n"
+           "4 0 40 1 " IAD("6230300100", "000000006000", "0100")
+           "5 0 2\n"
+           "6 0 80 2 " IAD("A231201000", "000000006000", "0100")
+           "7 0\n"
+           "8 0 00 2 " IAD("2231201100", "000000006000", "0100")
+           "9 0 3\n"
+           "10 0 00 3 " IAD("8231202000", "000000006000", "0100"));
+    script_refusals();
+    expect_bytes("script refusals",
+                 "0600A5010103000100000000097800000000000000000000000000000000"
+                 "000000000000000000000000000000000000000000000000000001000000"
+                 "400000040000000400000000000000000000000007000000000000138800"
+                 "000000000027100000000000000000000000000000000000000000000000"
+                 "0000000000000000000000000000000000000000000000000000000003FF"
+                 "FF0000000000000000000101000000000001000205020002050100050501"
+                 "710186000D05017109A507BF0C047102E100000D05017109BF0C067104E1"
+                 "02860000020201000D05027109A507BF0C047102E100000D030000000000"
+                 "0000000009782200010500020201");
+    expect("script refusals",
+           "0 0\n"
+           "1 6\n"
+           "2 18\n"
+           "3 18\n"
+           "4 19\n"
+           "5 0\n"
+           "6 0 1\n"
+           "7 2\n"
+           "8 0 00 1 " IAD("8030000800", "000000000000", "0000")
+           "9 9\n");
+}
+
+/* A template on a fresh card, 5 of accumulator 1 spent: its refusal, and what
+ * First shows: CVR byte 4, accumulator 1. */
+static void template_case(const char *template, unsigned refusal,
+                          const char *shown, const char *accumulator)
+{
+    char expected[200];
+
+    lenient();
+    scripts();
+    setup.accumulator[0].value = 5;
+    profile->accumulator[0].lower = MOST;
+    profile->accumulator[0].upper = MOST;
+    begin();
+    script(template);
+    start(1);
+    first(AAC, 0);
+    snprintf(expected, sizeof expected,
+             "0 0\n1 %u\n2 0 1\n3 0 00 1 0FA501803000%s00%s00000F01" ZEROS
+             "\n",
+             refusal, shown, accumulator);
+    expect(template, expected);
+}
+
+static void templates(void)
+{
+    static const char *const none[] = {
+        "7100", "7200", "710100", "718100", "71820000", "71039F0600",
+        "7103FF0100", "710650009F180000"};
+    static const char *const fails[] = {
+        "71028600", "7104A6028600", "710471028600", "7109BF0C067104E1028600",
+        "710486008600"};
+    static const char *const value[] = {
+        "711886160CDABF30118109DF01060000001234568E0411223344",
+        "7182001886160CDABF30118109DF01060000001234568E0411223344"};
+    static const char *const limits[] = {
+        "721E861C0CDABF3017810FDF120C0000000050000000000100008E0411223344",
+        "711486120CDABF350D8105DF110207098E0411223344"};
+    static const char *const malformed[] = {
+        "", "71", "7000", "7300", "7F7100", "5100", "00", "007100", "710000",
+        "71007200", "710186", "71028601", "71028681", "7103868200",
+        "71800000", "7183000000", "710486800000", "7181", "718200", "7101FF",
+        "7102FFFF", "71019F", "71029F18", "71049F810100",
+        "7106E10286015000", "710A86807106710471027100",
+        "7108710671047102E101"};
+    static const char *const too_deep[] = {
+        "7108710671047102E100", "7109710671047102710086",
+        "710A710871067104E1028605"};
+
+    for (size_t i = 0; i < sizeof none / sizeof *none; i++)
+        template_case(none[i], 0, "00", "000000000005");
+    for (size_t i = 0; i < sizeof fails / sizeof *fails; i++)
+        template_case(fails[i], 0, "08", "000000000005");
+    for (size_t i = 0; i < sizeof value / sizeof *value; i++)
+        template_case(value[i], 0, "10", "000000123456");
+    for (size_t i = 0; i < sizeof limits / sizeof *limits; i++)
+        template_case(limits[i], 0, "10", "000000000005");
+    for (size_t i = 0; i < sizeof malformed / sizeof *malformed; i++)
+        template_case(malformed[i], 18, "00", "000000000005");
+    for (size_t i = 0; i < sizeof too_deep / sizeof *too_deep; i++)
+        template_case(too_deep[i], 19, "00", "000000000005");
+}
+
+/* The command in a template alone: it is done, and accumulator 1 is this, or
+ * it fails. */
+static void command_case(const char *command, const char *accumulator)
+{
+    char template[600];
+    const unsigned size = (unsigned)strlen(command) / 2;
+
+    snprintf(template, sizeof template, "7182%04X8682%04X%s", size + 4, size,
+             command);
+    template_case(template, 0, accumulator ? "10" : "08",
+                  accumulator ? accumulator : "000000000005");
+}
+
+#define MAC "8E0411223344"
+
+static void commands(void)
+{
+    static const char *const fails[] = {
+        "0CDABF30118109DF010600000000000A" MAC,
+        "8CDABF30118109DF0106000000000007" MAC,
+        "00DABF30118109DF0106000000000007" MAC,
+        "0CDBBF30118109DF0106000000000007" MAC,
+        "0C18BF30118109DF0106000000000007" MAC,
+        "0CDABF31118109DF0106000000000007" MAC,
+        "0CDABF37118109DF0106000000000007" MAC,
+        "0CDABF3C118109DF0106000000000007" MAC,
+        "0CDABF42118109DF0106000000000007" MAC,
+        "0CDABF30118109DF0006000000000007" MAC,
+        "0CDABF30118109DF0506000000000007" MAC,
+        "0CDABF3017810FDF150C000000000007000000000009" MAC,
+        "0CDABF3017810FDF210C000000000007000000000009" MAC,
+        "0CDABF350C8104DF010107" MAC,
+        "0CDABF35118109DF0106000000000007" MAC,
+        "0CDABF300B8103DF0100" MAC,
+        "0CDABF30108108DF01050000000007" MAC,
+        "0CDABF3012810ADF010700000000000007" MAC,
+        "0CDABF3017810FDF010C000000000007000000000009" MAC,
+        "0CDABF30118109DF1106000000000007" MAC,
+        "0CDABF3023811BDF1118000000000007000000000009000000000007000000000009"
+        MAC,
+        "0CDABF350C8104DF110107" MAC,
+        "0CDABF350F8107DF110407090709" MAC,
+        "0CDABF3517810FDF110C000000000007000000000009" MAC,
+        "0CDABF3013820009DF0106000000000007" MAC,
+        "0CDABF3013810BDF01820006000000000007" MAC,
+        "0CDABF30108109DF0106000000000007" MAC,
+        "0CDABF30128109DF0106000000000007" MAC,
+        "0CDABF30118109DF0106000000000007" MAC "00",
+        "0CDABF30118009DF0106000000000007" MAC,
+        "0CDABF30118709DF0106000000000007" MAC,
+        "0CDABF300B8109DF0106000000000007",
+        "0CDABF3011" MAC "8109DF0106000000000007",
+        "0CDABF30118109DF01060000000000078F0411223344",
+        "0CDABF30108109DF01060000000000078E03112233",
+        "0CDABF30128109DF01060000000000078E051122334455",
+        "0CDABF30158109DF01060000000000078E081122334455667788",
+        "0CDABF30128109DF01060000000000078E810411223344",
+        "",
+        "0CDABF30",
+        "0CDABF3014810CBF3009DF0106000000000007" MAC};
+
+    command_case("0CDABF300881008E0411223344", "000000000005");
+    command_case("0CDABF3012810ADF0106000000000006008E0411223344",
+                 "000000000006");
+    command_case("0CDABF3012818109DF01060000000000078E0411223344",
+                 "000000000007");
+    command_case("0CDABF3012810ADF0181060000000000088E0411223344",
+                 "000000000008");
+    for (size_t i = 0; i < sizeof fails / sizeof *fails; i++)
+        command_case(fails[i], NULL);
+}
+
+/* So many commands done, and then one that fails or not. */
+static void script_counts(void)
+{
+    static const struct {
+        unsigned done;
+        bool fails;
+        const char *shown;
+    } counts[] = {{1, false, "10"}, {15, false, "F0"}, {16, false, "00"},
+                  {17, false, "10"}, {15, true, "F8"}};
+
+    for (size_t i = 0; i < sizeof counts / sizeof *counts; i++) {
+        char template[2048];
+        const unsigned size = 15 * counts[i].done + 2 * counts[i].fails;
+        size_t at = (size_t)snprintf(template, sizeof template, "7182%04X",
+                                     size);
+        for (unsigned j = 0; j < counts[i].done; j++)
+            at += (size_t)snprintf(template + at, sizeof template - at,
+                                   "860D0CDABF30088100" MAC);
+        if (counts[i].fails)
+            snprintf(template + at, sizeof template - at, "8600");
+        template_case(template, 0, counts[i].shown, "000000000005");
+    }
+}
+
 static void papers(void)
 {
     printed();
@@ -1667,7 +1941,11 @@ static void papers(void)
     draft->bytes[0] = 5;
     expect("version 05 without a tail", "0 1\n");
     draft->bytes[0] = 6;
-    expect("version 06", "0 9\n");
+    expect("version 06, without a tail", LATEST < 6 ? "0 9\n" : "0 1\n");
+    if (LATEST > 5) {
+        draft->bytes[0] = LATEST + 1;
+        expect("version 07", "0 9\n");
+    }
     begin();
     draft->length--;
     expect("set-up cut short", "0 9\n");
@@ -1744,6 +2022,12 @@ int main(void)
     cpace_lengths();
     interfaces();
     slot_tests();
+    if (LATEST > 5) {
+        script_sittings();
+        templates();
+        commands();
+        script_counts();
+    }
     annex_i();
     cycles();
     no_days();

@@ -153,6 +153,26 @@ static void damage_family(struct chance *chance,
     }
 }
 
+/* The tail of version 06: its switch, or a byte more or less. */
+static void damage_scripts(struct chance *chance,
+                           const struct draft_setup *setup, struct draft *draft)
+{
+    uint8_t *at = draft->bytes + SETUP_BODY + draft_setup_scripts(setup);
+    const uint8_t value = any_byte(chance);
+
+    switch (below(chance, 4)) {
+    case 0:
+        *at = !setup->scripts;
+        break;
+    case 1:
+        *at = percent(chance, 50) ? 2 : value;
+        break;
+    default:
+        resize_setup(draft, percent(chance, 50) ? 1 : -1);
+        break;
+    }
+}
+
 /* One byte of the tails that has a range or delimits: the syllabus, the switch,
  * the number of entries, or the length of one of them. */
 static void damage_tail(struct chance *chance, const struct draft_setup *setup,
@@ -163,6 +183,10 @@ static void damage_tail(struct chance *chance, const struct draft_setup *setup,
 
     if (setup->version < 2)
         return;
+    if (setup->version > 5 && percent(chance, 50)) {
+        damage_scripts(chance, setup, draft);
+        return;
+    }
     if (setup->version > 4 && percent(chance, 60)) {
         damage_family(chance, setup, draft);
         return;
@@ -209,6 +233,12 @@ static void damage_record(struct chance *chance,
     for (size_t i = 0; i < sizeof bytes; i++)
         bytes[i] = any_byte(chance);
     bytes[2] = (uint8_t)(kind + 2);
+    if (setup->version > 5 && percent(chance, 20)) { /* a Script's body */
+        put16(bytes, percent(chance, 50) ? 1 : 2);
+        bytes[2] = KIND_SCRIPT;
+        draft_insert(draft, place, bytes, 2 + (size_t)get16(bytes));
+        return;
+    }
     switch (below(chance, 5)) {
     case 0: /* no kind */
         put16(bytes, 0);
@@ -306,8 +336,11 @@ static void damage_size(struct chance *chance, const struct draft_setup *setup,
 void damage(struct chance *chance, const struct draft_setup *setup,
             struct draft *draft)
 {
-    static const uint8_t versions[] = {0, 1, 2,    3,    4,   5,
-                                       6, 0x10, 0x80, 0x81, 0xFF};
+    static const uint8_t versions[] = {
+#if LATEST > 5
+        6,
+#endif
+        0, 1, 2, 3, 4, 5, LATEST + 1, 0x10, 0x80, 0x81, 0xFF};
     uint8_t tail[4];
     size_t place;
 

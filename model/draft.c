@@ -77,6 +77,11 @@ bool draft_is_cpace(const struct draft_setup *setup)
     return setup->version > 4 && setup->family == CPACE;
 }
 
+bool draft_has_scripts(const struct draft_setup *setup)
+{
+    return setup->version > 5 && setup->scripts;
+}
+
 size_t draft_setup_body(const struct draft_setup *setup, uint8_t *body)
 {
     uint8_t *at = body;
@@ -140,6 +145,8 @@ size_t draft_setup_body(const struct draft_setup *setup, uint8_t *body)
         at = put_cycles(setup, at);
     if (setup->version > 4)
         at = put_family(setup, at);
+    if (setup->version > 5)
+        *at++ = setup->scripts;
     return (size_t)(at - body);
 }
 
@@ -162,6 +169,13 @@ size_t draft_setup_family(const struct draft_setup *setup)
 
     return draft_setup_cycles(setup)
         + (setup->dated ? SETUP_CYCLES + limits : 1);
+}
+
+size_t draft_setup_scripts(const struct draft_setup *setup)
+{
+    const size_t family = (size_t)SETUP_FAMILY + setup->profiles;
+
+    return draft_setup_family(setup) + (setup->family ? family : 1);
 }
 
 void draft_entry(struct draft_file *file, const uint8_t *entry, size_t length)
@@ -251,6 +265,18 @@ void draft_second(struct draft *draft, uint8_t type, uint16_t code,
     body[3] = issuer_data;
     put32(body + 4, csu);
     draft_record(draft, KIND_SECOND, body, sizeof body);
+}
+
+void draft_script(struct draft *draft, uint8_t result, const uint8_t *template,
+                  size_t length)
+{
+    static uint8_t body[DRAFT_BYTES];
+
+    assert(length < sizeof body);
+    body[0] = result;
+    if (length > 0)
+        memcpy(body + 1, template, length);
+    draft_record(draft, KIND_SCRIPT, body, 1 + length);
 }
 
 void draft_insert(struct draft *draft, size_t place, const uint8_t *bytes,

@@ -8,11 +8,19 @@
 #include <stddef.h>
 #include <stdint.h>
 
+#include "latest.h"
+
 #define MOST UINT64_C(999999999999)
 
 enum { PAPER = 65536 };
 
-enum { KIND_SETUP = 1, KIND_START = 2, KIND_FIRST = 3, KIND_SECOND = 4 };
+enum {
+    KIND_SETUP = 1,
+    KIND_START = 2,
+    KIND_FIRST = 3,
+    KIND_SECOND = 4,
+    KIND_SCRIPT = 5
+};
 enum { AAC = 0, TC = 1, ARQC = 2 };
 enum { EUR = 0x0978, USD = 0x0840 };
 enum { ONLINE_TERMINAL = 0x22, OFFLINE_TERMINAL = 0x23 };
@@ -63,7 +71,7 @@ enum {
     SETUP_LIMITS = 18, /* of a profile in it */
     SETUP_FAMILY = 9,  /* the tail of version 05, CPACE, without its switches */
     SETUP_ROOM = SETUP_BASE + 2 + FILE_ROOM + 1 + SETUP_CYCLES
-        + 5 * SETUP_LIMITS + SETUP_FAMILY + 5
+        + 5 * SETUP_LIMITS + SETUP_FAMILY + 5 + 1
 };
 
 struct draft_profile {
@@ -123,6 +131,7 @@ struct draft_setup {
     } cyclic[2];
     uint8_t family;         /* from version 05 on, and if it is CPACE: */
     uint8_t control[8];     /* of the accumulators, then of the counters */
+    uint8_t scripts;        /* from version 06 on */
 };
 
 /* What a First has behind its terminal type, where the set-up asks for it. */
@@ -155,17 +164,22 @@ void draft_first_for(struct draft *draft, const struct draft_setup *setup,
                      uint8_t terminal, const struct draft_more *more);
 void draft_second(struct draft *draft, uint8_t type, uint16_t code,
                   uint8_t issuer_data, uint32_t csu);
+void draft_script(struct draft *draft, uint8_t result, const uint8_t *template,
+                  size_t length);
 
-/* Whether its Firsts carry a date, and whether it is a CPACE card's. */
+/* Whether its Firsts carry a date, whether it is a CPACE card's, and whether it
+ * takes scripts. */
 bool draft_is_dated(const struct draft_setup *setup);
 bool draft_is_cpace(const struct draft_setup *setup);
+bool draft_has_scripts(const struct draft_setup *setup);
 
-/* The body alone, and where its tails, that of version 04 and that of version
- * 05 begin; all return a length. */
+/* The body alone, and where its tails, that of version 04, that of 05 and that
+ * of 06 begin; all return a length. */
 size_t draft_setup_body(const struct draft_setup *setup, uint8_t *body);
 size_t draft_setup_base(const struct draft_setup *setup);
 size_t draft_setup_cycles(const struct draft_setup *setup);
 size_t draft_setup_family(const struct draft_setup *setup);
+size_t draft_setup_scripts(const struct draft_setup *setup);
 
 /* The next entry of a file, its length before it; it may be ill-formed. */
 void draft_entry(struct draft_file *file, const uint8_t *entry, size_t length);

@@ -188,3 +188,75 @@ void interface_selection(void)
     start_by(2);
     draft_data(draft, NULL, 0);
 }
+
+/* Document 01's set-up, scripts on. */
+static void begin_scripts(void)
+{
+    draft_printed_setup(&setup);
+    scripts();
+}
+
+void script_done(void)
+{
+    begin_scripts();
+    begin();
+    script("714A"
+           "86160CDABF30118109DF01060000001234568E0411223344"
+           "861C0CDABF3017810FDF110C0000002000000000003000008E0411223344"
+           "86120CDABF350D8105DF110207098E0411223344");
+    start(1);
+    first(TC, 5000);
+}
+
+void script_fails(void)
+{
+    begin_scripts();
+    begin();
+    script("7151"
+           "86160CDABF30118109DF01060000000040008E0411223344"
+           "861F0CDABF301A8112DF0106000000000007DF020600000000000A8E0411223344"
+           "86160CDABF30118109DF01060000000000098E0411223344");
+    script("7118"
+           "86160CDABF30118109DF01060000000000018E0411223344");
+    start(1);
+    first(ARQC, 1);
+    second(TC, OTHER, VERIFIED, 0x80);
+    start(1);
+    first(ARQC, 1);
+}
+
+void script_between(void)
+{
+    begin_scripts();
+    setup.profile[0].decline = 0;
+    setup.accumulator[0].value = 5000;
+    begin();
+    start(1);
+    first(ARQC, 6000);
+    script("7118"
+           "86160CDABF30118109DF01060000000000008E0411223344");
+    second(TC, Y3, ABSENT, 0);
+    start(1);
+    first(ARQC, 4000);
+    script("721E"
+           "861C0CDABF3017810FDF110C0000000000000000000099998E0411223344");
+    second(TC, Z3, ABSENT, 0);
+    start(1);
+    first(AAC, 0);
+}
+
+void script_refusals(void)
+{
+    begin_scripts();
+    begin();
+    script_by(2, "");
+    script("");
+    script("710186");
+    script("7109A507BF0C047102E100");
+    script("7109BF0C067104E1028600");
+    start(1);
+    script_by(2, "7109A507BF0C047102E100");
+    first(AAC, 0);
+    draft_record(draft, KIND_SCRIPT, NULL, 0);
+    start(1);
+}

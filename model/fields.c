@@ -86,6 +86,8 @@ const struct field *fields(void)
     for (size_t i = 0; i < 8; i++) /* controls */
         add(IN_FAMILY, 1 + i, 1, 0, 15);
     add(IN_CHECKS, 0, 1, 0, 1); /* cashback */
+    if (SCRIPTS_FIELDS > 0)
+        add(IN_SCRIPTS, 0, 1, 0, 1);
     assert(filled == FIELDS);
     return table;
 }
@@ -99,6 +101,8 @@ bool has_field(const struct draft_setup *setup, const struct field *field)
     case IN_FAMILY:
     case IN_CHECKS:
         return draft_is_cpace(setup);
+    case IN_SCRIPTS:
+        return setup->version > 5;
     default:
         return true;
     }
@@ -168,8 +172,10 @@ size_t field_offset(const struct field *field, const struct draft_setup *setup,
             + (size_t)SETUP_LIMITS * place;
     case IN_FAMILY:
         return offset + draft_setup_family(setup);
-    default:
+    case IN_CHECKS:
         return offset + draft_setup_family(setup) + SETUP_FAMILY + place;
+    default:
+        return offset + draft_setup_scripts(setup);
     }
 }
 

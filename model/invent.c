@@ -3,6 +3,7 @@
 #include <string.h>
 
 #include "dates.h"
+#include "invent_script.h"
 
 static uint64_t around_thousands(struct chance *chance)
 {
@@ -35,8 +36,7 @@ static uint64_t special(struct chance *chance)
     }
 }
 
-/* A stored value or a limit. */
-static uint64_t invent_value(struct chance *chance, const struct world *world)
+uint64_t invent_value(struct chance *chance, const struct world *world)
 {
     if (percent(chance, 12))
         return special(chance);
@@ -70,7 +70,7 @@ static uint64_t invent_amount(struct chance *chance, const struct world *world)
     }
 }
 
-static uint8_t invent_count(struct chance *chance)
+uint8_t invent_count(struct chance *chance)
 {
     static const uint8_t counts[] = {0, 0, 1, 1, 2, 3, 253, 254, 255, 255};
 
@@ -307,8 +307,7 @@ static uint8_t invent_action(struct chance *chance,
     return (uint8_t)(0x81 + below(chance, left < 4 ? left : 4));
 }
 
-/* Twelve digits in six bytes. */
-static void put_amount(uint8_t *at, uint64_t amount)
+void put_amount(uint8_t *at, uint64_t amount)
 {
     for (int i = 5; i >= 0; i--) {
         at[i] = (uint8_t)(amount % 100 / 10 << 4 | amount % 10);
@@ -615,6 +614,12 @@ static void invent_version_05(struct chance *chance, struct world *world,
 void invent_version(struct chance *chance, struct world *world,
                     struct draft_setup *setup)
 {
+    if (LATEST > 5 && percent(chance, 40)) {
+        invent_version_05(chance, world, setup);
+        setup->version = 6;
+        setup->scripts = percent(chance, 92);
+        return;
+    }
     if (percent(chance, 25))
         return;
     setup->version = (uint8_t)(2 + below(chance, 6)); /* 04 and 05 twice */
@@ -896,12 +901,15 @@ static void invent_recovery(struct chance *chance, struct world *world,
 static void invent_any(struct chance *chance, struct world *world,
                        const struct draft_setup *setup, struct draft *draft)
 {
-    switch (below(chance, 3)) {
+    switch (below(chance, draft_has_scripts(setup) ? 4 : 3)) {
     case 0:
         invent_start(chance, world, setup, draft, false);
         break;
     case 1:
         invent_first(chance, world, setup, draft, false);
+        break;
+    case 3:
+        invent_script(chance, world, draft);
         break;
     default:
         invent_second(chance, draft, false);
@@ -915,17 +923,26 @@ void invent_commands(struct chance *chance, struct world *world,
 {
     static const unsigned second_after[] = {3, 30, 95, 20, 20, 20};
     const size_t end = draft->records + count;
+    const bool scripts = draft_has_scripts(setup);
 
     while (draft->records < end) {
         if (!tidy && percent(chance, 10)) {
             invent_any(chance, world, setup, draft);
             continue;
         }
+        if (scripts && percent(chance, 20)) {
+            invent_script(chance, world, draft);
+            continue;
+        }
         invent_start(chance, world, setup, draft, tidy);
+        if (scripts && percent(chance, 5) && draft->records < end)
+            invent_script(chance, world, draft);
         if (draft->records == end)
             break;
         const uint8_t type = invent_first(chance, world, setup, draft, tidy);
         const unsigned share = second_after[type < 6 ? type : 5];
+        if (scripts && percent(chance, 40) && draft->records < end)
+            invent_script(chance, world, draft);
         if (draft->records == end)
             break;
         if (setup->dated && world->in_error && percent(chance, 60))

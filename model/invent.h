@@ -40,6 +40,13 @@ void invent_commands(struct chance *chance, struct world *world,
                      const struct draft_setup *setup, struct draft *draft,
                      size_t count, bool tidy);
 
+/* A stored value or a limit, of an accumulator and of a counter. */
+uint64_t invent_value(struct chance *chance, const struct world *world);
+uint8_t invent_count(struct chance *chance);
+
+/* Twelve digits in six bytes. */
+void put_amount(uint8_t *at, uint64_t amount);
+
 /* Two bytes with one digit that is none, the first, second, third or fourth. */
 uint16_t bad_currency(struct chance *chance, unsigned digit);
 

@@ -56,6 +56,21 @@ static void begin_cpace(unsigned profiles, bool dated)
     invent_commands(&chance, &world, &setup, draft, 3, true);
 }
 
+/* The same with a set-up of version 06, scripts on, CPACE or not. */
+static void begin_scripts(unsigned profiles, bool dated, bool family)
+{
+    struct world world;
+
+    invent_setup(&chance, &world, &setup, profiles, 6);
+    if (dated)
+        invent_cycles(&chance, &world, &setup);
+    if (family)
+        invent_family(&chance, &setup);
+    scripts();
+    begin();
+    invent_commands(&chance, &world, &setup, draft, 3, true);
+}
+
 /* Each field just out of range, in the first to the last of its kind. */
 static void fields_out_of_range(void)
 {
@@ -76,8 +91,10 @@ static void fields_out_of_range(void)
                           field->part == IN_CONVERSION ? conversions : 0);
             else if (i < BASE_FIELDS + CYCLES_FIELDS)
                 begin_dated(profiles);
-            else
+            else if (i < BASE_FIELDS + CYCLES_FIELDS + FAMILY_FIELDS)
                 begin_cpace(profiles, turn & 1);
+            else
+                begin_scripts(profiles, turn & 1, turn & 2);
             const uint64_t value =
                 bad_value(&chance, field, setup.version, which);
             put_field(draft->bytes + field_offset(field, &setup, place),
@@ -206,7 +223,7 @@ static void raw(const uint8_t *bytes, size_t count)
 
 static void papers_unreadable(void)
 {
-    static const uint8_t versions[] = {0, 6, 0xFF};
+    static const uint8_t versions[] = {0, LATEST + 1, 0xFF};
     static const uint8_t cut[] = {1, 0, 0xA0, 1};
     static const uint8_t kinds[] = {0, 2, 3, 4, 5, 0xFF};
 
@@ -1092,4 +1109,6 @@ void listed_papers(uint64_t seed, void (*then)(struct draft *draft))
     listed_dates();
     listed_bounds();
     listed_cpace();
+    if (LATEST > 5)
+        listed_scripts();
 }

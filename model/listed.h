@@ -29,6 +29,9 @@ void listed_dates(void);
 /* CPACE cards. */
 void listed_cpace(void);
 
+/* Issuer scripts, where version 06 is read. */
+void listed_scripts(void);
+
 /* Every version and kind that is none, and the largest of everything. */
 void listed_bounds(void);
 

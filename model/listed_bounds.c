@@ -12,9 +12,9 @@ static uint8_t many[PAPER];
 static void versions(void)
 {
     draft_printed_setup(&setup);
-    setup.version = 5;
+    setup.version = LATEST;
     for (unsigned version = 0; version < 256; version++) {
-        if (version >= 1 && version <= 5)
+        if (version >= 1 && version <= LATEST)
             continue;
         begin();
         draft->bytes[0] = (uint8_t)version;

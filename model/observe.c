@@ -6,6 +6,7 @@
 #include <string.h>
 
 #include "bytes.h"
+#include "observe_scripts.h"
 #include "reached.h"
 
 static void reached_if(bool holds, unsigned cause)
@@ -58,6 +59,7 @@ static void observe_setup(const struct setup *setup, unsigned version)
 
     closed_by = NOT_CLOSED;
     error_date = 0;
+    observe_scripts_setup(version);
     for (unsigned i = 0; on && i < setup->selection.entries; i++) {
         long_entries += *at == 255;
         at += 1 + *at;
@@ -68,7 +70,7 @@ static void observe_setup(const struct setup *setup, unsigned version)
     else
         reached(SETUP_TAKEN + 1
                 + setup_kind(version, on, setup->cyclics > 0,
-                             is_cpace(setup)));
+                             is_cpace(setup), setup->scripts));
     reached_if(version >= VERSION_SYLLABUS,
                SYLLABUS_TAKEN + 2 * (version - VERSION_SYLLABUS)
                    + setup->syllabus);
@@ -268,6 +270,7 @@ static bool observe_slot(const struct card *before, const uint8_t *at,
         observe_digits(at + 4, &block);
     reached(rows[type & 3] + 3 * place
             + (value < block ? 0 : 1 + (value > block)));
+    reached_if(slot < 3 && script_wrote(slot), SLOT_NEW + slot);
     reached_if(type & 0x0C, SLOT_UNASKED + (type >> 2 & 3u) - 1);
     if (reads) {
         reached_if(end == start->length, SLOT_TO_END);
@@ -1225,6 +1228,7 @@ static void observe_first(const struct card *before, const struct card *after,
     observe_first_refusal(before, first);
     if (refusal != 0)
         return;
+    observe_scripts_first(before, after, given);
     memcpy(cyclic, before->cyclic, sizeof cyclic);
     if (before->setup.cyclics > 0)
         observe_date(before, after, first, given, cyclic);
@@ -1383,6 +1387,7 @@ static void observe_second(const struct card *before, const struct card *after,
     observe_second_refusal(before, second);
     if (refusal != 0)
         return;
+    observe_scripts_second(before, after, second, given);
     observe_issuer(before, second);
     if (is_unable(second->code))
         observe_unable(before, open, second, given);
@@ -1410,6 +1415,8 @@ void observe(const struct sitting *before, const struct sitting *after,
     const struct card *was = &before->card, *is = &after->card;
     struct record record;
 
+    if (refusal == 9)
+        observe_unreadable_script(before);
     if (refusal == 1 || refusal == 9)
         return;
     if (before->record == 0) {
@@ -1420,6 +1427,7 @@ void observe(const struct sitting *before, const struct sitting *after,
     switch (record.kind) {
     case KIND_START: {
         const struct start start = read_start(&record);
+        observe_scripts_start(was, is, refusal);
         observe_start(was, is, &start, refusal);
         break;
     }
@@ -1428,9 +1436,14 @@ void observe(const struct sitting *before, const struct sitting *after,
         observe_first(was, is, &first, refusal);
         break;
     }
-    default: {
+    case KIND_SECOND: {
         const struct second second = read_second(&record);
         observe_second(was, is, &second, refusal);
+        break;
+    }
+    default: {
+        const struct script script = read_script(&record);
+        observe_script(was, is, &script, refusal);
         break;
     }
     }

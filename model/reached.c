@@ -17,13 +17,20 @@ static const struct row {
 } rows[] = {
 #define ROW(name, count, part, text, labels) {part, text, labels, name, count},
     REACHED_LIST(ROW)
+#if LATEST > 5
+    REACHED_SCRIPTS(ROW)
+#endif
 #undef ROW
 };
 
+/* Of CVR byte 4. */
+enum { SCRIPT_BITS = LATEST > 5 ? 0xF8 : 0x00 };
+
 /* The named bits of the CVR at First and at Second: those that are both set
  * and clear at times, those always set. All others are always clear. */
-static const uint8_t cvr_varies[2][5] = {{0x33, 0xF3, 0xF2, 0x02, 0x00},
-                                         {0x43, 0xF3, 0xF2, 0x03, 0x00}};
+static const uint8_t cvr_varies[2][5] = {
+    {0x33, 0xF3, 0xF2, SCRIPT_BITS | 0x02, 0x00},
+    {0x43, 0xF3, 0xF2, SCRIPT_BITS | 0x03, 0x00}};
 static const uint8_t cvr_always[2][5] = {{0x80}, {0x20}};
 static uint64_t cvr_set[2][40], cvr_clear[2][40];
 

@@ -13,6 +13,8 @@
 #include <stddef.h>
 #include <stdint.h>
 
+#include "latest.h"
+
 /* The ways a transaction closes, as observe.c numbers them. */
 #define CLOSED_WAYS                                                            \
     "First TC|First TC, offline-only|First AAC, requested|"                    \
@@ -65,12 +67,34 @@
     "2 below|2 equal|2 above|3 below|3 equal|3 above|"                         \
     "4 below|4 equal|4 above"
 
+/* What the latest version adds to rows that older ones have. */
+#if LATEST > 5
+#define ABOVE_LATEST "00|above 06"
+#define MASK_VERSIONS "01 to 03|04|05 and 06"
+#define SCRIPT_SETUP_KINDS                                                     \
+    "|06 CPA off|06 CPA on|06 CPA off, dated|06 CPA on, dated|"                \
+    "06 CPACE off|06 CPACE on|06 CPACE off, dated|06 CPACE on, dated|"         \
+    "06 scripts, CPA off|06 scripts, CPA on|06 scripts, CPA off, dated|"       \
+    "06 scripts, CPA on, dated|06 scripts, CPACE off|"                         \
+    "06 scripts, CPACE on|06 scripts, CPACE off, dated|"                       \
+    "06 scripts, CPACE on, dated"
+#define SCRIPT_SYLLABI "|0 in 06|1 in 06"
+enum { SETUP_KINDS_COUNT = 32, SYLLABI_COUNT = 8 };
+#else
+#define ABOVE_LATEST "00|above 05"
+#define MASK_VERSIONS "01 to 03|04|05"
+#define SCRIPT_SETUP_KINDS ""
+#define SCRIPT_SYLLABI ""
+enum { SETUP_KINDS_COUNT = 16, SYLLABI_COUNT = 6 };
+#endif
+
 /* In the order of setup_kind. */
 #define SETUP_KINDS                                                            \
     "02 off|02 on|03 off|03 on|"                                               \
     "04 off|04 on|04 off, dated|04 on, dated|"                                 \
     "05 CPA off|05 CPA on|05 CPA off, dated|05 CPA on, dated|"                 \
-    "05 CPACE off|05 CPACE on|05 CPACE off, dated|05 CPACE on, dated"
+    "05 CPACE off|05 CPACE on|05 CPACE off, dated|05 CPACE on, dated"          \
+    SCRIPT_SETUP_KINDS
 
 /* What has a value and grows by amounts, and its limits. */
 #define SLOTS "1|2|3|4|cyclic 1|cyclic 2"
@@ -81,7 +105,7 @@
 #define REACHED_LIST(X)                                                        \
     X(PAPER_EMPTY, 1, "refusal 9", "paper empty", "")                          \
     X(PAPER_LONG, 1, "refusal 9", "paper over 65,536 bytes", "")               \
-    X(PAPER_VERSION, 2, "refusal 9", "version unknown", "00|above 05")         \
+    X(PAPER_VERSION, 2, "refusal 9", "version unknown", ABOVE_LATEST)          \
     X(PAPER_BARE, 1, "refusal 9", "set-up missing: no record at all", "")      \
     X(SETUP_MISSING, 3, "refusal 9",                                           \
       "set-up missing, first record of another kind",                          \
@@ -123,11 +147,11 @@
     X(BAD_NUMBER, 2, "refusal 1", "profile number", "0|above 124")             \
     X(BAD_NUMBER_TWICE, 1, "refusal 1", "profile number twice", "")            \
     X(BAD_ONLINE, 3, "refusal 1", "Online mask has an unnamed bit",            \
-      "01 to 03|04|05")                                                        \
+      MASK_VERSIONS)                                                           \
     X(BAD_DECLINE, 3, "refusal 1", "Decline mask has an unnamed bit",          \
-      "01 to 03|04|05")                                                        \
+      MASK_VERSIONS)                                                           \
     X(BAD_DEFAULT, 3, "refusal 1", "Default mask has an unnamed bit",          \
-      "01 to 03|04|05")                                                        \
+      MASK_VERSIONS)                                                           \
     X(BAD_MTA_ON, 1, "refusal 1", "MTA on above 1", "")                        \
     X(BAD_MTA_CURRENCY, 4, "refusal 1", "MTA's currency, digit", "#1")         \
     X(BAD_MTA, 1, "refusal 1", "MTA above MAX", "")                            \
@@ -188,14 +212,15 @@
     X(BAD_CONTROL, 8, "refusal 1", "control above 15",                         \
       "accumulator 1|2|3|4|counter 1|2|3|4")                                   \
     X(BAD_CASHBACK, 4, "refusal 1", "cashback check above 1, profile", "#1")   \
-    X(TAIL_LONG, 16, "refusal 1",                                              \
+    X(TAIL_LONG, SETUP_KINDS_COUNT, "refusal 1",                               \
       "bytes left over behind the tail, selection",                            \
       SETUP_KINDS)                                                             \
                                                                                \
-    X(SETUP_TAKEN, 17, "set-up", "taken, of version, selection",               \
+    X(SETUP_TAKEN, 1 + SETUP_KINDS_COUNT, "set-up",                            \
+      "taken, of version, selection",                                          \
       "01|" SETUP_KINDS)                                                       \
-    X(SYLLABUS_TAKEN, 6, "set-up", "taken, syllabus",                          \
-      "0 in 03|1 in 03|0 in 04|1 in 04|0 in 05|1 in 05")                       \
+    X(SYLLABUS_TAKEN, SYLLABI_COUNT, "set-up", "taken, syllabus",              \
+      "0 in 03|1 in 03|0 in 04|1 in 04|0 in 05|1 in 05" SCRIPT_SYLLABI)        \
     X(DAY_TAKEN, 14, "set-up", "taken, days from, cyclic accumulator",         \
       FIRST_DAYS)                                                              \
     X(WEEK_TAKEN, 14, "set-up", "taken, weeks from, cyclic accumulator",       \
@@ -621,9 +646,146 @@
     X(IAD_COUNTER_INACTIVE, 4, "IAD", "inactive, not 0 and sent, counter",     \
       "#1")
 
+/* What scripts add. */
+#define REACHED_SCRIPTS(X)                                                     \
+    X(KIND_OFF, 3, "refusal 9", "kind 5 without scripts",                      \
+      "01 to 05|06, off|06, record 0")                                         \
+    X(SCRIPT_LENGTH, 1, "refusal 9", "Script's body empty", "")                \
+    X(SCRIPTS_MISSING, 1, "refusal 1", "scripts: no switch", "")               \
+    X(BAD_SCRIPTS, 2, "refusal 1", "scripts: switch", "2|above")               \
+                                                                               \
+    X(SCRIPT_REFUSED_2, 1, "Script", "refused 2: First is due", "")            \
+    X(SCRIPT_REFUSED_2_OF, 3, "Script",                                        \
+      "refused 2 where another applies too",                                   \
+      "6|18|19")                                                               \
+    X(SCRIPT_REFUSED_6, 2, "Script", "refused 6: result", "2|above")           \
+    X(SCRIPT_REFUSED_6_OF, 2, "Script", "refused 6 where another applies too", \
+      "18|19")                                                                 \
+    X(SCRIPT_REFUSED_IN, 6, "Script", "refused and nothing changes",           \
+      "6, none open|18, none open|19, none open|"                              \
+      "6, Second due|18, Second due|19, Second due")                           \
+    X(SCRIPT_DONE, 6, "Script", "done",                                        \
+      "CPA, fresh|CPA, closed|CPA, Second due|"                                \
+      "CPACE, fresh|CPACE, closed|CPACE, Second due")                          \
+    X(SCRIPT_NO_COMMAND, 2, "Script",                                          \
+      "no command, so nothing changes, result",                                \
+      "#0")                                                                    \
+                                                                               \
+    X(TEMPLATE_EMPTY, 1, "template", "18: none", "")                           \
+    X(TEMPLATE_TAG, 2, "template", "18: neither 71 nor 72",                    \
+      "primitive|constructed")                                                 \
+    X(TEMPLATE_FOLLOWED, 1, "template", "18: bytes behind it", "")             \
+    X(TAG_CUT, 2, "template", "18: tag cut short", "template|object")          \
+    X(TAG_OF_THREE, 2, "template", "18: tag of three bytes",                   \
+      "template|object")                                                       \
+    X(LENGTH_MISSING, 2, "template", "18: no length", "template|object")       \
+    X(LENGTH_FORM, 4, "template", "18: length",                                \
+      "80, template|80, object|83 and above, template|83 and above, object")   \
+    X(LENGTH_CUT, 4, "template", "18: length cut short",                       \
+      "81, template|81, object|82, template|82, object")                       \
+    X(VALUE_PAST, 2, "template", "18: value past the end",                     \
+      "template|object")                                                       \
+    X(VALUE_PAST_PARENT, 1, "template",                                        \
+      "18: value past its list's end, not past the template's",                \
+      "")                                                                      \
+    X(DEPTH_OVER, 2, "template", "19: depth 5", "empty|not empty")             \
+    X(FAULT_ORDER, 3, "template", "the first fault",                           \
+      "18: the head of what is too deep|19, a fault in it|"                    \
+      "19, a fault behind it")                                                 \
+    X(READ_AS, 2, "template", "read", "71|72")                                 \
+    X(READ_LENGTH, 6, "template", "length of",                                 \
+      "template, one byte|template, 81|template, 82|"                          \
+      "object, one byte|object, 81|object, 82")                                \
+    X(READ_LONGER, 2, "template", "a longer length than needed", "81|82")      \
+    X(READ_FILLER, 3, "template", "filler",                                    \
+      "before the first object|between|behind the last")                       \
+    X(READ_LISTS, 4, "template", "list of depth", "#1")                        \
+    X(READ_EMPTY, 4, "template", "empty list of depth", "#1")                  \
+    X(READ_COMMANDS, 4, "template", "command in a list of depth", "#1")        \
+    X(READ_OTHERS, 4, "template",                                              \
+      "primitive object passed over in a list of depth",                       \
+      "#1")                                                                    \
+    X(READ_TWO_BYTES, 2, "template", "tag of two bytes",                       \
+      "primitive|constructed")                                                 \
+    X(READ_A6, 1, "template", "A6, which is no command", "")                   \
+    X(READ_BEHIND, 1, "template", "an object behind a constructed one", "")    \
+                                                                               \
+    X(COMMAND_SHORT, 2, "command", "fails: too short", "empty|under 5 bytes")  \
+    X(COMMAND_CLASS, 1, "command", "fails: CLA", "")                           \
+    X(COMMAND_INS, 1, "command", "fails: INS", "")                             \
+    X(COMMAND_OF, 1, "command", "fails: P1 P2", "")                            \
+    X(COMMAND_LC, 2, "command", "fails: Lc", "too high|too low")               \
+    X(DATA_TAG, 2, "command", "fails: data", "none|another tag than 81")       \
+    X(DATA_L, 1, "command", "fails: L is none", "")                            \
+    X(DATA_SIZE, 2, "command", "fails: L", "too high|too low")                 \
+    X(MAC_TAG, 1, "command", "fails: MAC, another tag than 8E", "")            \
+    X(MAC_LENGTH, 1, "command", "fails: MAC, another length than 4", "")       \
+    X(SIZE_MISSING, 2, "command", "fails: no length", "at all|81 alone")       \
+    X(SIZE_FORM, 2, "command", "fails: length", "80|82 and above")             \
+    X(ELEMENT_CUT, 3, "command", "fails: element cut short",                   \
+      "tag|length|value")                                                      \
+    X(ELEMENT_TAG, 2, "command", "fails: element unknown",                     \
+      "accumulators|counters")                                                 \
+    X(ELEMENT_SIZE, 6, "command", "fails: element's length",                   \
+      "value, short|value, long|limits, short|limits, long|"                   \
+      "counter's limits, short|counter's limits, long")                        \
+    X(ELEMENT_DIGITS, 3, "command", "fails: no digit",                         \
+      "value|lower|upper")                                                     \
+    X(COMMAND_UNDONE, 1, "command", "fails: what precedes is not written", "") \
+    X(COMMAND_FAILS, 4, "command", "fails",                                    \
+      "the first one|a later one|result 0|failed in this transaction")         \
+    X(COMMANDS_LEFT, 1, "command", "not tried after one that fails", "")       \
+    X(COMMAND_KEPT, 1, "command", "what was done before one that fails stays", \
+      "")                                                                      \
+    X(COMMAND_DONE, 3, "command", "done, in a template",                       \
+      "alone|the first|a later one")                                           \
+    X(WRITE_VALUE, 4, "command", "value written, accumulator", "#1")           \
+    X(WRITE_LIMITS, 4, "command", "limits written, accumulator", "#1")         \
+    X(WRITE_COUNTER, 4, "command", "limits written, counter", "#1")            \
+    X(WRITE_IN, 4, "command", "limits written into so many profiles", "#1")    \
+    X(WRITE_INACTIVE, 3, "command", "written, inactive in the open profile",   \
+      "value|limits|counter's limits")                                         \
+    X(WRITE_CROSSED, 2, "command", "lower above upper",                        \
+      "accumulator|counter")                                                   \
+    X(WRITE_TWICE, 3, "command", "given twice, the last counts",               \
+      "value|limits|counter's limits")                                         \
+    X(WRITE_NOTHING, 1, "command", "done without elements", "")                \
+    X(WRITE_SEVERAL, 1, "command", "done, several elements", "")               \
+    X(WRITE_FILLER, 3, "command", "filler",                                    \
+      "before the first element|between|behind the last")                      \
+    X(WRITE_FORM, 2, "command", "81 and one byte",                             \
+      "length of the data|length of an element")                               \
+                                                                               \
+    X(COUNT_SHOWN, 16, "script bits", "First shows count", "#0")               \
+    X(COUNT_AGAIN, 1, "script bits", "count from 15 to 0", "")                 \
+    X(FAILED_SHOWN, 4, "script bits", "First shows failed, given",             \
+      "AAC|TC|ARQC|again")                                                     \
+    X(SECOND_KEEPS, 4, "script bits", "Second keeps First's",                  \
+      "count, after Y3 or Z3|count, any other code|"                           \
+      "failed, after Y3 or Z3|failed, any other code")                         \
+    X(FAILED_TOLD, 4, "script bits", "failed becomes clear",                   \
+      "verified AAC|verified TC|absent AAC|absent TC")                         \
+    X(FAILED_STAYS, 6, "script bits", "failed stays",                          \
+      "verified, failed here|absent, failed here|failed data|"                 \
+      "absent, required|Y3|Z3")                                                \
+    X(FAILED_HERE, 4, "script bits", "failed in this transaction",             \
+      "Start makes it none|a refused Start does not|"                          \
+      "still behind First's answer|still behind Second's")                     \
+    X(BIT_GONE, 16, "script bits", "set at First, clear after Y3 or Z3",       \
+      GATED_LIMITS)                                                            \
+    X(BIT_NEW, 16, "script bits", "clear at First, set after Y3 or Z3",        \
+      GATED_LIMITS)                                                            \
+    X(ORDER_NEW, 8, "script bits", "order 01, limit written since First",      \
+      GATED_SLOTS)                                                             \
+    X(IAD_NEW, 2, "script bits", "value written since First is sent",          \
+      "after Y3 or Z3|any other code")                                         \
+    X(SLOT_NEW, 3, "script bits", "entry tests a written accumulator", "#1")
+
 #define REACHED_NAME(name, count, part, text, labels)                          \
     name, name##_END = name + (count) - 1,
-enum { REACHED_LIST(REACHED_NAME) REACHED_ALL };
+enum {
+    REACHED_LIST(REACHED_NAME) REACHED_SCRIPTS(REACHED_NAME) REACHED_ALL
+};
 #undef REACHED_NAME
 
 #ifdef REACHED
@@ -649,13 +811,13 @@ static inline bool fault(unsigned cause)
 
 /* Which kind of set-up this is: versions 02 and 03 with selection off or on,
  * version 04 with that and dated or not, version 05 with all that, and CPA or
- * CPACE. */
+ * CPACE, version 06 with all that, and scripts or not. */
 static inline unsigned setup_kind(unsigned version, bool on, bool dated,
-                                  bool cpace)
+                                  bool cpace, bool scripts)
 {
-    const unsigned from = version < 5 ? 2 * (version - 2) : 8;
+    const unsigned from = version < 5 ? 2 * (version - 2) : 8 * (version - 4);
 
-    return from + on + 2 * dated + 4 * cpace;
+    return from + on + 2 * dated + 4 * cpace + 8 * scripts;
 }
 
 /* How a Start's length is wrong. */

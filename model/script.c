@@ -100,6 +100,33 @@ void cpace(void)
     cashback = 0;
 }
 
+void scripts(void)
+{
+    setup.version = 6;
+    setup.scripts = 1;
+}
+
+static unsigned nibble(char digit)
+{
+    return (unsigned)(digit <= '9' ? digit - '0' : digit - 'A' + 10);
+}
+
+void script_by(uint8_t result, const char *template)
+{
+    static uint8_t bytes[DRAFT_BYTES];
+    size_t length = 0;
+
+    for (; template[0] != '\0'; template += 2)
+        bytes[length++] =
+            (uint8_t)(nibble(template[0]) << 4 | nibble(template[1]));
+    draft_script(draft, result, bytes, length);
+}
+
+void script(const char *template)
+{
+    script_by(1, template);
+}
+
 void printed_sitting(void)
 {
     draft_printed_setup(&setup);

@@ -46,6 +46,13 @@ void cyclic(uint32_t last, uint8_t kind_1, uint8_t first_day_1, uint8_t kind_2,
  * cashback. */
 void cpace(void);
 
+/* The set-up becomes version 06, scripts on; CPACE, dated and all else stay. */
+void scripts(void);
+
+/* Script: the secure messaging result, and the template's bytes in hex. */
+void script_by(uint8_t result, const char *template);
+void script(const char *template);
+
 /* Document 01's sitting: its set-up, its commands. */
 void printed_sitting(void);
 

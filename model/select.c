@@ -49,8 +49,7 @@ static bool reaches(const struct entry *entry, const struct start *start)
     return (size_t)entry->position - 1 + entry->width <= start->length;
 }
 
-/* Twelve digits in six bytes; false if one of them is none. */
-static bool read_digits(uint64_t *value, const uint8_t *at)
+bool read_digits(uint64_t *value, const uint8_t *at)
 {
     *value = 0;
     for (unsigned i = 0; i < AMOUNT_BYTES; i++) {

@@ -244,6 +244,18 @@ static bool read_family(struct setup *setup, const uint8_t **place,
     return true;
 }
 
+/* Scripts, 0 or 1. */
+static bool read_scripts(struct setup *setup, const uint8_t **place,
+                         const uint8_t *end)
+{
+    if (*place == end)
+        return fault(SCRIPTS_MISSING);
+    if (**place > 1)
+        return fault(BAD_SCRIPTS + (**place > 2));
+    setup->scripts = *(*place)++;
+    return true;
+}
+
 bool card_set_up(struct card *card, unsigned version, const uint8_t *body,
                  size_t length)
 {
@@ -281,6 +293,9 @@ bool card_set_up(struct card *card, unsigned version, const uint8_t *body,
         return fault(BAD_GO_ONLINE);
     card->history = body[7] ? GO_ONLINE_NEXT : 0;
     card->due = NOTHING_DUE;
+    card->script_count = 0;
+    card->script_failed = false;
+    card->script_failed_here = false;
 
     const uint8_t *at = body + 8;
     for (unsigned i = 0; i < ACCUMULATORS; i++, at += 10) {
@@ -326,9 +341,12 @@ bool card_set_up(struct card *card, unsigned version, const uint8_t *body,
     setup->family = FAMILY_CPA;
     if (version >= VERSION_FAMILY && !read_family(setup, &at, body + length))
         return false;
+    setup->scripts = false;
+    if (version >= VERSION_SCRIPTS && !read_scripts(setup, &at, body + length))
+        return false;
     if (at != body + length)
         return fault(TAIL_LONG + setup_kind(version, setup->selection.on,
                                             setup->cyclics > 0,
-                                            is_cpace(setup)));
+                                            is_cpace(setup), setup->scripts));
     return true;
 }

@@ -10,7 +10,8 @@ enum {
     DATE_BYTES = 3,
     CVM_BYTES = 3,
     CASHBACK_BYTES = 6,
-    SECOND_BYTES = 8
+    SECOND_BYTES = 8,
+    MESSAGING_BYTES = 1
 };
 
 static unsigned unreadable(unsigned cause)
@@ -28,9 +29,11 @@ struct record record_at(const uint8_t *at)
     };
 }
 
-/* Takes the next record, which must be whole and of a known kind. */
+/* Takes the next record, which must be whole and of a known kind. Whether the
+ * set-up has scripts is known behind it. */
 static bool take(struct sitting *sitting, struct record *record)
 {
+    const struct card *card = &sitting->card;
     const uint8_t *at = sitting->at;
     const size_t left = (size_t)(sitting->end - at);
     const unsigned later = sitting->record > 0;
@@ -45,7 +48,8 @@ static bool take(struct sitting *sitting, struct record *record)
     *record = record_at(at);
     if (record->kind == 0)
         return fault(KIND_ZERO + later);
-    if (record->kind > KIND_SECOND)
+    if (record->kind > KIND_SECOND
+        && !(record->kind == KIND_SCRIPT && later && card->setup.scripts))
         return fault(KIND_ABOVE + later);
     sitting->at = at + 2 + length;
     return true;
@@ -155,6 +159,15 @@ struct second read_second(const struct record *record)
     };
 }
 
+struct script read_script(const struct record *record)
+{
+    return (struct script){
+        .messaging = record->body[0],
+        .template = record->body + MESSAGING_BYTES,
+        .length = record->length - MESSAGING_BYTES,
+    };
+}
+
 /* Whether a Start is as long as the set-up has it. */
 static bool fits_start(const struct setup *setup, size_t length)
 {
@@ -214,6 +227,12 @@ static unsigned command(struct card *card, const struct record *record,
         const struct second second = read_second(record);
         refusal = card_second(card, &second, &answer);
         break;
+    }
+    case KIND_SCRIPT: {
+        if (record->length < MESSAGING_BYTES)
+            return unreadable(SCRIPT_LENGTH);
+        const struct script script = read_script(record);
+        return card_script(card, &script);
     }
     default:
         return unreadable(SETUP_REPEATED);

@@ -36,5 +36,6 @@ struct record record_at(const uint8_t *at);
 struct start read_start(const struct record *record);
 struct first read_first(const struct record *record);
 struct second read_second(const struct record *record);
+struct script read_script(const struct record *record);
 
 #endif
