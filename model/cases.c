@@ -1,6 +1,7 @@
 /* Papers made by hand, their lines worked out by hand from documents 01 and
  * 02: the printed sitting, the edges a) to l), CPA's examples of selection and
- * of cyclic accumulators, CPACE's rules, and what surrounds them. */
+ * of cyclic accumulators, CPACE's rules, issuer scripts, and what surrounds
+ * them. */
 #include <stdio.h>
 #include <string.h>
 

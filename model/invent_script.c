@@ -137,7 +137,10 @@ static void spoil_command(struct chance *chance, struct command *to)
         to->bytes[to->length - 5] += step;
         break;
     case 9: /* one byte more or less in the MAC, and Lc says so */
-        to->length += percent(chance, 50) ? 1 : (size_t)-1;
+        if (step == 1)
+            add(to, any);
+        else
+            to->length--;
         to->bytes[4] = (uint8_t)(to->length - 5);
         break;
     case 10: /* cut */

@@ -421,6 +421,8 @@ static void long_objects(void)
         see(1);
         emit();
     }
+    everywhere(both("7180", filling(128))); /* 80 is no 128 */
+    everywhere(template(both("5080", filling(128))));
     for (unsigned i = 0; i < 2; i++) { /* as long as the record leaves room */
         static uint8_t many[PAPER];
         fresh(1, 1);
@@ -496,7 +498,7 @@ static void failing_commands(void)
         "0CDABF30188110DF110D00000000000700000000000900" MAC,
         "0CDABF3023811BDF1118000000000007000000000009000000000007000000000009"
         MAC,
-        "0CDABF350C8104DF110107" MAC,
+        "0CDABF350C8104DF110107" MAC, "0CDABF350C8104DF110207" MAC,
         "0CDABF350E8106DF1103070900" MAC,
         "0CDABF350F8107DF110407090709" MAC,
         "0CDABF3517810FDF110C000000000007000000000009" MAC,
@@ -626,6 +628,23 @@ static void done_commands(void)
         see(4);
     }
     emit();
+}
+
+/* Data that are as long as their length can say, of fillers but for one element
+ * at the end; and 128 bytes behind 80. */
+static void long_commands(void)
+{
+    static const unsigned sizes[] = {126, 127, 128, 129, 245, 246};
+    char bytes[TEXT];
+
+    for (unsigned i = 0; i < sizeof sizes / sizeof *sizes; i++) {
+        memset(bytes, '0', 2 * sizes[i]);
+        memcpy(bytes + 2 * (sizes[i] - 9), "DF0106000000000007", 19);
+        one_command(command("BF30", bytes));
+    }
+    memset(bytes, '0', 256);
+    memcpy(bytes + 2 * 119, "DF0106000000000007", 19);
+    one_command(both("0CDABF30888180", both(bytes, MAC)));
 }
 
 /* Elements one behind the other: all of them, twice the same, and one that is
@@ -1545,6 +1564,7 @@ void listed_scripts(void)
     digits_of_commands();
     bytes_of_commands();
     done_commands();
+    long_commands();
     elements();
     all_limits();
     inactive();

@@ -1,8 +1,9 @@
 /* Which causes of refusal and which branches a stack of papers reaches.
  *
- * The model says the cause where it refuses with 1, 9 or 12; observe.c sees all
- * the rest. Only the program `reached` is compiled with REACHED and counts;
- * everywhere else the call is nothing at all.
+ * The model says the cause where it refuses with 1, 9, 12, 18 or 19 and where a
+ * command of a script fails; observe.c and observe_scripts.c see all the rest.
+ * Only the program `reached` is compiled with REACHED and counts; everywhere
+ * else the call is nothing at all.
  *
  * The list: name, how many of it, part, text, and what to call each: names
  * with bars between, or # and the number of the first. */
