@@ -135,19 +135,20 @@ module _ (body : List ℕ) where
   near-2 : Near (behind (baseTail newer) (selectionTail newer)) (behind (baseTail body) (selectionTail body))
   near-2 = near-behind selectionTail near-selection missing-selection near-base
 
-  -- a tail of one byte, 0 or 1, that sets something of a shape, and with 0 nothing
+  -- 0 sets nothing
+  abbrev Unset : (Shape → ℕ → Shape) → Shape → Type 0
+  Unset sets shape = sets shape 0 ≡ shape
+
+  -- a tail of one byte, 0 or 1, that sets something of a shape
   module _ (sets : Shape → ℕ → Shape) where
     abbrev byteTail : List ℕ → Shape → ℕ → Tails
     byteTail s shape at = cond (leb (length s) at) Wrong (cond (ltb 1 (byte s at)) Wrong (Ended (sets shape (byte s at)) (at + 1)))
-
-    abbrev Unset : Shape → Type 0
-    Unset shape = sets shape 0 ≡ shape
 
     missing-byte : (shape : Shape) → byteTail newer shape (length body + 1) ≡ Wrong
     missing-byte shape = rw (longer, le-leb (length body + 1) (length body + 1) (omega arith))
 
     -- where the older body ends, it is the byte 00; elsewhere both are refused
-    byte-last : (shape : Shape) (at : ℕ) → Unset shape → whole newer (byteTail newer shape at) ≡ whole body (Ended shape at)
+    byte-last : (shape : Shape) (at : ℕ) → Unset sets shape → whole newer (byteTail newer shape at) ≡ whole body (Ended shape at)
     byte-last shape at z =
         rw (same-byte body at, longer) (by (eqb at (length body)) refl (leb (length body + 1) at) refl (ltb 1 (byte body at)) refl)
       where
@@ -164,7 +165,7 @@ module _ (body : List ℕ) where
         by false h false k true l = refl
         by false h false k false l = rw (longer, ne-eqb (at + 1) (length body + 1) (λ e. eqb-false at (length body) h (omega arith)))
 
-    last : {later older : Tails} → Near later older → Ends Unset older → whole newer (behind later (byteTail newer)) ≡ whole body older
+    last : {later older : Tails} → Near later older → Ends (Unset sets) older → whole newer (behind later (byteTail newer)) ≡ whole body older
     last {older = Wrong} same z = refl
     last {older = Ended shape at} same z = byte-last shape at z
     last (past shape) z = rw (missing-byte shape)
