@@ -1,5 +1,4 @@
 -- What holds of the shape that tails end with, whichever way a tail ends. Assumes nothing.
-use mathlib.Core.Path.{_≡_}
 use mathlib.Core.Bool.{cond}
 use mathlib.Core.List.{List}
 use Prim.Native.Nat.{ℕ, _+_}

@@ -10,7 +10,6 @@ use Rattle.shape.specs.declared.Dating.the-variants.{Off as DatesOff, On
 use Rattle.shape.specs.declared.Family.{Family}
 use Rattle.shape.specs.declared.Family.the-variants.{Cpa, Cpace}
 use Rattle.shape.specs.declared.Shape.{Shape}
-use Rattle.shape.specs.declared.Tails.{Tails}
 use Rattle.shape.specs.declared.ReadShape.the-variants.{Taken}
 use Rattle.shape.specs.Shape.{baseLength, based, baseTail, fileEnd, selects, selectionTail, follows, syllabusTail}
 use Rattle.shape.specs.Shape.{dates, datesEnd, datingTail, families, familyEnd, familyTail, scripts, tailsOf, shapeOf}
