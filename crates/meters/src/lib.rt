@@ -73,7 +73,10 @@ fn change_amount(
     }
     match change {
         Change::Approve(purchase) => {
-            if purchase::is_open(words, purchase, i) & rule.allow {
+            if !rule.allow {
+                return amount;
+            }
+            if purchase::is_open(words, purchase, i) {
                 return grow(amount, purchase::worth(words, purchase, i));
             }
             amount
@@ -95,7 +98,10 @@ fn change_count(words: &Words, place: Place, i: usize, value: u8, change: Change
     }
     match change {
         Change::Approve(purchase) => {
-            if purchase::is_open(words, purchase, 4 + i) & rule.allow {
+            if !rule.allow {
+                return value;
+            }
+            if purchase::is_open(words, purchase, 4 + i) {
                 return next(value);
             }
             value
