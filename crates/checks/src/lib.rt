@@ -60,7 +60,11 @@ fn sum_exceeds(limit: u64, value: u64, more: u64) -> bool
 fn limits_exceeded(lower: u64, upper: u64, value: u64, more: u64) -> u8
     ensures { λ r. ⌜ (r ≡ bit (ltb lower (value + more)) + bit (ltb upper (value + more)) * 16) × (r ≤ 17) ⌝ }
 {
-    bit(sum_exceeds(lower, value, more)) + bit(sum_exceeds(upper, value, more)) * 16
+    let sum = std::num::wrapping_add_u64(value, more);
+    if sum < value {
+        return 17;
+    }
+    bit(lower < sum) + bit(upper < sum) * 16
 }
 
 // What the tests of accumulator i + 1 add to its value: the purchase, with "include this transaction"

@@ -73,10 +73,7 @@ fn change_amount(
     }
     match change {
         Change::Approve(purchase) => {
-            if !rule.allow {
-                return amount;
-            }
-            if purchase::is_open(words, purchase, i) {
+            if purchase::is_open(words, purchase, i) & rule.allow {
                 return grow(amount, purchase::worth(words, purchase, i));
             }
             amount
@@ -98,10 +95,7 @@ fn change_count(words: &Words, place: Place, i: usize, value: u8, change: Change
     }
     match change {
         Change::Approve(purchase) => {
-            if !rule.allow {
-                return value;
-            }
-            if purchase::is_open(words, purchase, 4 + i) {
+            if purchase::is_open(words, purchase, 4 + i) & rule.allow {
                 return next(value);
             }
             value

@@ -24,66 +24,49 @@ returns c =
 
 returns-2 : tie.Need-returns-2
 returns-2 c =
-    let told = c .before .before .before in
-    let active = told .before .before in
-    let rule = active .before .before .accumulator-rule in
-    simp (
-      ← rule .ensures,
-      not-false (rule .result .active) (active .if1 .left),
-      not-true (rule .result .allow) (c .if2 .taken),
-      told .change .given .1,
-      and-false,
-    )
-
-returns-3 : tie.Need-returns-3
-returns-3 c =
     let counted = c .before .before in
-    let opened = counted .before in
-    let allowed = opened .before in
-    let told = allowed .before .before .before in
+    let opened = counted .before .before in
+    let told = opened .before .before in
     let active = told .before .before in
     let rule = active .before .before .accumulator-rule in
     simp (
       ← rule .ensures,
       not-false (rule .result .active) (active .if1 .left),
-      not-false (rule .result .allow) (allowed .if2 .left),
       ← opened .is-open .ensures,
-      counted .if3 .taken,
+      counted .if2 .taken,
       told .change .given .1,
       c .grow .ensures,
       c .before .worth .ensures,
     )
 
-returns-4 : tie.Need-returns-4
-returns-4 c =
-    let opened = c .before in
-    let allowed = opened .before in
-    let told = allowed .before .before .before in
+returns-3 : tie.Need-returns-3
+returns-3 c =
+    let opened = c .before .before in
+    let told = opened .before .before in
     let active = told .before .before in
     let rule = active .before .before .accumulator-rule in
     simp (
       ← rule .ensures,
       not-false (rule .result .active) (active .if1 .left),
-      not-false (rule .result .allow) (allowed .if2 .left),
       ← opened .is-open .ensures,
-      c .if3 .left,
+      c .if2 .left,
       told .change .given .1,
     )
 
-returns-5 : tie.Need-returns-5
-returns-5 c =
+returns-4 : tie.Need-returns-4
+returns-4 c =
     let active = c .before .before in
     let rule = active .before .before .accumulator-rule in
     simp (← rule .ensures, not-false (rule .result .active) (active .if1 .left), c .enum-told .given .1, and-false)
 
-returns-6 : tie.Need-returns-6
-returns-6 c =
+returns-5 : tie.Need-returns-5
+returns-5 c =
     let active = c .before .before .before in
     let rule = active .before .before .accumulator-rule in
     simp (← rule .ensures, not-false (rule .result .active) (active .if1 .left), c .before .enum-told2 .given .1)
 
-returns-7 : tie.Need-returns-7
-returns-7 c =
+returns-6 : tie.Need-returns-6
+returns-6 c =
     let active = c .before .before in
     let rule = active .before .before .accumulator-rule in
     simp (← rule .ensures, not-false (rule .result .active) (active .if1 .left), c .enum-told3 .given .1)
@@ -91,5 +74,5 @@ returns-7 c =
 pub change-amount-spec : {M : Type 1} → statement M
 change-amount-spec =
     tie.close
-    (tie.spec (search needs) returns (search needs) returns-2 (search needs) (search needs) (search needs) returns-3
-    (search needs) (search needs) (search needs) returns-4 returns-5 returns-6 returns-7)
+    (tie.spec (search needs) returns (search needs) (search needs) (search needs) (search needs) returns-2
+    (search needs) (search needs) (search needs) returns-3 returns-4 returns-5 returns-6)

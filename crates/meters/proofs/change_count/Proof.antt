@@ -3,7 +3,7 @@ use borrow.Author.Needs.{needs}
 use borrow.Author.Tests.{not-true, not-false}
 use denote.Ref.{now}
 use mathlib.Core.Path.{_≡_, ap, sym, _∙_}
-use mathlib.Core.Bool.{false, and-false}
+use mathlib.Core.Bool.{false}
 use Rattle.rules.specs.declared.CounterRule.{CounterRule}
 use Rattle.rules.specs.Rules.{rulesOf, counterRule}
 use Rattle.purchase.specs.Meter.{counter, counterCap, ruleOf}
@@ -23,78 +23,61 @@ returns c =
 
 returns-2 : tie.Need-returns-2
 returns-2 c =
-    let told = c .before .before .before in
+    let opened = c .before .before .before in
+    let told = opened .before .before in
     let active = told .before .before in
     let rule = active .before .before .counter-rule in
     simp (
       ← rule .ensures,
       not-false (rule .result .active) (active .if1 .left),
-      not-true (rule .result .allow) (c .if2 .taken),
-      told .change .given .1,
-      and-false,
-    )
-
-returns-3 : tie.Need-returns-3
-returns-3 c =
-    let opened = c .before .before in
-    let allowed = opened .before in
-    let told = allowed .before .before .before in
-    let active = told .before .before in
-    let rule = active .before .before .counter-rule in
-    simp (
-      ← rule .ensures,
-      not-false (rule .result .active) (active .if1 .left),
-      not-false (rule .result .allow) (allowed .if2 .left),
       ← opened .is-open .ensures,
-      c .before .if3 .taken,
+      c .before .if2 .taken,
       told .change .given .1,
       c .next .ensures,
     )
 
-returns-4 : tie.Need-returns-4
-returns-4 c =
+returns-3 : tie.Need-returns-3
+returns-3 c =
     let told = c .before .before .before in
     let active = told .before .before in
     let rule = active .before .before .counter-rule in
     simp (
       ← rule .ensures,
       not-false (rule .result .active) (active .if1 .left),
-      c .before .if4 .taken,
+      c .before .if3 .taken,
       told .enum-told .given .1,
       c .next2 .ensures,
     )
 
-returns-5 : tie.Need-returns-5
-returns-5 c =
-    let opened = c .before in
-    let allowed = opened .before in
-    let told = allowed .before .before .before in
+returns-4 : tie.Need-returns-4
+returns-4 c =
+    let opened = c .before .before in
+    let told = opened .before .before in
     let active = told .before .before in
     let rule = active .before .before .counter-rule in
     simp (
       ← rule .ensures,
       not-false (rule .result .active) (active .if1 .left),
-      not-false (rule .result .allow) (allowed .if2 .left),
       ← opened .is-open .ensures,
-      c .if3 .left,
+      c .if2 .left,
       told .change .given .1,
     )
 
-returns-6 : tie.Need-returns-6
-returns-6 c =
+returns-5 : tie.Need-returns-5
+returns-5 c =
     let told = c .before .before in
     let active = told .before .before in
     let rule = active .before .before .counter-rule in
-    simp (← rule .ensures, not-false (rule .result .active) (active .if1 .left), c .if4 .left, told .enum-told .given .1)
+    simp (← rule .ensures, not-false (rule .result .active) (active .if1 .left), c .if3 .left, told .enum-told .given .1)
 
-returns-7 : tie.Need-returns-7
-returns-7 c =
+returns-6 : tie.Need-returns-6
+returns-6 c =
     let active = c .before .before in
     let rule = active .before .before .counter-rule in
     simp (← rule .ensures, not-false (rule .result .active) (active .if1 .left), c .enum-told2 .given .1)
 
-returns-8 : tie.Need-returns-8
-returns-8 c =
+returns-7 : tie.Need-returns-7
+returns-7 c =
     let active = c .before .before in
     let rule = active .before .before .counter-rule in
     simp (← rule .ensures, not-false (rule .result .active) (active .if1 .left), c .enum-told3 .given .1)
@@ -102,5 +85,5 @@ returns-8 c =
 pub change-count-spec : {M : Type 1} → statement M
 change-count-spec =
     tie.close
-    (tie.spec (search needs) returns (search needs) returns-2 (search needs) (search needs) (search needs) returns-3 (search needs)
-    (search needs) returns-4 (search needs) (search needs) returns-5 returns-6 returns-7 returns-8)
+    (tie.spec (search needs) returns (search needs) (search needs) (search needs) (search needs) returns-2 (search needs)
+    (search needs) returns-3 (search needs) (search needs) returns-4 returns-5 returns-6 returns-7)
