@@ -16,7 +16,7 @@ use Rattle.purchase.specs.declared.Purchase.{Purchase}
 use Rattle.purchase.specs.Meter.{Meter, accumulator, counter, cyclic, IsMeter, isDateError}
 use Rattle.state.specs.declared.History.{History}
 use Rattle.checks.specs.Checks.{bit, packed, meetsMask, lowerBit, upperBit, exceedsLower, exceedsUpper, maximumExceeded, cashbackFound}
-use Rattle.checks.specs.Checks.{accumulatorsLower, accumulatorsUpper, countersLower, countersUpper, datingFlags, decisionFlags, decisionBits}
+use Rattle.checks.specs.Checks.{accumulatorsLower, accumulatorsUpper, countersLower, countersUpper, datingFlags, historyFlags, decisionFlags, testBits, decisionBits}
 
 -- bit k of a number
 abbrev pub bitOf : ℕ → ℕ → ℕ
@@ -118,3 +118,9 @@ module _ (rules : Rules) (place : Place) (values : Values) (purchase : Purchase)
         cashback = flag 25;
         rest = packed-small (decisionFlags rules place values purchase history);
       }
+
+-- the history's bits and the tests' are the decision bits
+pub bits-apart : (rules : Rules) (place : Place) (values : Values) (purchase : Purchase) (history : History)
+    → packed (historyFlags history) + testBits rules place values purchase ≡ decisionBits rules place values purchase history
+unfolding testBits decisionBits accumulatorsLower accumulatorsUpper countersLower countersUpper datingFlags
+bits-apart rules place values purchase history = omega arith

@@ -111,6 +111,16 @@ abbrev pub packed : List Bool → ℕ
 packed [] = 0
 packed (flag ∷ flags) = bit flag + 2 * packed flags
 
+-- the tests' bits, from bit 5 on
+abbrev pub testFlags : Rules → Place → Values → Purchase → List Bool
+testFlags rules place values purchase =
+    maximumExceeded rules place purchase ∷ accumulatorsLower rules place values purchase
+    ++ accumulatorsUpper rules place values purchase ++ countersLower rules place values purchase ++ countersUpper rules place values purchase
+    ++ datingFlags rules place values purchase ++ cashbackFound rules place purchase ∷ []
+
+unfoldable pub testBits : Rules → Place → Values → Purchase → ℕ
+testBits rules place values purchase = 32 * packed (testFlags rules place values purchase)
+
 unfoldable pub decisionBits : Rules → Place → Values → Purchase → History → ℕ
 decisionBits rules place values purchase history = packed (decisionFlags rules place values purchase history)
 

@@ -6,7 +6,7 @@ ghost use lib.Dec.{ltb};
 ghost use Rattle.money.specs.declared.Converted.the-variants.{NoEntry};
 ghost use Rattle.rules.specs.Rules.{rulesOf, cyclicRule};
 ghost use Rattle.purchase.specs.Meter.{accumulator, counter, ruleOf, worth, cyclicWorth, once, isOpen};
-ghost use Rattle.checks.specs.Checks.{bit, packed, limitBits, accumulatorBits, counterBits, cyclicExceeds, datingBits, maximumExceeded, cashbackFound, historyFlags, decisionBits, meetsMask, isIncluded};
+ghost use Rattle.checks.specs.Checks.{bit, packed, limitBits, accumulatorBits, counterBits, cyclicExceeds, datingBits, maximumExceeded, cashbackFound, historyFlags, testBits, meetsMask, isIncluded};
 use money::AccumulatorAmount;
 use money::Converted;
 use purchase::Purchase;
@@ -60,7 +60,11 @@ fn sum_exceeds(limit: u64, value: u64, more: u64) -> bool
 fn limits_exceeded(lower: u64, upper: u64, value: u64, more: u64) -> u8
     ensures { λ r. ⌜ (r ≡ bit (ltb lower (value + more)) + bit (ltb upper (value + more)) * 16) × (r ≤ 17) ⌝ }
 {
-    bit(sum_exceeds(lower, value, more)) + bit(sum_exceeds(upper, value, more)) * 16
+    let sum = std::num::wrapping_add_u64(value, more);
+    if sum < value {
+        return 17;
+    }
+    bit(lower < sum) + bit(upper < sum) * 16
 }
 
 // What the tests of accumulator i + 1 add to its value: the purchase, with "include this transaction"
@@ -209,10 +213,13 @@ fn exceeds_maximum(words: &Words, place: Place, purchase: Purchase) -> bool
 fn finds_cashback(words: &Words, place: Place, purchase: Purchase) -> bool
     ensures { λ r. ⌜ r ≡ cashbackFound (rulesOf (now (words .entry))) place purchase ⌝ }
 {
-    rules::checks_cashback(words, place) & purchase.cashback
+    if purchase.cashback {
+        return rules::checks_cashback(words, place);
+    }
+    false
 }
 
-fn history_bits(history: History) -> u8
+pub fn history_bits(history: History) -> u8
     ensures { λ r. ⌜ (r ≡ packed (historyFlags history)) × (r ≤ 31) ⌝ }
 {
     bit(history.uncompleted)
@@ -222,17 +229,17 @@ fn history_bits(history: History) -> u8
         + bit(history.missing) * 16
 }
 
-// The decision bits: the history, and the tests of a purchase under a profile.
+// The decision bits: the history's, and behind them those of the tests of a purchase under a profile.
 pub fn decision_bits(
     words: &Words,
     place: Place,
     values: Values,
     purchase: Purchase,
-    history: History,
+    history: u8,
 ) -> u32
-    ensures { λ r. ⌜ r ≡ decisionBits (rulesOf (now (words .entry))) place values purchase history ⌝ }
+    ensures { λ r. ⌜ r ≡ history + testBits (rulesOf (now (words .entry))) place values purchase ⌝ }
 {
-    history_bits(history) as u32
+    history as u32
         + bit(exceeds_maximum(words, place, purchase)) as u32 * MAXIMUM
         + test_accumulators(words, place, values, purchase) as u32 * ACCUMULATORS
         + test_counters(words, place, values, purchase) as u32 * COUNTERS

@@ -24,8 +24,8 @@ const SECOND: u8 = 4;
 // The interface, 0 contact or 1 contactless, which a CPA card does not ask; the profile that was named,
 // with no entry visited, or what selection gave.
 pub struct Start {
-    pub interface: u8,
     pub chosen: Selection,
+    pub interface: u8,
 }
 
 // A First's date, where the paper is dated.

@@ -117,6 +117,7 @@ fn refuse(refusal: Refusal, at: usize) -> Begun
             syllabus: 0,
             dating: Dating::Off,
             family: Family::Cpa,
+            scripting: false,
             unnamed: 4_194_304,
         },
         state: card::fresh_card(none),
@@ -214,6 +215,7 @@ fn place_in(shape: Shape, place: usize, bytes: usize) -> Shape
         syllabus: shape.syllabus,
         dating,
         family,
+        scripting: shape.scripting,
         unnamed: shape.unnamed,
     }
 }

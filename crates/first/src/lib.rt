@@ -174,7 +174,13 @@ fn answer(words: &Words, state: State, place: Place, first: First, timing: Timin
         cvm,
         cashback: first.cashback,
     };
-    let adr = checks::decision_bits(words, place, values, purchase, history);
+    let adr = checks::decision_bits(
+        words,
+        place,
+        values,
+        purchase,
+        checks::history_bits(history),
+    );
     let kind = decide(
         first.requested,
         adr,

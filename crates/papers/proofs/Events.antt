@@ -77,7 +77,7 @@ pub accepted-if-taken : (paper : List ℕ) → Bytes paper → (version : ℕ) (
 accepted-if-taken paper bytes version body rest o shape t =
     let small : Bytes body = opened-bytes paper version body rest o bytes in
     let taken : IsTaken version body = record { shape = shape; shape-is = t .shape-is; base = ap setupNumber (t .base) } in
-    let spelled = taken-if-spelled version body (record { below = byte-small body small }) (o .least) (o .most) .0 taken in
+    let spelled = taken-if-spelled version body (record { below = byte-small body small }) (o .least) (omega (arith, o .most)) .0 taken in
     record { version = version; body = body; rest = rest; opens = o; set-up = spelled }
 
 ended-at-once : (words paper : List ℕ) (refusal : Refusal) → begunOf paper .event ≡ Refused refusal → eventsOf words paper ≡ Refused refusal ∷ []

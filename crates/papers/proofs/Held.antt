@@ -2,11 +2,11 @@
 use mathlib.Core.Path.{_≡_, refl, subst, _∙_}
 use mathlib.Core.Bool.{Bool, true, false, cond, not}
 use mathlib.Core.List.{List, [], _∷_}
-use Prim.Native.Nat.{ℕ, zero, suc, _-_, _<_, _≤_}
+use Prim.Native.Nat.{ℕ, zero, suc, _+_, _-_, _<_, _≤_}
 use native.Mathlib.Omega.{arith}
 use borrow.Author.Tests.{ne-eqb}
 use lib.Dec.{eqb}
-use lib.ListN.{length, getD}
+use lib.ListN.{length, getD, take, length-take}
 use Rattle.wire.specs.Wire.{byte}
 use Rattle.rules.specs.declared.Values.{Values}
 use Rattle.purchase.specs.Meter.{Meter, accumulator, counter, IsMeter, valueOf}
@@ -28,14 +28,14 @@ use Rattle.spelling.specs.Spelling.{Choice, byName, byFile, CardFamily, cpa, cp
 use Rattle.papers.specs.Papers.{bodyIn, tailsIn, behindDating, profilesIn, setupOf, cardOf, mannerOf, Chosen}
 
 -- a card's slots are tested exactly where its set-up has the tail of a CPACE card
-tested-there : (b : Bool) (s : List ℕ) → eqb (byte s 0) 0 ≡ b → isTested (cond b cpa cpace) ≡ not (eqb (length (cond b [] s)) 0)
-tested-there true s e = refl
-tested-there false [] e = let z : _≡_ {A = ℕ} 0 1 = cc in absurd (omega arith)
-tested-there false (x ∷ s) e = rw (ne-eqb (suc (length s)) 0 (λ z. omega arith))
+tested-there : (b : Bool) (p : ℕ) (s : List ℕ) → eqb (byte s 0) 0 ≡ b → isTested (cond b cpa cpace) ≡ not (eqb (length (cond b [] (take (9 + p) s))) 0)
+tested-there true p s e = refl
+tested-there false p [] e = let z : _≡_ {A = ℕ} 0 1 = cc in absurd (omega arith)
+tested-there false p (x ∷ s) e = rw (ne-eqb (length (take (9 + p) (x ∷ s))) 0 (λ z. omega (arith, length-take (9 + p) (x ∷ s))))
 
 pub tested-is : (paper : List ℕ) → isTested (cardOf paper) ≡ not (eqb (length (setupOf paper .family)) 0)
 unfolding setupOf mannerOf
-tested-is paper = let body = bodyIn paper in tested-there _ (behindDating (profilesIn body) (tailsIn body)) refl
+tested-is paper = let body = bodyIn paper in tested-there _ (profilesIn body) (behindDating (profilesIn body) (tailsIn body)) refl
 
 module _ (setup : Setup) (log : List Exchange) (family : CardFamily) (values : Values)
     (tested : isTested family ≡ not (eqb (length (setup .family)) 0))

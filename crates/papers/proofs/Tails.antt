@@ -10,10 +10,11 @@ use lib.Seq.{take-append-seam, drop-append-seam, take-at, drop-at}
 use Rattle.wire.specs.Wire.{byte}
 use Rattle.rows.specs.Rows.{spelled, written, cyclesRow, cyclesBytes, controlsRow, controlsBytes}
 use Rattle.rows.specs.Rows as R
-use Rattle.rows.specs.Tails.{Choosing, off, on, fileBytes, choosingBytes, datesBytes, familiesBytes, Tail, first, second, third, fourth, fifth}
-use Rattle.rows.specs.Tails.{versionOf, tailBytes, choosingOf, syllabusOf, unnamedOf, FineDates, Fine}
+use Rattle.rows.specs.Tails.{Choosing, off, on, fileBytes, choosingBytes, datesBytes, familiesBytes, scriptsByte}
+use Rattle.rows.specs.Tails.{Tail, first, second, third, fourth, fifth, sixth, versionOf, tailBytes, choosingOf, syllabusOf, unnamedOf, FineDates, FineFamilies, Fine}
 use Rattle.rows.specs.Tails as T
 use Rattle.rows.proofs.Dated.{cycles-size}
+use Rattle.rows.proofs.Family.{controls-size}
 use Rattle.spelling.specs.Spelling.{Choice, byName, byFile, Dates, undated, dated, CardFamily, cpa, cpace, Manner}
 use Rattle.papers.specs.Papers.{entriesLong, choiceIn, behindSelection, syllabusIn, datesIn, cyclesIn, cardIn, familyIn, unnamedIn}
 
@@ -68,8 +69,8 @@ endFrom p s = drop (cond (eqb (byte (drop 1 s) 0) 0) 1 (28 + 18 * p)) (drop 1 s)
 abbrev cardFrom : List ℕ → CardFamily
 cardFrom s = cond (eqb (byte s 0) 0) cpa cpace
 
-abbrev familyFrom : List ℕ → List ℕ
-familyFrom s = cond (eqb (byte s 0) 0) [] s
+abbrev familyFrom : (p : ℕ) → List ℕ → List ℕ
+familyFrom p s = cond (eqb (byte s 0) 0) [] (take (9 + p) s)
 
 dates-there : (p syllabus : ℕ) (d : R.Dates) (rest : List ℕ) → FineDates p d
     → (datesFrom (syllabus ∷ datesBytes d ++ rest) ≡ datesSaid d) × (cyclesFrom p (syllabus ∷ datesBytes d ++ rest) ≡ cyclesBytes d)
@@ -81,10 +82,14 @@ dates-there p syllabus (R.dated cycles) rest fine =
     let size : length t ≡ 28 + 18 * p = cycles-size cycles ∙ ap (λ (n : ℕ). 28 + 18 * n) (fine .1) in
     (refl, take-at t rest (28 + 18 * p) size, drop-at t rest (28 + 18 * p) size)
 
-family-there : (f : R.Families) → (cardFrom (familiesBytes f) ≡ cardSaid f) × (familyFrom (familiesBytes f) ≡ controlsBytes f)
+family-there : (p : ℕ) (f : R.Families) (rest : List ℕ) → FineFamilies p f
+    → (cardFrom (familiesBytes f ++ rest) ≡ cardSaid f) × (familyFrom p (familiesBytes f ++ rest) ≡ controlsBytes f)
 unfolding spelled written controlsRow
-family-there R.cpa = (refl, refl)
-family-there (R.cpace controls) = (refl, refl)
+family-there p R.cpa rest fine = (refl, refl)
+family-there p (R.cpace controls) rest fine =
+    let t = controlsBytes (R.cpace controls) in
+    let size : length t ≡ 9 + p = controls-size controls ∙ ap (λ (n : ℕ). 9 + n) (fine .1) in
+    (refl, take-at t rest (9 + p) size)
 
 -- ---- all of them
 
@@ -100,7 +105,7 @@ pub record ReadsAs (p : ℕ) (tail : Tail) : Type 0 where
 module _ (p : ℕ) (tail : Tail) where
   reads-by : (s : List ℕ) → choiceIn (tailBytes tail) ≡ choiceSaid (choosingOf tail) → behindSelection (tailBytes tail) ≡ s
       → byte s 0 ≡ syllabusOf tail → datesFrom s ≡ datesSaid (T.datesOf tail) → cyclesFrom p s ≡ cyclesBytes (T.datesOf tail)
-      → cardFrom (endFrom p s) ≡ cardSaid (T.familiesOf tail) → familyFrom (endFrom p s) ≡ controlsBytes (T.familiesOf tail) → ReadsAs p tail
+      → cardFrom (endFrom p s) ≡ cardSaid (T.familiesOf tail) → familyFrom p (endFrom p s) ≡ controlsBytes (T.familiesOf tail) → ReadsAs p tail
   reads-by s choice behind syllabus dates cycles card family =
       record {
         choice-is = choice;
@@ -108,7 +113,7 @@ module _ (p : ℕ) (tail : Tail) where
         dates-are = ap datesFrom behind ∙ dates;
         cycles-are = ap (cyclesFrom p) behind ∙ cycles;
         card-is = ap (λ (t : List ℕ). cardFrom (endFrom p t)) behind ∙ card;
-        family-is = ap (λ (t : List ℕ). familyFrom (endFrom p t)) behind ∙ family;
+        family-is = ap (λ (t : List ℕ). familyFrom p (endFrom p t)) behind ∙ family;
       }
 
 pub reads-as : (p : ℕ) (tail : Tail) → Fine p tail → ReadsAs p tail
@@ -123,13 +128,21 @@ reads-as p (fourth c syllabus d) fine =
     let (choice, behind) = chosen c (syllabus ∷ datesBytes d) in
     let (dates, cycles, end) = dates-there p syllabus d [] (fine .2) in
     let nothing : syllabus ∷ datesBytes d ≡ syllabus ∷ datesBytes d ++ [] = ap (λ (t : List ℕ). syllabus ∷ t) (sym (append-nil (datesBytes d))) in
-    reads-by p (fourth c syllabus d) (syllabus ∷ datesBytes d ++ []) choice (behind ∙ nothing) refl dates cycles (ap cardFrom end) (ap familyFrom end)
+    reads-by p (fourth c syllabus d) (syllabus ∷ datesBytes d ++ []) choice (behind ∙ nothing) refl dates cycles (ap cardFrom end) (ap (familyFrom p) end)
 reads-as p (fifth c syllabus d f) fine =
     let (choice, behind) = chosen c (syllabus ∷ datesBytes d ++ familiesBytes f) in
     let (dates, cycles, end) = dates-there p syllabus d (familiesBytes f) (fine .2) in
-    let (card, family) = family-there f in
-    reads-by p (fifth c syllabus d f) (syllabus ∷ datesBytes d ++ familiesBytes f) choice behind refl dates cycles (ap cardFrom end ∙ card)
-    (ap familyFrom end ∙ family)
+    let nothing : familiesBytes f ≡ familiesBytes f ++ [] = sym (append-nil (familiesBytes f)) in
+    let (card, family) = family-there p f [] (fine .3) in
+    reads-by p (fifth c syllabus d f) (syllabus ∷ datesBytes d ++ familiesBytes f) choice behind refl dates cycles (ap cardFrom (end ∙ nothing) ∙ card)
+    (ap (familyFrom p) (end ∙ nothing) ∙ family)
+reads-as p (sixth c syllabus d f scripting) fine =
+    let last = familiesBytes f ++ scriptsByte scripting ∷ [] in
+    let (choice, behind) = chosen c (syllabus ∷ datesBytes d ++ last) in
+    let (dates, cycles, end) = dates-there p syllabus d last (fine .2) in
+    let (card, family) = family-there p f (scriptsByte scripting ∷ []) (fine .3) in
+    reads-by p (sixth c syllabus d f scripting) (syllabus ∷ datesBytes d ++ last) choice behind refl dates cycles (ap cardFrom end ∙ card)
+    (ap (familyFrom p) end ∙ family)
 
 pub unnamed-is : (tail : Tail) → unnamedIn (versionOf tail) ≡ unnamedOf tail
 unnamed-is first = refl
@@ -137,3 +150,4 @@ unnamed-is (second c) = refl
 unnamed-is (third c syllabus) = refl
 unnamed-is (fourth c syllabus d) = refl
 unnamed-is (fifth c syllabus d f) = refl
+unnamed-is (sixth c syllabus d f scripting) = refl

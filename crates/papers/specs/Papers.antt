@@ -74,7 +74,7 @@ datesIn tails = cond (eqb (byte (datingIn tails) 0) 0) undated dated
 abbrev pub cyclesIn : (p : ℕ) (tails : List ℕ) → List ℕ
 cyclesIn p tails = cond (eqb (byte (datingIn tails) 0) 0) [] (take (28 + 18 * p) (datingIn tails))
 
--- VERSION 05, the card family, behind that: 0 CPA; 1 CPACE, and all that follows
+-- VERSION 05, the card family, behind that: 0 CPA; 1 CPACE, 9 + p bytes
 abbrev pub behindDating : (p : ℕ) (tails : List ℕ) → List ℕ
 behindDating p tails = drop (cond (eqb (byte (datingIn tails) 0) 0) 1 (28 + 18 * p)) (datingIn tails)
 
@@ -82,9 +82,9 @@ abbrev pub cardIn : (p : ℕ) (tails : List ℕ) → CardFamily
 cardIn p tails = cond (eqb (byte (behindDating p tails) 0) 0) cpa cpace
 
 abbrev pub familyIn : (p : ℕ) (tails : List ℕ) → List ℕ
-familyIn p tails = cond (eqb (byte (behindDating p tails) 0) 0) [] (behindDating p tails)
+familyIn p tails = cond (eqb (byte (behindDating p tails) 0) 0) [] (take (9 + p) (behindDating p tails))
 
--- mask bits 0 to 21 are named, in version 04 0 to 24, in version 05 0 to 25
+-- mask bits 0 to 21 are named, in version 04 0 to 24, from version 05 on 0 to 25
 abbrev pub unnamedIn : (version : ℕ) → ℕ
 unnamedIn version = cond (ltb version 4) (2 ^ 22) (cond (ltb version 5) (2 ^ 25) (2 ^ 26))
 

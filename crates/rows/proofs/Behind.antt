@@ -1,26 +1,28 @@
 -- What follows the base, read as it was spelled. Assumes nothing.
 use mathlib.Core.Path.{_≡_, refl, sym, ap, subst, _∙_}
+use mathlib.Core.Bool.{Bool, true, false, cond}
 use mathlib.Core.List.{List, [], _∷_, _++_, append-assoc, append-nil}
 use Prim.Native.Nat.{ℕ, _+_, _-_, _*_, _^_, _≤_, _<_}
 use native.Mathlib.Nat.{add-zero}
 use native.Mathlib.Omega.{arith}
 use borrow.Author.Tests.{lt-leb, le-ltb, eq-eqb, eqb-true}
+use lib.Dec.{eqb, ltb}
 use lib.ListN.{length, take, drop, length-append, List·getD-append}
-use lib.Seq.{length-take-le, getD-take, getD-drop, take-at, take-all, drop-at, getD-at, getD-append-seam, getD-append-add, drop-append-add, drop-drop}
+use lib.Seq.{length-take-le, getD-take, getD-drop, take-at, drop-at, getD-at, getD-append-seam, getD-append-add, drop-append-add, drop-drop}
 use Rattle.wire.specs.Wire.{byte}
 use Rattle.selection.specs.Selection.{isFile}
 use Rattle.shape.specs.declared.Dating.the-variants.{Off as DatesOff}
 use Rattle.shape.specs.declared.Family.the-variants.{Cpa}
 use Rattle.shape.specs.declared.Shape.{Shape}
 use Rattle.shape.specs.declared.Tails.{Tails}
-use Rattle.shape.specs.declared.Tails.the-variants.{Ended}
+use Rattle.shape.specs.declared.Tails.the-variants.{Ended, Wrong}
 use Rattle.shape.specs.declared.ReadShape.the-variants.{Taken}
 use Rattle.shape.specs.Shape.{based, baseTail, entriesEnd, selectionTail, follows, syllabusTail, dates, datingTail, cyclesPart, families, familyTail}
-use Rattle.shape.specs.Shape.{familyPart, behind, tailsOf, whole, shapeOf}
+use Rattle.shape.specs.Shape.{familyPart, scripts, scriptingTail, behind, tailsOf, whole, shapeOf}
 use Rattle.shape.proofs.Files.{file-ends}
 use Rattle.rows.specs.Rows.{Dates, undated, dated, cyclesBytes, Families, cpa, cpace, controlsBytes}
-use Rattle.rows.specs.Tails.{Choosing, off, on, fileBytes, choosingBytes, datesBytes, familiesBytes, Tail, first, second, third, fourth, fifth}
-use Rattle.rows.specs.Tails.{tailBytes, FineDates, FineFamilies, Fine, baseLength, Base, selecting, fileIn, fileOf, dating, datesAt, familyFrom}
+use Rattle.rows.specs.Tails.{Choosing, off, on, fileBytes, choosingBytes, datesBytes, familiesBytes, scriptsByte}
+use Rattle.rows.specs.Tails.{Tail, first, second, third, fourth, fifth, sixth, tailBytes, FineDates, FineFamilies, Fine, baseLength, Base, selecting, fileIn, fileOf, dating, datesAt, familyFrom}
 use Rattle.rows.specs.Tails.{familiesAt, TailSays}
 use Rattle.rows.proofs.Dated.{cycles-size, cycles-in-place}
 use Rattle.rows.proofs.Family.{controls-size, controls-in-place}
@@ -67,7 +69,7 @@ choosingEnd base c = length base + length (choosingBytes c)
 
 abbrev pub chosen : List ℕ → Choosing → Shape
 chosen base c =
-    record { base = length base; selecting = selecting c (length base); syllabus = 0; dating = DatesOff; family = Cpa; unnamed = 2 ^ 22 }
+    record { base = length base; selecting = selecting c (length base); syllabus = 0; dating = DatesOff; family = Cpa; scripting = false; unnamed = 2 ^ 22 }
 
 pub choosing-read : (base : List ℕ) (c : Choosing) (rest : List ℕ)
     → selectionTail (base ++ (choosingBytes c ++ rest)) (based (length base)) (length base) ≡ Ended (chosen base c) (choosingEnd base c)
@@ -274,63 +276,130 @@ module _ (base : List ℕ) (c : Choosing) (y : ℕ) (d : Dates) (sized : length 
         family = refl;
       })
 
--- ---- the family
+-- ---- the family, whatever follows
 
-module _ (base : List ℕ) (c : Choosing) (y : ℕ) (d : Dates) (sized : length base ≡ baseLength base) where
-  abbrev family-body : Families → List ℕ
-  family-body f = base ++ tailBytes (fifth c y d f)
+module _ (base : List ℕ) (c : Choosing) (y : ℕ) (d : Dates) (rest : List ℕ) (sized : length base ≡ baseLength base) where
+  abbrev with-family : Families → List ℕ
+  with-family f = with-dates base c y (familiesBytes f ++ rest) d
 
   abbrev at : ℕ
   at = familiesAt base c d
 
+  -- where the family's tail ends
+  abbrev familyEnd : Families → ℕ
+  familyEnd f = at + length (familiesBytes f)
+
+  family-size : (f : Families) → length (with-family f) ≡ familyEnd f + length rest
+  family-size f = omega (arith, end-size base c y (familiesBytes f ++ rest) d, length-append (familiesBytes f) rest)
+
   family-read : (f : Families) → FineFamilies (byte base 3) f → (shape : Shape)
-      → familyTail (family-body f) shape at ≡ Ended (families shape (familyFrom f at)) (at + length (familiesBytes f))
+      → familyTail (with-family f) shape at ≡ Ended (families shape (familyFrom f at)) (familyEnd f)
   unfolding familyTail
   family-read cpa fine shape =
-      rw (end-byte base c y (0 ∷ []) d, lt-leb (length (family-body cpa)) at (omega (arith, end-size base c y (0 ∷ []) d)))
+      rw (end-byte base c y (0 ∷ rest) d, lt-leb (length (with-family cpa)) at (omega (arith, family-size cpa)))
   family-read (cpace f) fine shape =
       let t = controlsBytes (cpace f) in
-      let body = family-body (cpace f) in
-      let switch : byte body at ≡ 1 = end-byte base c y t d ∙ controls-in-place f (fine .0) .family in
-      let p : byte body 3 ≡ byte base 3 = byte-kept base sized (tailBytes (fifth c y d (cpace f))) 3 (omega arith) in
-      let checks = fine .1 in
+      let body = with-family (cpace f) in
       let size = controls-size f in
-      let long = end-size base c y t d in
+      let switch : byte body at ≡ 1 =
+      end-byte base c y (t ++ rest) d ∙ List·getD-append t rest 0 0 (omega arith) ∙ controls-in-place f (fine .0) .family in
+      let p : byte body 3 ≡ byte base 3 = byte-kept base sized (choosingBytes c ++ (y ∷ datesBytes d ++ (t ++ rest))) 3 (omega arith) in
+      let checks = fine .1 in
+      let long = family-size (cpace f) in
       let end : at + (9 + byte body 3) ≡ at + length t = omega arith in
       rw (switch, end, lt-leb (length body) at (omega arith), le-ltb (length body) (at + length t) (omega arith))
 
-  family-there : (f : Families) → familyPart (familyFrom f at) (family-body f) ≡ controlsBytes f
+  family-there : (f : Families) → familyPart (familyFrom f at) (with-family f) ≡ controlsBytes f
   family-there cpa = refl
   family-there (cpace f) =
       let t = controlsBytes (cpace f) in
       let size : at + length t - at ≡ length t = omega arith in
-      rw (size, end-there base c y t d) (take-all (length t) t (omega arith))
+      rw (size, end-there base c y (t ++ rest) d) (take-at t rest (length t) refl)
+
+  -- what follows the family
+  last-byte : (f : Families) → byte (with-family f) (familyEnd f) ≡ byte rest 0
+  last-byte f =
+      let t = familiesBytes f in
+      sym (getD-drop at (with-family f) (length t) 0) ∙ ap (λ (s : List ℕ). byte s (length t)) (end-there base c y (t ++ rest) d)
+      ∙ ap (byte (t ++ rest)) (sym (add-zero (length t))) ∙ getD-append-add t rest 0 0
 
   module _ (f : Families) (low : y ≤ 1) (fine-dates : FineDates (byte base 3) d) (fine : FineFamilies (byte base 3) f) where
-    behind-4 : tailsOf 5 (family-body f) ≡ behind (tailsOf 4 (family-body f)) (familyTail (family-body f))
+    behind-4 : tailsOf 5 (with-family f) ≡ behind (tailsOf 4 (with-family f)) (familyTail (with-family f))
     unfolding tailsOf
     behind-4 = refl
 
     abbrev shape-5 : Shape
-    shape-5 = families (shape-4 base c y (familiesBytes f) d sized low fine-dates) (familyFrom f at)
+    shape-5 = families (shape-4 base c y (familiesBytes f ++ rest) d sized low fine-dates) (familyFrom f at)
 
-    shape-read-5 : shapeOf 5 (family-body f) ≡ Taken shape-5
+    tails-5 : tailsOf 5 (with-family f) ≡ Ended shape-5 (familyEnd f)
+    tails-5 =
+        behind-4 ∙ ap (λ (t : Tails). behind t (familyTail (with-family f))) (tails-4 base c y (familiesBytes f ++ rest) d sized low fine-dates)
+        ∙ family-read f fine _
+
+module _ (base : List ℕ) (c : Choosing) (y : ℕ) (d : Dates) (f : Families) (sized : length base ≡ baseLength base)
+    (low : y ≤ 1) (fine-dates : FineDates (byte base 3) d) (fine : FineFamilies (byte base 3) f) where
+  -- nothing follows it
+  shape-read-5 : shapeOf 5 (with-family base c y d [] sized f) ≡ Taken (shape-5 base c y d [] sized f low fine-dates fine)
+  unfolding shapeOf
+  shape-read-5 =
+      let body = with-family base c y d [] sized f in
+      let end = familyEnd base c y d [] sized f in
+      ap (whole body) (tails-5 base c y d [] sized f low fine-dates fine)
+      ∙ rw (eq-eqb end (length body) (omega (arith, family-size base c y d [] sized f)))
+
+  fifth-says : TailSays base (fifth c y d f) (base ++ tailBytes (fifth c y d f))
+  fifth-says =
+      subst (TailSays base (fifth c y d f)) (ap (λ (t : List ℕ). base ++ (choosingBytes c ++ (y ∷ datesBytes d ++ t))) (append-nil (familiesBytes f)))
+      (record {
+        read = shape-read-5;
+        base-is = base-there base sized (choosingBytes c ++ (y ∷ datesBytes d ++ (familiesBytes f ++ [])));
+        file = file-there base c (y ∷ datesBytes d ++ (familiesBytes f ++ []));
+        cycles = cycles-there base c y (familiesBytes f ++ []) d;
+        family = family-there base c y d [] sized f;
+      })
+
+  -- ---- the scripts' byte follows it
+
+  module _ (scripting : Bool) where
+    abbrev end-bytes : List ℕ
+    end-bytes = scriptsByte scripting ∷ []
+
+    abbrev scripts-body : List ℕ
+    scripts-body = with-family base c y d end-bytes sized f
+
+    abbrev scriptsAt : ℕ
+    scriptsAt = familyEnd base c y d end-bytes sized f
+
+    scripts-read : (shape : Shape) → scriptingTail scripts-body shape scriptsAt ≡ Ended (scripts shape scripting) (scriptsAt + 1)
+    unfolding scriptingTail
+    scripts-read shape =
+        rw (last-byte base c y d end-bytes sized f, lt-leb (length scripts-body) scriptsAt (omega (arith, family-size base c y d end-bytes sized f)))
+        (by scripting)
+      where
+        by : (b : Bool) → cond (ltb 1 (scriptsByte b)) Wrong (Ended (scripts shape (eqb (scriptsByte b) 1)) (scriptsAt + 1))
+            ≡ Ended (scripts shape b) (scriptsAt + 1)
+        by true = refl
+        by false = refl
+
+    behind-5 : tailsOf 6 scripts-body ≡ behind (tailsOf 5 scripts-body) (scriptingTail scripts-body)
+    unfolding tailsOf
+    behind-5 = refl
+
+    shape-read-6 : shapeOf 6 scripts-body ≡ Taken (scripts (shape-5 base c y d end-bytes sized f low fine-dates fine) scripting)
     unfolding shapeOf
-    shape-read-5 =
-        let body = family-body f in
-        let end = at + length (familiesBytes f) in
-        ap (whole body)
-        (behind-4 ∙ ap (λ (t : Tails). behind t (familyTail body)) (tails-4 base c y (familiesBytes f) d sized low fine-dates) ∙ family-read f fine _)
-        ∙ rw (eq-eqb end (length body) (sym (end-size base c y (familiesBytes f) d)))
+    shape-read-6 =
+        ap (whole scripts-body)
+        (behind-5 ∙ ap (λ (t : Tails). behind t (scriptingTail scripts-body)) (tails-5 base c y d end-bytes sized f low fine-dates fine) ∙ scripts-read _)
+        ∙ rw (eq-eqb (scriptsAt + 1) (length scripts-body) (omega (arith, family-size base c y d end-bytes sized f)))
 
-    fifth-says : TailSays base (fifth c y d f) (family-body f)
-    fifth-says =
+    sixth-says : TailSays base (sixth c y d f scripting) scripts-body
+    sixth-says =
         record {
-          read = shape-read-5;
-          base-is = base-there base sized (tailBytes (fifth c y d f));
-          file = file-there base c (y ∷ datesBytes d ++ familiesBytes f);
-          cycles = cycles-there base c y (familiesBytes f) d;
-          family = family-there f;
+          read = shape-read-6;
+          base-is = base-there base sized (tailBytes (sixth c y d f scripting));
+          file = file-there base c (y ∷ datesBytes d ++ (familiesBytes f ++ end-bytes));
+          cycles = cycles-there base c y (familiesBytes f ++ end-bytes) d;
+          family = family-there base c y d end-bytes sized f;
         }
 
 -- THE STATEMENT: a base and the tail of a version are read as they were spelled
@@ -339,4 +408,5 @@ reads-tails base first sized fine = subst (λ (t : List ℕ). TailSays base firs
 reads-tails base (second c) sized fine = second-says base c sized
 reads-tails base (third c y) sized fine = third-says base c y sized (fine .1)
 reads-tails base (fourth c y d) sized fine = fourth-says base c y d sized (fine .1) (fine .2)
-reads-tails base (fifth c y d f) sized fine = fifth-says base c y d sized f (fine .1) (fine .2) (fine .3)
+reads-tails base (fifth c y d f) sized fine = fifth-says base c y d f sized (fine .1) (fine .2) (fine .3)
+reads-tails base (sixth c y d f b) sized fine = sixth-says base c y d f sized (fine .1) (fine .2) (fine .3) b

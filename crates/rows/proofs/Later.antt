@@ -1,4 +1,4 @@
--- Of any body in versions 04 and 05: either it is a base and the version's tail, or one of the causes holds of it. Assumes nothing.
+-- Of any body in versions 04 to 06: either it is a base and the version's tail, or one of the causes holds of it. Assumes nothing.
 use mathlib.Core.Path.{_≡_, refl, sym, ap, ap₂, subst, _∙_}
 use mathlib.Core.Bool.{Bool, true, false}
 use mathlib.Core.List.{List, [], _∷_, _++_, append-assoc, append-nil}
@@ -6,16 +6,18 @@ use mathlib.Core.Logic.{_⊎_, inl, inr}
 use Prim.Native.Nat.{ℕ, zero, suc, _+_, _*_, _≤_}
 use native.Mathlib.Numerals.{add-one}
 use native.Mathlib.Omega.{arith}
-use borrow.Author.Tests.{ltb-true, ltb-false, eqb-true, eqb-false}
+use borrow.Author.Tests.{ltb-true, ltb-false, eqb-true}
 use lib.Dec.{ltb, eqb}
 use lib.ListN.{length, take, drop, length-append, length-drop, take-append-drop}
 use lib.Seq.{length-take-le, getD-take, drop-at}
 use Rattle.wire.specs.Wire.{byte}
 use Rattle.rows.specs.Rows.{Dates, undated, dated, Families, cpa, cpace}
-use Rattle.rows.specs.Tails.{Choosing, off, on, fileBytes, choosingBytes, datesBytes, familiesBytes, Tail, fourth, fifth, versionOf, tailBytes}
+use Rattle.rows.specs.Tails.{Choosing, off, on, fileBytes, choosingBytes, datesBytes, familiesBytes, scriptsByte}
+use Rattle.rows.specs.Tails.{Tail, fourth, fifth, sixth, versionOf, tailBytes}
 use Rattle.rows.specs.Tails.{FineEntries, FineChoosing, FineDates, FineFamilies, Fine, baseLength, IsSpelled, CutFile, cut-here, cut-below}
 use Rattle.rows.specs.Tails.{NoChoosing, no-choice, choice-above, no-count, cut-file}
-use Rattle.rows.specs.Tails.{BadEnd, behind-dates, no-family, family-above, behind-cpa, cpace-length}
+use Rattle.rows.specs.Tails.{BadScripts, behind-family, no-scripts, scripts-above, behind-scripts}
+use Rattle.rows.specs.Tails.{BadEnd, behind-dates, no-family, family-above, behind-cpa, cpace-short, behind-cpace}
 use Rattle.rows.specs.Tails.{BadDates, nothing-behind, follows-above, no-dated, dated-above, behind-undated, dated-short, behind-dated}
 use Rattle.rows.specs.Tails.{BadTail, no-choosing, behind-choosing}
 use Rattle.rows.proofs.Dated.{cycles-if-sized}
@@ -146,15 +148,55 @@ followed p (y ∷ rest) small = by rest small (ltb 1 y) refl where
   by [] small false e = inr (λ version. no-dated refl)
   by (z ∷ more) small false e = followed-dates p y (ltb-false 1 y e) z more (λ i. small (suc i))
 
--- ---- and behind the dates
+-- ---- and behind the dates: the family
+
+record Named (p : ℕ) (tail : List ℕ) : Type 0 where
+  family : Families
+  fine : FineFamilies p family
+  rest : List ℕ
+  joined : familiesBytes family ++ rest ≡ tail
+  -- a cause behind the family
+  bad : (version : ℕ) → 5 ≤ version → BadScripts version rest → BadEnd version p tail
+
+abbrev NotNamed : (p : ℕ) (tail : List ℕ) → Type 0
+NotNamed p tail = (version : ℕ) → 5 ≤ version → BadEnd version p tail
+
+named : (p : ℕ) (tail : List ℕ) → Small tail → Named p tail ⊎ NotNamed p tail
+named p [] small = inr (λ version h. no-family h refl)
+named p (x ∷ more) small = by (eqb x 0) refl (eqb x 1) refl (ltb (suc (length more)) (9 + p)) refl where
+  on-cpace : x ≡ 1 → 9 + p ≤ suc (length more) → Named p (x ∷ more)
+  on-cpace one long =
+      let t = take (9 + p) (x ∷ more) in
+      let on : byte t 0 ≡ 1 = getD-take (9 + p) (x ∷ more) 0 0 (omega arith) ∙ one in
+      let (c, fits, few, is) = controls-if-sized t p on (record { below = small-take (x ∷ more) small (9 + p) }) (length-take-le (9 + p) (x ∷ more) long) in
+      record {
+        family = cpace c;
+        fine = (fits, few);
+        rest = drop (9 + p) (x ∷ more);
+        joined = ap (λ (s : List ℕ). s ++ drop (9 + p) (x ∷ more)) is ∙ take-append-drop (9 + p) (x ∷ more);
+        bad = λ version h b. behind-cpace h one b;
+      }
+
+  by : (none : Bool) → eqb x 0 ≡ none → (some : Bool) → eqb x 1 ≡ some → (short : Bool) → ltb (suc (length more)) (9 + p) ≡ short
+      → Named p (x ∷ more) ⊎ NotNamed p (x ∷ more)
+  by true e some f short g =
+      let zero = eqb-true x 0 e in
+      inl (record { family = cpa; fine = tt; rest = more; joined = ap (λ n. n ∷ more) (sym zero); bad = λ version h b. behind-cpa h zero b })
+  by false e true f true g = inr (λ version h. cpace-short h (eqb-true x 1 f) (ltb-true (suc (length more)) (9 + p) g))
+  by false e true f false g = inl (on-cpace (eqb-true x 1 f) (ltb-false (suc (length more)) (9 + p) g))
+  by false e false f short g = inr (λ version h. family-above h (more-than-one x e f))
+
+-- ---- and behind the family
 
 pub data Late : ℕ → Type 0 where
   four : Late 4
   five : Late 5
+  six : Late 6
 
 pub from-four : {version : ℕ} → Late version → 4 ≤ version
 from-four four = omega arith
 from-four five = omega arith
+from-four six = omega arith
 
 -- the tail with this at its end
 record Close (version p : ℕ) (rest : List ℕ) : Type 0 where
@@ -163,14 +205,51 @@ record Close (version p : ℕ) (rest : List ℕ) : Type 0 where
   fine : (c : Choosing) (y : ℕ) (d : Dates) → FineChoosing c → y ≤ 1 → FineDates p d → Fine p (tail c y d)
   bytes : (c : Choosing) (y : ℕ) (d : Dates) → tailBytes (tail c y d) ≡ choosingBytes c ++ (y ∷ datesBytes d ++ rest)
 
-with-family : (p : ℕ) (f : Families) → FineFamilies p f → Close 5 p (familiesBytes f)
+with-family : (p : ℕ) (f : Families) → FineFamilies p f → Close 5 p (familiesBytes f ++ [])
 with-family p f fine =
     record {
       tail = λ c y d. fifth c y d f;
       version-is = λ c y d. refl;
       fine = λ c y d chosen low dates. (chosen, low, dates, fine);
+      bytes = λ c y d. ap (λ (t : List ℕ). choosingBytes c ++ (y ∷ datesBytes d ++ t)) (sym (append-nil (familiesBytes f)));
+    }
+
+with-scripts : (p : ℕ) (f : Families) → FineFamilies p f → (scripting : Bool) → Close 6 p (familiesBytes f ++ scriptsByte scripting ∷ [])
+with-scripts p f fine scripting =
+    record {
+      tail = λ c y d. sixth c y d f scripting;
+      version-is = λ c y d. refl;
+      fine = λ c y d chosen low dates. (chosen, low, dates, fine);
       bytes = λ c y d. refl;
     }
+
+module _ (p : ℕ) (f : Families) (fine : FineFamilies p f) where
+  end-5 : (rest : List ℕ) → Close 5 p (familiesBytes f ++ rest) ⊎ BadScripts 5 rest
+  end-5 [] = inl (with-family p f fine)
+  end-5 (x ∷ more) = inr (behind-family refl (omega arith))
+
+  end-6 : (rest : List ℕ) → Close 6 p (familiesBytes f ++ rest) ⊎ BadScripts 6 rest
+  end-6 [] = inr (no-scripts refl refl)
+  end-6 (x ∷ v ∷ more) = inr (behind-scripts refl (omega arith))
+  end-6 (x ∷ []) = by (eqb x 0) refl (eqb x 1) refl where
+    by : (none : Bool) → eqb x 0 ≡ none → (some : Bool) → eqb x 1 ≡ some → Close 6 p (familiesBytes f ++ x ∷ []) ⊎ BadScripts 6 (x ∷ [])
+    by true e some g = inl (subst (λ n. Close 6 p (familiesBytes f ++ n ∷ [])) (sym (eqb-true x 0 e)) (with-scripts p f fine false))
+    by false e true g = inl (subst (λ n. Close 6 p (familiesBytes f ++ n ∷ [])) (sym (eqb-true x 1 g)) (with-scripts p f fine true))
+    by false e false g = inr (scripts-above refl (more-than-one x e g))
+
+-- the family and what stands behind it
+closed-by : (version p : ℕ) → 5 ≤ version
+    → ((f : Families) → FineFamilies p f → (rest : List ℕ) → Close version p (familiesBytes f ++ rest) ⊎ BadScripts version rest)
+    → (rest : List ℕ) → Small rest → Close version p rest ⊎ BadEnd version p rest
+closed-by version p later end rest small = by (named p rest small) where
+  ended : (n : Named p rest) → Close version p (familiesBytes (n .family) ++ n .rest) ⊎ BadScripts version (n .rest)
+      → Close version p rest ⊎ BadEnd version p rest
+  ended n (inl h) = inl (subst (Close version p) (n .joined) h)
+  ended n (inr b) = inr (n .bad version later b)
+
+  by : Named p rest ⊎ NotNamed p rest → Close version p rest ⊎ BadEnd version p rest
+  by (inl n) = ended n (end (n .family) (n .fine) (n .rest))
+  by (inr b) = inr (b version later)
 
 close : {version : ℕ} → Late version → (p : ℕ) (rest : List ℕ) → Small rest → Close version p rest ⊎ BadEnd version p rest
 close four p [] small =
@@ -181,18 +260,8 @@ close four p [] small =
       bytes = λ c y d. ap (λ (t : List ℕ). choosingBytes c ++ y ∷ t) (sym (append-nil (datesBytes d)));
     })
 close four p (x ∷ more) small = inr (behind-dates refl (omega arith))
-close five p [] small = inr (no-family refl refl)
-close five p (x ∷ more) small = by more small (eqb x 0) refl (eqb x 1) refl (eqb (suc (length more)) (9 + p)) refl where
-  by : (more : List ℕ) → Small (x ∷ more) → (none : Bool) → eqb x 0 ≡ none → (some : Bool) → eqb x 1 ≡ some
-      → (sized : Bool) → eqb (suc (length more)) (9 + p) ≡ sized
-      → Close 5 p (x ∷ more) ⊎ BadEnd 5 p (x ∷ more)
-  by [] small true e some f sized g = inl (subst (λ n. Close 5 p (n ∷ [])) (sym (eqb-true x 0 e)) (with-family p cpa tt))
-  by (v ∷ more) small true e some f sized g = inr (behind-cpa refl (eqb-true x 0 e) (omega arith))
-  by more small false e true f true g =
-      let (c, fits, few, is) = controls-if-sized (x ∷ more) p (eqb-true x 1 f) (record { below = small }) (eqb-true (suc (length more)) (9 + p) g) in
-      inl (subst (Close 5 p) is (with-family p (cpace c) (fits, few)))
-  by more small false e true f false g = inr (cpace-length refl (eqb-true x 1 f) (eqb-false (suc (length more)) (9 + p) g))
-  by more small false e false f sized g = inr (family-above refl (more-than-one x e f))
+close five p rest small = closed-by 5 p (omega arith) (end-5 p) rest small
+close six p rest small = closed-by 6 p (omega arith) (end-6 p) rest small
 
 module _ (version : ℕ) (late : Late version) (body : List ℕ) (small : Small body) where
   abbrev base : List ℕ

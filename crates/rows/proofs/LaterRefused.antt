@@ -1,4 +1,4 @@
--- A body of version 04 or 05 of which one of the causes holds has the number 1. Assumes nothing.
+-- A body of version 04, 05 or 06 of which one of the causes holds has the number 1. Assumes nothing.
 use mathlib.Core.Path.{_≡_, refl, sym, ap, subst, _∙_}
 use mathlib.Core.Bool.{Bool, true, false, cond}
 use mathlib.Core.List.{List, [], _∷_, _++_}
@@ -17,17 +17,18 @@ use Rattle.shape.specs.declared.Tails.{Tails}
 use Rattle.shape.specs.declared.Tails.the-variants.{Ended, Wrong}
 use Rattle.shape.specs.declared.ReadShape.{ReadShape}
 use Rattle.shape.specs.Shape.{based, baseTail, entriesEnd, fileEnd, selectionTail, follows, syllabusTail, dates, datesEnd, datingTail}
-use Rattle.shape.specs.Shape.{families, familyEnd, familyTail, behind, tailsOf, whole, shapeOf, shapeNumber}
+use Rattle.shape.specs.Shape.{families, familyEnd, familyTail, scripts, scriptingTail, behind, tailsOf, whole, shapeOf, shapeNumber}
 use Rattle.shape.proofs.Files.{first-entry}
 use Rattle.shape.proofs.Inside.{not-before}
 use Rattle.rows.specs.Tails.{Choosing, choosingBytes, baseLength, Base, datesAt, CutFile, cut-here, cut-below, NoChoosing, no-choice, choice-above, no-count, cut-file}
-use Rattle.rows.specs.Tails.{BadEnd, behind-dates, no-family, family-above, behind-cpa, cpace-length}
+use Rattle.rows.specs.Tails.{BadScripts, behind-family, no-scripts, scripts-above, behind-scripts}
+use Rattle.rows.specs.Tails.{BadEnd, behind-dates, no-family, family-above, behind-cpa, cpace-short, behind-cpace}
 use Rattle.rows.specs.Tails.{BadDates, nothing-behind, follows-above, no-dated, dated-above, behind-undated, dated-short, behind-dated}
 use Rattle.rows.specs.Tails.{BadTail, other-length, choosing, no-syllabus, syllabus-above, between, no-choosing, behind-choosing}
 use Rattle.rows.proofs.Entries.{only-one}
 use Rattle.rows.proofs.Behind.{byte-kept, base-sized, some-bytes, choosingEnd, chosen, selection-read}
 use Rattle.rows.proofs.Behind.{syllabus-byte, rest-size, syllabus-read, rest-there, rest-byte}
-use Rattle.rows.proofs.Later.{Late, four, five, from-four}
+use Rattle.rows.proofs.Later.{Late, four, five, six, from-four}
 
 module _ (body : List ℕ) where
   -- entries that are cut short end past the body
@@ -88,6 +89,7 @@ module _ (body : List ℕ) where
 abbrev closing : {version : ℕ} → Late version → (body : List ℕ) → Tails → ReadShape
 closing four body t = whole body t
 closing five body t = whole body (behind t (familyTail body))
+closing six body t = whole body (behind (behind t (familyTail body)) (scriptingTail body))
 
 abbrev number : {version : ℕ} → Late version → (body : List ℕ) → Tails → ℕ
 number late body t = shapeNumber (closing late body t)
@@ -97,10 +99,12 @@ closed : {version : ℕ} (late : Late version) (body : List ℕ)
 unfolding shapeOf tailsOf
 closed four body = refl
 closed five body = refl
+closed six body = refl
 
 wrong : {version : ℕ} (late : Late version) (body : List ℕ) → number late body Wrong ≡ 1
 wrong four body = refl
 wrong five body = refl
+wrong six body = refl
 
 module _ (body : List ℕ) where
   not-ended : (shape : Shape) (at : ℕ) → (at ≡ length body → ⊥) → shapeNumber (whole body (Ended shape at)) ≡ 1
@@ -127,7 +131,7 @@ module _ (body : List ℕ) where
           let one = only-one (byte body at) (eqb-false (byte body at) 0 f) (ltb-false 1 (byte body at) g) in
           some (leb-false (length body) at e) one (ltb-false (length body) end h)
 
-  -- what stands behind the dates
+  -- what stands from a place on
   module _ (at : ℕ) (rest : List ℕ) (there : drop at body ≡ rest) (within : at ≤ length body) where
     long : length body ≡ at + length rest
     long = omega (arith, ap length there, length-drop at body)
@@ -135,31 +139,70 @@ module _ (body : List ℕ) where
     first-byte : byte rest 0 ≡ byte body at
     first-byte = ap (λ (t : List ℕ). byte t 0) (sym there) ∙ getD-drop at body 0 0 ∙ ap (byte body) (add-zero at)
 
+  -- what stands behind the family
+  scripts-refused : (at : ℕ) (rest : List ℕ) → drop at body ≡ rest → at ≤ length body → (shape : Shape) → BadScripts 6 rest
+      → shapeNumber (whole body (scriptingTail body shape at)) ≡ 1
+  unfolding scriptingTail
+  scripts-refused at rest there within shape bad = by (leb (length body) at) refl (ltb 1 (byte body at)) refl where
+    more : BadScripts 6 rest → at < length body → byte body at ≤ 1 → at + 1 ≡ length body → ⊥
+    more (behind-family v h) l low e = omega arith
+    more (no-scripts v h) l low e = omega (arith, long at rest there within)
+    more (scripts-above v h) l low e = omega (arith, first-byte at rest there within)
+    more (behind-scripts v h) l low e = omega (arith, long at rest there within)
+
+    by : (short : Bool) → leb (length body) at ≡ short → (high : Bool) → ltb 1 (byte body at) ≡ high
+        → shapeNumber (whole body (cond short Wrong (cond high Wrong (Ended (scripts shape (eqb (byte body at) 1)) (at + 1))))) ≡ 1
+    by true e high f = refl
+    by false e true f = refl
+    by false e false f = not-ended _ (at + 1) (more bad (leb-false (length body) at e) (ltb-false 1 (byte body at) f))
+
+  nothing-refused : (at : ℕ) (rest : List ℕ) → drop at body ≡ rest → at ≤ length body → (shape : Shape) → BadScripts 5 rest
+      → shapeNumber (whole body (Ended shape at)) ≡ 1
+  nothing-refused at rest there within shape (behind-family v h) = not-ended shape at (λ e. omega (arith, long at rest there within))
+  nothing-refused at rest there within shape (no-scripts v h) = absurd (omega arith)
+  nothing-refused at rest there within shape (scripts-above v h) = absurd (omega arith)
+  nothing-refused at rest there within shape (behind-scripts v h) = absurd (omega arith)
+
+  -- what stands behind the dates
+  module _ (at : ℕ) (rest : List ℕ) (there : drop at body ≡ rest) (within : at ≤ length body) where
+    -- the family is refused where what stands behind it is
+    module _ (version : ℕ) (later : 5 ≤ version) (refused : Tails → ℕ) (w : refused Wrong ≡ 1)
+        (end : (at : ℕ) (rest : List ℕ) → drop at body ≡ rest → at ≤ length body → (shape : Shape) → BadScripts version rest → refused (Ended shape at) ≡ 1) where
+      rest-refused : (n : ℕ) → at + n ≤ length body → (shape : Shape) → BadScripts version (drop n rest) → refused (Ended shape (at + n)) ≡ 1
+      rest-refused n h shape bad = end (at + n) (drop n rest) (sym (drop-drop n at body) ∙ ap (drop n) there) h shape bad
+
+      when-cpa : (shape : Shape) → BadEnd version (byte body 3) rest → at < length body → byte body at ≡ 0 → refused (Ended shape (at + 1)) ≡ 1
+      when-cpa shape (behind-dates v h) l z = absurd (omega arith)
+      when-cpa shape (no-family v h) l z = absurd (omega (arith, long at rest there within))
+      when-cpa shape (family-above v h) l z = absurd (omega (arith, first-byte at rest there within))
+      when-cpa shape (behind-cpa v o bad) l z = rest-refused 1 (omega arith) shape bad
+      when-cpa shape (cpace-short v o h) l z = absurd (omega (arith, first-byte at rest there within))
+      when-cpa shape (behind-cpace v o bad) l z = absurd (omega (arith, first-byte at rest there within))
+
+      when-cpace : (shape : Shape) → BadEnd version (byte body 3) rest → at < length body → byte body at ≡ 1 → familyEnd body at ≤ length body
+          → refused (Ended shape (familyEnd body at)) ≡ 1
+      when-cpace shape (behind-dates v h) l o e = absurd (omega arith)
+      when-cpace shape (no-family v h) l o e = absurd (omega (arith, long at rest there within))
+      when-cpace shape (family-above v h) l o e = absurd (omega (arith, first-byte at rest there within))
+      when-cpace shape (behind-cpa v z bad) l o e = absurd (omega (arith, first-byte at rest there within))
+      when-cpace shape (cpace-short v z h) l o e = absurd (omega (arith, long at rest there within))
+      when-cpace shape (behind-cpace v z bad) l o e = rest-refused (9 + byte body 3) e shape bad
+
+      family-refused : (shape : Shape) → BadEnd version (byte body 3) rest → refused (familyTail body shape at) ≡ 1
+      unfolding familyTail
+      family-refused shape bad =
+          let cpace = families shape (Cpace at (familyEnd body at)) in
+          switched-refused refused w at (families shape Cpa) cpace (familyEnd body at) (when-cpa (families shape Cpa) bad) (when-cpace cpace bad)
+
     end-refused : {version : ℕ} (late : Late version) (shape : Shape) → BadEnd version (byte body 3) rest → number late body (Ended shape at) ≡ 1
-    unfolding familyTail
-    end-refused four shape (behind-dates v h) = not-ended shape at (λ e. omega (arith, long))
+    end-refused four shape (behind-dates v h) = not-ended shape at (λ e. omega (arith, long at rest there within))
     end-refused four shape (no-family v h) = absurd (omega arith)
     end-refused four shape (family-above v h) = absurd (omega arith)
     end-refused four shape (behind-cpa v o h) = absurd (omega arith)
-    end-refused four shape (cpace-length v o h) = absurd (omega arith)
-    end-refused five shape bad =
-        switched-refused (λ t. shapeNumber (whole body t)) refl at (families shape Cpa) (families shape (Cpace at (familyEnd body at))) (familyEnd body at)
-        (λ l z. not-ended (families shape Cpa) (at + 1) (not-cpa bad l z))
-        (λ l o e. not-ended (families shape (Cpace at (familyEnd body at))) (familyEnd body at) (not-cpace bad l o))
-      where
-        not-cpa : BadEnd 5 (byte body 3) rest → at < length body → byte body at ≡ 0 → at + 1 ≡ length body → ⊥
-        not-cpa (behind-dates v h) l z e = omega arith
-        not-cpa (no-family v h) l z e = omega (arith, long)
-        not-cpa (family-above v h) l z e = omega (arith, first-byte)
-        not-cpa (behind-cpa v o h) l z e = omega (arith, long)
-        not-cpa (cpace-length v o h) l z e = omega (arith, first-byte)
-
-        not-cpace : BadEnd 5 (byte body 3) rest → at < length body → byte body at ≡ 1 → familyEnd body at ≡ length body → ⊥
-        not-cpace (behind-dates v h) l z e = omega arith
-        not-cpace (no-family v h) l z e = omega (arith, long)
-        not-cpace (family-above v h) l z e = omega (arith, first-byte)
-        not-cpace (behind-cpa v o h) l z e = omega (arith, first-byte)
-        not-cpace (cpace-length v o h) l z e = h (omega (arith, long))
+    end-refused four shape (cpace-short v o h) = absurd (omega arith)
+    end-refused four shape (behind-cpace v o h) = absurd (omega arith)
+    end-refused five shape bad = family-refused 5 (omega arith) (λ t. shapeNumber (whole body t)) refl nothing-refused shape bad
+    end-refused six shape bad = family-refused 6 (omega arith) (λ t. shapeNumber (whole body (behind t (scriptingTail body)))) refl scripts-refused shape bad
 
   -- no selection behind the base
   no-selection : {version : ℕ} → Late version → NoChoosing (drop (baseLength body) body) → shapeNumber (shapeOf version body) ≡ 1

@@ -15,14 +15,14 @@ use Rattle.ranges.specs.Ranges.{areCycles, isCycle, areCyclicRules, isCyclicRul
 use Rattle.setup.specs.Setup.{rateIn, accumulatorIn, counterIn, profileIn, cycleIn, cyclicIn, rulesIn, freshIn, readSetup, setupNumber}
 use Rattle.shape.specs.declared.ReadShape.{ReadShape}
 use Rattle.shape.specs.declared.ReadShape.the-variants.{Taken, Refused}
-use Rattle.shape.specs.Shape.{baseTail, entriesEnd, selectionTail, syllabusTail, datingTail, familyTail, tailsOf, shapeOf, shapeNumber}
+use Rattle.shape.specs.Shape.{baseTail, entriesEnd, selectionTail, syllabusTail, datingTail, familyTail, scriptingTail, tailsOf, shapeOf, shapeNumber}
 use Rattle.rows.specs.Rows.{Four, Accumulator, Limits, Profile, Conversion, Setup, written, spelled, headRow, profileRow, conversionRow, setupRow, body}
 use Rattle.rows.specs.Rows.{Two, Cyclic, CyclicLimit, Dates, undated, dated, cyclicLimitsRow, cyclesRow, cyclesBytes}
 use Rattle.rows.specs.Rows.{Families, cpa, cpace, controlsRow, controlsBytes}
 use Rattle.rows.specs.Said.{profileSaid, conversionSaid, rulesSaid, freshSaid}
 use Rattle.rows.specs.Tails.{off, first, third, tailBytes}
 use Rattle.rows.specs.Whole.{readWhole}
-use Rattle.rows.proofs.Witness.{profile as printedProfile, printed, printedBytes, daily, dual}
+use Rattle.rows.proofs.Witness.{profile as printedProfile, printed, printedBytes, daily, dual, scripted}
 
 -- ---- a set-up in which each field has a value of its own
 
@@ -212,6 +212,15 @@ abbrev followed : ReadShape → ℕ
 followed (Taken shape) = shape .syllabus
 followed (Refused refusal) = 9
 
+-- whether scripts are on, as it was read
+abbrev isOn : ReadShape → Bool
+isOn (Taken shape) = shape .scripting
+isOn (Refused refusal) = false
+
+abbrev isOff : ReadShape → Bool
+isOff (Taken shape) = not (shape .scripting)
+isOff (Refused refusal) = false
+
 abbrev isRefused : ℕ → List ℕ → Bool
 isRefused version tail = eqb (shapeNumber (shapeOf version (printedBytes ++ tail))) 1
 
@@ -250,6 +259,11 @@ pub record Samples : Type 0 where
   pub behind-cpa : T (isRefused 5 (0 ∷ 0 ∷ 0 ∷ 0 ∷ 0 ∷ []))
   pub family-short : T (isRefused 5 (take 57 (tailBytes dual)))
   pub family-more : T (isRefused 5 (tailBytes dual ++ 0 ∷ []))
+  pub scripts-read : T (isOn (shapeOf 6 (printedBytes ++ tailBytes (scripted true))))
+  pub scripts-off : T (isOff (shapeOf 6 (printedBytes ++ tailBytes (scripted false))) && isOff (shapeOf 5 (printedBytes ++ tailBytes dual)))
+  pub scripts-2 : T (isRefused 6 (tailBytes dual ++ 2 ∷ []) && isRefused 6 (0 ∷ 0 ∷ 0 ∷ 0 ∷ 2 ∷ []))
+  pub scripts-missing : T (isRefused 6 (tailBytes dual) && isRefused 6 (0 ∷ 0 ∷ 0 ∷ 0 ∷ []))
+  pub scripts-more : T (isRefused 6 (tailBytes (scripted true) ++ 0 ∷ []) && isRefused 6 (0 ∷ 0 ∷ 0 ∷ 0 ∷ 1 ∷ 0 ∷ []))
 
 pub samples : Samples
 unfolding counted printed printedBytes setupRow headRow profileRow conversionRow spelled written rulesIn rateIn profileIn accumulatorIn
@@ -257,6 +271,7 @@ unfolding counted printed printedBytes setupRow headRow profileRow conversionRow
     isMaximumAmount areAccumulatorRules isAccumulatorRule areCounterRules areSent areNumbersApart profileNumber areConversions
     isConversionOrAbsent isConversion conversionPair arePairsApart shapeOf tailsOf baseTail selectionTail entriesEnd syllabusTail datingTail
     cyclesRow cyclicLimitsRow cycleIn cyclicIn areCycles isCycle areCyclicRules isCyclicRule dateAt isDay hasDay familyTail controlsRow isFamily
+    scriptingTail
 samples =
     record {
       counter-limits = tt;
@@ -292,4 +307,9 @@ samples =
       behind-cpa = tt;
       family-short = tt;
       family-more = tt;
+      scripts-read = tt;
+      scripts-off = tt;
+      scripts-2 = tt;
+      scripts-missing = tt;
+      scripts-more = tt;
     }

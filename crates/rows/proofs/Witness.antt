@@ -1,7 +1,7 @@
 -- The set-up of the sitting that document 01 prints ("A sitting in full"), from its fields: its bytes, and that the premises of the statements are met;
--- also with dates, and of a CPACE card. Assumes nothing.
+-- also with dates, of a CPACE card, and with scripts off or on. Assumes nothing.
 use mathlib.Core.Path.{_≡_, refl}
-use mathlib.Core.Bool.{Bool, true, _&&_}
+use mathlib.Core.Bool.{Bool, true, false, _&&_}
 use mathlib.Core.List.{List, [], _∷_, _++_}
 use Prim.Native.Nat.{ℕ, _^_, _≤_, _<_}
 use native.Mathlib.Omega.{arith}
@@ -17,7 +17,7 @@ use Rattle.rows.specs.Rows.{Field, written, spelled, Fits, Four, Accumul
 use Rattle.rows.specs.Rows.{Cyclic, Cycles, undated, dated, cyclicLimitsRow, cyclesRow, Controls, cpa, cpace, controlsRow}
 use Rattle.rows.specs.Said.{Says}
 use Rattle.rows.specs.InRange.{ThreeDigits, AccumulatorRange, AccumulatorLimits, InRange, CyclicRange, DatesRange, FamiliesRange}
-use Rattle.rows.specs.Tails.{off, on, third, fourth, fifth, Tail, tailBytes, Fine, TailSays}
+use Rattle.rows.specs.Tails.{off, on, third, fourth, fifth, sixth, Tail, tailBytes, Fine, TailSays}
 use Rattle.rows.specs.Whole.{wholeBody, WholeSays}
 use Rattle.rows.proofs.Fields.{reads-fields}
 use Rattle.rows.proofs.Ranges.{accepted-in-range}
@@ -258,3 +258,17 @@ dual-in-range =
 pub dual-says : WholeSays printed dual 5 (wholeBody printed dual)
 unfolding printed
 dual-says = whole-says printed dual printed-fits dual-fine printed-in-range-5 daily-in-range dual-in-range
+
+-- ---- and scripts, off or on
+
+abbrev pub scripted : (scripting : Bool) → Tail
+scripted scripting = sixth off 0 (dated spending) (cpace guarding) scripting
+
+pub scripted-bytes : (tailBytes (scripted false) ≡ tailBytes dual ++ 0 ∷ []) × (tailBytes (scripted true) ≡ tailBytes dual ++ 1 ∷ [])
+unfolding cyclesRow cyclicLimitsRow controlsRow spelled written
+scripted-bytes = (refl, refl)
+
+-- THE WITNESS: it is taken, and says what was spelled
+pub scripted-says : (scripting : Bool) → WholeSays printed (scripted scripting) 6 (wholeBody printed (scripted scripting))
+unfolding printed
+scripted-says scripting = whole-says printed (scripted scripting) printed-fits dual-fine printed-in-range-5 daily-in-range dual-in-range

@@ -1,7 +1,8 @@
--- What follows the base of a set-up's body, spelled (docs/PAPERS.md, "Tail of version 02" to "Tail of version 05"; document 02, Three, Nine, Five
--- and Thirteen).
+-- What follows the base of a set-up's body, spelled (docs/PAPERS.md, "Tail of version 02" to "Tail of version 06"; document 02, Three, Nine, Five,
+-- Thirteen and Twelve).
 use Prim.Native.Nat.{ℕ, suc, _+_, _-_, _*_, _^_, _≤_, _<_}
 use mathlib.Core.Path.{_≡_}
+use mathlib.Core.Bool.{Bool, true, false}
 use mathlib.Core.List.{List, [], _∷_, _++_}
 use lib.ListN.{length, take, drop}
 use Rattle.wire.specs.Wire.{byte}
@@ -41,14 +42,20 @@ abbrev pub familiesBytes : Families → List ℕ
 familiesBytes cpa = 0 ∷ []
 familiesBytes (cpace f) = controlsBytes (cpace f)
 
+-- 0 off, 1 on
+abbrev pub scriptsByte : (scripting : Bool) → ℕ
+scriptsByte false = 0
+scriptsByte true = 1
+
 -- version 01 has no tail; version 02 has the selection's; version 03 that and the syllabus; version 04 these and the dates'; version 05 these and the
--- family's
+-- family's; version 06 these and whether scripts are on
 pub data Tail : Type 0 where
   first : Tail
   second : Choosing → Tail
   third : Choosing → (syllabus : ℕ) → Tail
   fourth : Choosing → (syllabus : ℕ) → Dates → Tail
   fifth : Choosing → (syllabus : ℕ) → Dates → Families → Tail
+  sixth : Choosing → (syllabus : ℕ) → Dates → Families → (scripting : Bool) → Tail
 
 abbrev pub versionOf : Tail → ℕ
 versionOf first = 1
@@ -56,6 +63,7 @@ versionOf (second choosing) = 2
 versionOf (third choosing syllabus) = 3
 versionOf (fourth choosing syllabus dates) = 4
 versionOf (fifth choosing syllabus dates families) = 5
+versionOf (sixth choosing syllabus dates families scripting) = 6
 
 abbrev pub tailBytes : Tail → List ℕ
 tailBytes first = []
@@ -63,14 +71,17 @@ tailBytes (second choosing) = choosingBytes choosing
 tailBytes (third choosing syllabus) = choosingBytes choosing ++ syllabus ∷ []
 tailBytes (fourth choosing syllabus dates) = choosingBytes choosing ++ syllabus ∷ datesBytes dates
 tailBytes (fifth choosing syllabus dates families) = choosingBytes choosing ++ (syllabus ∷ datesBytes dates ++ familiesBytes families)
+tailBytes (sixth choosing syllabus dates families scripting) =
+    choosingBytes choosing ++ (syllabus ∷ datesBytes dates ++ (familiesBytes families ++ scriptsByte scripting ∷ []))
 
--- older papers select nothing, follow syllabus 0, have no dates and are of CPA cards
+-- older papers select nothing, follow syllabus 0, have no dates, are of CPA cards and have no scripts
 abbrev pub choosingOf : Tail → Choosing
 choosingOf first = off
 choosingOf (second choosing) = choosing
 choosingOf (third choosing syllabus) = choosing
 choosingOf (fourth choosing syllabus dates) = choosing
 choosingOf (fifth choosing syllabus dates families) = choosing
+choosingOf (sixth choosing syllabus dates families scripting) = choosing
 
 abbrev pub syllabusOf : Tail → ℕ
 syllabusOf first = 0
@@ -78,6 +89,7 @@ syllabusOf (second choosing) = 0
 syllabusOf (third choosing syllabus) = syllabus
 syllabusOf (fourth choosing syllabus dates) = syllabus
 syllabusOf (fifth choosing syllabus dates families) = syllabus
+syllabusOf (sixth choosing syllabus dates families scripting) = syllabus
 
 abbrev pub datesOf : Tail → Dates
 datesOf first = undated
@@ -85,6 +97,7 @@ datesOf (second choosing) = undated
 datesOf (third choosing syllabus) = undated
 datesOf (fourth choosing syllabus dates) = dates
 datesOf (fifth choosing syllabus dates families) = dates
+datesOf (sixth choosing syllabus dates families scripting) = dates
 
 abbrev pub familiesOf : Tail → Families
 familiesOf first = cpa
@@ -92,6 +105,15 @@ familiesOf (second choosing) = cpa
 familiesOf (third choosing syllabus) = cpa
 familiesOf (fourth choosing syllabus dates) = cpa
 familiesOf (fifth choosing syllabus dates families) = families
+familiesOf (sixth choosing syllabus dates families scripting) = families
+
+abbrev pub scriptingOf : Tail → Bool
+scriptingOf first = false
+scriptingOf (second choosing) = false
+scriptingOf (third choosing syllabus) = false
+scriptingOf (fourth choosing syllabus dates) = false
+scriptingOf (fifth choosing syllabus dates families) = false
+scriptingOf (sixth choosing syllabus dates families scripting) = scripting
 
 -- the first mask bit without a name: 22, from version 04 on 25, and from version 05 on 26, whatever the tail says
 abbrev pub unnamedOf : Tail → ℕ
@@ -100,6 +122,7 @@ unnamedOf (second choosing) = 2 ^ 22
 unnamedOf (third choosing syllabus) = 2 ^ 22
 unnamedOf (fourth choosing syllabus dates) = 2 ^ 25
 unnamedOf (fifth choosing syllabus dates families) = 2 ^ 26
+unnamedOf (sixth choosing syllabus dates families scripting) = 2 ^ 26
 
 -- ---- what fits: numbers of entries and lengths below 256, syllabus 0 or 1, a row of rules and a cashback check for each of the p profiles
 
@@ -125,6 +148,7 @@ Fine p (second choosing) = FineChoosing choosing
 Fine p (third choosing syllabus) = FineChoosing choosing × (syllabus ≤ 1)
 Fine p (fourth choosing syllabus dates) = FineChoosing choosing × (syllabus ≤ 1) × FineDates p dates
 Fine p (fifth choosing syllabus dates families) = FineChoosing choosing × (syllabus ≤ 1) × FineDates p dates × FineFamilies p families
+Fine p (sixth choosing syllabus dates families scripting) = FineChoosing choosing × (syllabus ≤ 1) × FineDates p dates × FineFamilies p families
 
 -- p and c stand at 3 and 4 of the base, which has 52 + 107p + 7c bytes
 abbrev pub baseLength : List ℕ → ℕ
@@ -164,7 +188,8 @@ familyFrom (cpace f) at = Cpace at (at + length (controlsBytes (cpace f)))
 abbrev pub familiesAt : (base : List ℕ) → Choosing → Dates → ℕ
 familiesAt base choosing dates = datesAt base choosing + length (datesBytes dates)
 
--- the shape: the base's length, where the file stands, the syllabus, where the dates' and the family's tail stand, the first unnamed mask bit
+-- the shape: the base's length, where the file stands, the syllabus, where the dates' and the family's tail stand, whether scripts are on,
+-- the first unnamed mask bit
 abbrev pub shapeSaid : (base : List ℕ) → Tail → Shape
 shapeSaid base tail =
     record {
@@ -173,6 +198,7 @@ shapeSaid base tail =
       syllabus = syllabusOf tail;
       dating = dating (datesOf tail) (datesAt base (choosingOf tail));
       family = familyFrom (familiesOf tail) (familiesAt base (choosingOf tail) (datesOf tail));
+      scripting = scriptingOf tail;
       unnamed = unnamedOf tail;
     }
 
@@ -223,13 +249,22 @@ pub data NoChoosing (tail : List ℕ) : Type 0 where
   no-count : byte tail 0 ≡ 1 → length tail ≡ 1 → NoChoosing tail
   cut-file : byte tail 0 ≡ 1 → 1 < length tail → CutFile (drop 2 tail) (byte tail 1) → NoChoosing tail
 
--- behind the dates: in version 04 any byte; in version 05 no family; one above 1; bytes behind "CPA"; another length than 9 + p
+-- behind the family: in version 05 any byte; in version 06 no byte; one above 1; more than one
+pub data BadScripts (version : ℕ) (rest : List ℕ) : Type 0 where
+  behind-family : version ≡ 5 → 0 < length rest → BadScripts version rest
+  no-scripts : version ≡ 6 → length rest ≡ 0 → BadScripts version rest
+  scripts-above : version ≡ 6 → 1 < byte rest 0 → BadScripts version rest
+  behind-scripts : version ≡ 6 → 1 < length rest → BadScripts version rest
+
+-- behind the dates: in version 04 any byte; from version 05 on no family; one above 1; what stands behind "CPA"; less than 9 + p bytes, or what stands
+-- behind them
 pub data BadEnd (version p : ℕ) (rest : List ℕ) : Type 0 where
   behind-dates : version ≡ 4 → 0 < length rest → BadEnd version p rest
-  no-family : version ≡ 5 → length rest ≡ 0 → BadEnd version p rest
-  family-above : version ≡ 5 → 1 < byte rest 0 → BadEnd version p rest
-  behind-cpa : version ≡ 5 → byte rest 0 ≡ 0 → 1 < length rest → BadEnd version p rest
-  cpace-length : version ≡ 5 → byte rest 0 ≡ 1 → (length rest ≡ 9 + p → ⊥) → BadEnd version p rest
+  no-family : 5 ≤ version → length rest ≡ 0 → BadEnd version p rest
+  family-above : 5 ≤ version → 1 < byte rest 0 → BadEnd version p rest
+  behind-cpa : 5 ≤ version → byte rest 0 ≡ 0 → BadScripts version (drop 1 rest) → BadEnd version p rest
+  cpace-short : 5 ≤ version → byte rest 0 ≡ 1 → length rest < 9 + p → BadEnd version p rest
+  behind-cpace : 5 ≤ version → byte rest 0 ≡ 1 → BadScripts version (drop (9 + p) rest) → BadEnd version p rest
 
 -- behind a selection: no syllabus; one above 1; then no switch; one above 1; what stands behind "off"; less than 28 + 18p bytes, or what stands behind them
 pub data BadDates (version p : ℕ) (tail : List ℕ) : Type 0 where

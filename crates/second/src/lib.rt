@@ -121,7 +121,13 @@ fn unable(words: &Words, state: State, pending: Pending, requested: u8) -> Outco
     let purchase = pending.purchase;
     let before = pending.history;
     let present = state.history;
-    let adr = checks::decision_bits(words, place, values, purchase, before.with_unable());
+    let adr = checks::decision_bits(
+        words,
+        place,
+        values,
+        purchase,
+        checks::history_bits(before.with_unable()),
+    );
     let masks = rules::profile_masks(words, place);
     let approves = !((requested == 0) | checks::meets(adr, masks.default));
     let change = Change::offline(approves, purchase);

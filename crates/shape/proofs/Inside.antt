@@ -19,7 +19,7 @@ use Rattle.shape.specs.declared.Tails.the-variants.{Ended, Wrong}
 use Rattle.shape.specs.declared.ReadShape.{ReadShape}
 use Rattle.shape.specs.declared.ReadShape.the-variants.{Taken, Refused}
 use Rattle.shape.specs.Shape.{Lies, Spans, Holds, baseLength, based, baseTail, entriesEnd, fileEnd, selects, selectionTail, follows, syllabusTail}
-use Rattle.shape.specs.Shape.{dates, datesEnd, datingTail, families, familyEnd, familyTail, behind, since, tailsOf, whole, shapeOf}
+use Rattle.shape.specs.Shape.{dates, datesEnd, datingTail, families, familyEnd, familyTail, scripts, scriptingTail, behind, since, tailsOf, whole, shapeOf}
 use Rattle.shape.proofs.Either.{choose}
 
 -- entries end where they begin, or behind
@@ -85,6 +85,13 @@ module _ (body : List ℕ) where
       (λ _. choose In (ltb (length body) (familyEnd body at)) Wrong (Ended (families shape (Cpace at (familyEnd body at))) (familyEnd body at)) (λ _. tt)
       (λ e. record { base = i .base; file = i .file; tail = i .tail; family = (omega arith, ltb-false _ _ e) }))))
 
+  scripting-in : (shape : Shape) (at : ℕ) → Inside shape (length body) → In (scriptingTail body shape at)
+  unfolding scriptingTail
+  scripting-in shape at i =
+      choose In (leb (length body) at) Wrong _ (λ _. tt)
+      (λ _. choose In (ltb 1 (byte body at)) Wrong (Ended (scripts shape (eqb (byte body at) 1)) (at + 1)) (λ _. tt)
+      (λ _. record { base = i .base; file = i .file; tail = i .tail; family = i .family }))
+
   since-in : (first version : ℕ) (before : Tails) (tail : Shape → ℕ → Tails) → In before
       → ((shape : Shape) (at : ℕ) → Inside shape (length body) → In (tail shape at))
       → In (since first version before tail)
@@ -96,7 +103,8 @@ module _ (body : List ℕ) where
   tails-in version =
       let file = since-in 2 version (baseTail body) (selectionTail body) base-in selection-in in
       let rounded = since-in 3 version _ (syllabusTail body) file syllabus-in in
-      since-in 5 version _ (familyTail body) (since-in 4 version _ (datingTail body) rounded dating-in) family-in
+      let named = since-in 5 version _ (familyTail body) (since-in 4 version _ (datingTail body) rounded dating-in) family-in in
+      since-in 6 version _ (scriptingTail body) named scripting-in
 
   abbrev Read : ReadShape → Type 0
   Read (Taken shape) = Inside shape (length body)

@@ -1,24 +1,26 @@
 -- One law for each tail: an older body with the byte 00 behind it is the newer one with the addition off. Assumes nothing.
-use mathlib.Core.Path.{_≡_, refl, sym, ap, subst, _∙_}
+use mathlib.Core.Path.{_≡_, refl, ap, subst, _∙_}
 use mathlib.Core.Bool.{Bool, true, false, cond}
 use mathlib.Core.List.{List, [], _∷_, _++_}
 use Prim.Native.Nat.{ℕ, zero, suc, _+_, _≤_, _<_}
 use native.Mathlib.Omega.{arith}
 use borrow.Author.Tests.{lt-ltb, le-ltb, ltb-true, ltb-false, le-leb, lt-leb, leb-true, leb-false, eq-eqb, ne-eqb, eqb-true, eqb-false}
-use lib.Dec.{eqb, ltb, leb}
+use lib.Dec.{eqb, ltb, leb, lit≤}
 use lib.ListN.{length, length-append, List·getD-eq-default}
 use lib.Seq.{getD-append-seam}
 use Rattle.wire.specs.Wire.{byte}
 use Rattle.refusal.specs.declared.Refusal.the-variants.{BadSetup}
 use Rattle.shape.specs.declared.Dating.the-variants.{Off as DatesOff, On as DatesOn}
-use Rattle.shape.specs.declared.Family.the-variants.{Cpa}
+use Rattle.shape.specs.declared.Family.the-variants.{Cpa, Cpace}
 use Rattle.shape.specs.declared.Shape.{Shape}
 use Rattle.shape.specs.declared.Tails.{Tails}
 use Rattle.shape.specs.declared.Tails.the-variants.{Ended, Wrong}
 use Rattle.shape.specs.declared.ReadShape.the-variants.{Taken, Refused}
 use Rattle.shape.specs.Shape.{baseLength, based, baseTail, entriesEnd, fileEnd, selects, selectionTail, follows, syllabusTail}
-use Rattle.shape.specs.Shape.{dates, datesEnd, datingTail, families, familyTail, behind, tailsOf, whole, shapeOf}
-use Rattle.shape.proofs.Either.{choose}
+use Rattle.shape.specs.Shape.{dates, datesEnd, datingTail, families, familyEnd, familyTail, scripts, scriptingTail}
+use Rattle.shape.specs.Shape.{behind, tailsOf, whole, shapeOf}
+use Rattle.shape.proofs.Ends.{Ends, behind-ends, end-ends, switched-ends}
+use Rattle.shape.proofs.Scripting.{off-before}
 
 -- a byte past the end reads as 0
 pub same-byte : (body : List ℕ) (at : ℕ) → byte (body ++ 0 ∷ []) at ≡ byte body at
@@ -133,60 +135,59 @@ module _ (body : List ℕ) where
   near-2 : Near (behind (baseTail newer) (selectionTail newer)) (behind (baseTail body) (selectionTail body))
   near-2 = near-behind selectionTail near-selection missing-selection near-base
 
-  -- and so far the syllabus is 0
-  abbrev Zero : Tails → Type 0
-  Zero Wrong = Unit
-  Zero (Ended shape at) = shape .syllabus ≡ 0
+  -- 0 sets nothing
+  abbrev Unset : (Shape → ℕ → Shape) → Shape → Type 0
+  Unset sets shape = sets shape 0 ≡ shape
 
-  zero-base : Zero (baseTail body)
+  -- a tail of one byte, 0 or 1, that sets something of a shape
+  module _ (sets : Shape → ℕ → Shape) where
+    abbrev byteTail : List ℕ → Shape → ℕ → Tails
+    byteTail s shape at = cond (leb (length s) at) Wrong (cond (ltb 1 (byte s at)) Wrong (Ended (sets shape (byte s at)) (at + 1)))
+
+    missing-byte : (shape : Shape) → byteTail newer shape (length body + 1) ≡ Wrong
+    missing-byte shape = rw (longer, le-leb (length body + 1) (length body + 1) (omega arith))
+
+    -- where the older body ends, it is the byte 00; elsewhere both are refused
+    byte-last : (shape : Shape) (at : ℕ) → Unset sets shape → whole newer (byteTail newer shape at) ≡ whole body (Ended shape at)
+    byte-last shape at z =
+        rw (same-byte body at, longer) (by (eqb at (length body)) refl (leb (length body + 1) at) refl (ltb 1 (byte body at)) refl)
+      where
+        by : (ended : Bool) → eqb at (length body) ≡ ended → (missing : Bool) → leb (length body + 1) at ≡ missing
+            → (above : Bool) → ltb 1 (byte body at) ≡ above
+            → whole newer (cond missing Wrong (cond above Wrong (Ended (sets shape (byte body at)) (at + 1))))
+            ≡ cond ended (Taken shape) (Refused BadSetup)
+        by true h true k above l = absurd (omega (arith, eqb-true at (length body) h, leb-true (length body + 1) at k))
+        by true h false k above l =
+            let here = eqb-true at (length body) h in
+            let none : byte body at ≡ 0 = List·getD-eq-default body 0 (omega arith) in
+            rw (← l, none, longer, eq-eqb (at + 1) (length body + 1) (omega arith)) (ap (λ (s : Shape). Taken s) z)
+        by false h true k above l = refl
+        by false h false k true l = refl
+        by false h false k false l = rw (longer, ne-eqb (at + 1) (length body + 1) (λ e. eqb-false at (length body) h (omega arith)))
+
+    last : {later older : Tails} → Near later older → Ends (Unset sets) older → whole newer (behind later (byteTail newer)) ≡ whole body older
+    last {older = Wrong} same z = refl
+    last {older = Ended shape at} same z = byte-last shape at z
+    last (past shape) z = rw (missing-byte shape)
+
+  -- up to version 02 no syllabus is set
+  unset-base : Ends (Unset follows) (baseTail body)
   unfolding baseTail
-  zero-base = choose Zero (ltb (length body) (baseLength body)) Wrong (Ended (based (baseLength body)) (baseLength body)) (λ _. tt) (λ _. refl)
+  unset-base = end-ends body (Unset follows) (based (baseLength body)) (baseLength body) refl
 
-  zero-selection : (shape : Shape) (at : ℕ) → shape .syllabus ≡ 0 → Zero (selectionTail body shape at)
+  unset-selection : (shape : Shape) (at : ℕ) → Unset follows shape → Ends (Unset follows) (selectionTail body shape at)
   unfolding selectionTail
-  zero-selection shape at z =
-      choose Zero (leb (length body) at) Wrong _ (λ _. tt)
-      (λ _. choose Zero (eqb (byte body at) 0) (Ended shape (at + 1)) _ (λ _. z)
-      (λ _. choose Zero (ltb 1 (byte body at)) Wrong _ (λ _. tt)
-      (λ _. choose Zero (ltb (length body) (fileEnd body at)) Wrong
-      (Ended (selects shape (at + 2) (fileEnd body at) (byte body (at + 1))) (fileEnd body at)) (λ _. tt) (λ _. z))))
+  unset-selection shape at z =
+      let selected = ap (λ (s : Shape). selects s (at + 2) (fileEnd body at) (byte body (at + 1))) z in
+      switched-ends body (Unset follows) at shape _ (fileEnd body at) z selected
 
-  zero-behind : (tails : Tails) → Zero tails → Zero (behind tails (selectionTail body))
-  zero-behind Wrong z = tt
-  zero-behind (Ended shape at) z = zero-selection shape at z
-
-  missing-syllabus : (shape : Shape) → syllabusTail newer shape (length body + 1) ≡ Wrong
-  unfolding syllabusTail
-  missing-syllabus shape = rw (longer, le-leb (length body + 1) (length body + 1) (omega arith))
-
-  -- where the older body ends, it is the byte 00; elsewhere both are refused
-  syllabus-last : (shape : Shape) (at : ℕ) → shape .syllabus ≡ 0 → whole newer (syllabusTail newer shape at) ≡ whole body (Ended shape at)
-  unfolding syllabusTail
-  syllabus-last shape at z =
-      rw (same-byte body at, longer) (by (eqb at (length body)) refl (leb (length body + 1) at) refl (ltb 1 (byte body at)) refl)
-    where
-      by : (ended : Bool) → eqb at (length body) ≡ ended → (missing : Bool) → leb (length body + 1) at ≡ missing
-          → (above : Bool) → ltb 1 (byte body at) ≡ above
-          → whole newer (cond missing Wrong (cond above Wrong (Ended (follows shape (byte body at)) (at + 1))))
-          ≡ cond ended (Taken shape) (Refused BadSetup)
-      by true h true k above l = absurd (omega (arith, eqb-true at (length body) h, leb-true (length body + 1) at k))
-      by true h false k above l =
-          let here = eqb-true at (length body) h in
-          let none : byte body at ≡ 0 = List·getD-eq-default body 0 (omega arith) in
-          rw (← l, none, longer, eq-eqb (at + 1) (length body + 1) (omega arith)) (ap (λ (y : ℕ). Taken (follows shape y)) (sym z))
-      by false h true k above l = refl
-      by false h false k true l = refl
-      by false h false k false l = rw (longer, ne-eqb (at + 1) (length body + 1) (λ e. eqb-false at (length body) h (omega arith)))
-
-  last : {later older : Tails} → Near later older → Zero older → whole newer (behind later (syllabusTail newer)) ≡ whole body older
-  last {older = Wrong} same z = refl
-  last {older = Ended shape at} same z = syllabus-last shape at z
-  last (past shape) z = rw (missing-syllabus shape)
+  unset-2 : Ends (Unset follows) (behind (baseTail body) (selectionTail body))
+  unset-2 = behind-ends (Unset follows) (Unset follows) (baseTail body) (selectionTail body) unset-selection unset-base
 
   -- SYLLABUS 0
   pub syllabus-off : shapeOf 3 newer ≡ shapeOf 2 body
-  unfolding shapeOf tailsOf
-  syllabus-off = last near-2 (zero-behind (baseTail body) zero-base)
+  unfolding shapeOf tailsOf syllabusTail
+  syllabus-off = last follows near-2 unset-2
 
   -- ---- dates: a body that is taken ends with its syllabus, and behind it stands the switch
 
@@ -205,6 +206,10 @@ module _ (body : List ℕ) where
           rw (← l, none, here) (past (follows shape 0))
       by false true h k above l = absurd (omega (arith, leb-false (length body) at h, leb-true (length body + 1) at k))
       by false false h k above l = same
+
+  missing-syllabus : (shape : Shape) → syllabusTail newer shape (length body + 1) ≡ Wrong
+  unfolding syllabusTail
+  missing-syllabus = missing-byte follows
 
   near-3 : Near (tailsOf 3 newer) (tailsOf 3 body)
   unfolding tailsOf
@@ -269,3 +274,24 @@ module _ (body : List ℕ) where
   pub family-off : (shape : Shape) → shapeOf 4 body ≡ Taken shape → shapeOf 5 newer ≡ Taken (families shape Cpa)
   unfolding shapeOf
   family-off shape e = rw behind-4 (added-off (familyTail newer) shape (families shape Cpa) near-4 e (family-cpa shape))
+
+  -- ---- scripts: the tails up to them are the same, or they end past the older body
+
+  near-family : (shape : Shape) (at : ℕ) → Near (familyTail newer shape at) (familyTail body shape at)
+  unfolding familyTail
+  near-family shape at =
+      rw (same-byte body at, same-byte body 3, longer)
+      (near-switched at (families shape Cpa) (families shape (Cpace at (familyEnd body at))) (familyEnd body at))
+
+  missing-family : (shape : Shape) → familyTail newer shape (length body + 1) ≡ Wrong
+  unfolding familyTail
+  missing-family shape = rw (longer, le-leb (length body + 1) (length body + 1) (omega arith))
+
+  near-5 : Near (tailsOf 5 newer) (tailsOf 5 body)
+  unfolding tailsOf
+  near-5 = near-behind familyTail near-family missing-family near-4
+
+  -- SCRIPTS OFF
+  pub scripts-off : shapeOf 6 newer ≡ shapeOf 5 body
+  unfolding shapeOf tailsOf scriptingTail
+  scripts-off = last (λ shape b. scripts shape (eqb b 1)) near-5 (off-before body 5 (lit≤ tt))

@@ -1,7 +1,8 @@
 -- The shape of a paper: what its version adds to a set-up's body, read front to back (docs/PAPERS.md, "How a version adds"; document 02, Three,
--- Nine, Five and Thirteen). The base of document 01, 52 + 107p + 7c bytes, then a tail for each addition, in the order of the versions, to the body's end.
+-- Nine, Five, Thirteen and Twelve). The base of document 01, 52 + 107p + 7c bytes, then a tail for each addition, in the order of the versions, to
+-- the body's end.
 use Prim.Native.Nat.{ℕ, zero, suc, _+_, _-_, _^_, _≤_}
-use mathlib.Core.Bool.{cond}
+use mathlib.Core.Bool.{Bool, false, cond}
 use mathlib.Core.List.{List, []}
 use lib.Dec.{eqb, ltb, leb}
 use lib.ListN.{length, take, drop}
@@ -21,10 +22,10 @@ use Rattle.shape.specs.declared.Tails.the-variants.{Ended, Wrong}
 use Rattle.shape.specs.declared.ReadShape.{ReadShape}
 use Rattle.shape.specs.declared.ReadShape.the-variants.{Taken, Refused}
 
--- THE BASE, which is whole; with no tail nothing is selected, the syllabus is 0, nothing is dated, the family is CPA, and mask bits 0 to 21 are
--- named
+-- THE BASE, which is whole; with no tail nothing is selected, the syllabus is 0, nothing is dated, the family is CPA, scripts are off, and mask bits
+-- 0 to 21 are named
 abbrev pub based : (base : ℕ) → Shape
-based base = record { base = base; selecting = Off; syllabus = 0; dating = DatesOff; family = Cpa; unnamed = 2 ^ 22 }
+based base = record { base = base; selecting = Off; syllabus = 0; dating = DatesOff; family = Cpa; scripting = false; unnamed = 2 ^ 22 }
 
 unfoldable pub baseTail : List ℕ → Tails
 baseTail body = cond (ltb (length body) (baseLength body)) Wrong (Ended (based (baseLength body)) (baseLength body))
@@ -46,6 +47,7 @@ selects shape start end entries =
       syllabus = shape .syllabus;
       dating = shape .dating;
       family = shape .family;
+      scripting = shape .scripting;
       unnamed = shape .unnamed;
     }
 
@@ -65,6 +67,7 @@ follows shape syllabus =
       syllabus = syllabus;
       dating = shape .dating;
       family = shape .family;
+      scripting = shape .scripting;
       unnamed = shape .unnamed;
     }
 
@@ -82,6 +85,7 @@ dates shape dating =
       syllabus = shape .syllabus;
       dating = dating;
       family = shape .family;
+      scripting = shape .scripting;
       unnamed = 2 ^ 25;
     }
 
@@ -105,6 +109,7 @@ families shape family =
       syllabus = shape .syllabus;
       dating = shape .dating;
       family = family;
+      scripting = shape .scripting;
       unnamed = 2 ^ 26;
     }
 
@@ -118,6 +123,23 @@ familyTail body shape at =
     (cond (ltb 1 (byte body at)) Wrong
     (cond (ltb (length body) (familyEnd body at)) Wrong (Ended (families shape (Cpace at (familyEnd body at))) (familyEnd body at)))))
 
+-- VERSION 06, scripts: 0 off, 1 on
+abbrev pub scripts : Shape → (scripting : Bool) → Shape
+scripts shape scripting =
+    record {
+      base = shape .base;
+      selecting = shape .selecting;
+      syllabus = shape .syllabus;
+      dating = shape .dating;
+      family = shape .family;
+      scripting = scripting;
+      unnamed = shape .unnamed;
+    }
+
+unfoldable pub scriptingTail : List ℕ → Shape → (at : ℕ) → Tails
+scriptingTail body shape at =
+    cond (leb (length body) at) Wrong (cond (ltb 1 (byte body at)) Wrong (Ended (scripts shape (eqb (byte body at) 1)) (at + 1)))
+
 -- one tail behind another; above the paper's version it is off and has no bytes
 abbrev pub behind : Tails → (Shape → ℕ → Tails) → Tails
 behind Wrong tail = Wrong
@@ -128,9 +150,11 @@ since first version before tail = cond (ltb version first) before (behind before
 
 unfoldable pub tailsOf : (version : ℕ) (body : List ℕ) → Tails
 tailsOf version body =
-    since 5 version
+    since 6 version
+    (since 5 version
     (since 4 version (since 3 version (since 2 version (baseTail body) (selectionTail body)) (syllabusTail body)) (datingTail body))
-    (familyTail body)
+    (familyTail body))
+    (scriptingTail body)
 
 -- THE SHAPE: the last tail ends where the body does, or refusal 1
 abbrev pub whole : List ℕ → Tails → ReadShape
@@ -188,6 +212,7 @@ shapeAt place shape =
       syllabus = shape .syllabus;
       dating = datingAt place (shape .dating);
       family = familyAt place (shape .family);
+      scripting = shape .scripting;
       unnamed = shape .unnamed;
     }
 

@@ -4,11 +4,11 @@
 ghost use mathlib.Core.Path.{_≡_};
 ghost use Prim.Native.Nat.{_+_, _≤_};
 ghost use lib.ListN.{length};
-ghost use Rattle.shape.specs.Shape.{baseTail, entriesEnd, selectionTail, syllabusTail, dates, datingTail, families, familyTail, since, tailsOf, shapeOf};
+ghost use Rattle.shape.specs.Shape.{baseTail, entriesEnd, selectionTail, syllabusTail, dates, datingTail, families, familyTail, scriptingTail, since, tailsOf, shapeOf};
 use refusal::Refusal;
 
-// The first version with a tail that selects profiles, with a syllabus, with dates, and with a card
-// family.
+// The first version with a tail that selects profiles, with a syllabus, with dates, with a card family,
+// and with issuer scripts.
 const SELECTION: u8 = 2;
 
 const SYLLABUS: u8 = 3;
@@ -16,6 +16,8 @@ const SYLLABUS: u8 = 3;
 const DATES: u8 = 4;
 
 const FAMILY: u8 = 5;
+
+const SCRIPTS: u8 = 6;
 
 // The first mask bit without a name: 22, from version 04 on 25, and from version 05 on 26.
 const UNNAMED: u32 = 4_194_304;
@@ -54,6 +56,7 @@ pub struct Shape {
     pub syllabus: u8,
     pub dating: Dating,
     pub family: Family,
+    pub scripting: bool,
     pub unnamed: u32,
 }
 
@@ -83,6 +86,7 @@ fn read_base(body: &[u8]) -> Tails
             syllabus: 0,
             dating: Dating::Off,
             family: Family::Cpa,
+            scripting: false,
             unnamed: UNNAMED,
         },
         at: base,
@@ -134,6 +138,7 @@ fn read_selection(body: &[u8], shape: Shape, at: usize) -> Tails
             syllabus: shape.syllabus,
             dating,
             family,
+            scripting: shape.scripting,
             unnamed: shape.unnamed,
         },
         at: end,
@@ -161,6 +166,7 @@ fn read_syllabus(body: &[u8], shape: Shape, at: usize) -> Tails
             syllabus,
             dating,
             family,
+            scripting: shape.scripting,
             unnamed: shape.unnamed,
         },
         at: at + 1,
@@ -179,6 +185,7 @@ fn with_dates(shape: Shape, dating: Dating) -> Shape
         syllabus: shape.syllabus,
         dating,
         family,
+        scripting: shape.scripting,
         unnamed: UNNAMED_DATED,
     }
 }
@@ -222,6 +229,7 @@ fn with_family(shape: Shape, family: Family) -> Shape
         syllabus: shape.syllabus,
         dating,
         family,
+        scripting: shape.scripting,
         unnamed: UNNAMED_FAMILY,
     }
 }
@@ -250,6 +258,34 @@ fn read_family(body: &[u8], shape: Shape, at: usize) -> Tails
     Tails::Ended {
         shape: with_family(shape, Family::Cpace { start: at, end }),
         at: end,
+    }
+}
+
+// Version 06's tail at a place: scripts, 0 off or 1 on.
+fn read_scripting(body: &[u8], shape: Shape, at: usize) -> Tails
+    ensures { λ r. ⌜ r ≡ scriptingTail (now (body .entry)) shape at ⌝ }
+{
+    if body.len() <= at {
+        return Tails::Wrong;
+    }
+    let scripts = wire::byte_at(body, at);
+    if 1 < scripts {
+        return Tails::Wrong;
+    }
+    let selecting = shape.selecting;
+    let dating = shape.dating;
+    let family = shape.family;
+    Tails::Ended {
+        shape: Shape {
+            base: shape.base,
+            selecting,
+            syllabus: shape.syllabus,
+            dating,
+            family,
+            scripting: scripts == 1,
+            unnamed: shape.unnamed,
+        },
+        at: at + 1,
     }
 }
 
@@ -305,6 +341,19 @@ fn add_family(version: u8, body: &[u8], tails: Tails) -> Tails
     read_family(body, shape, at)
 }
 
+// Version 06's tail behind that.
+fn add_scripting(version: u8, body: &[u8], tails: Tails) -> Tails
+    ensures { λ r. ⌜ r ≡ since 6 version tails (scriptingTail (now (body .entry))) ⌝ }
+{
+    let Tails::Ended { shape, at } = tails else {
+        return Tails::Wrong;
+    };
+    if version < SCRIPTS {
+        return tails;
+    }
+    read_scripting(body, shape, at)
+}
+
 // The base and the tails of a version, one behind the other.
 fn read_tails(version: u8, body: &[u8]) -> Tails
     ensures { λ r. ⌜ r ≡ tailsOf version (now (body .entry)) ⌝ }
@@ -313,7 +362,8 @@ fn read_tails(version: u8, body: &[u8]) -> Tails
     let selecting = add_selection(version, body, base);
     let rounding = add_syllabus(version, body, selecting);
     let dating = add_dating(version, body, rounding);
-    add_family(version, body, dating)
+    let family = add_family(version, body, dating);
+    add_scripting(version, body, family)
 }
 
 // The shape of a body, or refusal 1 where bytes are missing or left over, or a tail is out of range.

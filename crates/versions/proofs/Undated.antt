@@ -5,10 +5,7 @@ use mathlib.Core.Bool.{Bool, true, false}
 use mathlib.Core.List.{List}
 use Prim.Native.Nat.{ℕ, _+_, _*_, _^_, _≤_, _<_}
 use native.Mathlib.Omega.{arith}
-use lib.Dec.{eqb, ltb, leb}
-use lib.ListN.{length}
 use Rattle.wire.specs.Wire.{byte, number}
-use Rattle.refusal.specs.declared.Refusal.the-variants.{BadSetup}
 use Rattle.layout.specs.Layout.{profileFrom}
 use Rattle.ranges.specs.Ranges.{isSetup}
 use Rattle.ranges.proofs.Accepted.{Accepted, ProfileRanges, accepted, complete}
@@ -16,13 +13,10 @@ use Rattle.shape.specs.declared.Dating.{Dating}
 use Rattle.shape.specs.declared.Dating.the-variants.{Off as DatesOff, On as DatesOn}
 use Rattle.shape.specs.declared.Family.the-variants.{Cpa}
 use Rattle.shape.specs.declared.Shape.{Shape}
-use Rattle.shape.specs.declared.Tails.{Tails}
-use Rattle.shape.specs.declared.Tails.the-variants.{Ended, Wrong}
-use Rattle.shape.specs.declared.ReadShape.{ReadShape}
-use Rattle.shape.specs.declared.ReadShape.the-variants.{Taken, Refused}
-use Rattle.shape.specs.Shape.{baseLength, based, baseTail, fileEnd, selects, selectionTail, follows, syllabusTail, dates, datesEnd, datingTail}
-use Rattle.shape.specs.Shape.{behind, tailsOf, whole, shapeOf}
-use Rattle.shape.proofs.Either.{choose}
+use Rattle.shape.specs.declared.ReadShape.the-variants.{Taken}
+use Rattle.shape.specs.Shape.{baseLength, based, baseTail, fileEnd, selectionTail, syllabusTail, dates, datesEnd, datingTail}
+use Rattle.shape.specs.Shape.{behind, tailsOf, shapeOf}
+use Rattle.shape.proofs.Ends.{Ends, Read, behind-ends, whole-reads, end-ends, switched-ends, byte-ends}
 
 -- ---- shapes
 
@@ -35,57 +29,25 @@ pub record OfCpa (shape : Shape) : Type 0 where
   pub family : shape .family ≡ Cpa
   pub unnamed : shape .unnamed ≡ 2 ^ 25
 
--- what holds of the shape that tails end with
-abbrev Ends : (Shape → Type 0) → Tails → Type 0
-Ends P Wrong = Unit
-Ends P (Ended shape at) = P shape
-
-abbrev Read : (Shape → Type 0) → ReadShape → Type 0
-Read P (Taken shape) = P shape
-Read P (Refused refusal) = Unit
-
-behind-ends : (P Q : Shape → Type 0) (tails : Tails) (tail : Shape → ℕ → Tails) → ((shape : Shape) (at : ℕ) → P shape → Ends Q (tail shape at))
-    → Ends P tails → Ends Q (behind tails tail)
-behind-ends P Q Wrong tail keeps u = tt
-behind-ends P Q (Ended shape at) tail keeps u = keeps shape at u
-
 module _ (body : List ℕ) where
-  whole-reads : (P : Shape → Type 0) (tails : Tails) → Ends P tails → Read P (whole body tails)
-  whole-reads P Wrong u = tt
-  whole-reads P (Ended shape at) u = choose (Read P) (eqb at (length body)) (Taken shape) (Refused BadSetup) (λ _. u) (λ _. tt)
-
   base-undated : Ends Undated (baseTail body)
   unfolding baseTail
-  base-undated =
-      choose (Ends Undated) (ltb (length body) (baseLength body)) Wrong (Ended (based (baseLength body)) (baseLength body)) (λ _. tt)
-      (λ _. record { dating = refl; family = refl; unnamed = refl })
+  base-undated = end-ends body Undated (based (baseLength body)) (baseLength body) (record { dating = refl; family = refl; unnamed = refl })
 
   selection-undated : (shape : Shape) (at : ℕ) → Undated shape → Ends Undated (selectionTail body shape at)
   unfolding selectionTail
   selection-undated shape at u =
-      choose (Ends Undated) (leb (length body) at) Wrong _ (λ _. tt)
-      (λ _. choose (Ends Undated) (eqb (byte body at) 0) (Ended shape (at + 1)) _ (λ _. u)
-      (λ _. choose (Ends Undated) (ltb 1 (byte body at)) Wrong _ (λ _. tt)
-      (λ _. choose (Ends Undated) (ltb (length body) (fileEnd body at)) Wrong
-      (Ended (selects shape (at + 2) (fileEnd body at) (byte body (at + 1))) (fileEnd body at)) (λ _. tt)
-      (λ _. record { dating = u .dating; family = u .family; unnamed = u .unnamed }))))
+      switched-ends body Undated at shape _ (fileEnd body at) u (record { dating = u .dating; family = u .family; unnamed = u .unnamed })
 
   syllabus-undated : (shape : Shape) (at : ℕ) → Undated shape → Ends Undated (syllabusTail body shape at)
   unfolding syllabusTail
-  syllabus-undated shape at u =
-      choose (Ends Undated) (leb (length body) at) Wrong _ (λ _. tt)
-      (λ _. choose (Ends Undated) (ltb 1 (byte body at)) Wrong (Ended (follows shape (byte body at)) (at + 1)) (λ _. tt)
-      (λ _. record { dating = u .dating; family = u .family; unnamed = u .unnamed }))
+  syllabus-undated shape at u = byte-ends body Undated at _ (record { dating = u .dating; family = u .family; unnamed = u .unnamed })
 
   dating-cpa : (shape : Shape) (at : ℕ) → Undated shape → Ends OfCpa (datingTail body shape at)
   unfolding datingTail
   dating-cpa shape at u =
       let cpa : (dating : Dating) → OfCpa (dates shape dating) = λ dating. record { family = u .family; unnamed = refl } in
-      choose (Ends OfCpa) (leb (length body) at) Wrong _ (λ _. tt)
-      (λ _. choose (Ends OfCpa) (eqb (byte body at) 0) (Ended (dates shape DatesOff) (at + 1)) _ (λ _. cpa DatesOff)
-      (λ _. choose (Ends OfCpa) (ltb 1 (byte body at)) Wrong _ (λ _. tt)
-      (λ _. choose (Ends OfCpa) (ltb (length body) (datesEnd body at)) Wrong
-      (Ended (dates shape (DatesOn at (datesEnd body at))) (datesEnd body at)) (λ _. tt) (λ _. cpa (DatesOn at (datesEnd body at))))))
+      switched-ends body OfCpa at _ _ (datesEnd body at) (cpa DatesOff) (cpa (DatesOn at (datesEnd body at)))
 
   tails-undated : Ends Undated (tailsOf 3 body)
   unfolding tailsOf
@@ -100,12 +62,12 @@ module _ (body : List ℕ) where
   -- A SHAPE OF VERSION 03
   pub undated : (shape : Shape) → shapeOf 3 body ≡ Taken shape → Undated shape
   unfolding shapeOf
-  undated shape e = subst (Read Undated) e (whole-reads Undated (tailsOf 3 body) tails-undated)
+  undated shape e = subst (Read Undated) e (whole-reads body Undated (tailsOf 3 body) tails-undated)
 
   -- A SHAPE OF VERSION 04
   pub of-cpa : (shape : Shape) → shapeOf 4 body ≡ Taken shape → OfCpa shape
   unfolding shapeOf
-  of-cpa shape e = subst (Read OfCpa) e (whole-reads OfCpa (tailsOf 4 body) tails-cpa)
+  of-cpa shape e = subst (Read OfCpa) e (whole-reads body OfCpa (tailsOf 4 body) tails-cpa)
 
 -- ---- masks
 

@@ -60,6 +60,7 @@ naming shape unnamed =
       syllabus = shape .syllabus;
       dating = shape .dating;
       family = shape .family;
+      scripting = shape .scripting;
       unnamed = unnamed;
     }
 

@@ -1,11 +1,11 @@
 use borrow.Author.Needs.{needs}
 use native.Mathlib.Omega.{arith}
-use Rattle.checks.specs.Checks.{accumulatorsLower, accumulatorsUpper, countersLower, countersUpper, datingFlags, decisionBits}
+use Rattle.checks.specs.Checks.{accumulatorsLower, accumulatorsUpper, countersLower, countersUpper, datingFlags, testBits}
 use Rattle.checks.proofs.decision_bits.Statement.{statement}
 use Rattle.checks.proofs.decision_bits.Tie as tie
 
 returns : tie.Need-returns
-unfolding decisionBits accumulatorsLower accumulatorsUpper countersLower countersUpper datingFlags
+unfolding testBits accumulatorsLower accumulatorsUpper countersLower countersUpper datingFlags
 returns c =
     let dating = c .before .before in
     let accumulators = dating .before .before in
@@ -18,13 +18,11 @@ returns c =
       accumulators .test-accumulators .ensures,
       maximum .bit .ensures .0,
       maximum .before .exceeds-maximum .ensures,
-      maximum .before .before .history-bits .ensures .0,
     ) (omega arith)
 
 pub decision-bits-spec : {M : Type 1} → statement M
 decision-bits-spec =
     tie.close
-    (tie.spec (search needs) (search needs) (search needs) (search needs) (search needs) (search needs) (search needs)
-    (search needs) (search needs) (search needs) (search needs) (search needs) (search needs) (search needs) (search needs)
-    (search needs) (search needs) (search needs) (search needs) (search needs) (search needs) (search needs) (search needs)
-    (search needs) returns)
+    (tie.spec (search needs) (search needs) (search needs) (search needs) (search needs) (search needs) (search needs) (search needs) (search needs)
+    (search needs) (search needs) (search needs) (search needs) (search needs) (search needs) (search needs) (search needs) (search needs)
+    (search needs) (search needs) (search needs) (search needs) returns)
