@@ -1,1 +1,2 @@
 pub mod Card
+pub mod Sent

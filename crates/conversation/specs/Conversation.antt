@@ -1,6 +1,8 @@
 -- A conversation, record by record (document 01, "The paper" and "A sitting in full").
 use Prim.Native.Nat.{ℕ}
-use mathlib.Core.List.{List}
+use mathlib.Core.Bool.{Bool, cond, _&&_}
+use mathlib.Core.List.{List, [], _∷_}
+use lib.Dec.{eqb}
 use Rattle.refusal.specs.declared.Refusal.{Refusal}
 use Rattle.refusal.specs.declared.Refusal.the-variants.{Unreadable}
 use Rattle.rules.specs.Rules.{Rules}
@@ -21,9 +23,10 @@ use Rattle.command.specs.declared.ReadCommand.{ReadCommand}
 use Rattle.command.specs.declared.ReadCommand.the-variants.{Taken as CommandTaken, Refused as CommandRefused}
 use Rattle.command.specs.Command.{commandIn}
 use Rattle.state.specs.declared.State.{State}
-use Rattle.card.specs.Card.{stepOf, freshState}
+use Rattle.put_data.specs.declared.Write.{Write}
+use Rattle.card.specs.Card.{stepOf, scriptStep, scriptWrites, freshState}
 use Rattle.conversation.specs.declared.Event.{Event}
-use Rattle.conversation.specs.declared.Event.the-variants.{SetUp, End, Refused, Answered}
+use Rattle.conversation.specs.declared.Event.the-variants.{SetUp, End, Refused, Answered, Scripted}
 use Rattle.conversation.specs.declared.Taken.{Taken}
 use Rattle.conversation.specs.declared.Begun.{Begun}
 
@@ -33,14 +36,39 @@ answeredBy rules state end (CommandRefused refusal) = record { state = state; at
 answeredBy rules state end (CommandTaken command) =
     record { state = stepOf rules state command .state; at = end; event = Answered command (stepOf rules state command .answer) }
 
+-- a script's body is the secure messaging result, and the template to its end; refusal 9 for one without a byte
+unfoldable pub scriptedBy : State → (body : List ℕ) → (start end : ℕ) → Taken
+scriptedBy state [] start end = record { state = state; at = end; event = Refused Unreadable }
+scriptedBy state (result ∷ template) start end =
+    record { state = scriptStep state result template .state; at = end; event = Scripted start end (scriptStep state result template .answer) }
+
+-- kind 5, where scripts are on
+abbrev pub isScript : Shape → (kind : ℕ) → Bool
+isScript shape kind = eqb kind 5 && shape .scripting
+
 -- a record cut short or of length 0 ends the paper with refusal 9, its end with nothing
 abbrev pub nextTaken : Rules → Shape → State → (paper : List ℕ) (at : ℕ) → Next → Taken
 nextTaken rules shape state paper at PaperEnd = record { state = state; at = at; event = End }
 nextTaken rules shape state paper at Fault = record { state = state; at = at; event = Refused Unreadable }
-nextTaken rules shape state paper at (Record kind start end) = answeredBy rules state end (commandIn shape (state .values) paper kind (part paper start end))
+nextTaken rules shape state paper at (Record kind start end) =
+    cond (isScript shape kind) (scriptedBy state (part paper start end) start end)
+    (answeredBy rules state end (commandIn shape (state .values) paper kind (part paper start end)))
 
 unfoldable pub takenOf : Rules → Shape → State → (paper : List ℕ) (at : ℕ) → Taken
 takenOf rules shape state paper at = nextTaken rules shape state paper at (nextAt paper at)
+
+-- what it writes: limits, which are then in the words and the rules, and values; a script alone writes
+abbrev pub bodyWrites : State → (body : List ℕ) → List Write
+bodyWrites state [] = []
+bodyWrites state (result ∷ template) = scriptWrites state result template
+
+abbrev pub nextWrites : Shape → State → (paper : List ℕ) → Next → List Write
+nextWrites shape state paper PaperEnd = []
+nextWrites shape state paper Fault = []
+nextWrites shape state paper (Record kind start end) = cond (isScript shape kind) (bodyWrites state (part paper start end)) []
+
+unfoldable pub takenWrites : Shape → State → (paper : List ℕ) (at : ℕ) → List Write
+takenWrites shape state paper at = nextWrites shape state paper (nextAt paper at)
 
 -- THE SET-UP: refused, it ends the paper; there is no card, and no shape that matters
 abbrev pub refusedAt : Refusal → (at : ℕ) → Begun

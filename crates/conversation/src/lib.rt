@@ -1,13 +1,16 @@
 // A conversation: one record of a paper taken, as a value. What it comes to is an event; no text
 // and no room is here.
 ghost use mathlib.Core.Path.{_≡_};
-ghost use Prim.Native.Nat.{_+_, _<_, _^_};
+ghost use Prim.Native.Nat.{_+_, _<_, _≤_, _^_};
 ghost use lib.ListN.{length};
 ghost use Rattle.rules.specs.Rules.{rulesOf};
 ghost use Rattle.setup.specs.Setup.{wordsAfter};
 ghost use Rattle.shape.specs.Shape.{cyclesPart, familyPart, Lies, Spans, Holds, selectingAt, datingAt, familyAt, shapeAt};
 ghost use Rattle.shape.specs.declared.ReadShape.the-variants.{Taken as ShapeTaken};
 ghost use Rattle.shape.proofs.Inside.{Inside};
+ghost use Rattle.script.specs.Script.{rulesAfter, wordsAfter as wordsWritten};
+ghost use Rattle.paper.specs.Walk.{part};
+ghost use Rattle.conversation.specs.Conversation.{scriptedBy, bodyWrites, takenWrites};
 ghost use Rattle.conversation.specs.Conversation.{answeredBy, takenOf, setUpEvent, refusedAt, baseBegun, shapedBegun, shapedWords};
 ghost use Rattle.conversation.specs.Conversation.{setupBegun, setupWords, begunOf, wordsBegun};
 use command::Command;
@@ -25,6 +28,8 @@ use shape::Shape;
 use state::Answer;
 use state::State;
 
+const SCRIPT: u8 = 5;
+
 pub enum Event {
     // The card is set up.
     SetUp,
@@ -33,6 +38,8 @@ pub enum Event {
     // Nothing more of the paper is read.
     Refused(Refusal),
     Answered { command: Command, answer: Answer },
+    // A script, whose body stands from start up to end.
+    Scripted { start: usize, end: usize, answer: Answer },
 }
 
 // The card after a record, the place of the next one, and what happened.
@@ -73,9 +80,40 @@ fn answer(words: &Words, state: State, read: ReadCommand, end: usize) -> Taken
     }
 }
 
+// A script's body: the secure messaging result, and the template to its end.
+fn take_script(words: &mut Words, state: State, paper: &[u8], start: usize, end: usize) -> Taken
+    requires { ⌜ (start ≤ end) × (end ≤ length (now paper)) ⌝ }
+    ensures { λ r. ⌜ (r ≡ scriptedBy state (part (now (paper .entry)) start end) start end)
+        × (now (words .exit) ≡ wordsWritten (now (words .entry)) (bodyWrites state (part (now (paper .entry)) start end)))
+        × (rulesOf (now (words .exit)) ≡ rulesAfter (rulesOf (now (words .entry))) (bodyWrites state (part (now (paper .entry)) start end))) ⌝ }
+{
+    if start == end {
+        return Taken {
+            state,
+            at: end,
+            event: Event::Refused(Refusal::Unreadable),
+        };
+    }
+    let result = wire::byte_at(paper, start);
+    let outcome = card::answer_script(words, state, result, &paper[start + 1..end]);
+    let after = outcome.state;
+    let answer = outcome.answer;
+    Taken {
+        state: after,
+        at: end,
+        event: Event::Scripted {
+            start,
+            end,
+            answer,
+        },
+    }
+}
+
 // The record at a place of a paper.
-pub fn take(words: &Words, shape: Shape, state: State, paper: &[u8], at: usize) -> Taken
-    ensures { λ r. ⌜ r ≡ takenOf (rulesOf (now (words .entry))) shape state (now (paper .entry)) at ⌝ }
+pub fn take(words: &mut Words, shape: Shape, state: State, paper: &[u8], at: usize) -> Taken
+    ensures { λ r. ⌜ (r ≡ takenOf (rulesOf (now (words .entry))) shape state (now (paper .entry)) at)
+        × (now (words .exit) ≡ wordsWritten (now (words .entry)) (takenWrites shape state (now (paper .entry)) at))
+        × (rulesOf (now (words .exit)) ≡ rulesAfter (rulesOf (now (words .entry))) (takenWrites shape state (now (paper .entry)) at)) ⌝ }
 {
     match paper::record_at(paper, at) {
         Next::End => Taken {
@@ -89,6 +127,9 @@ pub fn take(words: &Words, shape: Shape, state: State, paper: &[u8], at: usize) 
             event: Event::Refused(Refusal::Unreadable),
         },
         Next::Record { kind, start, end } => {
+            if (kind == SCRIPT) & shape.scripting {
+                return take_script(words, state, paper, start, end);
+            }
             let values = state.values;
             let read = command::read_record(shape, values, paper, kind, &paper[start..end]);
             answer(words, state, read, end)

@@ -11,6 +11,8 @@ use Rattle.rules.specs.declared.Place.{Place}
 use Rattle.rules.specs.declared.Values.{Values}
 use Rattle.rules.specs.Rules.{Rules, profileAt}
 use Rattle.checks.specs.Checks.{bit, meetsMask, accumulatorsLowerGroup, accumulatorsUpperGroup, dateError, countersLowerGroup, countersUpperGroup}
+use Rattle.script.specs.declared.Scripts.{Scripts}
+use Rattle.script.specs.Script.{marksOf}
 use Rattle.state.specs.declared.History.{History}
 use Rattle.cryptogram.specs.declared.Issuer.{Issuer}
 use Rattle.state.specs.declared.Kind.{Kind}
@@ -40,14 +42,15 @@ limitsByte adr =
 
 -- byte 1: b8-b7 second type, b6-b5 first type, b2 issuer authentication not performed, b1 failed.
 -- byte 2: high nibble PIN tries, b2 set when they are 0, b1 last online not completed at First.
--- byte 3: the limits exceeded. byte 4: b2 go online next at First, b1 unable to go online in this transaction.
-unfoldable pub verification : Rules → History → ℕ → Kind → Later → Issuer → Cvr
-verification rules history limits first later issuer =
+-- byte 3: the limits exceeded. byte 4: b8-b5 the script commands done and b4 whether one failed, at First (request Twelve), b2 go online next
+-- at First, b1 unable to go online in this transaction.
+unfoldable pub verification : Rules → History → (limits : ℕ) → Scripts → Kind → Later → Issuer → Cvr
+verification rules history limits scripts first later issuer =
     record {
       byte1 = laterCode later * 64 + kindCode first * 16 + bit (issuer .unperformed) * 2 + bit (issuer .failed);
       byte2 = rules .pin * 16 + bit (eqb (rules .pin) 0) * 2 + bit (history .uncompleted);
       byte3 = limits;
-      byte4 = bit (history .online) * 2 + bit (issuer .unable);
+      byte4 = marksOf scripts + bit (history .online) * 2 + bit (issuer .unable);
       byte5 = 0;
     }
 

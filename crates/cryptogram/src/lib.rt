@@ -9,6 +9,7 @@ use money::AccumulatorAmount;
 use rules::Place;
 use rules::Values;
 use rules::Words;
+use script::Scripts;
 use state::History;
 use state::Kind;
 
@@ -57,16 +58,17 @@ pub fn limits_of(adr: u32) -> u8
         + checks::bit(checks::meets(adr, checks::DATE_ERROR)) * 2
 }
 
-// The Card Verification Results. History and limits are those of the First.
+// The Card Verification Results. History, limits and what is kept of scripts are those of the First.
 pub fn verify(
     words: &Words,
     history: History,
     limits: u8,
+    scripts: Scripts,
     first: Kind,
     later: Later,
     issuer: Issuer,
 ) -> Cvr
-    ensures { λ r. ⌜ r ≡ verification (rulesOf (now (words .entry))) history limits first later issuer ⌝ }
+    ensures { λ r. ⌜ r ≡ verification (rulesOf (now (words .entry))) history limits scripts first later issuer ⌝ }
 {
     let tries = rules::pin_tries(words);
     Cvr {
@@ -76,7 +78,7 @@ pub fn verify(
             + checks::bit(issuer.failed),
         byte2: tries * 16 + checks::bit(tries == 0) * 2 + checks::bit(history.uncompleted),
         byte3: limits,
-        byte4: checks::bit(history.online) * 2 + checks::bit(issuer.unable),
+        byte4: scripts.marks() + checks::bit(history.online) * 2 + checks::bit(issuer.unable),
         byte5: 0,
     }
 }

@@ -40,6 +40,7 @@ advanced rules state date =
       atc = state .atc;
       last = date;
       history = state .history;
+      scripts = state .scripts;
     }
 
 -- the card after an accepted First's date: a date error leaves both amounts and the last date as they were

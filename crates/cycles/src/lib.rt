@@ -52,6 +52,7 @@ fn advance(words: &Words, state: State, date: Date) -> State
     let accumulators = values.accumulators;
     let counters = values.counters;
     let amounts = values.cyclic;
+    let scripts = state.scripts;
     State {
         values: Values {
             accumulators,
@@ -65,6 +66,7 @@ fn advance(words: &Words, state: State, date: Date) -> State
         atc: state.atc,
         last: date,
         history,
+        scripts,
     }
 }
 

@@ -44,7 +44,15 @@ unfoldable pub settled : Rules → State → Place → Cvr → Kind → Change �
 settled rules state place cvr kind change =
     let values = applied rules place (state .values) change in
     record {
-      state = record { values = values; phase = Idle; atc = state .atc; last = state .last; history = state .history };
+      state =
+          record {
+            values = values;
+            phase = Idle;
+            atc = state .atc;
+            last = state .last;
+            history = state .history;
+            scripts = state .scripts;
+          };
       answer = Given kind (state .atc) (sentIad rules place values cvr);
     }
 
@@ -55,10 +63,12 @@ asked rules state place purchase limits cvr =
       state =
           record {
             values = state .values;
-            phase = Asked (record { purchase = purchase; limits = limits; place = place; history = state .history });
+            phase =
+                Asked (record { purchase = purchase; limits = limits; place = place; history = state .history; scripts = state .scripts });
             atc = state .atc;
             last = state .last;
             history = uncompletedIn (state .history);
+            scripts = state .scripts;
           };
       answer = Given Arqc (state .atc) (sentIad rules place (state .values) cvr);
     }
@@ -95,7 +105,7 @@ firstAnswered rules state first place timing =
     let limits = limitsByte (firstBits rules state place first timing) in
     let kind = firstKind rules state place first timing in
     concluded rules state place (purchaseOf first timing) limits
-    (verification rules (state .history) limits kind NotRequested (issuerBefore (state .history))) kind
+    (verification rules (state .history) limits (state .scripts) kind NotRequested (issuerBefore (state .history))) kind
 
 -- before the tests, and whatever First answers, the cycles of its date begin
 unfoldable pub firstPerformed : Rules → State → First → Place → Outcome

@@ -69,6 +69,7 @@ fn settle(
     let history = state.history;
     let last = state.last;
     let atc = state.atc;
+    let scripts = state.scripts;
     let values = meters::apply(words, place, values, change);
     let iad = cryptogram::send(words, place, values, cvr);
     Outcome {
@@ -78,6 +79,7 @@ fn settle(
             atc,
             last,
             history,
+            scripts,
         },
         answer: Answer::Given { kind, atc, iad },
     }
@@ -98,6 +100,7 @@ fn ask(
     let history = state.history;
     let last = state.last;
     let atc = state.atc;
+    let scripts = state.scripts;
     let iad = cryptogram::send(words, place, values, cvr);
     Outcome {
         state: State {
@@ -107,10 +110,12 @@ fn ask(
                 limits,
                 place,
                 history,
+                scripts,
             }),
             atc,
             last,
             history: history.with_uncompleted(),
+            scripts,
         },
         answer: Answer::Given {
             kind: Kind::Arqc,
@@ -193,7 +198,15 @@ fn answer(words: &Words, state: State, place: Place, first: First, timing: Timin
         failed: history.failed,
         unable: false,
     };
-    let cvr = cryptogram::verify(words, history, limits, kind, Later::NotRequested, issuer);
+    let cvr = cryptogram::verify(
+        words,
+        history,
+        limits,
+        state.scripts,
+        kind,
+        Later::NotRequested,
+        issuer,
+    );
     conclude(words, state, place, purchase, limits, cvr, kind)
 }
 

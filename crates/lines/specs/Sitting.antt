@@ -5,10 +5,10 @@ use Prim.Native.Nat.{ℕ, _+_}
 use lib.Dec.{eqb}
 use Rattle.refusal.specs.Refusal.{refusalNumber}
 use Rattle.state.specs.declared.Answer.{Answer}
-use Rattle.state.specs.declared.Answer.the-variants.{Refused, Started, Given}
+use Rattle.state.specs.declared.Answer.the-variants.{Refused, Started, Given, Done}
 use Rattle.state.specs.State.{cidOf}
 use Rattle.conversation.specs.declared.Event.{Event}
-use Rattle.conversation.specs.declared.Event.the-variants.{SetUp, End, Refused as EndRefused, Answered}
+use Rattle.conversation.specs.declared.Event.the-variants.{SetUp, End, Refused as EndRefused, Answered, Scripted}
 use Rattle.conversation.specs.Events.{eventsOf}
 use Rattle.lines.specs.Lines.{refusalLine, startLine, selectedLine, cryptogramLine}
 
@@ -21,6 +21,7 @@ unfoldable pub answerLine : ℕ → Answer → List ℕ
 answerLine number (Refused refusal) = refusalLine number (refusalNumber refusal)
 answerLine number (Started atc visits) = startedLine number atc visits
 answerLine number (Given kind atc iad) = cryptogramLine number (cidOf kind) atc iad
+answerLine number Done = refusalLine number 0
 
 -- and of an event; a paper's end has none
 abbrev pub eventLine : ℕ → Event → List ℕ
@@ -28,6 +29,7 @@ eventLine number SetUp = refusalLine number 0
 eventLine number End = []
 eventLine number (EndRefused refusal) = refusalLine number (refusalNumber refusal)
 eventLine number (Answered command answer) = answerLine number answer
+eventLine number (Scripted start end answer) = answerLine number answer
 
 unfoldable pub linesOf : ℕ → List Event → List (List ℕ)
 linesOf record-number [] = []

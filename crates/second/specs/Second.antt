@@ -26,6 +26,8 @@ use Rattle.state.specs.declared.Pending.{Pending}
 use Rattle.state.specs.declared.Phase.the-variants.{Idle}
 use Rattle.state.specs.declared.State.{State}
 use Rattle.state.specs.declared.Outcome.{Outcome}
+use Rattle.script.specs.declared.Scripts.{Scripts}
+use Rattle.script.specs.Script.{heard}
 use Rattle.cryptogram.specs.Cryptogram.{verification, issuerBefore, sentIad}
 
 abbrev pub closingKind : Bool → Kind
@@ -37,14 +39,14 @@ laterKind true = LaterTc
 laterKind false = LaterAac
 
 -- closes the transaction; the CVR is First's but for second type, b2 and b1 of byte 1, and b1 of byte 4
-unfoldable pub closed : Rules → ℕ → Pending → Bool → Values → (last : Date) → History → Issuer → Outcome
-closed rules atc pending approves values last history issuer =
+unfoldable pub closed : Rules → ℕ → Pending → Bool → Values → (last : Date) → History → Scripts → Issuer → Outcome
+closed rules atc pending approves values last history scripts issuer =
     record {
-      state = record { values = values; phase = Idle; atc = atc; last = last; history = history };
+      state = record { values = values; phase = Idle; atc = atc; last = last; history = history; scripts = scripts };
       answer =
           Given (closingKind approves) atc
           (sentIad rules (pending .place) values
-          (verification rules (pending .history) (pending .limits) Arqc (laterKind approves) issuer));
+          (verification rules (pending .history) (pending .limits) (pending .scripts) Arqc (laterKind approves) issuer));
     }
 
 -- Annex I's recovery: in a date error a TC, but for one after Y3 or Z3, makes the transaction's date the last one
@@ -71,7 +73,7 @@ unablePerformed rules state requested pending =
     let place = pending .place in
     let approves = not (eqb requested 0 || meetsMask (unableBits rules state pending) (profileAt rules place .masks .default)) in
     closed rules (state .atc) pending approves (applied rules place (state .values) (offline approves (pending .purchase)))
-    (state .last) (unableIn (state .history)) (issuerUnable (pending .history))
+    (state .last) (unableIn (state .history)) (state .scripts) (issuerUnable (pending .history))
 
 -- CSU byte 2
 abbrev pub updateByte : ℕ → ℕ
@@ -85,7 +87,8 @@ unfoldable pub ordered : Rules → Place → Values → Purchase → ℕ → Val
 ordered rules place values purchase update =
     cond (eqb (update % 4) 0) values (applied rules place values (orderedChange (update % 4) purchase))
 
--- verified: history bits 0, 2, 3, 4 are cleared, "go online next" becomes CSU byte 2 b4; TC if requested and b8 is set
+-- verified: history bits 0, 2, 3, 4 are cleared, "go online next" becomes CSU byte 2 b4; TC if requested and b8 is set. A script that failed in an
+-- earlier transaction is forgotten
 unfoldable pub verifiedPerformed : Rules → State → Second → Pending → Outcome
 verifiedPerformed rules state second pending =
     let update = updateByte (second .csu) in
@@ -93,15 +96,17 @@ verifiedPerformed rules state second pending =
     closed rules (state .atc) pending approves (ordered rules (pending .place) (state .values) (pending .purchase) update)
     (recovered (pending .purchase .timing) approves (state .last))
     (record { uncompleted = false; online = eqb (update / 8 % 2) 1; failed = false; unable = false; missing = false })
+    (heard (state .scripts))
     (record { unperformed = false; failed = false; unable = false })
 
 -- failed: history bit 2 is set; AAC
 unfoldable pub failedPerformed : Rules → State → Pending → Outcome
 failedPerformed rules state pending =
-    closed rules (state .atc) pending false (state .values) (state .last) (failedIn (state .history))
+    closed rules (state .atc) pending false (state .values) (state .last) (failedIn (state .history)) (state .scripts)
     (record { unperformed = issuerBefore (pending .history) .unperformed; failed = true; unable = false })
 
--- absent: history bit 4 is set; TC if requested and authentication isn't required; when it isn't required, bit 0 is cleared
+-- absent: history bit 4 is set; TC if requested and authentication isn't required; when it isn't required, bit 0 is cleared, and a script that
+-- failed in an earlier transaction is forgotten
 unfoldable pub absentPerformed : Rules → State → ℕ → Pending → Outcome
 absentPerformed rules state requested pending =
     let history = state .history in
@@ -114,6 +119,7 @@ absentPerformed rules state requested pending =
       unable = history .unable;
       missing = true;
     })
+    (cond (rules .required) (state .scripts) (heard (state .scripts)))
     (record { unperformed = true; failed = pending .history .failed; unable = false })
 
 unfoldable pub secondPerformed : Rules → State → Second → Pending → Outcome

@@ -1,6 +1,8 @@
 // Second GENERATE AC.
 ghost use mathlib.Core.Path.{_≡_};
+ghost use mathlib.Core.Bool.{cond};
 ghost use Rattle.rules.specs.Rules.{rulesOf};
+ghost use Rattle.script.specs.Script.{heard};
 ghost use Rattle.second.specs.Second.{isUnable, closingKind, laterKind, closed, orderedChange, ordered, recovered};
 ghost use Rattle.second.specs.Second.{unablePerformed, verifiedPerformed, failedPerformed, absentPerformed, secondPerformed};
 use calendar::Date;
@@ -13,6 +15,7 @@ use purchase::Timing;
 use rules::Place;
 use rules::Values;
 use rules::Words;
+use script::Scripts;
 use state::Answer;
 use state::History;
 use state::Kind;
@@ -42,9 +45,10 @@ fn close(
     values: Values,
     last: Date,
     history: History,
+    scripts: Scripts,
     issuer: Issuer,
 ) -> Outcome
-    ensures { λ r. ⌜ r ≡ closed (rulesOf (now (words .entry))) atc pending approves values last history issuer ⌝ }
+    ensures { λ r. ⌜ r ≡ closed (rulesOf (now (words .entry))) atc pending approves values last history scripts issuer ⌝ }
 {
     let place = pending.place;
     let before = pending.history;
@@ -52,6 +56,7 @@ fn close(
         words,
         before,
         pending.limits,
+        pending.scripts,
         Kind::Arqc,
         later_kind(approves),
         issuer,
@@ -65,6 +70,7 @@ fn close(
             atc,
             last,
             history,
+            scripts,
         },
         answer: Answer::Given { kind, atc, iad },
     }
@@ -145,6 +151,7 @@ fn unable(words: &Words, state: State, pending: Pending, requested: u8) -> Outco
         values,
         state.last,
         present.with_unable(),
+        state.scripts,
         issuer,
     )
 }
@@ -171,6 +178,7 @@ fn verified(words: &Words, state: State, pending: Pending, second: Second) -> Ou
         unable: false,
     };
     let approved = (second.requested == 1) & (128 <= update);
+    let scripts = state.scripts.heard();
     let timing = purchase.timing;
     let last = recover(timing, approved, state.last);
     close(
@@ -181,6 +189,7 @@ fn verified(words: &Words, state: State, pending: Pending, second: Second) -> Ou
         values,
         last,
         history,
+        scripts,
         issuer,
     )
 }
@@ -205,8 +214,19 @@ fn failed(words: &Words, state: State, pending: Pending) -> Outcome
         values,
         state.last,
         present.with_failed(),
+        state.scripts,
         issuer,
     )
+}
+
+// Data that are absent are heard where authentication is not required.
+fn hear_absent(required: bool, scripts: Scripts) -> Scripts
+    ensures { λ r. ⌜ r ≡ cond required scripts (heard scripts) ⌝ }
+{
+    if required {
+        return scripts;
+    }
+    scripts.heard()
 }
 
 // The issuer's data absent.
@@ -225,6 +245,7 @@ fn absent(words: &Words, state: State, pending: Pending, requested: u8) -> Outco
         unable: false,
     };
     let approved = (requested == 1) & !required;
+    let scripts = hear_absent(required, state.scripts);
     let purchase = pending.purchase;
     let timing = purchase.timing;
     let last = recover(timing, approved, state.last);
@@ -236,6 +257,7 @@ fn absent(words: &Words, state: State, pending: Pending, requested: u8) -> Outco
         values,
         last,
         history,
+        scripts,
         issuer,
     )
 }

@@ -7,6 +7,7 @@ use purchase::Purchase;
 use refusal::Refusal;
 use rules::Place;
 use rules::Values;
+use script::Scripts;
 
 // The previous transactions: last online not completed, go online next, issuer authentication
 // failed, unable to go online, issuer data not received.
@@ -49,13 +50,14 @@ impl History {
     }
 }
 
-// What a Second needs of its First: the purchase, CVR byte 3, the profile, and the history as the
-// First found it.
+// What a Second needs of its First: the purchase, CVR byte 3, the profile, and the history and what is
+// kept of scripts as the First found them.
 pub struct Pending {
     pub purchase: Purchase,
     pub limits: u8,
     pub place: Place,
     pub history: History,
+    pub scripts: Scripts,
 }
 
 pub enum Phase {
@@ -71,6 +73,7 @@ pub struct State {
     pub atc: u16,
     pub last: Date,
     pub history: History,
+    pub scripts: Scripts,
 }
 
 // A cryptogram's type.
@@ -98,6 +101,8 @@ pub enum Answer {
     // The entries visited, none where the profile was named.
     Started { atc: u16, visits: u8 },
     Given { kind: Kind, atc: u16, iad: Iad },
+    // A script was read, and its commands tried.
+    Done,
 }
 
 pub struct Outcome {

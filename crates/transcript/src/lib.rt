@@ -44,7 +44,7 @@ fn put_last(room: &mut [u8], at: usize, number: u16, event: Event) -> usize
 
 // The lines of the records from a place of the paper on, from a place of the room on.
 fn put_records(
-    words: &Words,
+    words: &mut Words,
     shape: Shape,
     fresh: State,
     paper: &[u8],
@@ -64,10 +64,23 @@ fn put_records(
         let event = taken.event;
         state = taken.state;
         at = taken.at;
-        let Event::Answered { answer, .. } = event else {
-            return put_last(room, end, number, event);
-        };
-        end = lines::put_answer(room, end, number, answer);
+        match event {
+            Event::Answered { command: _, answer } => {
+                end = lines::put_answer(room, end, number, answer);
+            }
+            Event::Scripted { start: _, end: _, answer } => {
+                end = lines::put_answer(room, end, number, answer);
+            }
+            Event::SetUp => {
+                return put_last(room, end, number, event);
+            }
+            Event::End => {
+                return put_last(room, end, number, event);
+            }
+            Event::Refused(_) => {
+                return put_last(room, end, number, event);
+            }
+        }
         number += 1;
     }
     end

@@ -5,7 +5,7 @@ use Rattle.card.proofs.fresh_card.Tie as tie
 
 returns : tie.Need-returns
 unfolding freshState
-returns c = search needs
+returns c = simp (c .fresh .ensures)
 
 pub fresh-card-spec : {M : Type 1} → statement M
-fresh-card-spec = tie.close (tie.spec returns)
+fresh-card-spec = tie.close (tie.spec (search needs) returns)

@@ -20,11 +20,11 @@ returns-2 c =
 returns-3 : tie.Need-returns-3
 unfolding openingStep
 returns-3 c =
-    let told = c .before .before in
-    let tested = told .before .before in
+    let kept = c .before .before .before in
+    let tested = kept .before .before in
     let found = tested .before .before .before in
     let is = sym (found .before .before .find-profile .ensures) ∙ found .place .given .1 in
-    simp (is, ne-eqb _ _ (tested .if1 .left))
+    simp (is, ne-eqb _ _ (tested .if1 .left), c .before .started .ensures)
 
 pub open-profile-spec : {M : Type 1} → statement M
-open-profile-spec = tie.close (tie.spec (search needs) (search needs) (search needs) (search needs) returns (search needs) returns-2 (search needs) returns-3)
+open-profile-spec = tie.close (tie.spec (search needs) (search needs) (search needs) (search needs) returns (search needs) returns-2 (search needs) (search needs) returns-3)

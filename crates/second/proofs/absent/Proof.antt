@@ -6,9 +6,15 @@ use Rattle.second.proofs.absent.Tie as tie
 returns : tie.Need-returns
 unfolding absentPerformed
 returns c =
-    let done = c .before .before in
-    let missing = done .before .before in
-    simp (c .close .ensures, c .before .recover .ensures, missing .with-missing .ensures, missing .before .is-required .ensures)
+    let heard = c .before .before .before in
+    let missing = heard .before .before in
+    simp (
+      c .close .ensures,
+      c .before .recover .ensures,
+      heard .hear-absent .ensures,
+      missing .with-missing .ensures,
+      missing .before .is-required .ensures,
+    )
 
 pub absent-spec : {M : Type 1} → statement M
-absent-spec = tie.close (tie.spec (search needs) (search needs) (search needs) (search needs) returns)
+absent-spec = tie.close (tie.spec (search needs) (search needs) (search needs) (search needs) (search needs) returns)
