@@ -58,7 +58,7 @@ unfoldable pub takenOf : Rules → Shape → State → (paper : List ℕ) (at : 
 takenOf rules shape state paper at = nextTaken rules shape state paper at (nextAt paper at)
 
 -- what it writes: limits, which are then in the words and the rules, and values; a script alone writes
-abbrev pub bodyWrites : State → (body : List ℕ) → List Write
+unfoldable pub bodyWrites : State → (body : List ℕ) → List Write
 bodyWrites state [] = []
 bodyWrites state (result ∷ template) = scriptWrites state result template
 

@@ -68,7 +68,11 @@ fn put_records(
             Event::Answered { command: _, answer } => {
                 end = lines::put_answer(room, end, number, answer);
             }
-            Event::Scripted { start: _, end: _, answer } => {
+            Event::Scripted {
+                start: _,
+                end: _,
+                answer,
+            } => {
                 end = lines::put_answer(room, end, number, answer);
             }
             Event::SetUp => {
