@@ -22,7 +22,7 @@ use Rattle.state.specs.declared.Answer.{Answer}
 use Rattle.state.specs.declared.State.{State}
 use Rattle.conversation.specs.declared.Taken.{Taken}
 use Rattle.conversation.specs.declared.Event.{Event}
-use Rattle.conversation.specs.declared.Event.the-variants.{SetUp, End, Refused, Answered, Scripted}
+use Rattle.conversation.specs.declared.Event.the-variants.{SetUp, End, Refused, Answered}
 use Rattle.script.specs.Script.{rulesAfter}
 use Rattle.conversation.specs.Conversation.{answeredBy, scriptedBy, isScript, nextTaken, takenOf, takenWrites}
 use Rattle.conversation.specs.Events.{following, eventsFrom}
@@ -32,8 +32,7 @@ abbrev pub GoesOn : Event → Type 0
 GoesOn SetUp = Unit
 GoesOn End = ⊥
 GoesOn (Refused refusal) = ⊥
-GoesOn (Answered command answer) = Unit
-GoesOn (Scripted start end answer) = Unit
+GoesOn (Answered said answer) = Unit
 
 module _ (shape : Shape) (paper : List ℕ) where
   record-end : (rules : Rules) (state : State) (end : ℕ) (read : ReadCommand) → answeredBy rules state end read .at ≡ end
@@ -41,10 +40,10 @@ module _ (shape : Shape) (paper : List ℕ) where
   record-end rules state end (CommandTaken command) = refl
   record-end rules state end (CommandRefused refusal) = refl
 
-  script-end : (state : State) (body : List ℕ) (start end : ℕ) → scriptedBy state body start end .at ≡ end
+  script-end : (state : State) (body : List ℕ) (end : ℕ) → scriptedBy state body end .at ≡ end
   unfolding scriptedBy
-  script-end state [] start end = refl
-  script-end state (result ∷ template) start end = refl
+  script-end state [] end = refl
+  script-end state (result ∷ template) end = refl
 
   either-end : (b : Bool) (x y : Taken) (end : ℕ) → x .at ≡ end → y .at ≡ end → cond b x y .at ≡ end
   either-end true x y end e f = e
@@ -64,7 +63,7 @@ module _ (shape : Shape) (paper : List ℕ) where
         let grows = i .grows in
         let fits = i .fits in
         let ends : nextTaken rules shape state paper at (Record kind start end) .at ≡ end =
-        either-end (isScript shape kind) _ _ end (script-end state (part paper start end) start end)
+        either-end (isScript shape kind) _ _ end (script-end state (part paper start end) end)
         (record-end rules state end (commandIn shape (state .values) paper kind (part paper start end))) in
         (omega arith, omega arith)
 
@@ -76,8 +75,7 @@ module _ (shape : Shape) (paper : List ℕ) where
   same-events SetUp more other e = ap (λ l. SetUp ∷ l) (e tt)
   same-events End more other e = refl
   same-events (Refused refusal) more other e = refl
-  same-events (Answered command answer) more other e = ap (λ l. Answered command answer ∷ l) (e tt)
-  same-events (Scripted start end answer) more other e = ap (λ l. Scripted start end answer ∷ l) (e tt)
+  same-events (Answered said answer) more other e = ap (λ l. Answered said answer ∷ l) (e tt)
 
   -- as many records as there are bytes left say all there is to say
   pub settled : (n m : ℕ) (rules : Rules) (state : State) (at : ℕ) → length paper - at ≤ n → n ≤ m

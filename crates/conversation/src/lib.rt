@@ -29,6 +29,12 @@ use state::State;
 
 const SCRIPT: u8 = 5;
 
+// What is answered.
+pub enum Said {
+    Command(Command),
+    Script,
+}
+
 pub enum Event {
     // The card is set up.
     SetUp,
@@ -36,16 +42,7 @@ pub enum Event {
     End,
     // Nothing more of the paper is read.
     Refused(Refusal),
-    Answered {
-        command: Command,
-        answer: Answer,
-    },
-    // A script, whose body stands from start up to end.
-    Scripted {
-        start: usize,
-        end: usize,
-        answer: Answer,
-    },
+    Answered { said: Said, answer: Answer },
 }
 
 // The card after a record, the place of the next one, and what happened.
@@ -80,15 +77,18 @@ fn answer(words: &Words, state: State, read: ReadCommand, end: usize) -> Taken
             Taken {
                 state: after,
                 at: end,
-                event: Event::Answered { command, answer },
+                event: Event::Answered {
+                    said: Said::Command(command),
+                    answer,
+                },
             }
         }
     }
 }
 
 // A script's body: the secure messaging result, and the template to its end.
-fn take_script(words: &mut Words, state: State, body: &[u8], start: usize, end: usize) -> Taken
-    ensures { λ r. ⌜ (r ≡ scriptedBy state (now (body .entry)) start end)
+fn take_script(words: &mut Words, state: State, body: &[u8], end: usize) -> Taken
+    ensures { λ r. ⌜ (r ≡ scriptedBy state (now (body .entry)) end)
         × (now (words .exit) ≡ wordsWritten (now (words .entry)) (bodyWrites state (now (body .entry))))
         × (rulesOf (now (words .exit)) ≡ rulesAfter (rulesOf (now (words .entry))) (bodyWrites state (now (body .entry)))) ⌝ }
 {
@@ -106,7 +106,10 @@ fn take_script(words: &mut Words, state: State, body: &[u8], start: usize, end: 
     Taken {
         state: after,
         at: end,
-        event: Event::Scripted { start, end, answer },
+        event: Event::Answered {
+            said: Said::Script,
+            answer,
+        },
     }
 }
 
@@ -130,7 +133,7 @@ pub fn take(words: &mut Words, shape: Shape, state: State, paper: &[u8], at: usi
         Next::Record { kind, start, end } => {
             let body = &paper[start..end];
             if (kind == SCRIPT) & shape.scripting {
-                return take_script(words, state, body, start, end);
+                return take_script(words, state, body, end);
             }
             let values = state.values;
             let read = command::read_record(shape, values, paper, kind, body);

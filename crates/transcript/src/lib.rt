@@ -64,27 +64,10 @@ fn put_records(
         let event = taken.event;
         state = taken.state;
         at = taken.at;
-        match event {
-            Event::Answered { command: _, answer } => {
-                end = lines::put_answer(room, end, number, answer);
-            }
-            Event::Scripted {
-                start: _,
-                end: _,
-                answer,
-            } => {
-                end = lines::put_answer(room, end, number, answer);
-            }
-            Event::SetUp => {
-                return put_last(room, end, number, event);
-            }
-            Event::End => {
-                return put_last(room, end, number, event);
-            }
-            Event::Refused(_) => {
-                return put_last(room, end, number, event);
-            }
-        }
+        let Event::Answered { answer, .. } = event else {
+            return put_last(room, end, number, event);
+        };
+        end = lines::put_answer(room, end, number, answer);
         number += 1;
     }
     end
