@@ -1,0 +1,2 @@
+-- The theorems, and rows of them.
+pub mod Commands
