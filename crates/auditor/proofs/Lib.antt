@@ -1,2 +1,3 @@
 -- The theorems, and rows of them.
 pub mod Commands
+pub mod Ranges
