@@ -1,3 +1,4 @@
 -- The theorems, and rows of them.
 pub mod Commands
 pub mod Ranges
+pub mod Rows
