@@ -2,3 +2,4 @@
 pub mod Commands
 pub mod Ranges
 pub mod Rows
+pub mod Lists

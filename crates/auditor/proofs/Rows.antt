@@ -19,10 +19,13 @@ use Rattle.put_data.specs.PutData.{amountAt, valueWritten, limitsWritten, count
 use Rattle.auditor.specs.Template.{digitsIn, areDigits, decimal, isAmount, amountIn, isSlot, ofAccumulator, ofCounter}
 
 -- two tests that each pass where the other does
-pub same-test : (p q : Bool) → (p ≡ true → q ≡ true) → (q ≡ true → p ≡ true) → p ≡ q
+same-test : (p q : Bool) → (p ≡ true → q ≡ true) → (q ≡ true → p ≡ true) → p ≡ q
 same-test true q f g = sym (f refl)
 same-test false true f g = g refl
 same-test false false f g = refl
+
+pub same-order : (a b c d : ℕ) → (a ≤ b → c ≤ d) → (c ≤ d → a ≤ b) → leb a b ≡ leb c d
+same-order a b c d f g = same-test (leb a b) (leb c d) (λ e. le-leb c d (f (leb-true a b e))) (λ e. le-leb a b (g (leb-true c d e)))
 
 -- ---- six bytes of digits
 module _ (v : List ℕ) (at : ℕ) where
@@ -74,7 +77,7 @@ module _ (slot : ℕ) (v : List ℕ) where
 slot-test : (f first t : ℕ) → f ≡ 0xDF00 + first → isOneOf f (0xDF00 + t) ≡ isSlot first t
 slot-test f first t e =
     let n = 0xDF00 + t in
-    ap₂ _&&_ (same-test (leb f n) (leb first t) (λ h. le-leb first t (omega (arith, leb-true f n h))) (λ h. le-leb f n (omega (arith, leb-true first t h))))
+    ap₂ _&&_ (same-order f n first t (λ h. omega arith) (λ h. omega arith))
     (same-test (leb n (f + 3)) (ltb t (first + 4)) (λ h. lt-ltb t (first + 4) (omega (arith, leb-true n (f + 3) h)))
     (λ h. le-leb n (f + 3) (omega (arith, ltb-true t (first + 4) h))))
 
