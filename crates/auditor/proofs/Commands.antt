@@ -1,8 +1,8 @@
 -- The auditor's commands of a sound template are those of its tree, and so the card's. Assumes nothing.
 use mathlib.Core.Path.{_≡_, refl, sym, ap, ap₂, _∙_}
-use mathlib.Core.List.{List, [], _∷_, _++_}
+use mathlib.Core.List.{List, [], _++_}
 use mathlib.Core.Option.{some}
-use mathlib.Core.Bool.{Bool, true, false, cond}
+use mathlib.Core.Bool.{Bool, true, false}
 use Prim.Native.Nat.{ℕ, zero, suc, _+_, _*_, _/_, _%_, _≤_, _<_}
 use native.Mathlib.Nat.{le-refl}
 use native.Mathlib.Omega.{arith}
@@ -14,7 +14,7 @@ use Rattle.object.specs.declared.Reading.the-variants.{Sound}
 use Rattle.trees.specs.Tree.{Tag, short, long, Form, plain, with81, with82, Objects, end, filler, primitive, constructed, tree}
 use Rattle.trees.specs.Tree.{lengthBytes, objectBytes, written, is86, ifCommand, commands, limit, Tagged, Good}
 use Rattle.trees.proofs.Back.{written-if-sound, sound-if-written}
-use Rattle.auditor.specs.Template.{Parted, parted, shortIn, valueIn, commandsBy, commandsIn, Bytes}
+use Rattle.auditor.specs.Template.{parted, shortIn, valueIn, commandsBy, commandsIn, Bytes}
 
 -- ---- a value behind its length, whatever is behind it
 parted-there : (v r : List ℕ) → parted (length v) (v ++ r) ≡ some (record { value = v; behind = r })

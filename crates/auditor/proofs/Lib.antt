@@ -3,3 +3,4 @@ pub mod Commands
 pub mod Ranges
 pub mod Rows
 pub mod Lists
+pub mod Writes

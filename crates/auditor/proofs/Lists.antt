@@ -3,7 +3,7 @@ use mathlib.Core.Path.{_≡_, refl, sym, ap, ap₂, _∙_}
 use mathlib.Core.List.{List, [], _∷_}
 use mathlib.Core.Option.{Option, none, some}
 use mathlib.Core.Bool.{Bool, true, false, _&&_, cond, and-false}
-use Prim.Native.Nat.{ℕ, zero, suc, _+_, _*_, _/_, _≤_, _<_}
+use Prim.Native.Nat.{ℕ, zero, suc, _+_, _/_, _≤_, _<_}
 use native.Mathlib.Omega.{arith}
 use lib.ListN.{length, take, drop, length-drop}
 use lib.Seq.{drop-drop}
@@ -13,11 +13,10 @@ use Rattle.wire.specs.Wire.{byte, number}
 use Rattle.wire.proofs.Pairs.{both}
 use Rattle.put_data.specs.declared.Write.{Write}
 use Rattle.put_data.specs.PutData.{isLength, lengthSize, lengthAt, isOneOf, meaningOf, headSize, elementSize, elementMeaning, before, writesBy, writesIn}
-use Rattle.put_data.proofs.Laws.{element-some}
 use Rattle.put_laws.proofs.Elements.{list-element}
 use Rattle.put_laws.proofs.Octets.{drop-bytes}
 use Rattle.put_laws.proofs.Parts.{two-at}
-use Rattle.auditor.specs.Template.{Parted, parted, shortIn, andThen, fromValue, fromTag, listBy, Bytes}
+use Rattle.auditor.specs.Template.{parted, shortIn, andThen, fromValue, listBy, Bytes}
 use Rattle.auditor.proofs.Rows.{same-order}
 
 -- ---- a length and its value, at the card's places

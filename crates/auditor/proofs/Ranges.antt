@@ -1,9 +1,8 @@
 -- What is read of bytes: commands of bytes, and writes that are in range. Assumes nothing.
-use mathlib.Core.Path.{_≡_, refl, sym, ap, subst, _∙_}
+use mathlib.Core.Path.{_≡_, ap, subst}
 use mathlib.Core.List.{List, [], _∷_, map}
-use mathlib.Core.Option.{Option, some}
+use mathlib.Core.Option.{some}
 use Prim.Native.Nat.{ℕ}
-use native.Mathlib.Omega.{arith}
 use lib.ListN.{drop}
 use Rattle.object.specs.Object.{Place, placesFrom, cut, commandsOf}
 use Rattle.trees.proofs.Octets.{drop-bytes, take-bytes}

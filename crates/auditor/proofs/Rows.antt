@@ -1,20 +1,18 @@
 -- What an element writes, as the auditor reads it, is what it means by the card's table. Assumes nothing.
 use mathlib.Core.Path.{_≡_, refl, sym, ap, ap₂, _∙_}
 use mathlib.Core.List.{List}
-use mathlib.Core.Option.{Option, none, some}
+use mathlib.Core.Option.{none, some}
 use mathlib.Core.Bool.{Bool, true, false, _&&_, cond, and-assoc, and-true}
 use Prim.Native.Nat.{ℕ, _+_, _-_, _≤_}
 use native.Mathlib.Omega.{arith}
 use lib.ListN.{length, take, drop, length-take, length-drop}
 use lib.Seq.{take-all}
 use lib.Dec.{ltb, leb, eqb}
-use borrow.Author.Tests.{leb-true, ltb-true, le-leb, lt-leb, lt-ltb, eqb-true, eqb-false, ne-eqb}
-use Rattle.wire.specs.Wire.{byte}
+use borrow.Author.Tests.{leb-true, ltb-true, le-leb, lt-leb, lt-ltb, eqb-true, eqb-false, eq-eqb, ne-eqb}
 use Rattle.wire.proofs.Pairs.{both}
 use Rattle.digits.specs.Digits.{arePairs, pairsValue}
 use Rattle.iad.proofs.Runs.{run, run-take}
-use Rattle.put_data.specs.declared.Write.{Write}
-use Rattle.put_data.specs.declared.Write.the-variants.{Value, AccumulatorLimits, CounterLimits}
+use Rattle.put_data.specs.declared.Write.the-variants.{Value, AccumulatorLimits}
 use Rattle.put_data.specs.PutData.{amountAt, valueWritten, limitsWritten, countsWritten, isOneOf, meaningOf}
 use Rattle.auditor.specs.Template.{digitsIn, areDigits, decimal, isAmount, amountIn, isSlot, ofAccumulator, ofCounter}
 
@@ -26,6 +24,9 @@ same-test false false f g = refl
 
 pub same-order : (a b c d : ℕ) → (a ≤ b → c ≤ d) → (c ≤ d → a ≤ b) → leb a b ≡ leb c d
 same-order a b c d f g = same-test (leb a b) (leb c d) (λ e. le-leb c d (f (leb-true a b e))) (λ e. le-leb a b (g (leb-true c d e)))
+
+pub same-equal : (a b c d : ℕ) → (a ≡ b → c ≡ d) → (c ≡ d → a ≡ b) → eqb a b ≡ eqb c d
+same-equal a b c d f g = same-test (eqb a b) (eqb c d) (λ e. eq-eqb c d (f (eqb-true a b e))) (λ e. eq-eqb a b (g (eqb-true c d e)))
 
 -- ---- six bytes of digits
 module _ (v : List ℕ) (at : ℕ) where
