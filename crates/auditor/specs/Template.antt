@@ -58,7 +58,7 @@ commandsBy (suc n) (b ∷ s) =
     let read = fromObject (commandsBy n) b (valueIn (behindTag b s)) in
     cond (eqb b 0x00) passed read
 
-abbrev pub commandsIn : List ℕ → List (List ℕ)
+unfoldable pub commandsIn : List ℕ → List (List ℕ)
 commandsIn s = commandsBy (length s) s
 
 -- AN AMOUNT: 12 decimal digits, two to a byte
