@@ -1,7 +1,7 @@
 -- `same-commands` and `same-writes`, computed for a few templates and commands: what both readers read of each. They follow from the two; said
 -- apart, they show of a card that reads otherwise that the statement itself is false of it. Assumes nothing.
 use mathlib.Core.Option.{Option, none, some}
-use mathlib.Core.List.{List, [], _∷_, map}
+use mathlib.Core.List.{List, [], _∷_, _++_, map}
 use mathlib.Core.Bool.{Bool, true, false, _&&_}
 use Prim.Native.Nat.{ℕ}
 use lib.ListN.{replicate}
@@ -52,6 +52,10 @@ writes c ws = both c (some ws)
 abbrev fails : (command : List ℕ) → Bool
 fails c = both c none
 
+-- 128 fillers and a MAC
+abbrev blank : List ℕ
+blank = replicate 128 0x00 ++ 0x8E ∷ 0x04 ∷ 0x11 ∷ 0x22 ∷ 0x33 ∷ 0x44 ∷ []
+
 -- the commands of the reading's vectors
 abbrev first : List ℕ
 first = bytes 22 0x0CDABF30118109DF01060000001234568E0411223344
@@ -99,6 +103,7 @@ pub record Samples : Type 0 where
   pub fillers-between : T (writes (bytes 27 0x0CDABF3516810E00DF110207090000DF12020102008E0411223344) (CounterLimits 0 7 9 ∷ CounterLimits 1 1 2 ∷ []))
   pub list-81 : T (writes (bytes 23 0x0CDABF3012818109DF01060000000000058E0411223344) (Value 0 (amountOf 5) ∷ []))
   pub element-81 : T (writes (bytes 19 0x0CDABF350E8106DF13810207FF8E0411223344) (CounterLimits 2 7 255 ∷ []))
+  pub list-of-128 : T (writes (0x0C ∷ 0xDA ∷ 0xBF ∷ 0x30 ∷ 0x89 ∷ 0x81 ∷ 0x81 ∷ 0x80 ∷ blank) [])
   pub no-elements : T (writes (bytes 13 0x0CDABF300881008E0411223344) [])
   -- what fails it: a digit above 9, another slot, tag or length, Lc, the MAC, an Le, the first bytes, three bytes of a length, what ends too late
   pub lower-digit : T (fails (bytes 22 0x0CDABF30118109DF010600000000000A8E0411223344))
@@ -119,9 +124,10 @@ pub record Samples : Type 0 where
   pub cla : T (fails (bytes 22 0x8CDABF30118109DF01060000000000058E0411223344))
   pub ins : T (fails (bytes 22 0x0C18BF30118109DF01060000000000058E0411223344))
   pub object : T (fails (bytes 22 0x0CDABF3C118109DF01060000000000058E0411223344))
+  pub length-80 : T (fails (0x0C ∷ 0xDA ∷ 0xBF ∷ 0x30 ∷ 0x88 ∷ 0x81 ∷ 0x80 ∷ blank))
   pub list-82 : T (fails (bytes 24 0x0CDABF301381820009DF01060000000000058E0411223344))
   pub bad-behind-good : T (fails (bytes 31 0x0CDABF301A8112DF0106000000000005DF21060000000000058E0411223344))
-  pub past-the-list : T (fails (bytes 17 0x0CDABF350C8104DF1103078E0411223344))
+  pub past-the-list : T (fails (bytes 18 0x0CDABF350D8105DF110307098E0411223344))
   pub cut-head : T (fails (bytes 14 0x0CDABF35098101DF8E0411223344))
   pub nothing : T (fails [])
 
@@ -163,6 +169,7 @@ samples =
       fillers-between = tt;
       list-81 = tt;
       element-81 = tt;
+      list-of-128 = tt;
       no-elements = tt;
       lower-digit = tt;
       upper-digit = tt;
@@ -182,6 +189,7 @@ samples =
       cla = tt;
       ins = tt;
       object = tt;
+      length-80 = tt;
       list-82 = tt;
       bad-behind-good = tt;
       past-the-list = tt;
