@@ -7,7 +7,7 @@ use Prim.Native.Nat.{ℕ, zero, suc, _+_, _-_, _≤_, _<_}
 use native.Mathlib.Omega.{arith}
 use borrow.Author.Tests.{le-leb}
 use lib.ListN.{length}
-use Rattle.rules.specs.Rules.{Rules}
+use Rattle.rules.specs.Rules.{Rules, rulesOf}
 use Rattle.paper.specs.declared.Next.{Next}
 use Rattle.paper.specs.declared.Next.the-variants.{Record, Fault, End as PaperEnd}
 use Rattle.paper.specs.Paper.{nextAt}
@@ -23,9 +23,9 @@ use Rattle.state.specs.declared.State.{State}
 use Rattle.conversation.specs.declared.Taken.{Taken}
 use Rattle.conversation.specs.declared.Event.{Event}
 use Rattle.conversation.specs.declared.Event.the-variants.{SetUp, End, Refused, Answered}
-use Rattle.script.specs.Script.{rulesAfter}
+use Rattle.script.specs.Script.{rulesAfter, wordsAfter}
 use Rattle.conversation.specs.Conversation.{answeredBy, scriptedBy, isScript, nextTaken, takenOf, takenWrites}
-use Rattle.conversation.specs.Events.{following, eventsFrom}
+use Rattle.conversation.specs.Events.{following, eventsFrom, ending, wordsFrom}
 
 -- the conversation goes on behind an event
 abbrev pub GoesOn : Event → Type 0
@@ -71,6 +71,10 @@ module _ (shape : Shape) (paper : List ℕ) where
   unfolding takenOf nextAt
   at-end rules state at h = simp (le-leb (length paper) at h)
 
+  no-writes : (state : State) (at : ℕ) → length paper ≤ at → takenWrites shape state paper at ≡ []
+  unfolding takenWrites nextAt
+  no-writes state at h = simp (le-leb (length paper) at h)
+
   same-events : (event : Event) (more other : List Event) → (GoesOn event → more ≡ other) → following event more ≡ following event other
   same-events SetUp more other e = ap (λ l. SetUp ∷ l) (e tt)
   same-events End more other e = refl
@@ -89,3 +93,22 @@ module _ (shape : Shape) (paper : List ℕ) where
       let then = rulesAfter rules (takenWrites shape state paper at) in
       same-events (taken .event) _ _
       (λ on. let f = further rules state at on in settled n m then (taken .state) (taken .at) (omega arith) (omega arith))
+
+  -- and so of the words that they leave
+  same-words : (event : Event) (here more other : List ℕ) → (GoesOn event → more ≡ other) → ending event here more ≡ ending event here other
+  same-words SetUp here more other e = e tt
+  same-words End here more other e = refl
+  same-words (Refused refusal) here more other e = refl
+  same-words (Answered said answer) here more other e = e tt
+
+  pub words-settled : (n m : ℕ) (words : List ℕ) (state : State) (at : ℕ) → length paper - at ≤ n → n ≤ m
+      → wordsFrom m words shape state paper at ≡ wordsFrom n words shape state paper at
+  unfolding wordsFrom
+  words-settled zero zero words state at h l = refl
+  words-settled zero (suc m) words state at h l = rw (at-end (rulesOf words) state at (omega arith), no-writes state at (omega arith))
+  words-settled (suc n) zero words state at h l = let z : ⊥ = omega arith in absurd z
+  words-settled (suc n) (suc m) words state at h l =
+      let taken = takenOf (rulesOf words) shape state paper at in
+      let then = wordsAfter words (takenWrites shape state paper at) in
+      same-words (taken .event) then _ _
+      (λ on. let f = further (rulesOf words) state at on in words-settled n m then (taken .state) (taken .at) (omega arith) (omega arith))
