@@ -107,6 +107,7 @@ module _ (body : List ℕ) where
         base = same-base shape lies i;
         cycles = same-cycles (shape .dating) (lies .tail) i;
         family = same-family (shape .family) (lies .family) i;
+        scripting = shape .scripting;
         reads = same-reads shape unnamed (lies .file) i;
       }
 
