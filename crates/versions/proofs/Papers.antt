@@ -28,7 +28,7 @@ use Rattle.shape.proofs.Inside.{inside}
 use Rattle.paper.specs.declared.Next.{Next}
 use Rattle.paper.specs.declared.Next.the-variants.{Record, Fault, End}
 use Rattle.paper.specs.declared.Opened.the-variants.{Setup}
-use Rattle.paper.specs.Paper.{endAt, nextAt, openPaper}
+use Rattle.paper.specs.Paper.{endAt, nextAt, latest, openPaper}
 use Rattle.paper.specs.Walk.{part, written}
 use Rattle.command.specs.Command.{startOf, firstOf, commandOf, startSelected, selectingOf, fileIn, slotsOf, readBy, commandIn}
 use Rattle.command.specs.declared.ReadCommand.{ReadCommand}
@@ -226,9 +226,9 @@ abbrev pub eventsShaped : (words rest body : List ℕ) → ReadShape → List Ev
 eventsShaped words rest body (ShapeRefused refusal) = Refused refusal ∷ []
 eventsShaped words rest body (ShapeTaken shape) = eventsWith words rest (partsOf shape body) (shape .syllabus) (shape .unnamed)
 
--- 01 to 05
+-- 01 to the latest
 abbrev pub Known : ℕ → Type 0
-Known version = (1 ≤ version) × (version ≤ 5)
+Known version = (1 ≤ version) × (version ≤ latest)
 
 -- where its tails stand does not matter to a command, only whether they are there
 record SamePlaces (place : ℕ) (dating : Dating) (family : Family) : Type 0 where
@@ -267,7 +267,7 @@ module _ (version : ℕ) (known : Known version) (body rest : List ℕ) (short :
       (simp (
         le-ltb 65536 (length (paperOf version body rest)) short,
         ne-eqb version 0 (omega (arith, known .0)),
-        le-ltb 5 version (known .1),
+        le-ltb latest version (known .1),
         ne-eqb (length body + 1) 0 (omega arith),
         le-ltb (length (paperOf version body rest)) (4 + length body) (omega arith),
         ne-eqb (length (paperOf version body rest)) 0 (omega arith),
