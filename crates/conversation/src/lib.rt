@@ -132,8 +132,10 @@ pub fn take(words: &mut Words, shape: Shape, state: State, paper: &[u8], at: usi
         },
         Next::Record { kind, start, end } => {
             let body = &paper[start..end];
-            if (kind == SCRIPT) & shape.scripting {
-                return take_script(words, state, body, end);
+            if shape.scripting {
+                if kind == SCRIPT {
+                    return take_script(words, state, body, end);
+                }
             }
             let values = state.values;
             let read = command::read_record(shape, values, paper, kind, body);
