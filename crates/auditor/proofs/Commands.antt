@@ -76,6 +76,7 @@ in-order (suc n) (constructed t f o r) g l =
 
 -- THEOREM: of a sound template the auditor reads the commands that the card's reader finds
 pub same-commands : (s : List ℕ) → Bytes s → readTemplate s ≡ Sound → commandsIn s ≡ commandsOf s
+unfolding commandsIn
 same-commands s b h =
     let w = written-if-sound s b h in
     let i = tree (w .template) in

@@ -4,3 +4,4 @@ pub mod Ranges
 pub mod Rows
 pub mod Lists
 pub mod Writes
+pub mod Samples

@@ -11,16 +11,16 @@ use Rattle.money.specs.declared.AccumulatorAmount.{AccumulatorAmount}
 use Rattle.put_data.specs.declared.Write.{Write}
 use Rattle.put_data.specs.declared.Write.the-variants.{Value, AccumulatorLimits, CounterLimits}
 
--- A LENGTH AND ITS VALUE: the value, and what is behind it
+-- A VALUE, which stands behind its length, and what is behind the value
 pub record Parted : Type 0 where
   pub value : List ℕ
   pub behind : List ℕ
 
--- n bytes; none where there are fewer
+-- of n bytes; none where there are fewer
 abbrev pub parted : (n : ℕ) → List ℕ → Option Parted
 parted n s = cond (leb n (length s)) (some (record { value = take n s; behind = drop n s })) none
 
--- as many as one byte says, as two say
+-- of as many as the next byte says, as the next two say
 abbrev pub byOne : List ℕ → Option Parted
 byOne [] = none
 byOne (n ∷ s) = parted n s
@@ -30,12 +30,12 @@ byTwo [] = none
 byTwo (m ∷ []) = none
 byTwo (m ∷ n ∷ s) = parted (m * 256 + n) s
 
--- the length is 00 to 7F, or 81 and one byte
+-- the length is 00 to 7F; or 81, and one byte says it
 unfoldable pub shortIn : List ℕ → Option Parted
 shortIn [] = none
 shortIn (n ∷ s) = cond (ltb n 0x80) (parted n s) (cond (eqb n 0x81) (byOne s) none)
 
--- or, in a template, 82 and two bytes
+-- or, in a template, 82, and two bytes say it
 unfoldable pub valueIn : List ℕ → Option Parted
 valueIn [] = none
 valueIn (n ∷ s) = cond (eqb n 0x82) (byTwo s) (shortIn (n ∷ s))
@@ -44,12 +44,12 @@ valueIn (n ∷ s) = cond (eqb n 0x82) (byTwo s) (shortIn (n ∷ s))
 abbrev pub behindTag : (first : ℕ) → List ℕ → List ℕ
 behindTag b s = cond (eqb (b % 32) 31) (drop 1 s) s
 
--- of an object whose tag begins with b, and of what is behind it: a constructed one, bit 6, holds a list; a primitive 86 is a command
+-- of an object whose tag begins with b, and of what is behind it: bit 6 says constructed, which holds a list; a primitive 86 is a command
 abbrev pub fromObject : (list : List ℕ → List (List ℕ)) → (first : ℕ) → Option Parted → List (List ℕ)
 fromObject list b none = []
 fromObject list b (some p) = cond (eqb (b / 32 % 2) 1) (list (p .value)) (cond (eqb b 0x86) (p .value ∷ []) []) ++ list (p .behind)
 
--- of a list of objects that has at most n bytes; a filler 00 is passed over
+-- of a list of objects, of at most n bytes; a filler 00 is passed over
 unfoldable pub commandsBy : (n : ℕ) → List ℕ → List (List ℕ)
 commandsBy zero s = []
 commandsBy (suc n) [] = []
@@ -58,7 +58,7 @@ commandsBy (suc n) (b ∷ s) =
     let read = fromObject (commandsBy n) b (valueIn (behindTag b s)) in
     cond (eqb b 0x00) passed read
 
-abbrev pub commandsIn : List ℕ → List (List ℕ)
+unfoldable pub commandsIn : List ℕ → List (List ℕ)
 commandsIn s = commandsBy (length s) s
 
 -- AN AMOUNT: 12 decimal digits, two to a byte
@@ -70,7 +70,7 @@ unfoldable pub areDigits : List ℕ → Bool
 areDigits [] = true
 areDigits (d ∷ ds) = leb d 9 && areDigits ds
 
--- the number that they write behind one that is read already
+-- the number that they write, behind the digits of one that is read already
 unfoldable pub decimal : (read : ℕ) → List ℕ → ℕ
 decimal n [] = n
 decimal n (d ∷ ds) = decimal (n * 10 + d) ds
@@ -81,11 +81,11 @@ isAmount v = eqb (length v) 6 && areDigits (digitsIn v)
 unfoldable pub amountIn : List ℕ → AccumulatorAmount
 amountIn v = record { 0 = decimal 0 (digitsIn v) }
 
--- THE ELEMENTS, by the second byte of the tag: which of four slots, counted from 0
+-- AN ELEMENT: what it writes, by the second byte of its tag and by its value. One of four tags from the first on; slots count from 0
 abbrev pub isSlot : (first tag : ℕ) → Bool
 isSlot first tag = leb first tag && ltb tag (first + 4)
 
--- under BF30: DF01 to DF04, the value of an accumulator; DF11 to DF14, its limits, lower and upper
+-- under BF30: DF01 to DF04, the value of an accumulator; DF11 to DF14, its limits, lower and upper, 6 bytes each
 unfoldable pub ofAccumulator : (tag : ℕ) → List ℕ → Option Write
 ofAccumulator tag v =
     cond (isSlot 0x01 tag && isAmount v) (some (Value (tag - 0x01) (amountIn v)))
@@ -96,7 +96,7 @@ ofAccumulator tag v =
 unfoldable pub ofCounter : (tag : ℕ) → List ℕ → Option Write
 ofCounter tag v = cond (isSlot 0x11 tag && eqb (length v) 2) (some (CounterLimits (tag - 0x11) (byte v 0) (byte v 1))) none
 
--- A LIST of elements: what they write, in their order; none where one fails
+-- A LIST of elements: what they write, in order; none where one fails
 abbrev pub andThen : Option Write → Option (List Write) → Option (List Write)
 andThen none ws = none
 andThen (some w) none = none
@@ -106,12 +106,12 @@ abbrev pub fromValue : (write : List ℕ → Option Write) → (list : List ℕ 
 fromValue write list none = none
 fromValue write list (some p) = andThen (write (p .value)) (list (p .behind))
 
--- behind DF
+-- behind DF, the first byte of the tag
 abbrev pub fromTag : (write : ℕ → List ℕ → Option Write) → (list : List ℕ → Option (List Write)) → List ℕ → Option (List Write)
 fromTag write list [] = none
 fromTag write list (tag ∷ s) = fromValue (write tag) list (shortIn s)
 
--- of at most n bytes; a filler 00 is passed over
+-- a list of at most n bytes; a filler 00 is passed over
 unfoldable pub listBy : (write : ℕ → List ℕ → Option Write) → (n : ℕ) → List ℕ → Option (List Write)
 listBy write zero s = some []
 listBy write (suc n) [] = some []
@@ -120,13 +120,13 @@ listBy write (suc n) (b ∷ s) =
     let read = fromTag write (listBy write n) s in
     cond (eqb b 0x00) passed (cond (eqb b 0xDF) read none)
 
--- A COMMAND. Its first bytes
+-- A COMMAND. Whether bytes begin so
 unfoldable pub begins : (first : List ℕ) → List ℕ → Bool
 begins [] s = true
 begins (b ∷ bs) [] = false
 begins (b ∷ bs) (c ∷ s) = eqb c b && begins bs s
 
--- its last: 8E 04 and four bytes, which are not looked at
+-- its last bytes: 8E 04 and four more, which are not looked at
 abbrev pub isMac : List ℕ → Bool
 isMac s = begins (0x8E ∷ 0x04 ∷ []) s && eqb (length s) 6
 
@@ -146,7 +146,7 @@ writesIn c =
     (cond (begins (0x0C ∷ 0xDA ∷ 0xBF ∷ 0x35 ∷ []) c) (dataIn ofCounter (drop 4 c))
     none)
 
--- WHAT IS HELD TO: bytes, and commands of bytes
+-- WHAT THE LAWS SAY: bytes, and commands of bytes
 abbrev pub Bytes : List ℕ → Type 0
 Bytes s = (i : ℕ) → getD s i 0 < 256
 

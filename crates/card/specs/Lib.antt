@@ -1,2 +1,2 @@
 pub mod Card
-pub mod Sent
+pub mod Message

@@ -26,7 +26,8 @@ use Rattle.state.specs.declared.State.{State}
 use Rattle.put_data.specs.declared.Write.{Write}
 use Rattle.card.specs.Card.{stepOf, scriptStep, scriptWrites, freshState}
 use Rattle.conversation.specs.declared.Event.{Event}
-use Rattle.conversation.specs.declared.Event.the-variants.{SetUp, End, Refused, Answered, Scripted}
+use Rattle.conversation.specs.declared.Event.the-variants.{SetUp, End, Refused, Answered}
+use Rattle.conversation.specs.declared.Said.the-variants.{Command as SaidCommand, Script}
 use Rattle.conversation.specs.declared.Taken.{Taken}
 use Rattle.conversation.specs.declared.Begun.{Begun}
 
@@ -34,13 +35,13 @@ use Rattle.conversation.specs.declared.Begun.{Begun}
 unfoldable pub answeredBy : Rules → State → (end : ℕ) → ReadCommand → Taken
 answeredBy rules state end (CommandRefused refusal) = record { state = state; at = end; event = Refused refusal }
 answeredBy rules state end (CommandTaken command) =
-    record { state = stepOf rules state command .state; at = end; event = Answered command (stepOf rules state command .answer) }
+    record { state = stepOf rules state command .state; at = end; event = Answered (SaidCommand command) (stepOf rules state command .answer) }
 
 -- a script's body is the secure messaging result, and the template to its end; refusal 9 for one without a byte
-unfoldable pub scriptedBy : State → (body : List ℕ) → (start end : ℕ) → Taken
-scriptedBy state [] start end = record { state = state; at = end; event = Refused Unreadable }
-scriptedBy state (result ∷ template) start end =
-    record { state = scriptStep state result template .state; at = end; event = Scripted start end (scriptStep state result template .answer) }
+unfoldable pub scriptedBy : State → (body : List ℕ) → (end : ℕ) → Taken
+scriptedBy state [] end = record { state = state; at = end; event = Refused Unreadable }
+scriptedBy state (result ∷ template) end =
+    record { state = scriptStep state result template .state; at = end; event = Answered Script (scriptStep state result template .answer) }
 
 -- kind 5, where scripts are on
 abbrev pub isScript : Shape → (kind : ℕ) → Bool
@@ -51,14 +52,14 @@ abbrev pub nextTaken : Rules → Shape → State → (paper : List ℕ) (at : �
 nextTaken rules shape state paper at PaperEnd = record { state = state; at = at; event = End }
 nextTaken rules shape state paper at Fault = record { state = state; at = at; event = Refused Unreadable }
 nextTaken rules shape state paper at (Record kind start end) =
-    cond (isScript shape kind) (scriptedBy state (part paper start end) start end)
+    cond (isScript shape kind) (scriptedBy state (part paper start end) end)
     (answeredBy rules state end (commandIn shape (state .values) paper kind (part paper start end)))
 
 unfoldable pub takenOf : Rules → Shape → State → (paper : List ℕ) (at : ℕ) → Taken
 takenOf rules shape state paper at = nextTaken rules shape state paper at (nextAt paper at)
 
 -- what it writes: limits, which are then in the words and the rules, and values; a script alone writes
-abbrev pub bodyWrites : State → (body : List ℕ) → List Write
+unfoldable pub bodyWrites : State → (body : List ℕ) → List Write
 bodyWrites state [] = []
 bodyWrites state (result ∷ template) = scriptWrites state result template
 

@@ -6,7 +6,7 @@ use Rattle.rules.specs.Rules.{Rules, rulesOf}
 use Rattle.shape.specs.declared.Shape.{Shape}
 use Rattle.state.specs.declared.State.{State}
 use Rattle.conversation.specs.declared.Event.{Event}
-use Rattle.conversation.specs.declared.Event.the-variants.{SetUp, End, Refused, Answered, Scripted}
+use Rattle.conversation.specs.declared.Event.the-variants.{SetUp, End, Refused, Answered}
 use Rattle.script.specs.Script.{rulesAfter, wordsAfter}
 use Rattle.conversation.specs.Conversation.{takenOf, takenWrites, begunOf, wordsBegun}
 
@@ -15,8 +15,7 @@ abbrev pub following : Event → List Event → List Event
 following SetUp more = SetUp ∷ more
 following End more = []
 following (Refused refusal) more = Refused refusal ∷ []
-following (Answered command answer) more = Answered command answer ∷ more
-following (Scripted start end answer) more = Scripted start end answer ∷ more
+following (Answered said answer) more = Answered said answer ∷ more
 
 -- the events of n records from a place on; the rules are then those that the record left
 unfoldable pub eventsFrom : ℕ → Rules → Shape → State → (paper : List ℕ) (at : ℕ) → List Event
@@ -36,8 +35,7 @@ abbrev pub ending : {A : Type 0} → Event → (here more : A) → A
 ending SetUp here more = more
 ending End here more = here
 ending (Refused refusal) here more = here
-ending (Answered command answer) here more = more
-ending (Scripted start end answer) here more = more
+ending (Answered said answer) here more = more
 
 unfoldable pub wordsFrom : ℕ → (words : List ℕ) → Shape → State → (paper : List ℕ) (at : ℕ) → List ℕ
 wordsFrom zero words shape state paper at = words

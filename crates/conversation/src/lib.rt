@@ -9,7 +9,6 @@ ghost use Rattle.shape.specs.Shape.{cyclesPart, familyPart, Lies, Spans, Holds,
 ghost use Rattle.shape.specs.declared.ReadShape.the-variants.{Taken as ShapeTaken};
 ghost use Rattle.shape.proofs.Inside.{Inside};
 ghost use Rattle.script.specs.Script.{rulesAfter, wordsAfter as wordsWritten};
-ghost use Rattle.paper.specs.Walk.{part};
 ghost use Rattle.conversation.specs.Conversation.{scriptedBy, bodyWrites, takenWrites};
 ghost use Rattle.conversation.specs.Conversation.{answeredBy, takenOf, setUpEvent, refusedAt, baseBegun, shapedBegun, shapedWords};
 ghost use Rattle.conversation.specs.Conversation.{setupBegun, setupWords, begunOf, wordsBegun};
@@ -30,6 +29,12 @@ use state::State;
 
 const SCRIPT: u8 = 5;
 
+// What is answered.
+pub enum Said {
+    Command(Command),
+    Script,
+}
+
 pub enum Event {
     // The card is set up.
     SetUp,
@@ -37,9 +42,7 @@ pub enum Event {
     End,
     // Nothing more of the paper is read.
     Refused(Refusal),
-    Answered { command: Command, answer: Answer },
-    // A script, whose body stands from start up to end.
-    Scripted { start: usize, end: usize, answer: Answer },
+    Answered { said: Said, answer: Answer },
 }
 
 // The card after a record, the place of the next one, and what happened.
@@ -74,36 +77,37 @@ fn answer(words: &Words, state: State, read: ReadCommand, end: usize) -> Taken
             Taken {
                 state: after,
                 at: end,
-                event: Event::Answered { command, answer },
+                event: Event::Answered {
+                    said: Said::Command(command),
+                    answer,
+                },
             }
         }
     }
 }
 
 // A script's body: the secure messaging result, and the template to its end.
-fn take_script(words: &mut Words, state: State, paper: &[u8], start: usize, end: usize) -> Taken
-    requires { ⌜ (start ≤ end) × (end ≤ length (now paper)) ⌝ }
-    ensures { λ r. ⌜ (r ≡ scriptedBy state (part (now (paper .entry)) start end) start end)
-        × (now (words .exit) ≡ wordsWritten (now (words .entry)) (bodyWrites state (part (now (paper .entry)) start end)))
-        × (rulesOf (now (words .exit)) ≡ rulesAfter (rulesOf (now (words .entry))) (bodyWrites state (part (now (paper .entry)) start end))) ⌝ }
+fn take_script(words: &mut Words, state: State, body: &[u8], end: usize) -> Taken
+    ensures { λ r. ⌜ (r ≡ scriptedBy state (now (body .entry)) end)
+        × (now (words .exit) ≡ wordsWritten (now (words .entry)) (bodyWrites state (now (body .entry))))
+        × (rulesOf (now (words .exit)) ≡ rulesAfter (rulesOf (now (words .entry))) (bodyWrites state (now (body .entry)))) ⌝ }
 {
-    if start == end {
+    if body.len() == 0 {
         return Taken {
             state,
             at: end,
             event: Event::Refused(Refusal::Unreadable),
         };
     }
-    let result = wire::byte_at(paper, start);
-    let outcome = card::answer_script(words, state, result, &paper[start + 1..end]);
+    let result = body[0];
+    let outcome = card::answer_script(words, state, result, &body[1..]);
     let after = outcome.state;
     let answer = outcome.answer;
     Taken {
         state: after,
         at: end,
-        event: Event::Scripted {
-            start,
-            end,
+        event: Event::Answered {
+            said: Said::Script,
             answer,
         },
     }
@@ -127,11 +131,12 @@ pub fn take(words: &mut Words, shape: Shape, state: State, paper: &[u8], at: usi
             event: Event::Refused(Refusal::Unreadable),
         },
         Next::Record { kind, start, end } => {
+            let body = &paper[start..end];
             if (kind == SCRIPT) & shape.scripting {
-                return take_script(words, state, paper, start, end);
+                return take_script(words, state, body, end);
             }
             let values = state.values;
-            let read = command::read_record(shape, values, paper, kind, &paper[start..end]);
+            let read = command::read_record(shape, values, paper, kind, body);
             answer(words, state, read, end)
         }
     }

@@ -8,7 +8,7 @@ use Rattle.state.specs.declared.Answer.{Answer}
 use Rattle.state.specs.declared.Answer.the-variants.{Refused, Started, Given, Done}
 use Rattle.state.specs.State.{cidOf}
 use Rattle.conversation.specs.declared.Event.{Event}
-use Rattle.conversation.specs.declared.Event.the-variants.{SetUp, End, Refused as EndRefused, Answered, Scripted}
+use Rattle.conversation.specs.declared.Event.the-variants.{SetUp, End, Refused as EndRefused, Answered}
 use Rattle.conversation.specs.Events.{eventsOf}
 use Rattle.lines.specs.Lines.{refusalLine, startLine, selectedLine, cryptogramLine}
 
@@ -28,8 +28,7 @@ abbrev pub eventLine : ℕ → Event → List ℕ
 eventLine number SetUp = refusalLine number 0
 eventLine number End = []
 eventLine number (EndRefused refusal) = refusalLine number (refusalNumber refusal)
-eventLine number (Answered command answer) = answerLine number answer
-eventLine number (Scripted start end answer) = answerLine number answer
+eventLine number (Answered said answer) = answerLine number answer
 
 unfoldable pub linesOf : ℕ → List Event → List (List ℕ)
 linesOf record-number [] = []

@@ -192,9 +192,9 @@ fn store_answer(room: &mut [u8], at: usize, number: u16, answer: Answer) -> usiz
 {
     match answer {
         Answer::Refused(refusal) => store_refusal(room, at, number, refusal.number()),
-        Answer::Done => store_refusal(room, at, number, 0),
         Answer::Started { atc, visits } => put_started(room, at, number, atc, visits),
         Answer::Given { kind, atc, iad } => put_cryptogram(room, at, number, kind.cid(), atc, iad),
+        Answer::Done => store_refusal(room, at, number, 0),
     }
 }
 

@@ -22,14 +22,19 @@ use Rattle.paper.specs.declared.Opened.{Opened}
 use Rattle.paper.specs.declared.Opened.the-variants.{Setup, Refused as OpenRefused}
 use Rattle.paper.specs.Paper.{openPaper}
 use Rattle.paper.specs.Walk.{part}
-use Rattle.conversation.specs.declared.Event.the-variants.{SetUp, Refused}
+use Rattle.state.specs.declared.State.{State}
+use Rattle.script.specs.Script as script
+use Rattle.conversation.specs.declared.Event.{Event}
+use Rattle.conversation.specs.declared.Event.the-variants.{SetUp, End, Refused, Answered}
 use Rattle.conversation.specs.Conversation.{setUpEvent, baseBegun, shapedBegun, setupBegun, openedBegun, begunOf}
-use Rattle.conversation.specs.Conversation.{shapedWords, setupWords, openedWords, wordsBegun}
+use Rattle.conversation.specs.Conversation.{shapedWords, setupWords, openedWords, wordsBegun, takenOf, takenWrites}
+use Rattle.conversation.specs.Events.{ending, wordsFrom, wordsLeft}
 use Rattle.lines.specs.Lines.{refusalLine}
 use Rattle.transcript.specs.Transcript.{transcriptOf, restOf}
 use Rattle.transcript.proofs.Steps.{Beginning, accepted, refused, begins, set-up, not-set-up}
 use Rattle.pages.specs.Stack.{paperOf, behind, pagesIn, stackOf}
 use Rattle.pages.specs.Alone.{apartIn, apartOf}
+use Rattle.pages.proofs.Many.{as-many}
 
 -- ---- as many words as before
 
@@ -40,9 +45,9 @@ stored-length words s t f syllabus unnamed = by (isAccepted s t f unnamed) where
   by true = length-sets words 0 (loaded s t f syllabus)
   by false = refl
 
-pub words-length : (words paper : List ℕ) → length (wordsBegun words paper) ≡ length words
+begun-length : (words paper : List ℕ) → length (wordsBegun words paper) ≡ length words
 unfolding wordsBegun setupWords
-words-length words paper = by (openPaper paper) where
+begun-length words paper = by (openPaper paper) where
   by-shape : (body : List ℕ) (read : ReadShape) → length (shapedWords words body read) ≡ length words
   by-shape body (ShapeRefused refusal) = refl
   by-shape body (ShapeTaken shape) =
@@ -51,6 +56,31 @@ words-length words paper = by (openPaper paper) where
   by : (opened : Opened) → length (openedWords words paper opened) ≡ length words
   by (OpenRefused refusal) = refl
   by (Setup version start end) = by-shape (part paper start end) (shapeOf version (part paper start end))
+
+ending-length : (event : Event) (here more : List ℕ) (n : ℕ) → length here ≡ n → length more ≡ n → length (ending event here more) ≡ n
+ending-length SetUp here more n h m = m
+ending-length End here more n h m = h
+ending-length (Refused refusal) here more n h m = h
+ending-length (Answered said answer) here more n h m = m
+
+from-length : (n : ℕ) (words : List ℕ) (shape : Shape) (state : State) (paper : List ℕ) (at : ℕ)
+    → length (wordsFrom n words shape state paper at) ≡ length words
+unfolding wordsFrom
+from-length zero words shape state paper at = refl
+from-length (suc n) words shape state paper at =
+    let taken = takenOf (rulesOf words) shape state paper at in
+    let writes = takenWrites shape state paper at in
+    let then = script.wordsAfter words writes in
+    let here = as-many words writes in
+    ending-length (taken .event) then _ (length words) here (from-length n then shape (taken .state) paper (taken .at) ∙ here)
+
+pub words-length : (words paper : List ℕ) → length (wordsLeft words paper) ≡ length words
+unfolding wordsLeft
+words-length words paper =
+    let begun = begunOf paper in
+    let then = wordsBegun words paper in
+    let here = begun-length words paper in
+    ending-length (begun .event) then _ (length words) here (from-length (length paper) then (begun .shape) (begun .state) paper (begun .at) ∙ here)
 
 -- ---- the same words
 
@@ -105,7 +135,7 @@ unfolding pagesIn apartIn
 apart-in zero words words′ stack lent lent′ = refl
 apart-in (suc n) words words′ stack lent lent′ =
     let paper = paperOf stack in
-    rw (each-alone words words′ paper lent lent′, apart-in n (wordsBegun words paper) words′ (behind stack) (words-length words paper ∙ lent) lent′)
+    rw (each-alone words words′ paper lent lent′, apart-in n (wordsLeft words paper) words′ (behind stack) (words-length words paper ∙ lent) lent′)
 
 -- the text of a stack is each paper's own page
 pub apart : (words words′ stack : List ℕ) → length words ≡ wordCount → length words′ ≡ wordCount

@@ -6,7 +6,7 @@ use borrow.Author.Tests.{lt-ltb, le-ltb}
 use native.Mathlib.Omega.{arith}
 use lib.ListN.{length, take, drop, length-drop}
 use lib.Seq.{length-take-le}
-use Rattle.conversation.specs.Conversation.{wordsBegun}
+use Rattle.conversation.specs.Events.{wordsLeft}
 use Rattle.transcript.specs.declared.Transcript.{Transcript}
 use Rattle.transcript.specs.Transcript.{roomFor, wordsAfter}
 use Rattle.pages.specs.declared.Turned.{Turned}
@@ -43,7 +43,7 @@ module _ (skip : ℕ) (words input : List ℕ) where
 
         pub whole : sizeOf input ≤ length input - 4
             → dealOf skip words input
-            ≡ page (4 + sizeOf input) (roomFor (sizeOf input)) (pageOf words (paperOf input)) (wordsBegun words (paperOf input))
+            ≡ page (4 + sizeOf input) (roomFor (sizeOf input)) (pageOf words (paperOf input)) (wordsLeft words (paperOf input))
         unfolding dealOf
         whole there =
             rw (
@@ -55,12 +55,12 @@ module _ (skip : ℕ) (words input : List ℕ) where
 
 -- a page, by its paper's length
 by-length : (words paper room : List ℕ) (to taken n : ℕ) → length paper ≡ n
-    → let deal = page taken (roomFor n) (pageOf words paper) (wordsBegun words paper) in
+    → let deal = page taken (roomFor n) (pageOf words paper) (wordsLeft words paper) in
     (turnedOver taken 0 to (pagePut words paper (length room) to) ≡ saidBy (length room) to 0 deal)
     × (pageRoom words paper room to ≡ roomBy room to deal) × (wordsAfter words paper room to ≡ wordsBy (length room) to words deal)
 unfolding wordsAfter
 by-length words paper room to taken n e =
-    rw (← e) (page-said (length room) to 0 taken words paper (wordsBegun words paper), refl, refl)
+    rw (← e) (page-said (length room) to 0 taken words paper (wordsLeft words paper), refl, refl)
 
 -- a paper that is at hand: its page is what the turn says, and what it leaves
 pub paged : (words input room : List ℕ) (to skip size : ℕ) {put : Transcript} {said : Turned} {after kept : List ℕ} → skip ≤ 0
@@ -69,7 +69,7 @@ pub paged : (words input room : List ℕ) (to skip size : ℕ) {put : Transcript
     → after ≡ pageRoom words (take (4 + size - 4) (drop 4 input)) room to
     → kept ≡ wordsAfter words (take (4 + size - 4) (drop 4 input)) room to
     → said ≡ turnedOver (4 + size) 0 to put
-    → let deal = page (4 + sizeOf input) (roomFor (sizeOf input)) (pageOf words (paperOf input)) (wordsBegun words (paperOf input)) in
+    → let deal = page (4 + sizeOf input) (roomFor (sizeOf input)) (pageOf words (paperOf input)) (wordsLeft words (paperOf input)) in
     (said ≡ saidBy (length room) to skip deal) × (after ≡ roomBy room to deal) × (kept ≡ wordsBy (length room) to words deal)
 paged words input room to skip size {put} {said} {after} {kept} none is there p a k t =
     let paper = paperOf input in

@@ -8,7 +8,7 @@ use borrow.Author.Tests.{ne-eqb, ltb-true, ltb-false, eqb-true, eqb-false}
 use lib.Dec.{eqb, ltb}
 use lib.ListN.{length, drop, length-append, length-drop}
 use lib.Seq.{drop-length, take-append-le, drop-append-le, drop-append-add}
-use Rattle.conversation.specs.Conversation.{wordsBegun}
+use Rattle.conversation.specs.Events.{wordsLeft}
 use Rattle.transcript.specs.Transcript.{joined, roomFor}
 use Rattle.pages.specs.declared.Wants.the-variants.{Turn, Input, Room}
 use Rattle.pages.specs.Stack.{pageOf, sizeOf, paperOf, stackOf}
@@ -17,7 +17,7 @@ use Rattle.pages.specs.Pieces.{dealt, toldIn, toldOf}
 use Rattle.pages.proofs.Stack.{number-front, none, cut, front, owed-cut, owed-page, owed-long}
 
 abbrev paged : (words input : List ℕ) → Deal
-paged words input = page (4 + sizeOf input) (roomFor (sizeOf input)) (pageOf words (paperOf input)) (wordsBegun words (paperOf input))
+paged words input = page (4 + sizeOf input) (roomFor (sizeOf input)) (pageOf words (paperOf input)) (wordsLeft words (paperOf input))
 
 -- what holds of each of the five deals holds of the turn's
 module _ (skip : ℕ) (words input : List ℕ) (P : Deal → Type 0)

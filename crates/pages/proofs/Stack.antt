@@ -13,8 +13,9 @@ use Rattle.refusal.specs.declared.Refusal.the-variants.{Unreadable}
 use Rattle.paper.specs.declared.Opened.the-variants.{Refused as OpenRefused}
 use Rattle.paper.specs.Paper.{openPaper}
 use Rattle.conversation.specs.Conversation.{begunOf, openedBegun, wordsBegun, openedWords}
+use Rattle.conversation.specs.Events.{wordsLeft}
 use Rattle.lines.specs.Lines.{digit, decimal, refusalLine}
-use Rattle.transcript.proofs.Steps.{not-set-up}
+use Rattle.transcript.proofs.Steps.{not-set-up, words-not-set-up}
 use Rattle.pages.specs.Stack.{pageOf, cutShort, sizeOf, paperOf, behind, pagesIn, stackOf}
 use Rattle.pages.specs.Turn.{tooLong, longestPaper, owed}
 
@@ -33,7 +34,7 @@ settled zero zero words stack h l = refl
 settled zero (suc m) words stack h l = rw (eq-eqb (length stack) 0 (omega arith))
 settled (suc n) zero words stack h l = let z : ⊥ = omega arith in absurd z
 settled (suc n) (suc m) words stack h l =
-    rw (settled n m (wordsBegun words (paperOf stack)) (behind stack) (omega (arith, length-drop (4 + sizeOf stack) stack)) (omega arith))
+    rw (settled n m (wordsLeft words (paperOf stack)) (behind stack) (omega (arith, length-drop (4 + sizeOf stack) stack)) (omega arith))
 
 module _ (words stack : List ℕ) where
   pub none : length stack ≡ 0 → stackOf words stack ≡ []
@@ -51,12 +52,12 @@ module _ (words stack : List ℕ) where
       ∙ (let no = ne-eqb (length stack) 0 (λ z. omega arith) in rw (no, lt-ltb (length stack) (4 + sizeOf stack) few))
 
   pub front : 4 + sizeOf stack ≤ length stack
-      → stackOf words stack ≡ pageOf words (paperOf stack) ++ stackOf (wordsBegun words (paperOf stack)) (behind stack)
+      → stackOf words stack ≡ pageOf words (paperOf stack) ++ stackOf (wordsLeft words (paperOf stack)) (behind stack)
   unfolding pagesIn stackOf
   front there =
       let m = length stack - 1 in
       let no = ne-eqb (length stack) 0 (λ z. omega arith) in
-      let enough = settled (length (behind stack)) m (wordsBegun words (paperOf stack)) (behind stack) (omega arith)
+      let enough = settled (length (behind stack)) m (wordsLeft words (paperOf stack)) (behind stack) (omega arith)
       (omega (arith, length-drop (4 + sizeOf stack) stack)) in
       first m (omega arith) ∙ rw (no, le-ltb (length stack) (4 + sizeOf stack) there) (ap (λ t. pageOf words (paperOf stack) ++ t) enough)
 
@@ -71,9 +72,9 @@ module _ (words paper : List ℕ) (long : longestPaper < length paper) where
   unfolding refusalLine decimal digit begunOf
   long-page = rw (not-set-up words paper Unreadable (ap (λ o. openedBegun paper o .event) unread))
 
-  pub long-words : wordsBegun words paper ≡ words
-  unfolding wordsBegun
-  long-words = ap (openedWords words paper) unread
+  pub long-words : wordsLeft words paper ≡ words
+  unfolding wordsBegun begunOf
+  long-words = words-not-set-up words paper Unreadable (ap (λ o. openedBegun paper o .event) unread) ∙ ap (openedWords words paper) unread
 
 -- ---- what is owed where bytes are to be passed
 

@@ -6,7 +6,7 @@ use Prim.Native.Nat.{ℕ, zero, suc, _+_}
 use lib.Dec.{eqb, ltb}
 use lib.ListN.{length, take, drop}
 use Rattle.wire.specs.Wire.{number}
-use Rattle.conversation.specs.Conversation.{wordsBegun}
+use Rattle.conversation.specs.Events.{wordsLeft}
 use Rattle.transcript.specs.Transcript.{transcriptOf}
 
 abbrev pub pageOf : (words paper : List ℕ) → List ℕ
@@ -32,7 +32,7 @@ pagesIn zero words stack = []
 pagesIn (suc n) words stack =
     cond (eqb (length stack) 0) []
     (cond (ltb (length stack) (4 + sizeOf stack)) cutShort
-    (pageOf words (paperOf stack) ++ pagesIn n (wordsBegun words (paperOf stack)) (behind stack)))
+    (pageOf words (paperOf stack) ++ pagesIn n (wordsLeft words (paperOf stack)) (behind stack)))
 
 -- no stack has more papers than bytes
 unfoldable pub stackOf : (words stack : List ℕ) → List ℕ

@@ -5,7 +5,7 @@ use Prim.Native.Nat.{ℕ, _+_, _-_}
 use lib.Dec.{eqb, ltb, leb}
 use lib.ListN.{length, drop}
 use lib.Seq.{sets}
-use Rattle.conversation.specs.Conversation.{wordsBegun}
+use Rattle.conversation.specs.Events.{wordsLeft}
 use Rattle.transcript.specs.declared.Transcript.{Transcript}
 use Rattle.transcript.specs.declared.Transcript.the-variants.{Whole, NoRoom}
 use Rattle.transcript.specs.Transcript.{roomFor, hasRoom}
@@ -56,7 +56,7 @@ opening words input =
     cond (ltb (length input) 4) (hold 0 0 Input)
     (cond (ltb longestPaper (sizeOf input)) (hold 4 (sizeOf input) Turn)
     (cond (ltb (length input - 4) (sizeOf input)) (hold 0 0 Input)
-    (page (4 + sizeOf input) (roomFor (sizeOf input)) (pageOf words (paperOf input)) (wordsBegun words (paperOf input)))))
+    (page (4 + sizeOf input) (roomFor (sizeOf input)) (pageOf words (paperOf input)) (wordsLeft words (paperOf input)))))
 
 unfoldable pub dealOf : (skip : ℕ) (words input : List ℕ) → Deal
 dealOf skip words input = cond (ltb 0 skip) (passing skip words input) (opening words input)

@@ -1,7 +1,7 @@
 -- How long the lines of a paper are: no record of k bytes has a line of more than 8 k. Assumes nothing.
 use mathlib.Core.Path.{_≡_, refl, ap}
 use mathlib.Core.Bool.{Bool, true, false, cond, _&&_}
-use mathlib.Core.List.{List}
+use mathlib.Core.List.{List, [], _∷_}
 use Prim.Native.Nat.{ℕ, _+_, _*_, _-_, _≤_}
 use native.Mathlib.Omega.{arith}
 use borrow.Author.Tests.{eqb-true}
@@ -32,13 +32,14 @@ use Rattle.command.specs.declared.ReadCommand.{ReadCommand}
 use Rattle.command.specs.declared.ReadCommand.the-variants.{Taken, Refused as NotTaken}
 use Rattle.command.specs.Command.{isCpace, interfaceOf, startLength, startOf, plainLength, firstLength, firstOf, secondOf, commandOf, startSelected, selectingOf, slotsOf, fileIn, readBy, commandIn}
 use Rattle.state.specs.declared.Answer.{Answer}
-use Rattle.state.specs.declared.Answer.the-variants.{Refused as AnswerRefused, Started, Given}
+use Rattle.state.specs.declared.Answer.the-variants.{Refused as AnswerRefused, Started, Given, Done}
 use Rattle.state.specs.declared.State.{State}
 use Rattle.state.specs.State.{cidOf}
-use Rattle.card.specs.Card.{Ruling, take as rule, refuse, ruleStart, startPerformed, carried, startStep, stepOf}
+use Rattle.card.specs.Card.{Ruling, take as rule, refuse, ruleStart, ruleScript, startPerformed, scriptPerformed, carried, startStep, scriptStep, stepOf}
 use Rattle.conversation.specs.declared.Event.{Event}
 use Rattle.conversation.specs.declared.Event.the-variants.{SetUp, End, Refused, Answered}
-use Rattle.conversation.specs.Conversation.{answeredBy, nextTaken, takenOf}
+use Rattle.conversation.specs.declared.Taken.{Taken as TakenRecord}
+use Rattle.conversation.specs.Conversation.{answeredBy, scriptedBy, isScript, nextTaken, takenOf}
 use Rattle.conversation.proofs.Parts.{part-length}
 use Rattle.lines.specs.Lines.{refusalLine, startLine, selectedLine, longest}
 use Rattle.lines.specs.Sitting.{answerLine}
@@ -63,18 +64,21 @@ abbrev NotGiven : Answer → Type 0
 NotGiven (AnswerRefused refusal) = Unit
 NotGiven (Started atc visits) = Unit
 NotGiven (Given kind atc iad) = ⊥
+NotGiven Done = Unit
 
 not-given-short : (number : ℕ) (answer : Answer) → NotGiven answer → length (answerLine number answer) ≤ 24
 unfolding answerLine
 not-given-short number (AnswerRefused refusal) n = omega (arith, refusal-short number (refusalNumber refusal))
 not-given-short number (Started atc visits) n = started-short number atc visits (eqb visits 0)
 not-given-short number (Given kind atc iad) n = absurd n
+not-given-short number Done n = omega (arith, refusal-short number 0)
 
 pub answer-short : (number : ℕ) (answer : Answer) → length (answerLine number answer) ≤ longest
 unfolding answerLine
 answer-short number (AnswerRefused refusal) = omega (arith, refusal-short number (refusalNumber refusal))
 answer-short number (Started atc visits) = omega (arith, started-short number atc visits (eqb visits 0))
 answer-short number (Given kind atc iad) = cryptogram-line number (cidOf kind) atc iad .short
+answer-short number Done = omega (arith, refusal-short number 0)
 
 -- ---- a command
 
@@ -149,6 +153,13 @@ module _ (rules : Rules) (state : State) where
     by (refuse refusal) = tt
     by (rule place) = tt
 
+  script-gives-none : (result : ℕ) (template : List ℕ) → NotGiven (scriptStep state result template .answer)
+  unfolding scriptStep scriptPerformed
+  script-gives-none result template = by (ruleScript (state .phase) result template) where
+    by : (ruling : Ruling Bool) → NotGiven (carried state (scriptPerformed state template) ruling .answer)
+    by (refuse refusal) = tt
+    by (rule verified) = tt
+
   -- a command of a record of some bytes has a line of at most 8 for each
   command-short : (number bytes : ℕ) (command : Command) → Sized command bytes
       → length (answerLine number (stepOf rules state command .answer)) ≤ 8 * (3 + bytes)
@@ -163,16 +174,26 @@ abbrev pub LineOf : ℕ → Event → ℕ → Type 0
 LineOf number SetUp bytes = Unit
 LineOf number End bytes = Unit
 LineOf number (Refused refusal) bytes = Unit
-LineOf number (Answered command answer) bytes = (3 ≤ bytes) × (length (answerLine number answer) ≤ 8 * bytes)
+LineOf number (Answered said answer) bytes = (3 ≤ bytes) × (length (answerLine number answer) ≤ 8 * bytes)
 
 pub record-short : (rules : Rules) (shape : Shape) (state : State) (paper : List ℕ) (at number : ℕ)
     → LineOf number (takenOf rules shape state paper at .event) (takenOf rules shape state paper at .at - at)
-unfolding takenOf answeredBy
+unfolding takenOf answeredBy scriptedBy
 record-short rules shape state paper at number = by (nextAt paper at) refl where
   by-read : (end bytes : ℕ) (read : ReadCommand) → SizedIn read bytes → end - at ≡ 3 + bytes
       → LineOf number (answeredBy rules state end read .event) (answeredBy rules state end read .at - at)
   by-read end bytes (NotTaken refusal) s e = tt
   by-read end bytes (Taken command) s e = (omega arith, omega (arith, command-short rules state number bytes command s))
+
+  by-body : (end : ℕ) (body : List ℕ) → 3 ≤ end - at → LineOf number (scriptedBy state body end .event) (scriptedBy state body end .at - at)
+  by-body end [] e = tt
+  by-body end (result ∷ template) e =
+      (e, omega (arith, not-given-short number (scriptStep state result template .answer) (script-gives-none rules state result template)))
+
+  by-kind : (b : Bool) (x y : TakenRecord) → LineOf number (x .event) (x .at - at) → LineOf number (y .event) (y .at - at)
+      → LineOf number (cond b x y .event) (cond b x y .at - at)
+  by-kind true x y h l = h
+  by-kind false x y h l = l
 
   by : (next : Next) → nextAt paper at ≡ next
       → LineOf number (nextTaken rules shape state paper at next .event) (nextTaken rules shape state paper at next .at - at)
@@ -183,6 +204,7 @@ record-short rules shape state paper at number = by (nextAt paper at) refl where
       let size = part-length paper start end (omega (arith, i .holds, i .start-is)) (i .fits) in
       let holds = i .holds in
       let begins = i .start-is in
-      by-read end (length (part paper start end)) (commandIn shape (state .values) paper kind (part paper start end))
+      by-kind (isScript shape kind) _ _ (by-body end (part paper start end) (omega arith))
+      (by-read end (length (part paper start end)) (commandIn shape (state .values) paper kind (part paper start end))
       (unfold commandIn in sized (shape .dating) (shape .family) kind (part paper start end) (shape .selecting) (slotsOf (shape .family) (state .values)) paper)
-      (omega arith)
+      (omega arith))

@@ -29,7 +29,7 @@ use Rattle.paper.specs.declared.Opened.the-variants.{Setup, Refused as OpenRefu
 use Rattle.paper.specs.Paper.{latest, nextAt, setupIn, isUnreadable, openPaper}
 use Rattle.paper.specs.Walk.{part}
 use Rattle.paper.proofs.Walk.{inside}
-use Rattle.command.specs.declared.Command.{Command}
+use Rattle.conversation.specs.declared.Said.{Said}
 use Rattle.command.specs.declared.ReadCommand.{ReadCommand}
 use Rattle.command.specs.declared.ReadCommand.the-variants.{Taken as CommandTaken, Refused as NotTaken}
 use Rattle.command.specs.Command.{commandIn}
@@ -39,9 +39,11 @@ use Rattle.conversation.specs.declared.Begun.{Begun}
 use Rattle.conversation.specs.declared.Taken.{Taken}
 use Rattle.conversation.specs.declared.Event.{Event}
 use Rattle.conversation.specs.declared.Event.the-variants.{SetUp, End, Refused, Answered}
-use Rattle.conversation.specs.Conversation.{setUpEvent, baseBegun, shapedBegun, setupBegun, openedBegun, begunOf, answeredBy, nextTaken, takenOf, wordsBegun}
-use Rattle.conversation.specs.Events.{following, eventsFrom, eventsOf}
-use Rattle.conversation.proofs.Events.{GoesOn, further, settled}
+use Rattle.conversation.specs.Conversation.{setUpEvent, baseBegun, shapedBegun, setupBegun, openedBegun, begunOf, answeredBy, scriptedBy}
+use Rattle.conversation.specs.Conversation.{isScript, nextTaken, takenOf, takenWrites, wordsBegun}
+use Rattle.conversation.specs.Events.{following, eventsFrom, eventsOf, ending, wordsFrom, wordsLeft}
+use Rattle.conversation.proofs.Events.{GoesOn, further, settled, words-settled}
+use Rattle.script.specs.Script.{rulesAfter, wordsAfter}
 use Rattle.conversation.proofs.Event as E
 use Rattle.lines.specs.Lines.{refusalLine}
 use Rattle.lines.specs.Sitting.{answerLine, linesOf, sittingLines}
@@ -51,8 +53,12 @@ use Rattle.transcript.specs.Transcript.{joined, transcriptOf, restOf}
 
 -- no record is a set-up
 pub never-set-up : (rules : Rules) (shape : Shape) (state : State) (paper : List ℕ) (at : ℕ) → takenOf rules shape state paper at .event ≡ SetUp → ⊥
-unfolding takenOf answeredBy
+unfolding takenOf answeredBy scriptedBy
 never-set-up rules shape state paper at = by (nextAt paper at) where
+  by-body : (end : ℕ) (body : List ℕ) → scriptedBy state body end .event ≡ SetUp → ⊥
+  by-body end [] e = let z : _≡_ {A = ℕ} 0 1 = cc in omega arith
+  by-body end (result ∷ template) e = let z : _≡_ {A = ℕ} 0 1 = cc in omega arith
+
   by-read : (end : ℕ) (read : ReadCommand) → answeredBy rules state end read .event ≡ SetUp → ⊥
   by-read end (NotTaken refusal) e = let z : _≡_ {A = ℕ} 0 1 = cc in omega arith
   by-read end (CommandTaken command) e = let z : _≡_ {A = ℕ} 0 1 = cc in omega arith
@@ -60,29 +66,36 @@ never-set-up rules shape state paper at = by (nextAt paper at) where
   by : (next : Next) → nextTaken rules shape state paper at next .event ≡ SetUp → ⊥
   by PaperEnd e = let z : _≡_ {A = ℕ} 0 1 = cc in omega arith
   by Fault e = let z : _≡_ {A = ℕ} 0 1 = cc in omega arith
-  by (Record kind start end) e = by-read end (commandIn shape (state .values) paper kind (part paper start end)) e
+  by (Record kind start end) e = by-kind (isScript shape kind) e where
+    by-kind : (b : Bool) → cond b (scriptedBy state (part paper start end) end)
+        (answeredBy rules state end (commandIn shape (state .values) paper kind (part paper start end))) .event ≡ SetUp → ⊥
+    by-kind true f = by-body end (part paper start end) f
+    by-kind false f = by-read end (commandIn shape (state .values) paper kind (part paper start end)) f
 
 module _ (rules : Rules) (shape : Shape) (state : State) (paper : List ℕ) (at number : ℕ) where
   abbrev taken : Taken
   taken = takenOf rules shape state paper at
 
+  abbrev then : Rules
+  then = rulesAfter rules (takenWrites shape state paper at)
+
   event-first : (m : ℕ) → length paper ≡ suc m
       → restOf rules shape state paper at number
-      ≡ joined (linesOf number (following (taken .event) (eventsFrom m rules shape (taken .state) paper (taken .at))))
+      ≡ joined (linesOf number (following (taken .event) (eventsFrom m then shape (taken .state) paper (taken .at))))
   unfolding restOf eventsFrom
   event-first m e = ap (λ n. joined (linesOf number (eventsFrom n rules shape state paper at))) e
 
   module _ (h : at < length paper) where
-    pub answered : (command : Command) (answer : Answer) → taken .event ≡ Answered command answer
-        → restOf rules shape state paper at number ≡ answerLine number answer ++ restOf rules shape (taken .state) paper (taken .at) (number + 1)
+    pub answered : (said : Said) (answer : Answer) → taken .event ≡ Answered said answer
+        → restOf rules shape state paper at number ≡ answerLine number answer ++ restOf then shape (taken .state) paper (taken .at) (number + 1)
     unfolding linesOf joined restOf
-    answered command answer e =
+    answered said answer e =
         let m = length paper - 1 in
-        let goes = further rules shape paper state at (subst GoesOn (sym e) tt) in
+        let goes = further shape paper rules state at (subst GoesOn (sym e) tt) in
         event-first m (omega arith)
-        ∙ ap (λ v. joined (linesOf number (following v (eventsFrom m rules shape (taken .state) paper (taken .at))))) e
+        ∙ ap (λ v. joined (linesOf number (following v (eventsFrom m then shape (taken .state) paper (taken .at))))) e
         ∙ ap (λ more. answerLine number answer ++ joined (linesOf (number + 1) more))
-        (sym (settled rules shape paper m (length paper) (taken .state) (taken .at) (omega arith) (omega arith)))
+        (sym (settled shape paper m (length paper) then (taken .state) (taken .at) (omega arith) (omega arith)))
 
     pub last : (refusal : Refusal) → taken .event ≡ Refused refusal
         → restOf rules shape state paper at number ≡ refusalLine number (refusalNumber refusal)
@@ -90,7 +103,7 @@ module _ (rules : Rules) (shape : Shape) (state : State) (paper : List ℕ) (at 
     last refusal e =
         let m = length paper - 1 in
         event-first m (omega arith)
-        ∙ ap (λ v. joined (linesOf number (following v (eventsFrom m rules shape (taken .state) paper (taken .at))))) e
+        ∙ ap (λ v. joined (linesOf number (following v (eventsFrom m then shape (taken .state) paper (taken .at))))) e
         ∙ append-nil (refusalLine number (refusalNumber refusal))
 
     pub none : taken .event ≡ End → restOf rules shape state paper at number ≡ []
@@ -98,11 +111,49 @@ module _ (rules : Rules) (shape : Shape) (state : State) (paper : List ℕ) (at 
     none e =
         let m = length paper - 1 in
         event-first m (omega arith)
-        ∙ ap (λ v. joined (linesOf number (following v (eventsFrom m rules shape (taken .state) paper (taken .at))))) e
+        ∙ ap (λ v. joined (linesOf number (following v (eventsFrom m then shape (taken .state) paper (taken .at))))) e
 
   pub at-end : length paper ≤ at → restOf rules shape state paper at number ≡ []
   unfolding restOf joined linesOf eventsFrom
-  at-end h = ap (λ l. joined (linesOf number l)) (settled rules shape paper 0 (length paper) state at (omega arith) (omega arith))
+  at-end h = ap (λ l. joined (linesOf number l)) (settled shape paper 0 (length paper) rules state at (omega arith) (omega arith))
+
+-- the words that the records from a place on leave
+module _ (words : List ℕ) (shape : Shape) (state : State) (paper : List ℕ) (at : ℕ) where
+  abbrev wordsTaken : Taken
+  wordsTaken = takenOf (rulesOf words) shape state paper at
+
+  abbrev written : List ℕ
+  written = wordsAfter words (takenWrites shape state paper at)
+
+  module _ (h : at < length paper) where
+    -- those that the next one leaves, and those behind it where the conversation goes on
+    words-first : (event : Event) → wordsTaken .event ≡ event
+        → wordsFrom (length paper) words shape state paper at
+        ≡ ending event written (wordsFrom (length paper - 1) written shape (wordsTaken .state) paper (wordsTaken .at))
+    unfolding wordsFrom
+    words-first event e =
+        ap (λ n. wordsFrom n words shape state paper at) (let z : length paper ≡ suc (length paper - 1) = omega arith in z)
+        ∙ ap (λ v. ending v written (wordsFrom (length paper - 1) written shape (wordsTaken .state) paper (wordsTaken .at))) e
+
+    pub words-on : (said : Said) (answer : Answer) → wordsTaken .event ≡ Answered said answer
+        → wordsFrom (length paper) words shape state paper at ≡ wordsFrom (length paper) written shape (wordsTaken .state) paper (wordsTaken .at)
+    words-on said answer e =
+        let goes = further shape paper (rulesOf words) state at (subst GoesOn (sym e) tt) in
+        words-first (Answered said answer) e
+        ∙ sym (words-settled shape paper (length paper - 1) (length paper) written (wordsTaken .state) (wordsTaken .at) (omega arith) (omega arith))
+
+    pub words-last : (event : Event) → (GoesOn event → ⊥) → wordsTaken .event ≡ event → wordsFrom (length paper) words shape state paper at ≡ written
+    words-last event over e = words-first event e ∙ here event over where
+      here : (v : Event) → (GoesOn v → ⊥)
+          → ending v written (wordsFrom (length paper - 1) written shape (wordsTaken .state) paper (wordsTaken .at)) ≡ written
+      here SetUp n = absurd (n tt)
+      here End n = refl
+      here (Refused refusal) n = refl
+      here (Answered said answer) n = absurd (n tt)
+
+  pub words-over : length paper ≤ at → wordsFrom (length paper) words shape state paper at ≡ words
+  unfolding wordsFrom
+  words-over h = words-settled shape paper 0 (length paper) words state at (omega arith) (omega arith)
 
 -- ---- the set-up
 
@@ -200,3 +251,14 @@ module _ (words paper : List ℕ) where
       (λ v. joined (linesOf 0 (following v (eventsFrom (length paper) (rulesOf (wordsBegun words paper)) (begun .shape) (begun .state) paper (begun .at)))))
       e
       ∙ append-nil (refusalLine 0 (refusalNumber refusal))
+
+  pub words-set-up : begun .event ≡ SetUp
+      → wordsLeft words paper ≡ wordsFrom (length paper) (wordsBegun words paper) (begun .shape) (begun .state) paper (begun .at)
+  unfolding wordsLeft
+  words-set-up e =
+      ap (λ v. ending v (wordsBegun words paper) (wordsFrom (length paper) (wordsBegun words paper) (begun .shape) (begun .state) paper (begun .at))) e
+
+  pub words-not-set-up : (refusal : Refusal) → begun .event ≡ Refused refusal → wordsLeft words paper ≡ wordsBegun words paper
+  unfolding wordsLeft
+  words-not-set-up refusal e =
+      ap (λ v. ending v (wordsBegun words paper) (wordsFrom (length paper) (wordsBegun words paper) (begun .shape) (begun .state) paper (begun .at))) e

@@ -11,8 +11,7 @@ use Rattle.shape.specs.declared.Shape.{Shape}
 use Rattle.state.specs.declared.State.{State}
 use Rattle.conversation.specs.declared.Event.{Event}
 use Rattle.conversation.specs.declared.Event.the-variants.{SetUp, End, Refused, Answered}
-use Rattle.conversation.specs.Conversation.{wordsBegun}
-use Rattle.conversation.specs.Events.{eventsFrom}
+use Rattle.conversation.specs.Events.{eventsFrom, wordsLeft}
 use Rattle.lines.specs.Lines.{refusalLine, longest}
 use Rattle.lines.specs.Sitting.{linesOf, sittingLines}
 use Rattle.transcript.specs.declared.Transcript.{Transcript}
@@ -36,7 +35,7 @@ abbrev pub lastLine : (record-number : ℕ) → Event → List ℕ
 lastLine record-number (Refused refusal) = refusalLine record-number (refusalNumber refusal)
 lastLine record-number SetUp = []
 lastLine record-number End = []
-lastLine record-number (Answered command answer) = []
+lastLine record-number (Answered said answer) = []
 
 -- the room that a paper of so many bytes is asked: 8 bytes for each of its bytes, and the longest line
 abbrev pub roomFor : (bytes : ℕ) → ℕ
@@ -55,4 +54,4 @@ unfoldable pub roomAfter : (words paper room : List ℕ) (at : ℕ) → List ℕ
 roomAfter words paper room at = cond (hasRoom (length room) at (length paper)) (sets room at (transcriptOf words paper)) room
 
 unfoldable pub wordsAfter : (words paper room : List ℕ) (at : ℕ) → List ℕ
-wordsAfter words paper room at = cond (hasRoom (length room) at (length paper)) (wordsBegun words paper) words
+wordsAfter words paper room at = cond (hasRoom (length room) at (length paper)) (wordsLeft words paper) words

@@ -4,7 +4,7 @@ ghost use Prim.Native.Nat.{_+_, _-_, _≤_};
 ghost use lib.ListN.{length};
 ghost use lib.Seq.{sets};
 ghost use Rattle.rules.specs.Rules.{rulesOf};
-ghost use Rattle.conversation.specs.Conversation.{wordsBegun};
+ghost use Rattle.conversation.specs.Events.{wordsFrom, wordsLeft};
 ghost use Rattle.transcript.specs.Transcript.{lastLine, restOf, transcriptOf, roomFor, hasRoom, transcribed, roomAfter, wordsAfter};
 use conversation::Event;
 use rules::Words;
@@ -53,7 +53,9 @@ fn put_records(
     to: usize,
 ) -> usize
     requires { ⌜ (4 ≤ start) × (start ≤ length (now paper)) × (length (now paper) ≤ 65536) × (to + roomFor (length (now paper) - start) ≤ length (now room)) ⌝ }
-    ensures { λ r. ⌜ (r ≡ to + length (restOf (rulesOf (now (words .entry))) shape fresh (now (paper .entry)) start 1)) × (now (room .exit) ≡ sets (now (room .entry)) to (restOf (rulesOf (now (words .entry))) shape fresh (now (paper .entry)) start 1)) ⌝ }
+    ensures { λ r. ⌜ (r ≡ to + length (restOf (rulesOf (now (words .entry))) shape fresh (now (paper .entry)) start 1))
+        × (now (room .exit) ≡ sets (now (room .entry)) to (restOf (rulesOf (now (words .entry))) shape fresh (now (paper .entry)) start 1))
+        × (now (words .exit) ≡ wordsFrom (length (now (paper .entry))) (now (words .entry)) shape fresh (now (paper .entry)) start) ⌝ }
 {
     let mut state = fresh;
     let mut at = start;
@@ -64,23 +66,10 @@ fn put_records(
         let event = taken.event;
         state = taken.state;
         at = taken.at;
-        match event {
-            Event::Answered { command: _, answer } => {
-                end = lines::put_answer(room, end, number, answer);
-            }
-            Event::Scripted { start: _, end: _, answer } => {
-                end = lines::put_answer(room, end, number, answer);
-            }
-            Event::SetUp => {
-                return put_last(room, end, number, event);
-            }
-            Event::End => {
-                return put_last(room, end, number, event);
-            }
-            Event::Refused(_) => {
-                return put_last(room, end, number, event);
-            }
-        }
+        let Event::Answered { answer, .. } = event else {
+            return put_last(room, end, number, event);
+        };
+        end = lines::put_answer(room, end, number, answer);
         number += 1;
     }
     end
@@ -89,7 +78,7 @@ fn put_records(
 // The lines of a paper, where there is room for them.
 fn put_paper(paper: &[u8], words: &mut Words, room: &mut [u8], at: usize) -> usize
     requires { ⌜ at + roomFor (length (now paper)) ≤ length (now room) ⌝ }
-    ensures { λ r. ⌜ (r ≡ at + length (transcriptOf (now (words .entry)) (now (paper .entry)))) × (now (room .exit) ≡ sets (now (room .entry)) at (transcriptOf (now (words .entry)) (now (paper .entry)))) × (now (words .exit) ≡ wordsBegun (now (words .entry)) (now (paper .entry))) ⌝ }
+    ensures { λ r. ⌜ (r ≡ at + length (transcriptOf (now (words .entry)) (now (paper .entry)))) × (now (room .exit) ≡ sets (now (room .entry)) at (transcriptOf (now (words .entry)) (now (paper .entry)))) × (now (words .exit) ≡ wordsLeft (now (words .entry)) (now (paper .entry))) ⌝ }
 {
     let begun = conversation::begin(paper, words);
     let event = begun.event;

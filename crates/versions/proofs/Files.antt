@@ -18,10 +18,11 @@ use Rattle.shape.specs.declared.Dating.the-variants.{Off as DatesOff, On as Dat
 use Rattle.shape.specs.declared.Family.{Family}
 use Rattle.shape.specs.declared.Family.the-variants.{Cpa, Cpace}
 use Rattle.shape.specs.declared.Shape.{Shape}
+use Rattle.shape.specs.declared.Tails.{Tails}
 use Rattle.shape.specs.declared.Tails.the-variants.{Ended, Wrong}
 use Rattle.shape.specs.declared.ReadShape.the-variants.{Taken}
 use Rattle.shape.specs.Shape.{based, baseTail, entriesEnd, selects, selectionTail, follows, syllabusTail, dates, datingTail}
-use Rattle.shape.specs.Shape.{families, familyTail, tailsOf, shapeOf, shapeAt}
+use Rattle.shape.specs.Shape.{families, familyTail, scripts, scriptingTail, behind, tailsOf, shapeOf, shapeAt}
 use Rattle.shape.proofs.Files.{file-ends}
 use Rattle.shape.proofs.Inside.{inside}
 use Rattle.paper.specs.Walk.{part}
@@ -38,19 +39,23 @@ pub data Switched (size : ℕ) : (on : Bool) → List ℕ → Type 0 where
   switched-on : (more : List ℕ) → length (1 ∷ more) ≡ size → Switched size true (1 ∷ more)
 
 -- what stands behind the file, with p profiles: nothing in version 02; the syllabus in version 03; behind it dates in version 04; behind them
--- in version 05 the family, which is on where it is CPACE
+-- in version 05 the family, which is on where it is CPACE; behind it in version 06, where that is known, whether scripts are on
 pub data Behind (p : ℕ) : (version : ℕ) → (cpace : Bool) → List ℕ → Type 0 where
   nothing : Behind p 2 false []
   syllabus-alone : (syllabus : ℕ) → syllabus ≤ 1 → Behind p 3 false (syllabus ∷ [])
   with-dates : (syllabus : ℕ) → syllabus ≤ 1 → {dated : Bool} {dates : List ℕ} → Switched (28 + 18 * p) dated dates → Behind p 4 false (syllabus ∷ dates)
   with-family : (syllabus : ℕ) → syllabus ≤ 1 → {dated : Bool} {dates : List ℕ} → Switched (28 + 18 * p) dated dates
       → {cpace : Bool} {family : List ℕ} → Switched (9 + p) cpace family → Behind p 5 cpace (syllabus ∷ dates ++ family)
+  with-scripts : Known 6 → (syllabus : ℕ) → syllabus ≤ 1 → {dated : Bool} {dates : List ℕ} → Switched (28 + 18 * p) dated dates
+      → {cpace : Bool} {family : List ℕ} → Switched (9 + p) cpace family → (scripting : ℕ) → scripting ≤ 1
+      → Behind p 6 cpace (syllabus ∷ dates ++ (family ++ scripting ∷ []))
 
 known-behind : {p version : ℕ} {cpace : Bool} {tails : List ℕ} → Behind p version cpace tails → Known version
 known-behind nothing = (lit≤ tt, lit≤ tt)
 known-behind (syllabus-alone syllabus h) = (lit≤ tt, lit≤ tt)
 known-behind (with-dates syllabus h dates) = (lit≤ tt, lit≤ tt)
 known-behind (with-family syllabus h dates family) = (lit≤ tt, lit≤ tt)
+known-behind (with-scripts known syllabus h dates family scripting l) = known
 
 -- a CPACE Start begins with its interface
 abbrev pub Asks : (cpace : Bool) (terminal : List ℕ) → Type 0
@@ -159,13 +164,17 @@ module _ (s : List ℕ) (sized : length s ≡ 52 + 107 * byte s 3 + 7 * byte s 4
         let last = le-ltb (length body) (end + i + length (1 ∷ more)) (omega (arith, long)) in
         rw (behind-is i, first, lt-leb (length body) (end + i) (omega (arith, long)), ← size, last)
 
+    -- one of one byte, 0 or 1, at a place of what is behind
+    byte-ends : (sets : ℕ → Shape) (at i value : ℕ) → at ≡ end + i → value ≤ 1 → byte behind i ≡ value → i + 1 ≤ length behind
+        → cond (leb (length body) at) Wrong (cond (ltb 1 (byte body at)) Wrong (Ended (sets (byte body at)) (at + 1))) ≡ Ended (sets value) (at + 1)
+    byte-ends sets at i value place h first fits =
+        let here : byte body at ≡ value = ap (byte body) place ∙ behind-is i ∙ first in
+        rw (here, lt-leb (length body) at (omega (arith, long)), le-ltb 1 value h)
+
     syllabus-ends : (syllabus : ℕ) → syllabus ≤ 1 → byte behind 0 ≡ syllabus → 1 ≤ length behind
         → syllabusTail body with-file end ≡ Ended (follows with-file syllabus) (end + 1)
     unfolding syllabusTail
-    syllabus-ends syllabus h first fits =
-        let none : end ≡ end + 0 = omega arith in
-        let here : byte body end ≡ syllabus = ap (byte body) none ∙ behind-is 0 ∙ first in
-        rw (here, lt-leb (length body) end (omega (arith, long)), le-ltb 1 syllabus h)
+    syllabus-ends syllabus = byte-ends (follows with-file) end 0 syllabus (omega arith)
 
     module _ (shape : Shape) (i : ℕ) where
       abbrev at : ℕ
@@ -187,6 +196,11 @@ module _ (s : List ℕ) (sized : length s ≡ 52 + 107 * byte s 3 + 7 * byte s 4
       unfolding familyTail
       family-ends = rw profiles (switched-ends (families shape) Cpa (Cpace at (at + (9 + byte s 3))) i)
 
+      scripts-end : (scripting : ℕ) → scripting ≤ 1 → byte behind i ≡ scripting → i + 1 ≤ length behind
+          → scriptingTail body shape at ≡ Ended (scripts shape (eqb scripting 1)) (at + 1)
+      unfolding scriptingTail
+      scripts-end scripting = byte-ends (λ b. scripts shape (eqb b 1)) at i scripting refl
+
     -- a Start is read by the file in the body
     by-file : (shape : Shape) → shape .selecting ≡ On start end entries → Selects file entries (isCpace (shape .family)) (readsOf shape body)
     unfolding commandIn selectingOf
@@ -201,6 +215,76 @@ module _ (s : List ℕ) (sized : length s ≡ 52 + 107 * byte s 3 + 7 * byte s 4
     is : shapeOf version (body behind) ≡ Taken shape
     on : shape .selecting ≡ On start end entries
     family : isCpace (shape .family) ≡ cpace
+
+  -- tails that end with the body
+  ended : (version : ℕ) (behind : List ℕ) (shape : Shape) (at : ℕ) → tailsOf version (body behind) ≡ Ended shape at → at ≡ length (body behind)
+      → shapeOf version (body behind) ≡ Taken shape
+  unfolding shapeOf
+  ended version behind shape at e last = rw (e, eq-eqb at (length (body behind)) last)
+
+  -- the tails up to the family, whatever is behind it
+  module _ (syllabus : ℕ) (h : syllabus ≤ 1) {dated : Bool} {dates : List ℕ} (d : Switched (28 + 18 * byte s 3) dated dates) {cpace : Bool} {family : List ℕ}
+      (f : Switched (9 + byte s 3) cpace family) (more : List ℕ) (begins : byte more 0 ≡ byte family 0) (fits : length family ≤ length more) where
+    abbrev tails : List ℕ
+    tails = syllabus ∷ dates ++ more
+
+    abbrev followed : Shape
+    followed = follows with-file syllabus
+
+    abbrev past-dates : ℕ
+    past-dates = 1 + length dates
+
+    abbrev with-families : Shape
+    with-families = family-shape tails (dated-shape tails followed 1 dated) past-dates cpace
+
+    tails-long : length tails ≡ past-dates + length more
+    tails-long = omega (arith, length-append dates more)
+
+    behind-dates : (i : ℕ) → byte tails (past-dates + i) ≡ byte more i
+    behind-dates i =
+        let place : past-dates + i ≡ length (syllabus ∷ dates) + i = omega arith in
+        ap (byte tails) place ∙ getD-append-add (syllabus ∷ dates) more i 0
+
+    families-end : tailsOf 5 (body tails) ≡ Ended with-families (end + past-dates + length family)
+    unfolding tailsOf
+    families-end =
+        let place : end + 1 + length dates ≡ end + past-dates = omega arith in
+        let none : past-dates ≡ past-dates + 0 = omega arith in
+        let first = ap (byte tails) none ∙ behind-dates 0 ∙ begins in
+        rw (
+          base-ends tails,
+          selection-ends tails,
+          syllabus-ends tails syllabus h refl (omega arith),
+          dates-end tails followed 1 d (starts d more) (omega (arith, tails-long)),
+          place,
+          family-ends tails (dated-shape tails followed 1 dated) past-dates f first (omega (arith, tails-long)),
+        )
+
+    scripts-too : (scripting : ℕ) → scripting ≤ 1 → byte more (length family) ≡ scripting → length family + 1 ≤ length more
+        → tailsOf 6 (body tails) ≡ Ended (scripts with-families (eqb scripting 1)) (end + (past-dates + length family) + 1)
+    unfolding tailsOf
+    scripts-too scripting l here left =
+        let place : end + past-dates + length family ≡ end + (past-dates + length family) = omega arith in
+        ap (λ (t : Tails). behind t (scriptingTail (body tails))) (families-end ∙ ap (Ended with-families) place)
+        ∙ scripts-end tails with-families (past-dates + length family) scripting l (behind-dates (length family) ∙ here) (omega (arith, tails-long))
+
+    family-takes : length more ≡ length family → Takes 5 cpace tails
+    family-takes last =
+        record {
+          shape = with-families;
+          is = ended 5 tails with-families _ families-end (omega (arith, tails-long, long tails));
+          on = refl;
+          family = cpace-is cpace _ _;
+        }
+
+    scripts-take : (scripting : ℕ) → scripting ≤ 1 → byte more (length family) ≡ scripting → length more ≡ length family + 1 → Takes 6 cpace tails
+    scripts-take scripting l here last =
+        record {
+          shape = scripts with-families (eqb scripting 1);
+          is = ended 6 tails _ _ (scripts-too scripting l here (omega arith)) (omega (arith, tails-long, long tails));
+          on = refl;
+          family = cpace-is cpace _ _;
+        }
 
   takes : (version : ℕ) (cpace : Bool) (behind : List ℕ) → Behind (byte s 3) version cpace behind → Takes version cpace behind
   unfolding shapeOf tailsOf
@@ -230,31 +314,10 @@ module _ (s : List ℕ) (sized : length s ≡ 52 + 107 * byte s 3 + 7 * byte s 4
         on = refl;
         family = refl;
       }
-  takes version cpace behind (with-family syllabus h {dated} {dates = tail} d {family = more} f) =
-      let l = syllabus ∷ tail ++ more in
-      let fits = length-append tail more in
-      let followed = follows with-file syllabus in
-      let dated-too = dated-shape l followed 1 dated in
-      let i = 1 + length tail in
-      let place : end + 1 + length tail ≡ end + i = omega arith in
-      let none : i ≡ length (syllabus ∷ tail) + 0 = omega arith in
-      let first = ap (byte l) none ∙ getD-append-add (syllabus ∷ tail) more 0 0 in
-      let dates-there = dates-end l followed 1 d (starts d more) (omega arith) in
-      let last = eq-eqb (end + i + length more) (length (body l)) (omega (arith, long l)) in
-      record {
-        shape = family-shape l dated-too i cpace;
-        is = rw (
-          base-ends l,
-          selection-ends l,
-          syllabus-ends l syllabus h refl (omega arith),
-          dates-there,
-          place,
-          family-ends l dated-too i f first (omega arith),
-          last,
-        );
-        on = refl;
-        family = cpace-is cpace _ _;
-      }
+  takes version cpace behind (with-family syllabus h d {family} f) = family-takes syllabus h d f family refl (omega arith) refl
+  takes version cpace behind (with-scripts known syllabus h d {family} f scripting l) =
+      let one = length-append family (scripting ∷ []) in
+      scripts-take syllabus h d f (family ++ scripting ∷ []) (starts f (scripting ∷ [])) (omega arith) scripting l (getD-append-seam family scripting [] 0) one
 
   -- A PAPER'S STARTS ARE READ BY THE FILE BEHIND ITS SWITCH
   pub file-selects : (version : ℕ) (cpace : Bool) (behind : List ℕ) → Behind (byte s 3) version cpace behind

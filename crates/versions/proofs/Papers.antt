@@ -23,12 +23,12 @@ use Rattle.shape.specs.declared.Family.the-variants.{Cpa, Cpace}
 use Rattle.shape.specs.declared.Shape.{Shape}
 use Rattle.shape.specs.declared.ReadShape.{ReadShape}
 use Rattle.shape.specs.declared.ReadShape.the-variants.{Taken as ShapeTaken, Refused as ShapeRefused}
-use Rattle.shape.specs.Shape.{Lies, basePart, cyclesPart, familyPart, shapeOf, selectingAt, datingAt, familyAt, shapeAt}
+use Rattle.shape.specs.Shape.{Lies, based, scripts, basePart, cyclesPart, familyPart, shapeOf, selectingAt, datingAt, familyAt, shapeAt}
 use Rattle.shape.proofs.Inside.{inside}
 use Rattle.paper.specs.declared.Next.{Next}
 use Rattle.paper.specs.declared.Next.the-variants.{Record, Fault, End}
 use Rattle.paper.specs.declared.Opened.the-variants.{Setup}
-use Rattle.paper.specs.Paper.{endAt, nextAt, openPaper}
+use Rattle.paper.specs.Paper.{endAt, nextAt, latest, openPaper}
 use Rattle.paper.specs.Walk.{part, written}
 use Rattle.command.specs.Command.{startOf, firstOf, commandOf, startSelected, selectingOf, fileIn, slotsOf, readBy, commandIn}
 use Rattle.command.specs.declared.ReadCommand.{ReadCommand}
@@ -38,7 +38,9 @@ use Rattle.card.specs.Card.{freshState}
 use Rattle.conversation.specs.declared.Event.{Event}
 use Rattle.conversation.specs.declared.Event.the-variants.{End as EndEvent, Refused}
 use Rattle.conversation.specs.declared.Taken.{Taken}
-use Rattle.conversation.specs.Conversation.{answeredBy, nextTaken, takenOf, setUpEvent, baseBegun, setupBegun, begunOf, setupWords, wordsBegun}
+use Rattle.script.specs.Script.{rulesAfter}
+use Rattle.conversation.specs.Conversation.{answeredBy, scriptedBy, isScript, nextTaken, takenOf, nextWrites, takenWrites}
+use Rattle.conversation.specs.Conversation.{setUpEvent, baseBegun, setupBegun, begunOf, setupWords, wordsBegun}
 use Rattle.conversation.specs.Events.{following, eventsFrom, eventsOf}
 use Rattle.conversation.proofs.Events.{settled}
 
@@ -51,17 +53,24 @@ Reads = (values : Values) (kind : ℕ) (body : List ℕ) → ReadCommand
 abbrev pub readsOf : Shape → (paper : List ℕ) → Reads
 readsOf shape paper values = commandIn shape values paper
 
--- the events of n records over a rest, whatever reads them
-abbrev pub takenBy : Rules → Reads → State → List ℕ → (at : ℕ) → Next → Taken
-takenBy rules reads state s at End = record { state = state; at = at; event = EndEvent }
-takenBy rules reads state s at Fault = record { state = state; at = at; event = Refused Unreadable }
-takenBy rules reads state s at (Record kind start end) = answeredBy rules state end (reads (state .values) kind (part s start end))
+-- a shape that says no more than whether scripts are on
+abbrev scripted : (scripting : Bool) → Shape
+scripted = scripts (based 0)
 
-unfoldable pub eventsBy : ℕ → Rules → Reads → State → List ℕ → (at : ℕ) → List Event
-eventsBy zero rules reads state s at = []
-eventsBy (suc n) rules reads state s at =
-    let taken = takenBy rules reads state s at (nextAt s at) in
-    following (taken .event) (eventsBy n rules reads (taken .state) s (taken .at))
+-- the events of n records over a rest, whatever reads them, with scripts on or off
+abbrev pub takenBy : Rules → (scripting : Bool) → Reads → State → List ℕ → (at : ℕ) → Next → Taken
+takenBy rules scripting reads state s at End = record { state = state; at = at; event = EndEvent }
+takenBy rules scripting reads state s at Fault = record { state = state; at = at; event = Refused Unreadable }
+takenBy rules scripting reads state s at (Record kind start end) =
+    cond (isScript (scripted scripting) kind) (scriptedBy state (part s start end) end)
+    (answeredBy rules state end (reads (state .values) kind (part s start end)))
+
+unfoldable pub eventsBy : ℕ → Rules → (scripting : Bool) → Reads → State → List ℕ → (at : ℕ) → List Event
+eventsBy zero rules scripting reads state s at = []
+eventsBy (suc n) rules scripting reads state s at =
+    let taken = takenBy rules scripting reads state s at (nextAt s at) in
+    let then = rulesAfter rules (takenWrites (scripted scripting) state s at) in
+    following (taken .event) (eventsBy n then scripting reads (taken .state) s (taken .at))
 
 -- a part of a list is one of a longer list
 pub part-before : (s more : List ℕ) (start end : ℕ) → start ≤ end → end ≤ length s → part (s ++ more) start end ≡ part s start end
@@ -120,7 +129,7 @@ module _ (front s : List ℕ) where
       by false true = refl
       by false false = refl
 
-  module _ (rules : Rules) (shape : Shape) where
+  module _ (shape : Shape) where
     abbrev reads : Reads
     reads = readsOf shape all
 
@@ -128,32 +137,55 @@ module _ (front s : List ℕ) where
     abbrev further-on : Taken → Taken
     further-on t = record { state = t .state; at = from (t .at); event = t .event }
 
-    taken-behind : (state : State) (at : ℕ) → takenOf rules shape state all (from at) ≡ further-on (takenBy rules reads state s at (nextAt s at))
-    unfolding takenOf answeredBy
-    taken-behind state at = rw (next-behind at) (by (nextAt s at)) where
+    taken-behind : (rules : Rules) (state : State) (at : ℕ)
+        → takenOf rules shape state all (from at) ≡ further-on (takenBy rules (shape .scripting) reads state s at (nextAt s at))
+    unfolding takenOf answeredBy scriptedBy
+    taken-behind rules state at = rw (next-behind at) (by (nextAt s at)) where
       answered : (end : ℕ) (read : ReadCommand) → answeredBy rules state (from end) read ≡ further-on (answeredBy rules state end read)
       answered end (CommandTaken command) = refl
       answered end (CommandRefused refusal) = refl
 
-      by : (n : Next) → nextTaken rules shape state all (from at) (shift n) ≡ further-on (takenBy rules reads state s at n)
+      ran : (body : List ℕ) (end : ℕ) → scriptedBy state body (from end) ≡ further-on (scriptedBy state body end)
+      ran [] end = refl
+      ran (result ∷ template) end = refl
+
+      either : (script : Bool) (body : List ℕ) (end : ℕ) (read : ReadCommand)
+          → cond script (scriptedBy state body (from end)) (answeredBy rules state (from end) read)
+          ≡ further-on (cond script (scriptedBy state body end) (answeredBy rules state end read))
+      either true body end read = ran body end
+      either false body end read = answered end read
+
+      by : (n : Next) → nextTaken rules shape state all (from at) (shift n) ≡ further-on (takenBy rules (shape .scripting) reads state s at n)
       by End = refl
       by Fault = refl
-      by (Record kind start end) = rw (part-behind start end) (answered end (reads (state .values) kind (part s start end)))
+      by (Record kind start end) =
+          rw (part-behind start end) (either (isScript shape kind) (part s start end) end (reads (state .values) kind (part s start end)))
 
-    events-behind : (n : ℕ) (state : State) (at : ℕ) → eventsFrom n rules shape state all (from at) ≡ eventsBy n rules reads state s at
+    writes-behind : (state : State) (at : ℕ) → takenWrites shape state all (from at) ≡ takenWrites (scripted (shape .scripting)) state s at
+    unfolding takenWrites
+    writes-behind state at = rw (next-behind at) (by (nextAt s at)) where
+      by : (n : Next) → nextWrites shape state all (shift n) ≡ nextWrites (scripted (shape .scripting)) state s n
+      by End = refl
+      by Fault = refl
+      by (Record kind start end) = rw (part-behind start end)
+
+    events-behind : (n : ℕ) (rules : Rules) (state : State) (at : ℕ)
+        → eventsFrom n rules shape state all (from at) ≡ eventsBy n rules (shape .scripting) reads state s at
     unfolding eventsFrom eventsBy
-    events-behind zero state at = refl
-    events-behind (suc n) state at =
-        let taken = takenBy rules reads state s at (nextAt s at) in
-        rw (taken-behind state at) (ap (following (taken .event)) (events-behind n (taken .state) (taken .at)))
+    events-behind zero rules state at = refl
+    events-behind (suc n) rules state at =
+        let taken = takenBy rules (shape .scripting) reads state s at (nextAt s at) in
+        let then = rulesAfter rules (takenWrites (scripted (shape .scripting)) state s at) in
+        rw (taken-behind rules state at, writes-behind state at)
+        (ap (following (taken .event)) (events-behind n then (taken .state) (taken .at)))
 
     -- and the events behind it are those of the rest
-    events-of-rest : (n : ℕ) (state : State) → length s ≤ n
-        → eventsFrom n rules shape state all (length front) ≡ eventsBy (length s) rules reads state s 0
-    events-of-rest n state h =
-        settled rules shape all (length s) n state (length front) (omega (arith, length-append front s)) h
+    events-of-rest : (n : ℕ) (rules : Rules) (state : State) → length s ≤ n
+        → eventsFrom n rules shape state all (length front) ≡ eventsBy (length s) rules (shape .scripting) reads state s 0
+    events-of-rest n rules state h =
+        settled shape all (length s) n rules state (length front) (omega (arith, length-append front s)) h
         ∙ ap (eventsFrom (length s) rules shape state all) (sym (add-zero (length front)))
-        ∙ events-behind (length s) state 0
+        ∙ events-behind (length s) rules state 0
 
 -- ---- a paper of a version
 
@@ -164,11 +196,12 @@ front version body = version ∷ written (record { kind = 1; body = body })
 abbrev pub paperOf : (version : ℕ) (body rest : List ℕ) → List ℕ
 paperOf version body rest = front version body ++ rest
 
--- what a body of a shape says: its base, its tails with dates and with a family, and how a record is read
+-- what a body of a shape says: its base, its tails with dates and with a family, whether scripts are on, and how a record is read
 pub record Parts : Type 0 where
   pub base : List ℕ
   pub cycles : List ℕ
   pub family : List ℕ
+  pub scripting : Bool
   pub reads : Reads
 
 abbrev pub partsOf : Shape → (body : List ℕ) → Parts
@@ -177,6 +210,7 @@ partsOf shape body =
       base = basePart shape body;
       cycles = cyclesPart (shape .dating) body;
       family = familyPart (shape .family) body;
+      scripting = shape .scripting;
       reads = readsOf shape body;
     }
 
@@ -185,15 +219,16 @@ abbrev pub eventsWith : (words rest : List ℕ) → Parts → (syllabus unnamed 
 eventsWith words rest parts syllabus unnamed =
     let read = readSetup (parts .base) (parts .cycles) (parts .family) unnamed in
     let rules = rulesOf (wordsAfter words (parts .base) (parts .cycles) (parts .family) syllabus unnamed) in
-    following (setUpEvent (read .answer)) (eventsBy (length rest) rules (parts .reads) (freshState (read .fresh)) rest 0)
+    let state = freshState (read .fresh) in
+    following (setUpEvent (read .answer)) (eventsBy (length rest) rules (parts .scripting) (parts .reads) state rest 0)
 
 abbrev pub eventsShaped : (words rest body : List ℕ) → ReadShape → List Event
 eventsShaped words rest body (ShapeRefused refusal) = Refused refusal ∷ []
 eventsShaped words rest body (ShapeTaken shape) = eventsWith words rest (partsOf shape body) (shape .syllabus) (shape .unnamed)
 
--- 01 to 05
+-- 01 to the latest
 abbrev pub Known : ℕ → Type 0
-Known version = (1 ≤ version) × (version ≤ 5)
+Known version = (1 ≤ version) × (version ≤ latest)
 
 -- where its tails stand does not matter to a command, only whether they are there
 record SamePlaces (place : ℕ) (dating : Dating) (family : Family) : Type 0 where
@@ -232,7 +267,7 @@ module _ (version : ℕ) (known : Known version) (body rest : List ℕ) (short :
       (simp (
         le-ltb 65536 (length (paperOf version body rest)) short,
         ne-eqb version 0 (omega (arith, known .0)),
-        le-ltb 5 version (known .1),
+        le-ltb latest version (known .1),
         ne-eqb (length body + 1) 0 (omega arith),
         le-ltb (length (paperOf version body rest)) (4 + length body) (omega arith),
         ne-eqb (length (paperOf version body rest)) 0 (omega arith),
@@ -276,8 +311,8 @@ module _ (version : ℕ) (known : Known version) (body rest : List ℕ) (short :
       rw (opened, its-body, e)
       (ap (following (setUpEvent (read .answer)))
       (ap (eventsFrom (length paper) rules (shapeAt 4 shape) state paper) (sym front-length)
-      ∙ events-of-rest (front version body) rest rules (shapeAt 4 shape) (length paper) state (omega (arith, whole-length))
-      ∙ ap (λ (reads : Reads). eventsBy (length rest) rules reads state rest 0) (by-body shape (inside body version shape e .file))))
+      ∙ events-of-rest (front version body) rest (shapeAt 4 shape) (length paper) rules state (omega (arith, whole-length))
+      ∙ ap (λ (reads : Reads). eventsBy (length rest) rules (shape .scripting) reads state rest 0) (by-body shape (inside body version shape e .file))))
 
   -- what it begins with is what its body says
   pub begun-is : begunOf (paperOf version body rest) ≡ setupBegun version body 4 (4 + length body)

@@ -1,7 +1,8 @@
 -- An older paper reads as the newer one with the addition off: the lines of a version 01 paper are those of the version 02 paper with
 -- selection off; those of a version 02 paper, whether or not it selects, those of the version 03 paper with syllabus 0; those of a version
--- 03 paper whose masks have no bit from 22 on, as one that is accepted, those of the version 04 paper with dates off; and those of a version 04
--- paper whose masks have no bit from 25 on, as one that is accepted, those of the version 05 paper of a CPA card. Assumes nothing.
+-- 03 paper whose masks have no bit from 22 on, as one that is accepted, those of the version 04 paper with dates off; those of a version 04
+-- paper whose masks have no bit from 25 on, as one that is accepted, those of the version 05 paper of a CPA card; and those of a version 05 paper,
+-- where version 06 is known, those of the version 06 paper with scripts off. Assumes nothing.
 use mathlib.Core.Path.{_≡_, refl, sym, ap, _∙_}
 use mathlib.Core.Bool.{Bool, true, false, _&&_}
 use mathlib.Core.List.{List, [], _∷_, _++_, append-assoc}
@@ -29,7 +30,7 @@ use Rattle.shape.specs.declared.ReadShape.{ReadShape}
 use Rattle.shape.specs.declared.ReadShape.the-variants.{Taken, Refused}
 use Rattle.shape.specs.Shape.{Lies, Spans, Holds, based, baseTail, dates, families, tailsOf, shapeOf, basePart, cyclesPart, familyPart}
 use Rattle.shape.proofs.Inside.{Inside, inside}
-use Rattle.shape.proofs.Older.{selection-off, syllabus-off, dates-off, family-off}
+use Rattle.shape.proofs.Older.{selection-off, syllabus-off, dates-off, family-off, scripts-off}
 use Rattle.slot.specs.declared.Slots.{Slots}
 use Rattle.command.specs.Command.{selectingOf, fileIn, readBy, slotsOf, commandIn}
 use Rattle.conversation.specs.declared.Begun.{Begun}
@@ -107,6 +108,7 @@ module _ (body : List ℕ) where
         base = same-base shape lies i;
         cycles = same-cycles (shape .dating) (lies .tail) i;
         family = same-family (shape .family) (lies .family) i;
+        scripting = shape .scripting;
         reads = same-reads shape unnamed (lies .file) i;
       }
 
@@ -116,23 +118,26 @@ same-judgement : (words rest : List ℕ) (parts : Parts) (syllabus one other : �
 unfolding readSetup wordsAfter
 same-judgement words rest parts syllabus one other alike = rw alike
 
-module _ (body : List ℕ) (older later : ℕ) (known : Known older) (known-later : Known later) (words rest : List ℕ) where
-  -- THE LINES ARE THE SAME WHERE THE SHAPES ARE ALIKE
-  lines-as-older : Alike body (shapeOf later (newer body)) (shapeOf older body) → length (paperOf later (newer body) rest) ≤ 65536
+module _ (body : List ℕ) (older later : ℕ) (words rest : List ℕ) (alike : Alike body (shapeOf later (newer body)) (shapeOf older body)) where
+  -- THE EVENTS ARE THE SAME WHERE THE SHAPES ARE ALIKE
+  events-as-older : eventsShaped words rest (newer body) (shapeOf later (newer body)) ≡ eventsShaped words rest body (shapeOf older body)
+  events-as-older = by (shapeOf later (newer body)) (shapeOf older body) refl alike where
+    by : (now then : ReadShape) → shapeOf older body ≡ then → Alike body now then
+        → eventsShaped words rest (newer body) now ≡ eventsShaped words rest body then
+    by now then e (refused refusal) = refl
+    by now then e (taken shape unnamed same) =
+        ap (λ (parts : Parts). eventsWith words rest parts (shape .syllabus) unnamed) (same-parts body shape unnamed (inside body older shape e))
+        ∙ same-judgement words rest (partsOf shape body) (shape .syllabus) unnamed (shape .unnamed) same
+
+  -- AND SO ARE THE LINES, of versions that are known
+  lines-as-older : Known older → Known later → length (paperOf later (newer body) rest) ≤ 65536
       → sittingLines words (paperOf later (newer body) rest) ≡ sittingLines words (paperOf older body rest)
   unfolding sittingLines
-  lines-as-older alike short =
+  lines-as-older known known-later short =
       ap (linesOf 0)
       (events-are later known-later (newer body) rest short words (shapeOf later (newer body)) refl
-      ∙ by (shapeOf later (newer body)) (shapeOf older body) refl alike
+      ∙ events-as-older
       ∙ sym (events-are older known body rest (shorter older later known-later body (0 ∷ []) rest short) words (shapeOf older body) refl))
-    where
-      by : (now then : ReadShape) → shapeOf older body ≡ then → Alike body now then
-          → eventsShaped words rest (newer body) now ≡ eventsShaped words rest body then
-      by now then e (refused refusal) = refl
-      by now then e (taken shape unnamed same) =
-          ap (λ (parts : Parts). eventsWith words rest parts (shape .syllabus) unnamed) (same-parts body shape unnamed (inside body older shape e))
-          ∙ same-judgement words rest (partsOf shape body) (shape .syllabus) unnamed (shape .unnamed) same
 
 -- ---- a version 02 set-up with syllabus 0 behind it
 
@@ -141,7 +146,7 @@ module _ (b : List ℕ) (words rest : List ℕ) where
   pub syllabus-0-reads-as-older : length (paperOf 3 (newer b) rest) ≤ 65536
       → sittingLines words (paperOf 3 (newer b) rest) ≡ sittingLines words (paperOf 2 b rest)
   syllabus-0-reads-as-older =
-      lines-as-older b 2 3 (lit≤ tt, lit≤ tt) (lit≤ tt, lit≤ tt) words rest (the-same b (shapeOf 3 (newer b)) (shapeOf 2 b) (syllabus-off b))
+      lines-as-older b 2 3 words rest (the-same b (shapeOf 3 (newer b)) (shapeOf 2 b) (syllabus-off b)) (lit≤ tt, lit≤ tt) (lit≤ tt, lit≤ tt)
 
 -- ---- an addition that, off, names more mask bits and changes nothing else of a shape
 
@@ -161,7 +166,7 @@ module _ (older later fewer more : ℕ) (b : List ℕ) (adds : Adds older later 
       let base = basePart shape b in
       let judged : isSetup base more ≡ isSetup base (shape .unnamed) =
       same-judged base more fewer (below-more base fewer more (adds .rises) low) low ∙ ap (isSetup base) (sym (adds .fewer-named shape e)) in
-      lines-as-older b older later (adds .known) (adds .known-later) words rest (rw (adds .more-named shape e, e) (taken shape more judged)) short
+      lines-as-older b older later words rest (rw (adds .more-named shape e, e) (taken shape more judged)) (adds .known) (adds .known-later) short
 
   -- as in a set-up that is accepted
   accepted-as-older : begunOf (paperOf older b rest) .event ≡ SetUp
@@ -241,6 +246,21 @@ module _ (b : List ℕ) (words rest : List ℕ) (short : length (paperOf 5 (newe
       → sittingLines words (paperOf 5 (newer b) rest) ≡ sittingLines words (paperOf 4 b rest)
   accepted-cpa-reads-as-older = accepted-as-older 4 5 (2 ^ 25) (2 ^ 26) b (family-added b) words rest short
 
+-- ---- a version 05 set-up with scripts off behind it
+
+module _ (b : List ℕ) (words rest : List ℕ) where
+  scripts-alike : Alike b (shapeOf 6 (newer b)) (shapeOf 5 b)
+  scripts-alike = the-same b (shapeOf 6 (newer b)) (shapeOf 5 b) (scripts-off b)
+
+  -- WHAT A VERSION 05 SET-UP SAYS, THE VERSION 06 SET-UP WITH SCRIPTS OFF SAYS, whichever versions are known
+  pub scripts-off-says-as-older : eventsShaped words rest (newer b) (shapeOf 6 (newer b)) ≡ eventsShaped words rest b (shapeOf 5 b)
+  scripts-off-says-as-older = events-as-older b 5 6 words rest scripts-alike
+
+  -- A VERSION 05 PAPER'S LINES ARE THOSE OF THE VERSION 06 PAPER WITH SCRIPTS OFF, where version 06 is known
+  pub scripts-off-reads-as-older : Known 6 → length (paperOf 6 (newer b) rest) ≤ 65536
+      → sittingLines words (paperOf 6 (newer b) rest) ≡ sittingLines words (paperOf 5 b rest)
+  scripts-off-reads-as-older = lines-as-older b 5 6 words rest scripts-alike (lit≤ tt, lit≤ tt)
+
 -- ---- the same set-up in all versions
 
 -- the shape of a base alone
@@ -254,23 +274,23 @@ still-below : (b : List ℕ) (shape : Shape) (version unnamed : ℕ) → shapeOf
 still-below b shape version unnamed e low = rw (same-base b shape (inside b version shape e)) low
 
 module _ (words rest : List ℕ) where
-  -- one version further and then as many as are left
-  chain : (older next later : ℕ) → Known later → (b more : List ℕ)
-      → (length (paperOf next (newer b) rest) ≤ 65536 → sittingLines words (paperOf next (newer b) rest) ≡ sittingLines words (paperOf older b rest))
-      → (length (paperOf later (newer b ++ more) rest) ≤ 65536
-      → sittingLines words (paperOf later (newer b ++ more) rest) ≡ sittingLines words (paperOf next (newer b) rest))
-      → length (paperOf later (b ++ 0 ∷ more) rest) ≤ 65536
-      → sittingLines words (paperOf later (b ++ 0 ∷ more) rest) ≡ sittingLines words (paperOf older b rest)
-  chain older next later known b more one others short =
-      let joined : newer b ++ more ≡ b ++ 0 ∷ more = append-assoc b (0 ∷ []) more in
-      let long : length (paperOf later (newer b ++ more) rest) ≤ 65536 = rw joined short in
-      rw (← joined) (others long) ∙ one (shorter next later known (newer b) more rest long)
+  -- to a version between, and then to the later one
+  chain : (older next later : ℕ) → Known later → (b first more : List ℕ)
+      → (length (paperOf next (b ++ first) rest) ≤ 65536 → sittingLines words (paperOf next (b ++ first) rest) ≡ sittingLines words (paperOf older b rest))
+      → (length (paperOf later (b ++ first ++ more) rest) ≤ 65536
+      → sittingLines words (paperOf later (b ++ first ++ more) rest) ≡ sittingLines words (paperOf next (b ++ first) rest))
+      → length (paperOf later (b ++ (first ++ more)) rest) ≤ 65536
+      → sittingLines words (paperOf later (b ++ (first ++ more)) rest) ≡ sittingLines words (paperOf older b rest)
+  chain older next later known b first more one others short =
+      let joined : b ++ first ++ more ≡ b ++ (first ++ more) = append-assoc b first more in
+      let long : length (paperOf later (b ++ first ++ more) rest) ≤ 65536 = rw joined short in
+      rw (← joined) (others long) ∙ one (shorter next later known (b ++ first) more rest long)
 
   -- A VERSION 02 PAPER'S LINES ARE THOSE OF THE VERSION 04 PAPER WITH SYLLABUS 0 AND DATES OFF
   pub two-off-read-as-older : (b : List ℕ) → length (paperOf 4 (b ++ 0 ∷ 0 ∷ []) rest) ≤ 65536 → (shape : Shape) → shapeOf 2 b ≡ Taken shape
       → MasksBelow (basePart shape b) (2 ^ 22) → sittingLines words (paperOf 4 (b ++ 0 ∷ 0 ∷ []) rest) ≡ sittingLines words (paperOf 2 b rest)
   two-off-read-as-older b short shape e low =
-      chain 2 3 4 (lit≤ tt, lit≤ tt) b (0 ∷ []) (syllabus-0-reads-as-older b words rest)
+      chain 2 3 4 (lit≤ tt, lit≤ tt) b (0 ∷ []) (0 ∷ []) (syllabus-0-reads-as-older b words rest)
       (λ long. dates-off-read-as-older (newer b) words rest long shape (syllabus-off b ∙ e) (still-below b shape 2 (2 ^ 22) e low)) short
 
   -- A VERSION 03 PAPER'S LINES ARE THOSE OF THE VERSION 05 PAPER WITH DATES OFF, OF A CPA CARD
@@ -278,14 +298,14 @@ module _ (words rest : List ℕ) where
       → MasksBelow (basePart shape b) (2 ^ 22) → sittingLines words (paperOf 5 (b ++ 0 ∷ 0 ∷ []) rest) ≡ sittingLines words (paperOf 3 b rest)
   last-two-off-read-as-older b short shape e low =
       let below = below-more _ (2 ^ 22) (2 ^ 25) (lit≤ tt) (still-below b shape 3 (2 ^ 22) e low) in
-      chain 3 4 5 (lit≤ tt, lit≤ tt) b (0 ∷ []) (λ fits. dates-off-read-as-older b words rest fits shape e low)
+      chain 3 4 5 (lit≤ tt, lit≤ tt) b (0 ∷ []) (0 ∷ []) (λ fits. dates-off-read-as-older b words rest fits shape e low)
       (λ long. family-off-reads-as-older (newer b) words rest long (dates shape DatesOff) (dates-off b shape e) below) short
 
   -- A VERSION 02 PAPER'S LINES ARE THOSE OF THE VERSION 05 PAPER WITH SYLLABUS 0 AND DATES OFF, OF A CPA CARD
   pub three-off-read-as-older : (b : List ℕ) → length (paperOf 5 (b ++ 0 ∷ 0 ∷ 0 ∷ []) rest) ≤ 65536 → (shape : Shape) → shapeOf 2 b ≡ Taken shape
       → MasksBelow (basePart shape b) (2 ^ 22) → sittingLines words (paperOf 5 (b ++ 0 ∷ 0 ∷ 0 ∷ []) rest) ≡ sittingLines words (paperOf 2 b rest)
   three-off-read-as-older b short shape e low =
-      chain 2 3 5 (lit≤ tt, lit≤ tt) b (0 ∷ 0 ∷ []) (syllabus-0-reads-as-older b words rest)
+      chain 2 3 5 (lit≤ tt, lit≤ tt) b (0 ∷ []) (0 ∷ 0 ∷ []) (syllabus-0-reads-as-older b words rest)
       (λ long. last-two-off-read-as-older (newer b) long shape (syllabus-off b ∙ e) (still-below b shape 2 (2 ^ 22) e low)) short
 
   module _ (s : List ℕ) (sized : length s ≡ 52 + 107 * byte s 3 + 7 * byte s 4) where
@@ -293,13 +313,13 @@ module _ (words rest : List ℕ) where
     pub off-reads-as-older : length (paperOf 2 (newer s) rest) ≤ 65536
         → sittingLines words (paperOf 2 (newer s) rest) ≡ sittingLines words (paperOf 1 s rest)
     off-reads-as-older =
-        lines-as-older s 1 2 (lit≤ tt, lit≤ tt) (lit≤ tt, lit≤ tt) words rest (the-same s (shapeOf 2 (newer s)) (shapeOf 1 s) (selection-off s sized))
+        lines-as-older s 1 2 words rest (the-same s (shapeOf 2 (newer s)) (shapeOf 1 s) (selection-off s sized)) (lit≤ tt, lit≤ tt) (lit≤ tt, lit≤ tt)
 
     -- OF THE VERSION 03 PAPER WITH SELECTION OFF AND SYLLABUS 0
     pub both-off-read-as-older : length (paperOf 3 (s ++ 0 ∷ 0 ∷ []) rest) ≤ 65536
         → sittingLines words (paperOf 3 (s ++ 0 ∷ 0 ∷ []) rest) ≡ sittingLines words (paperOf 1 s rest)
     both-off-read-as-older =
-        chain 1 2 3 (lit≤ tt, lit≤ tt) s (0 ∷ []) off-reads-as-older (syllabus-0-reads-as-older (newer s) words rest)
+        chain 1 2 3 (lit≤ tt, lit≤ tt) s (0 ∷ []) (0 ∷ []) off-reads-as-older (syllabus-0-reads-as-older (newer s) words rest)
 
     -- the shape and the masks of the version 02 paper
     off-shape : shapeOf 2 (newer s) ≡ Taken (based (length s))
@@ -312,12 +332,50 @@ module _ (words rest : List ℕ) where
     pub all-off-read-as-older : length (paperOf 4 (s ++ 0 ∷ 0 ∷ 0 ∷ []) rest) ≤ 65536 → MasksBelow s (2 ^ 22)
         → sittingLines words (paperOf 4 (s ++ 0 ∷ 0 ∷ 0 ∷ []) rest) ≡ sittingLines words (paperOf 1 s rest)
     all-off-read-as-older short low =
-        chain 1 2 4 (lit≤ tt, lit≤ tt) s (0 ∷ 0 ∷ []) off-reads-as-older
+        chain 1 2 4 (lit≤ tt, lit≤ tt) s (0 ∷ []) (0 ∷ 0 ∷ []) off-reads-as-older
         (λ long. two-off-read-as-older (newer s) long (based (length s)) off-shape (off-below low)) short
 
     -- AND OF THE VERSION 05 PAPER WITH ALL FOUR OFF
     pub four-off-read-as-older : length (paperOf 5 (s ++ 0 ∷ 0 ∷ 0 ∷ 0 ∷ []) rest) ≤ 65536 → MasksBelow s (2 ^ 22)
         → sittingLines words (paperOf 5 (s ++ 0 ∷ 0 ∷ 0 ∷ 0 ∷ []) rest) ≡ sittingLines words (paperOf 1 s rest)
     four-off-read-as-older short low =
-        chain 1 2 5 (lit≤ tt, lit≤ tt) s (0 ∷ 0 ∷ 0 ∷ []) off-reads-as-older
+        chain 1 2 5 (lit≤ tt, lit≤ tt) s (0 ∷ []) (0 ∷ 0 ∷ 0 ∷ []) off-reads-as-older
         (λ long. three-off-read-as-older (newer s) long (based (length s)) off-shape (off-below low)) short
+
+-- ---- and in version 06
+
+module _ (known : Known 6) (words rest : List ℕ) where
+  -- what reads as a version 05 paper with tails behind its set-up reads as the version 06 paper with scripts off behind them
+  to-six : (older : ℕ) (b tails : List ℕ)
+      → (length (paperOf 5 (b ++ tails) rest) ≤ 65536 → sittingLines words (paperOf 5 (b ++ tails) rest) ≡ sittingLines words (paperOf older b rest))
+      → length (paperOf 6 (b ++ (tails ++ 0 ∷ [])) rest) ≤ 65536
+      → sittingLines words (paperOf 6 (b ++ (tails ++ 0 ∷ [])) rest) ≡ sittingLines words (paperOf older b rest)
+  to-six older b tails one = chain words rest older 5 6 known b tails (0 ∷ []) one (scripts-off-reads-as-older (b ++ tails) words rest known)
+
+  module _ (b : List ℕ) where
+    -- A VERSION 04 PAPER'S LINES ARE THOSE OF THE VERSION 06 PAPER OF A CPA CARD WITH SCRIPTS OFF
+    pub four-reads-as-six : length (paperOf 6 (b ++ 0 ∷ 0 ∷ []) rest) ≤ 65536 → (shape : Shape) → shapeOf 4 b ≡ Taken shape
+        → MasksBelow (basePart shape b) (2 ^ 25) → sittingLines words (paperOf 6 (b ++ 0 ∷ 0 ∷ []) rest) ≡ sittingLines words (paperOf 4 b rest)
+    four-reads-as-six short shape e low = to-six 4 b (0 ∷ []) (λ fits. family-off-reads-as-older b words rest fits shape e low) short
+
+    -- so it is if the version 04 paper's set-up is accepted
+    pub accepted-four-reads-as-six : length (paperOf 6 (b ++ 0 ∷ 0 ∷ []) rest) ≤ 65536 → begunOf (paperOf 4 b rest) .event ≡ SetUp
+        → sittingLines words (paperOf 6 (b ++ 0 ∷ 0 ∷ []) rest) ≡ sittingLines words (paperOf 4 b rest)
+    accepted-four-reads-as-six short e = to-six 4 b (0 ∷ []) (λ fits. accepted-cpa-reads-as-older b words rest fits e) short
+
+    -- A VERSION 03 PAPER'S LINES ARE THOSE OF THE VERSION 06 PAPER WITH DATES AND SCRIPTS OFF, OF A CPA CARD
+    pub three-reads-as-six : length (paperOf 6 (b ++ 0 ∷ 0 ∷ 0 ∷ []) rest) ≤ 65536 → (shape : Shape) → shapeOf 3 b ≡ Taken shape
+        → MasksBelow (basePart shape b) (2 ^ 22) → sittingLines words (paperOf 6 (b ++ 0 ∷ 0 ∷ 0 ∷ []) rest) ≡ sittingLines words (paperOf 3 b rest)
+    three-reads-as-six short shape e low = to-six 3 b (0 ∷ 0 ∷ []) (λ fits. last-two-off-read-as-older words rest b fits shape e low) short
+
+    -- A VERSION 02 PAPER'S LINES ARE THOSE OF THE VERSION 06 PAPER WITH SYLLABUS 0, DATES AND SCRIPTS OFF, OF A CPA CARD
+    pub two-reads-as-six : length (paperOf 6 (b ++ 0 ∷ 0 ∷ 0 ∷ 0 ∷ []) rest) ≤ 65536 → (shape : Shape) → shapeOf 2 b ≡ Taken shape
+        → MasksBelow (basePart shape b) (2 ^ 22)
+        → sittingLines words (paperOf 6 (b ++ 0 ∷ 0 ∷ 0 ∷ 0 ∷ []) rest) ≡ sittingLines words (paperOf 2 b rest)
+    two-reads-as-six short shape e low = to-six 2 b (0 ∷ 0 ∷ 0 ∷ []) (λ fits. three-off-read-as-older words rest b fits shape e low) short
+
+  -- A VERSION 01 PAPER'S LINES ARE THOSE OF THE VERSION 06 PAPER WITH ALL FIVE OFF
+  pub one-reads-as-six : (s : List ℕ) → length s ≡ 52 + 107 * byte s 3 + 7 * byte s 4
+      → length (paperOf 6 (s ++ 0 ∷ 0 ∷ 0 ∷ 0 ∷ 0 ∷ []) rest) ≤ 65536 → MasksBelow s (2 ^ 22)
+      → sittingLines words (paperOf 6 (s ++ 0 ∷ 0 ∷ 0 ∷ 0 ∷ 0 ∷ []) rest) ≡ sittingLines words (paperOf 1 s rest)
+  one-reads-as-six s sized short low = to-six 1 s (0 ∷ 0 ∷ 0 ∷ 0 ∷ []) (λ fits. four-off-read-as-older words rest s sized fits low) short

@@ -13,10 +13,11 @@ returns c = let above = lt-ltb _ _ (c .before .if1 .taken) in (simp (above, c .r
 returns-2 : tie.Need-returns-2
 unfolding scriptTaken templateWrites wordsRun rulesRun
 returns-2 c =
-    let read = c .before .before .before .before in
+    let told = c .before .before in
+    let read = told .before .before in
     let ran = c .run-script .ensures in
     let within = le-ltb _ _ (read .before .if1 .left) in
-    let sound = sym (read .read-template .ensures) ∙ c .before .before .enum-told .given .1 in
+    let sound = sym (read .read-template .ensures) ∙ told .enum-told .given .1 in
     (simp (within, sound, ran .0), simp (within, sound) (ran .1), simp (within, sound) (ran .2))
 
 returns-3 : tie.Need-returns-3

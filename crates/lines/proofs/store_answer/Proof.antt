@@ -28,8 +28,15 @@ returns-3 c =
     let told = cid .before .before .before in
     simp (told .answer3 .given .1, ← cid .cid .ensures) (put .put-cryptogram .ensures)
 
+returns-4 : tie.Need-returns-4
+unfolding answerLine
+returns-4 c =
+    let put = c .before .before in
+    let told = put .before .before in
+    simp (told .enum-told .given .1) (within (put .store-refusal2 .ensures) (lit≤ tt))
+
 pub store-answer-spec : {M : Type 1} → statement M
 store-answer-spec =
     tie.close
     (tie.spec (search needs) (search needs) (search needs) (search needs) (search needs) (search needs) (search needs) (search needs)
-    (search needs) returns (search needs) returns-2 (search needs) returns-3)
+    (search needs) (search needs) (search needs) returns (search needs) returns-2 (search needs) returns-3 (search needs) returns-4)

@@ -8,7 +8,7 @@ use lib.Seq.{length-sets}
 use Rattle.lines.specs.Lines.{refusalLine}
 use Rattle.transcript.proofs.Going.{behind-is, placed-is, whole-text}
 use Rattle.transcript.proofs.Short.{refusal-short}
-use Rattle.transcript.proofs.Steps.{set-up-if, not-set-up}
+use Rattle.transcript.proofs.Steps.{set-up-if, not-set-up, words-not-set-up}
 use Rattle.transcript.proofs.put_paper.Statement.{statement}
 use Rattle.transcript.proofs.put_paper.Tie as tie
 
@@ -26,7 +26,7 @@ returns c =
     let short = refusal-short 0 (number .number .result) in (
       rw (text, ← number .number .ensures) (put .put-refusal .ensures .0 ∙ behind-is _ _ _ (omega (arith, pre))),
       rw (text, ← number .number .ensures) (put .put-refusal .ensures .1 ∙ placed-is _ _ _ (omega (arith, pre)) (omega arith)),
-      begin .begin .ensures .1,
+      begin .begin .ensures .1 ∙ sym (words-not-set-up (now (a .words)) (now (a .paper)) _ e),
     )
 
 put-records-requires : tie.Need-put-records-requires
@@ -67,8 +67,8 @@ returns-2 c =
     let there = put .put-refusal2 .ensures .1 ∙ placed-is _ _ (refusalLine 0 0) (omega (arith, pre)) (omega arith) in
     let kept = begin .begin .ensures .1 in
     let p = records .put-records .ensures in
-    let text = whole-text (now (a .words)) (now (a .paper)) (now (a .room)) (a .at) begun kept taken there behind (p .0) (p .1) in
-    (text .0, text .1, kept)
+    let text = whole-text (now (a .words)) (now (a .paper)) (now (a .room)) (a .at) begun kept taken there behind (p .0) (p .1) (p .2) in
+    (text .0, text .1, text .2)
 
 pub put-paper-spec : {M : Type 1} → statement M
 put-paper-spec =
