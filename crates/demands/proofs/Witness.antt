@@ -16,13 +16,13 @@ use Rattle.card.specs.Message.{Message}
 use Rattle.auditor.specs.Template.{InRange}
 use Rattle.demands.specs.Setup.{Setup, IsCpa, AcceptedSetup}
 use Rattle.purchase.specs.Meter.{Meter, accumulator, cyclic, valueOf}
-use Rattle.demands.specs.Conversation.{told, sat, next}
+use Rattle.demands.specs.Conversation.{told, sat, next, Spoken}
 use Rattle.demands.specs.Audit.{upperOf, takesPart, bought, inForce, placeBy, approves}
 use Rattle.demands.specs.Guards.{Guards}
 use Rattle.demands.specs.Printed.{body, start, first, second, commands, linesOf, lines}
 use Rattle.demands.specs.Alike.{AlikeSetups, AlikeCommands, starts, firsts, seconds, AllAlike, nothing, more}
 use Rattle.demands.proofs.Computed.{computed}
-use Rattle.demands.proofs.Sittings.{zeros, spending, dual, startOn, firstBy, firstOn, onDay}
+use Rattle.demands.proofs.Sittings.{zeros, spending, dual, startOn, firstBy, firstOn, onDay, limit, templateOf, script}
 
 abbrev areBytes : List ℕ → Bool
 areBytes [] = true
@@ -99,6 +99,23 @@ at-second =
       value-is = refl;
       upper-is = refl;
     }
+
+-- with an upper limit that a script wrote, between First and Second: 6,000 in place of 10,000
+pub at-changed-limit : Approval setup (accumulator 0) (start ∷ first 5001 ∷ script (limit 1 0x50 0x00 0x60 0x00 ∷ []) ∷ []) second 5001 6000
+unfolding body computed
+at-changed-limit =
+    record {
+      cpa = refl;
+      guards = record { active = refl; included = refl; decline = refl; default = refl };
+      approves-it = refl;
+      takes-part = refl;
+      value-is = refl;
+      upper-is = refl;
+    }
+
+-- the commands of which are bytes
+pub spoken-limit : Spoken (start ∷ first 5001 ∷ script (limit 1 0x50 0x00 0x60 0x00 ∷ []) ∷ [])
+spoken-limit = (tt, (tt, (bytes-of (templateOf (limit 1 0x50 0x00 0x60 0x00 ∷ [])) refl, tt)))
 
 -- and of a cyclic accumulator, whose day begins at First: 1000 were spent the day before
 abbrev pub dated-setup : Setup
