@@ -1,7 +1,7 @@
 -- Over a list of commands: what each command keeps is kept; the rules in force are those of the set-up in force, and what the card keeps of scripts
 -- is what the auditor remembers; and a card that reads its lent words answers as one that reads the set-up's bytes. Assumes nothing.
 use mathlib.Core.Path.{_≡_, refl, sym, ap, ap₂, _∙_, subst}
-use mathlib.Core.Bool.{Bool, true, false, not}
+use mathlib.Core.Bool.{not}
 use mathlib.Core.List.{List, [], _∷_}
 use Prim.Native.Nat.{ℕ, zero, suc, _≤_}
 use native.Mathlib.Omega.{arith}
@@ -14,7 +14,7 @@ use Rattle.put_data.specs.declared.Write.{Write}
 use Rattle.script.specs.Script.{rulesAfter}
 use Rattle.auditor.specs.Template.{InRange}
 use Rattle.card.specs.Card.{freshState}
-use Rattle.card.specs.Message.{Message, messageStep, messageWrites}
+use Rattle.card.specs.Message.{Message, messageStep}
 use Rattle.demands.specs.Setup.{Setup, byteAt, AcceptedSetup}
 use Rattle.demands.specs.Conversation.{Exchange, Sitting, outcomeOf, told, run, satBy, rulesWritten, rulesBy, sat, satOver, IsSpoken, Spoken}
 use Rattle.demands.specs.Scripts.{remembered, wroteBy}

@@ -39,7 +39,7 @@ use Rattle.demands.proofs.Computed.{computed}
 use Rattle.demands.proofs.Sittings.{counting, limiting, defaulting, full, sending, spending, weekly, dual}
 use Rattle.demands.proofs.Sittings.{start, first, firstOn, second, unable, after, onDay, approvals, limits, resets, answered, online, buy, late}
 use Rattle.demands.proofs.Sittings.{week, weeks, years, firstBy, pay, payOnline, digits, element, putData, value, limit, counterLimit, wrong}
-use Rattle.demands.proofs.Sittings.{script, unverified, requiring, between}
+use Rattle.demands.proofs.Sittings.{empties, script, unverified, requiring, between}
 
 abbrev same : Bool → Bool → Bool
 same true b = b
@@ -336,6 +336,7 @@ pub record Samples : Type 0 where
   pub value-written : T (agreesIn counting (script (value 1 0x40 0x00 ∷ []) ∷ answered 1) (accumulator 0) 4001)
   pub value-inactive : T (agreesIn counting (script (value 4 0x12 0x34 ∷ []) ∷ []) (accumulator 3) 1234)
   pub value-twice : T (agreesIn counting (answered 1 ++ script (putData 0x30 (element 1 (digits 0 0x07) ++ element 1 (digits 0 0x05)) ∷ []) ∷ []) (accumulator 0) 5)
+  pub value-sent : T (sends (sending 1) (script (value 1 0x12 0x34 ∷ []) ∷ answered 0))
   -- limits of 10 and 50, and of 50 and 100, in place of 1000 and 5000: Decline the upper, Online the lower
   pub limit-changed : T (answersAfter (limiting 5 0 0) (script (limit 1 0 0x10 0 0x50 ∷ []) ∷ start 1 ∷ []) (first 51 0x0978 1) Aac)
   pub lower-changed : T (answersAfter (limiting 5 0 0) (script (limit 1 0 0x50 0x01 0x00 ∷ []) ∷ start 1 ∷ []) (first 51 0x0978 1) Arqc
@@ -352,7 +353,9 @@ pub record Samples : Type 0 where
   pub accumulator-in-each : T (showsAfter counting (script (limit 2 0 0 0 0x01 ∷ []) ∷ answered 1 ++ start 1 ∷ []) (first 1 0x0978 1) 0x30 0x10
       && showsAfter counting (script (limit 2 0 0 0 0x01 ∷ []) ∷ answered 1 ++ start 2 ∷ []) (first 1 0x0978 1) 0x30 0x10)
   -- commands done are counted, one by one; one that fails, and none behind it, is not; what those before it wrote stays
-  pub count-shown : T (marksAfter counting (script (value 1 0 0x01 ∷ value 2 0 0x02 ∷ []) ∷ script (value 1 0 0x01 ∷ []) ∷ []) 0x30)
+  pub count-shown : T (marksAfter counting (script (putData 0x30 (element 1 (digits 0 0x07) ++ element 2 (digits 0 0x05)) ∷ value 2 0 0x02 ∷ []) ∷ script (value 1 0 0x01 ∷ []) ∷ []) 0x30)
+  pub count-round : T (marksAfter counting (script (empties 8) ∷ script (empties 7) ∷ []) 0xF0 && marksAfter counting (script (empties 8) ∷ script (empties 8) ∷ []) 0x00)
+  pub count-stays : T (marksAfter counting (script (empties 1) ∷ online (second 0x80)) 0x10)
   pub failed-shown : T (marksAfter counting (script (value 1 0 0x40 ∷ wrong ∷ value 1 0 0x09 ∷ []) ∷ []) 0x18)
   pub written-before-failure : T (agreesIn counting (script (value 1 0 0x40 ∷ wrong ∷ value 1 0 0x09 ∷ []) ∷ []) (accumulator 0) 40)
   pub half-unwritten : T (agreesIn counting (script (putData 0x30 (element 1 (digits 0 0x07) ++ element 2 (digits 0 0x0A)) ∷ []) ∷ []) (accumulator 0) 0)
@@ -363,11 +366,13 @@ pub record Samples : Type 0 where
   pub later-rejected : T (agreesIn counting (script (wrong ∷ []) ∷ script (value 1 0 0x01 ∷ []) ∷ []) (accumulator 0) 0)
   pub taken-again : T (agreesIn counting (script (wrong ∷ []) ∷ start 1 ∷ first 1 0x0978 2 ∷ script (value 1 0 0x05 ∷ []) ∷ []) (accumulator 0) 5)
   pub not-by-refused : T (agreesIn counting (script (wrong ∷ []) ∷ start 3 ∷ script (value 1 0 0x01 ∷ []) ∷ []) (accumulator 0) 0)
+  pub not-by-second : T (agreesIn counting (between (script (wrong ∷ [])) (second 0x80) ++ script (value 1 0 0x01 ∷ []) ∷ []) (accumulator 0) 0)
   -- a failure is cleared by a Second that verified, TC or AAC, or absent where authentication isn't required, and by no other; not in its own transaction
   pub failure-cleared : T (marksAfter counting (script (wrong ∷ []) ∷ online (second 0x80)) 0x00 && marksAfter counting (script (wrong ∷ []) ∷ online (second 0x00)) 0x00)
   pub cleared-by-absent : T (marksAfter counting (script (wrong ∷ []) ∷ online (after 0)) 0x00)
   pub not-where-required : T (marksAfter requiring (script (wrong ∷ []) ∷ online (after 0)) 0x08)
   pub not-by-failed : T (marksAfter counting (script (wrong ∷ []) ∷ online (after 2)) 0x08 && marksAfter counting (script (wrong ∷ []) ∷ online unable) 0x08)
+  pub not-once-shown : T (marksAfter counting (script (wrong ∷ []) ∷ answered 1) 0x08)
   pub not-here : T (marksAfter counting (between (script (wrong ∷ [])) (second 0x80)) 0x08 && keeps counting (between (script (wrong ∷ [])) (second 0x80)))
   -- Second keeps First's
   pub shown-at-second : T (showsAfter counting (script (wrong ∷ []) ∷ start 1 ∷ first 1 0x0978 2 ∷ script (value 1 0 0x01 ∷ []) ∷ []) (second 0x80) 0 0x08)
@@ -376,7 +381,7 @@ pub record Samples : Type 0 where
   pub scripts-in-kind : T (kindly (script [] ∷ []) && kindly (between (script (wrong ∷ [])) unable))
   pub due-after-script : T (duly (script [] ∷ []) && duly (start 1 ∷ script [] ∷ []) && duly (start 1 ∷ first 1 0x0978 2 ∷ script [] ∷ []))
   -- 2 before 6 before 18, on a fresh card and while an ARQC is open; depth 5 is 19, and of its object the head comes first
-  pub script-numbers : T (scriptNumber (start 1 ∷ []) 2 [] 2 && scriptNumber [] 2 [] 6 && scriptNumber [] 1 [] 18 && scriptNumber [] 1 (0x71 ∷ 0x00 ∷ []) 0)
+  pub script-numbers : T (scriptNumber (start 1 ∷ []) 2 [] 2 && scriptNumber (start 1 ∷ []) 1 [] 2 && scriptNumber [] 2 [] 6 && scriptNumber [] 1 [] 18 && scriptNumber [] 1 (0x71 ∷ 0x00 ∷ []) 0)
   pub script-asked : T (scriptNumber (start 1 ∷ first 1 0x0978 2 ∷ []) 0 (0x71 ∷ 0x00 ∷ []) 0 && scriptNumber (start 1 ∷ first 1 0x0978 2 ∷ []) 2 [] 6)
   pub too-deep : T (scriptNumber [] 1 (bytes 10 0x7108710671047102E100) 19 && scriptNumber [] 1 (bytes 10 0x7108710671047102E101) 18)
 
@@ -459,6 +464,7 @@ samples =
       value-written = tt;
       value-inactive = tt;
       value-twice = tt;
+      value-sent = tt;
       limit-changed = tt;
       lower-changed = tt;
       limit-raised-between = tt;
@@ -468,6 +474,8 @@ samples =
       counter-in-each = tt;
       accumulator-in-each = tt;
       count-shown = tt;
+      count-round = tt;
+      count-stays = tt;
       failed-shown = tt;
       written-before-failure = tt;
       half-unwritten = tt;
@@ -476,10 +484,12 @@ samples =
       later-rejected = tt;
       taken-again = tt;
       not-by-refused = tt;
+      not-by-second = tt;
       failure-cleared = tt;
       cleared-by-absent = tt;
       not-where-required = tt;
       not-by-failed = tt;
+      not-once-shown = tt;
       not-here = tt;
       shown-at-second = tt;
       kept-alike = tt;

@@ -3,37 +3,33 @@ use mathlib.Core.Path.{_≡_, refl, sym, ap, ap₂, _∙_, subst}
 use mathlib.Core.Bool.{Bool, true, false, cond, not, _&&_, _||_}
 use mathlib.Core.List.{List, [], _∷_, _++_}
 use mathlib.Core.Option.{Option, none, some}
-use Prim.Native.Nat.{ℕ, _+_, _%_, _≤_, _<_}
+use Prim.Native.Nat.{ℕ, _+_, _%_, _<_}
 use native.Mathlib.Omega.{arith}
 use lib.Dec.{eqb, lit<}
-use Rattle.calendar.specs.declared.Date.{Date}
 use Rattle.refusal.specs.declared.Refusal.{Refusal}
 use Rattle.iad.specs.declared.Cvr.{Cvr}
 use Rattle.rules.specs.declared.Place.{Place}
-use Rattle.rules.specs.declared.Values.{Values}
 use Rattle.rules.specs.Rules.{Rules}
 use Rattle.object.specs.declared.Reading.the-variants.{Sound}
 use Rattle.object.specs.Object.{readTemplate, commandsOf}
 use Rattle.put_data.specs.declared.Write.{Write}
 use Rattle.put_data.specs.PutData.{writesOf}
-use Rattle.auditor.specs.Template.{commandsIn, writesIn, Bytes, EachBytes, InRange}
+use Rattle.auditor.specs.Template.{writesIn, Bytes, EachBytes, InRange}
 use Rattle.auditor.proofs.Commands.{same-commands}
 use Rattle.auditor.proofs.Writes.{same-writes}
 use Rattle.auditor.proofs.Ranges.{commands-bytes, writes-in-range}
 use Rattle.script.specs.declared.Scripts.{Scripts}
-use Rattle.script.specs.Script.{countOf, hasFailedHere, freshScripts, started, heard, done, oneDone, oneFailed, Tried, triedNext, tried, templateTried, ranOf}
+use Rattle.script.specs.Script.{hasFailedHere, freshScripts, started, heard, done, oneDone, oneFailed, Tried, triedNext, tried, templateTried, ranOf}
 use Rattle.script.proofs.Marks.{Says, fresh-says, done-says, failed-says, started-says, heard-says}
 use Rattle.command.specs.declared.First.{First}
 use Rattle.command.specs.declared.Second.{Second}
 use Rattle.purchase.specs.declared.Purchase.{Purchase}
-use Rattle.state.specs.declared.History.{History}
 use Rattle.state.specs.declared.Answer.the-variants.{Refused}
 use Rattle.state.specs.declared.Kind.{Kind}
 use Rattle.state.specs.declared.Kind.the-variants.{Aac, Tc, Arqc}
 use Rattle.state.specs.declared.Pending.{Pending}
 use Rattle.state.specs.declared.State.{State}
 use Rattle.state.specs.declared.Outcome.{Outcome}
-use Rattle.cryptogram.specs.declared.Issuer.{Issuer}
 use Rattle.cycles.specs.Cycles.{dated}
 use Rattle.first.specs.First.{firstPerformed, firstAnswered, settled, asked, concluded}
 use Rattle.second.specs.Second.{isUnable, unablePerformed, verifiedPerformed, failedPerformed, absentPerformed, secondPerformed, closed}

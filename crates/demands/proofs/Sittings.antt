@@ -246,6 +246,10 @@ counterLimit i lower upper = putData 0x35 (element (0x10 + i) (lower ∷ upper �
 abbrev pub wrong : List ℕ
 wrong = value 1 0 0x0A
 
+-- n without elements, which are done
+abbrev pub empties : ℕ → List (List ℕ)
+empties n = replicate n (putData 0x30 [])
+
 -- a template of a few commands, verified or not
 abbrev pub objects : List (List ℕ) → List ℕ
 objects [] = []

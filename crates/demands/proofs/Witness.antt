@@ -69,6 +69,7 @@ printed = refl
 -- meter against its upper limit
 pub record Approval (setup : Setup) (meter : Meter) (before : List Message) (command : Message) (value upper : ℕ) : Type 0 where
   pub cpa : IsCpa setup
+  pub spoken : Spoken before
   pub guards : Guards (inForce setup (sat setup before .log)) (placeBy setup (sat setup before .log)) meter
   pub approves-it : approves command (next setup before command .answer) ≡ true
   pub takes-part : takesPart (bought setup (told (sat setup before) command .log)) meter ≡ true
@@ -81,6 +82,7 @@ unfolding body computed
 at-first =
     record {
       cpa = refl;
+      spoken = (tt, tt);
       guards = record { active = refl; included = refl; decline = refl; default = refl };
       approves-it = refl;
       takes-part = refl;
@@ -93,6 +95,7 @@ unfolding body computed
 at-second =
     record {
       cpa = refl;
+      spoken = (tt, (tt, (tt, (tt, tt))));
       guards = record { active = refl; included = refl; decline = refl; default = refl };
       approves-it = refl;
       takes-part = refl;
@@ -106,16 +109,13 @@ unfolding body computed
 at-changed-limit =
     record {
       cpa = refl;
+      spoken = (tt, (tt, (bytes-of (templateOf (limit 1 0x50 0x00 0x60 0x00 ∷ [])) refl, tt)));
       guards = record { active = refl; included = refl; decline = refl; default = refl };
       approves-it = refl;
       takes-part = refl;
       value-is = refl;
       upper-is = refl;
     }
-
--- the commands of which are bytes
-pub spoken-limit : Spoken (start ∷ first 5001 ∷ script (limit 1 0x50 0x00 0x60 0x00 ∷ []) ∷ [])
-spoken-limit = (tt, (tt, (bytes-of (templateOf (limit 1 0x50 0x00 0x60 0x00 ∷ [])) refl, tt)))
 
 -- and of a cyclic accumulator, whose day begins at First: 1000 were spent the day before
 abbrev pub dated-setup : Setup
@@ -130,6 +130,7 @@ unfolding spending computed
 in-a-cycle =
     record {
       cpa = refl;
+      spoken = (tt, tt);
       guards = record { active = refl; included = refl; decline = refl; default = refl };
       approves-it = refl;
       takes-part = refl;
