@@ -117,5 +117,5 @@ module _ (rules : Rules) (state : State) (four : Four (state .values)) where
   did-four (started-it start place holds) = four
   did-four (took-first first place is type small day) = concluded-four first place _ _ _ _
   did-four (took-second second pending is type issuer) = second-four second pending
-  did-four (took-script result template is small sound wrote) =
+  did-four (took-script result template sound wrote) =
       as-many (state .values) (templateTried (eqb result 1) (state .scripts) template .writes) ∙ four

@@ -39,16 +39,13 @@ spoken-keeps P keeps sitting h [] spoken = h
 spoken-keeps P keeps sitting h (command ∷ commands) spoken =
     spoken-keeps P keeps (told sitting command) (keeps sitting h command (spoken .0)) commands (spoken .1)
 
--- what no script writes stays: the set-up's bytes, the tail with the cyclic accumulators, and the family's
+-- what no script writes stays: the set-up's bytes, among them the PIN's, the tail with the cyclic accumulators, and the family's
 module _ {A : Type 0} (part : Setup → A) (unwritten : (before : Setup) (writes : List Write) → part (withWrites before writes) ≡ part before) where
   stays : (setup : Setup) (log : List Exchange) → part (inForce setup log) ≡ part setup
   unfolding inForce
   stays setup [] = refl
   stays setup (exchange ∷ older) =
       unwritten (inForce setup older) (wroteBy (exchange .command) (exchange .answer) (remembered setup older)) ∙ stays setup older
-
-pub bytes-stay : (setup : Setup) (log : List Exchange) → inForce setup log .bytes ≡ setup .bytes
-bytes-stay = stays (λ setup. setup .bytes) (λ before writes. refl)
 
 pub tail-stays : (setup : Setup) (log : List Exchange) → inForce setup log .tail ≡ setup .tail
 tail-stays = stays (λ setup. setup .tail) (λ before writes. refl)
@@ -92,16 +89,11 @@ module _ (setup : Setup) (sitting : Sitting) (ruled : Ruled setup sitting) where
   abbrev now : Setup
   now = inForce setup (sitting .log)
 
-  requires : rulesBy now .required ≡ not (eqb (byteAt setup 2) 0)
+  requires : not (rulesBy now .required) ≡ eqb (byteAt setup 2) 0
   requires =
-      required-is now
-      ∙ either (byteAt now 2) (fits (ruled .good) .required)
-      ∙ ap (λ b. not (eqb b 0)) (stays (λ s. byteAt s 2) (λ before writes. refl) setup (sitting .log))
-    where
-      either : (b : ℕ) → b ≤ 1 → eqb b 1 ≡ not (eqb b 0)
-      either zero l = refl
-      either (suc zero) l = refl
-      either (suc (suc b)) l = absurd (omega arith)
+      ap not (required-is now)
+      ∙ not-required (byteAt now 2) (fits (ruled .good) .required)
+      ∙ ap (λ b. eqb b 0) (stays (λ s. byteAt s 2) (λ before writes. refl) setup (sitting .log))
 
   told-ruled : (command : Message) → IsSpoken command → Ruled setup (told sitting command)
   unfolding inForce remembered
