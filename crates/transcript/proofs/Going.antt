@@ -131,8 +131,7 @@ module _ {words : List ℕ} {shape : Shape} {paper whole left before room : List
   -- nothing is left
   pub over : length paper ≤ at → (end ≡ to + length whole) × (room ≡ sets before to whole) × (words ≡ left)
   over h =
-      let none = Steps.at-end (rulesOf words) shape state paper at number h in
-      (
+      let none = Steps.at-end (rulesOf words) shape state paper at number h in (
         omega (arith, going .ends, ap length none),
         ap (λ t. sets room end t) (sym none) ∙ going .text,
         sym (Steps.words-over words shape state paper at h) ∙ going .leaves,
@@ -150,8 +149,7 @@ whole-text words paper room at {between} {after} {words′} {end} {r} {begun} b 
     let rest = restOf (rulesOf (wordsBegun words paper)) (begunOf paper .shape) (begunOf paper .state) paper (begunOf paper .at) 1 in
     let same : restOf (rulesOf words′) (begun .shape) (begun .state) paper (begun .at) 1 ≡ rest = rw (b, k) in
     let parts = Steps.set-up words paper e in
-    let joined = length-append (refusalLine 0 0) rest in
-    (
+    let joined = length-append (refusalLine 0 0) rest in (
       omega (arith, size, behind, ap length same, ap length parts),
       rw (text, same, there, behind, parts) (sets-on room (refusalLine 0 0) rest at),
       rw (leaves, b, k) (sym (Steps.words-set-up words paper e)),
