@@ -3,8 +3,11 @@ pub mod Step
 pub mod Run
 pub mod Ends
 pub mod Owed
+pub mod Written
 pub mod Bytes
 pub mod Dated
+pub mod Scripts
+pub mod Puts
 pub mod Deals
 pub mod Moves
 pub mod Total
@@ -19,7 +22,6 @@ pub mod Decision
 pub mod First
 pub mod Verification
 pub mod Answers
-pub mod Sendable
 pub mod Edges
 pub mod Selected
 pub mod Alike

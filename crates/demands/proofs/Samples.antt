@@ -13,7 +13,7 @@ use Rattle.ranges.specs.Ranges.{isSetup}
 use Rattle.setup.specs.Setup.{isAccepted}
 use Rattle.state.specs.declared.History.{History}
 use Rattle.state.specs.declared.Answer.{Answer}
-use Rattle.state.specs.declared.Answer.the-variants.{Refused, Started, Given}
+use Rattle.state.specs.declared.Answer.the-variants.{Refused, Started, Given, Done}
 use Rattle.state.specs.declared.Kind.{Kind}
 use Rattle.state.specs.declared.Kind.the-variants.{Aac, Tc, Arqc}
 use Rattle.cryptogram.specs.Cryptogram.{kindCode}
@@ -21,8 +21,7 @@ use Rattle.selection.specs.declared.Selection.{Selection}
 use Rattle.selection.specs.declared.Selection.the-variants.{Selected, NotSelected}
 use Rattle.command.specs.declared.When.{When}
 use Rattle.command.specs.declared.When.the-variants.{Undated}
-use Rattle.command.specs.declared.Command.{Command}
-use Rattle.command.specs.declared.Command.the-variants.{Start as StartCommand, First as FirstCommand, Second as SecondCommand}
+use Rattle.card.specs.Sent.{Sent, StartCommand, FirstCommand, SecondCommand, ScriptCommand}
 use Rattle.card.specs.Card.{answerNumber}
 use Rattle.purchase.specs.Meter.{Meter, accumulator, counter, cyclic, valueOf}
 use Rattle.demands.specs.Setup.{Setup, byteAt}
@@ -53,7 +52,7 @@ abbrev sameDate : Date → Date → Bool
 sameDate a b = eqb (a .year) (b .year) && eqb (a .month) (b .month) && eqb (a .day) (b .day)
 
 -- `total`, `history`, `atc` and `last-date` of a card after a list of commands
-unfoldable pub agrees : Setup → List Command → Bool
+unfoldable pub agrees : Setup → List Sent → Bool
 agrees setup commands =
     let sitting = sat setup commands in
     holds setup sitting (accumulator 0) && holds setup sitting (accumulator 1) && holds setup sitting (accumulator 2)
@@ -70,13 +69,13 @@ dueCode nothing = 0
 dueCode aFirst = 1
 dueCode aSecond = 2
 
-unfoldable pub duly : List Command → Bool
+unfoldable pub duly : List Sent → Bool
 duly commands =
     let sitting = sat counting commands in
     eqb (dueCode (dueIn (sitting .state .phase))) (dueCode (due (sitting .log)))
 
 -- `in-kind`: Start starts, First and Second give
-abbrev isInKind : Command → Answer → Bool
+abbrev isInKind : Sent → Answer → Bool
 isInKind command (Refused refusal) = false
 isInKind (StartCommand start) (Started atc visits) = true
 isInKind (StartCommand start) (Given kind atc iad) = false
@@ -84,18 +83,25 @@ isInKind (FirstCommand first) (Started atc visits) = false
 isInKind (FirstCommand first) (Given kind atc iad) = true
 isInKind (SecondCommand second) (Started atc visits) = false
 isInKind (SecondCommand second) (Given kind atc iad) = true
+isInKind (ScriptCommand result template) (Started atc visits) = false
+isInKind (ScriptCommand result template) (Given kind atc iad) = false
+isInKind (StartCommand start) Done = false
+isInKind (FirstCommand first) Done = false
+isInKind (SecondCommand second) Done = false
+isInKind (ScriptCommand result template) Done = true
 
 abbrev areInKind : List Exchange → Bool
 areInKind [] = true
 areInKind (exchange ∷ older) = isInKind (exchange .command) (exchange .answer) && areInKind older
 
-unfoldable pub kindly : List Command → Bool
+unfoldable pub kindly : List Sent → Bool
 kindly commands = areInKind (sat counting commands .log)
 
 abbrev isOf : Answer → Kind → Bool
 isOf (Refused refusal) kind = false
 isOf (Started atc visits) kind = false
 isOf (Given given atc iad) kind = eqb (kindCode given) (kindCode kind)
+isOf Done kind = false
 
 -- what First answers, requested a TC of 1 in a currency
 unfoldable pub answersTo : Setup → (currency : ℕ) → Kind → Bool
@@ -114,6 +120,7 @@ abbrev hasLimits : Answer → ℕ → Bool
 hasLimits (Refused refusal) limits = false
 hasLimits (Started atc visits) limits = false
 hasLimits (Given kind atc iad) limits = eqb (iad .cvr .byte3) limits
+hasLimits Done limits = false
 
 unfoldable pub showsOn : Setup → (day limits : ℕ) → Bool
 showsOn setup day limits = hasLimits (next setup (start 1 ∷ []) (firstOn (onDay 0x00 0x07 day) 1 0x0978 1) .answer) limits
@@ -140,6 +147,7 @@ opensAs interface chosen number =
 abbrev isSending : Setup → List Exchange → Answer → Bool
 isSending setup log (Refused refusal) = false
 isSending setup log (Started atc visits) = false
+isSending setup log Done = false
 isSending setup log (Given kind atc iad) =
     let profile = placeBy setup log in
     let value = audited setup log in
@@ -151,7 +159,7 @@ abbrev areSending : Setup → List Exchange → Bool
 areSending setup [] = false
 areSending setup (exchange ∷ older) = isSending setup (exchange ∷ older) (exchange .answer)
 
-unfoldable pub sends : Setup → List Command → Bool
+unfoldable pub sends : Setup → List Sent → Bool
 sends setup commands = areSending setup (sat setup commands .log)
 
 -- `written-out`: under the one profile of a set-up that is accepted, the IAD of an AAC can be written
@@ -159,6 +167,7 @@ abbrev canWrite : Answer → Bool
 canWrite (Refused refusal) = false
 canWrite (Started atc visits) = false
 canWrite (Given kind atc iad) = isWritable iad
+canWrite Done = false
 
 unfoldable pub writes : (n : ℕ) → Bool
 writes n = not (isSetup (sending n .bytes) (sending n .unnamed)) || canWrite (next (sending n) (start n ∷ []) (first 1 0x0978 0) .answer)

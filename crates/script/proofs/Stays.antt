@@ -96,7 +96,7 @@ module _ (v : Values) (ws : List Write) where
       ∙ getD-set-same (x .accumulators) i amount d (omega (arith, as-many))
 
 -- ---- RULES: only limits are written
-stays-refl : (r : Rules) → Stays r r
+pub stays-refl : (r : Rules) → Stays r r
 stays-refl r =
     record {
       key = refl;
@@ -115,7 +115,7 @@ stays-refl r =
       cashback = λ p. refl;
     }
 
-stays-trans : (q r s : Rules) → Stays q r → Stays r s → Stays q s
+pub stays-trans : (q r s : Rules) → Stays q r → Stays r s → Stays q s
 stays-trans q r s a b =
     record {
       key = b .key ∙ a .key;
