@@ -24,7 +24,7 @@ use Rattle.put_data.specs.declared.Write.{Write}
 use Rattle.script.specs.Script.{heard, rulesAfter}
 use Rattle.script.proofs.Stays.{rules-stay}
 use Rattle.rules.proofs.Limits.{Stays}
-use Rattle.card.specs.Sent.{Sent, sentStep, sentWrites}
+use Rattle.card.specs.Message.{Message, messageStep, messageWrites}
 use Rattle.purchase.specs.declared.Timing.{Timing}
 use Rattle.purchase.specs.declared.Purchase.{Purchase}
 use Rattle.purchase.specs.Meter.{Meter, accumulator, counter, cyclic, amountAt, countAt, cyclicAt, counterCap, worth, cyclicWorth, isDateError, isOpen}
@@ -307,9 +307,9 @@ module _ (rules : Rules) (plain : Plain rules) where
         let phases = asked pending cvm cashback in
         carried-alike phases _ _ (script-alike phases template) (ruleScriptFields result template)
 
-    step-alike : {p q : Phase} → AlikePhases p q → {a b : Sent} → AlikeCommands a b
-        → AlikeOutcomes (sentStep rules (inPhase state p) a) (sentStep rules (inPhase state q) b)
-    unfolding sentStep startStep
+    step-alike : {p q : Phase} → AlikePhases p q → {a b : Message} → AlikeCommands a b
+        → AlikeOutcomes (messageStep rules (inPhase state p) a) (messageStep rules (inPhase state q) b)
+    unfolding messageStep startStep
     step-alike phases (starts chosen i j near far) =
         rw (le-ltb 1 i near, le-ltb 1 j far)
         (carried-alike phases _ _ (start-alike phases (visitsOf chosen)) (ruleChosen rules (state .atc) chosen))
@@ -318,8 +318,8 @@ module _ (rules : Rules) (plain : Plain rules) where
     step-alike phases (scripts result template) = script-step phases result template
 
     -- and both write the same
-    write-alike : {p q : Phase} → AlikePhases p q → {a b : Sent} → AlikeCommands a b → sentWrites (inPhase state p) a ≡ sentWrites (inPhase state q) b
-    unfolding sentWrites scriptWrites
+    write-alike : {p q : Phase} → AlikePhases p q → {a b : Message} → AlikeCommands a b → messageWrites (inPhase state p) a ≡ messageWrites (inPhase state q) b
+    unfolding messageWrites scriptWrites
     write-alike phases (starts chosen i j near far) = refl
     write-alike phases (firsts first cvm cashback) = refl
     write-alike phases (seconds second) = refl
@@ -329,11 +329,11 @@ module _ (rules : Rules) (plain : Plain rules) where
 
   -- ---- over two lists of commands
 
-  record Told (s t : State) (a b : Sent) : Type 0 where
-    outcomes : AlikeOutcomes (sentStep rules s a) (sentStep rules t b)
-    writes : sentWrites s a ≡ sentWrites t b
+  record Told (s t : State) (a b : Message) : Type 0 where
+    outcomes : AlikeOutcomes (messageStep rules s a) (messageStep rules t b)
+    writes : messageWrites s a ≡ messageWrites t b
 
-  told-alike : {s t : State} → AlikeStates s t → {a b : Sent} → AlikeCommands a b → Told s t a b
+  told-alike : {s t : State} → AlikeStates s t → {a b : Message} → AlikeCommands a b → Told s t a b
   told-alike {s} {t} same {a} {b} commands =
       let is : inPhase s (t .phase) ≡ t =
       λ k. record {
@@ -351,7 +351,7 @@ still-plain : (rules after : Rules) → Stays rules after → Plain rules → Pl
 still-plain rules after stay plain =
     record { open-all = λ slot. stay .control slot ∙ plain .open-all slot; unchecked = λ place. stay .cashback place ∙ plain .unchecked place }
 
-run-alike : {ms ns : List Sent} → AllAlike ms ns → (rules : Rules) → Plain rules → (s t : State) → AlikeStates s t → (p q : List Exchange)
+run-alike : {ms ns : List Message} → AllAlike ms ns → (rules : Rules) → Plain rules → (s t : State) → AlikeStates s t → (p q : List Exchange)
     → answersOf p ≡ answersOf q
     → AlikeSittings (run (record { rules = rules; state = s; log = p }) ms) (run (record { rules = rules; state = t; log = q }) ns)
 unfolding run
@@ -359,11 +359,11 @@ run-alike nothing rules plain s t states p q answers = record { answers = answer
 run-alike (more {a} {b} {ms} {ns} command commands) rules plain s t states p q answers =
     let both = told-alike rules plain states command in
     let step = both .outcomes in
-    let ws = sentWrites s a in
-    let one : Exchange = record { command = a; answer = sentStep rules s a .answer } in
-    let other : Exchange = record { command = b; answer = sentStep rules t b .answer } in
+    let ws = messageWrites s a in
+    let one : Exchange = record { command = a; answer = messageStep rules s a .answer } in
+    let other : Exchange = record { command = b; answer = messageStep rules t b .answer } in
     let then : List Write → State → List Exchange → Sitting = λ vs state log. record { rules = rulesAfter rules vs; state = state; log = log } in
-    subst (λ vs. AlikeSittings (run (then ws (sentStep rules s a .state) (one ∷ p)) ms) (run (then vs (sentStep rules t b .state) (other ∷ q)) ns))
+    subst (λ vs. AlikeSittings (run (then ws (messageStep rules s a .state) (one ∷ p)) ms) (run (then vs (messageStep rules t b .state) (other ∷ q)) ns))
     (both .writes)
     (run-alike commands (rulesAfter rules ws) (still-plain rules (rulesAfter rules ws) (rules-stay rules ws) plain) _ _ (step .state) _ _
     (ap₂ _∷_ (step .answer) answers))
@@ -385,7 +385,7 @@ unfolding rulesIn
 zeros-unread s t f syllabus z = rw (z 0, z 1, z 2, z 3, z 4, z 5, z 6, z 7, z 8, z 9, z 10, z 11)
 
 -- A CPACE CARD WHOSE CONTROLS ARE ALL 00 AND WHOSE CASHBACK SWITCHES ARE OFF ANSWERS AS THE CPA CARD DOES
-pub alike : (cpa cpace : Setup) → AcceptedSetup cpa → AcceptedSetup cpace → AlikeSetups cpa cpace → (said told : List Sent) → AllAlike said told
+pub alike : (cpa cpace : Setup) → AcceptedSetup cpa → AcceptedSetup cpace → AlikeSetups cpa cpace → (said told : List Message) → AllAlike said told
     → AlikeSittings (sat cpa said) (sat cpace told)
 unfolding readSetup
 alike cpa cpace good good' same said told all =

@@ -21,7 +21,7 @@ use Rattle.selection.specs.declared.Selection.the-variants.{Selected, NotSelect
 use Rattle.selection.specs.Selection.{profileOf, visitsOf}
 use Rattle.command.specs.declared.First.{First}
 use Rattle.command.specs.declared.Second.{Second}
-use Rattle.card.specs.Sent.{Sent, StartCommand, FirstCommand, SecondCommand, ScriptCommand}
+use Rattle.card.specs.Message.{Message, StartCommand, FirstCommand, SecondCommand, ScriptCommand}
 use Rattle.purchase.specs.declared.Timing.{Timing}
 use Rattle.purchase.specs.declared.Purchase.{Purchase}
 use Rattle.script.specs.declared.Scripts.{Scripts}
@@ -373,14 +373,14 @@ module _ (setup : Setup) (sitting : Sitting) (ruled : Ruled setup sitting) (know
   selected (Selected profile visits) some = refl
   selected NotSelected some = absurd (omega arith)
 
-  refused-kept : (command : Sent) (r : Refusal) → Keeping setup (after sitting command (refused state r))
+  refused-kept : (command : Message) (r : Refusal) → Keeping setup (after sitting command (refused state r))
   unfolding beforeFirst named dealing inForce
   refused-kept (StartCommand start) r = knows .keeps
   refused-kept (FirstCommand first) r = knows .keeps
   refused-kept (SecondCommand second) r = knows .keeps
   refused-kept (ScriptCommand result template) r = knows .keeps
 
-  refused-gives : (command : Sent) (r : Refusal) → Gives setup log command (refused state r)
+  refused-gives : (command : Message) (r : Refusal) → Gives setup log command (refused state r)
   refused-gives (StartCommand start) r = λ atc visits e. let z : _≡_ {A = ℕ} 0 1 = cc in absurd (omega arith)
   refused-gives (FirstCommand first) r = λ kind atc iad e. let z : _≡_ {A = ℕ} 0 1 = cc in absurd (omega arith)
   refused-gives (SecondCommand second) r = λ kind atc iad e. let z : _≡_ {A = ℕ} 0 1 = cc in absurd (omega arith)
@@ -389,7 +389,7 @@ module _ (setup : Setup) (sitting : Sitting) (ruled : Ruled setup sitting) (know
   stood : (place : Place) → state .phase ≡ Opened place → Stands now place at
   stood place is = subst (Agrees now (named log)) is (knows .holding .agrees)
 
-  did-kept : {command : Sent} {outcome : Outcome} → Did rules state command outcome → Keeping setup (after sitting command outcome)
+  did-kept : {command : Message} {outcome : Outcome} → Did rules state command outcome → Keeping setup (after sitting command outcome)
   unfolding firstPerformed firstAnswered beforeFirst named dealing inForce scriptPerformed
   did-kept {command} (refused-it r wrote) = refused-kept command r
   did-kept (started-it start place holds) = tt
@@ -402,7 +402,7 @@ module _ (setup : Setup) (sitting : Sitting) (ruled : Ruled setup sitting) (know
       let wrote = trialOf result template (remembered setup log) .writes in
       subst (λ here. PendsIn setup (beforeFirst log) here (bought setup log) (state .phase)) (sym (place-written now wrote (named log))) (knows .keeps)
 
-  did-gives : {command : Sent} {outcome : Outcome} → Did rules state command outcome → Holding setup (after sitting command outcome)
+  did-gives : {command : Message} {outcome : Outcome} → Did rules state command outcome → Holding setup (after sitting command outcome)
       → Gives setup log command outcome
   unfolding firstPerformed firstAnswered
   did-gives {command} (refused-it r wrote) held = refused-gives command r
@@ -417,7 +417,7 @@ module _ (setup : Setup) (sitting : Sitting) (ruled : Ruled setup sitting) (know
   did-gives (took-script result template is small sound wrote) held = tt
 
 module _ (setup : Setup) where
-  told-knows : (sitting : Sitting) → Ruled setup sitting → Knows setup sitting → (command : Sent) → IsSpoken command → Knows setup (told sitting command)
+  told-knows : (sitting : Sitting) → Ruled setup sitting → Knows setup sitting → (command : Message) → IsSpoken command → Knows setup (told sitting command)
   told-knows sitting ruled knows command spoken =
       let step = did-by setup sitting ruled command in
       record {
@@ -432,7 +432,7 @@ module _ (setup : Setup) where
   begin-knows good = record { deals = begin-deals setup good; holding = begin-holds setup good; recalls = begin-recalls setup good; keeps = tt }
 
   -- of a script nothing is said
-  unless-script : (before : List Exchange) (command : Sent) (outcome : Outcome) → (IsSpoken command → Gives setup before command outcome)
+  unless-script : (before : List Exchange) (command : Message) (outcome : Outcome) → (IsSpoken command → Gives setup before command outcome)
       → Gives setup before command outcome
   unless-script before (StartCommand start) outcome gives = gives tt
   unless-script before (FirstCommand first) outcome gives = gives tt
@@ -440,7 +440,7 @@ module _ (setup : Setup) where
   unless-script before (ScriptCommand result template) outcome gives = tt
 
   -- WHAT FIRST AND SECOND ANSWER
-  pub gives : AcceptedSetup setup → (commands : List Sent) → Spoken commands → (command : Sent)
+  pub gives : AcceptedSetup setup → (commands : List Message) → Spoken commands → (command : Message)
       → Gives setup (sat setup commands .log) command (next setup commands command)
   gives good commands spoken command =
       let sitting = sat setup commands in

@@ -33,7 +33,7 @@ use Rattle.script.specs.declared.Ran.{Ran}
 use Rattle.script.specs.Script.{valueIn, kept, freshScripts, oneDone, oneFailed, started, heard, marksOf, done, tried, templateTried, ranOf}
 use Rattle.auditor.specs.Template.{shortIn, valueIn as valueRead, commandsBy, digitsIn, areDigits, decimal, isAmount, amountIn, ofAccumulator, ofCounter}
 use Rattle.auditor.specs.Template.{listBy, begins as begunWith, dataIn, writesIn}
-use Rattle.card.specs.Sent.{Sent, sentStep, sentWrites}
+use Rattle.card.specs.Message.{Message, messageStep, messageWrites}
 use Rattle.purchase.specs.declared.Purchase.{Purchase}
 use Rattle.purchase.specs.Meter.{worth, cyclicWorth, isOpen, Meter}
 use Rattle.meters.specs.Meters.{applied}
@@ -122,11 +122,11 @@ unfolding ranIn started heard marksOf freshScripts scriptPerformed scriptStep sc
 scripted state result template = scriptStep state result template
 
 -- one command
-unfoldable pub stepped : Rules → State → Sent → Outcome
-unfolding answered scripted sentStep sentWrites startStep firstStep findProfile secondStep secondPerformed unablePerformed verifiedPerformed
-stepped rules state command = sentStep rules state command
+unfoldable pub stepped : Rules → State → Message → Outcome
+unfolding answered scripted messageStep messageWrites startStep firstStep findProfile secondStep secondPerformed unablePerformed verifiedPerformed
+stepped rules state command = messageStep rules state command
 
-unfoldable pub sent : Rules → State → Sent → Outcome
+unfoldable pub sent : Rules → State → Message → Outcome
 unfolding stepped failedPerformed absentPerformed closed sentIad pairsOf iadBytes
 sent rules state command = stepped rules state command
 
@@ -143,6 +143,6 @@ unfoldable pub found : Setup → List Exchange → Meter → ℕ
 unfolding triedIn begunSince placeOf converted named dealing inForce ledger owed past atcBy due
 found setup log meter = audited setup log meter
 
-unfoldable pub computed : Setup → List Sent → Sitting
+unfoldable pub computed : Setup → List Message → Sitting
 unfolding decoded sent found run
 computed setup commands = sat setup commands

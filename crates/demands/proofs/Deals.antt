@@ -22,7 +22,7 @@ use Rattle.ranges.proofs.Accepted.{CyclesAccepted}
 use Rattle.setup.specs.Setup.{freshIn, readSetup}
 use Rattle.command.specs.declared.First.{First}
 use Rattle.command.specs.declared.Second.{Second}
-use Rattle.card.specs.Sent.{Sent, StartCommand, FirstCommand, SecondCommand, ScriptCommand}
+use Rattle.card.specs.Message.{Message, StartCommand, FirstCommand, SecondCommand, ScriptCommand}
 use Rattle.purchase.specs.declared.Timing.{Timing}
 use Rattle.purchase.specs.declared.Timing.the-variants.{Undated, InOrder, DateError}
 use Rattle.purchase.specs.declared.Purchase.{Purchase}
@@ -85,7 +85,7 @@ module _ (setup : Setup) (sitting : Sitting) (ruled : Ruled setup sitting) (deal
   abbrev last : Date
   last = lastDate setup log
 
-  refused-deals : (command : Sent) (r : Refusal) → Deals setup (after sitting command (refused state r))
+  refused-deals : (command : Message) (r : Refusal) → Deals setup (after sitting command (refused state r))
   unfolding dealing inForce
   refused-deals (StartCommand start) r = deals
   refused-deals (FirstCommand first) r = deals
@@ -206,7 +206,7 @@ module _ (setup : Setup) (sitting : Sitting) (ruled : Ruled setup sitting) (deal
       by false u false true = closed-deals _ _ _ _ _ _ (rw u (deals .last-date-is))
       by false u false false = closed-deals _ _ _ _ _ _ (rw u (recovering _))
 
-  pub did-deals : {command : Sent} {outcome : Outcome} → Did rules state command outcome → Deals setup (after sitting command outcome)
+  pub did-deals : {command : Message} {outcome : Outcome} → Did rules state command outcome → Deals setup (after sitting command outcome)
   unfolding dealing inForce firstPerformed firstAnswered scriptPerformed
   did-deals {command} (refused-it r wrote) = refused-deals command r
   did-deals (started-it start place holds) =
@@ -241,7 +241,7 @@ module _ (setup : Setup) (good : AcceptedSetup setup) where
   unfolding run freshState readSetup freshIn dealing inForce dateAt
   begin-deals = rw (all-fit good) (record { last-date-is = refl; lasting = begin-lasting; error-day = tt; remembers = tt })
 
-  module _ (commands : List Sent) (spoken : Spoken commands) where
+  module _ (commands : List Message) (spoken : Spoken commands) where
     pub always-deals : Deals setup (sat setup commands)
     always-deals =
         ruled-keeps setup good (Deals setup) (λ sitting ruled h command s. did-deals setup sitting ruled h (did-by setup sitting ruled command))

@@ -7,7 +7,7 @@ use lib.ListN.{replicate}
 use Rattle.cpace.specs.declared.Cvm.the-variants.{NoCvm}
 use Rattle.selection.specs.declared.Selection.the-variants.{Selected}
 use Rattle.command.specs.declared.When.the-variants.{Undated}
-use Rattle.card.specs.Sent.{Sent, StartCommand, FirstCommand}
+use Rattle.card.specs.Message.{Message, StartCommand, FirstCommand}
 use Rattle.state.specs.declared.Answer.{Answer}
 use Rattle.state.specs.declared.Answer.the-variants.{Refused, Started, Given, Done}
 use Rattle.state.specs.declared.Kind.the-variants.{Aac, Tc, Arqc}
@@ -32,11 +32,11 @@ body value switches lower =
       written = [];
     }
 
-abbrev start : Sent
+abbrev start : Message
 start = StartCommand (record { interface = 0; chosen = Selected 1 0 })
 
 -- an AAC requested
-abbrev first : Sent
+abbrev first : Message
 first =
     FirstCommand (record {
       amount = record { 0 = 1 };

@@ -15,7 +15,7 @@ use Rattle.purchase.specs.declared.Purchase.{Purchase}
 use Rattle.cryptogram.specs.declared.Issuer.{Issuer}
 use Rattle.command.specs.declared.First.{First}
 use Rattle.command.specs.declared.Second.{Second}
-use Rattle.card.specs.Sent.{Sent, StartCommand, FirstCommand, SecondCommand, ScriptCommand}
+use Rattle.card.specs.Message.{Message, StartCommand, FirstCommand, SecondCommand, ScriptCommand}
 use Rattle.state.specs.declared.Answer.{Answer}
 use Rattle.state.specs.declared.Answer.the-variants.{Refused, Started, Given, Done}
 use Rattle.state.specs.declared.Kind.{Kind}
@@ -35,7 +35,7 @@ use Rattle.demands.specs.Due.{Due, nothing, dueBy, due, dueIn, InKind}
 use Rattle.demands.proofs.Step.{Did, refused-it, started-it, took-first, took-second, took-script, did}
 use Rattle.demands.proofs.Run.{run-keeps}
 
-pub accepted-in-kind : (command : Sent) (answer : Answer) → InKind command answer → isAccepted answer ≡ true
+pub accepted-in-kind : (command : Message) (answer : Answer) → InKind command answer → isAccepted answer ≡ true
 accepted-in-kind (StartCommand start) (Started atc visits) k = refl
 accepted-in-kind (FirstCommand first) (Given kind atc iad) k = refl
 accepted-in-kind (SecondCommand second) (Given kind atc iad) k = refl
@@ -96,13 +96,13 @@ module _ (rules : Rules) (state : State) where
       (closes _ _ _ _ _ _)
       (chosen (eqb (second .issuer) 1) (closes _ _ _ _ _ _) (chosen (eqb (second .issuer) 2) (closes _ _ _ _ _ _) (closes _ _ _ _ _ _)))
 
-  refused-leaves : (command : Sent) (refusal : Refusal) (before : Due) → before ≡ dueBy command (Refused refusal) before
+  refused-leaves : (command : Message) (refusal : Refusal) (before : Due) → before ≡ dueBy command (Refused refusal) before
   refused-leaves (StartCommand start) refusal before = refl
   refused-leaves (FirstCommand first) refusal before = refl
   refused-leaves (SecondCommand second) refusal before = refl
   refused-leaves (ScriptCommand result template) refusal before = refl
 
-  did-leaves : {command : Sent} {outcome : Outcome} → Did rules state command outcome
+  did-leaves : {command : Message} {outcome : Outcome} → Did rules state command outcome
       → dueIn (outcome .state .phase) ≡ dueBy command (outcome .answer) (dueIn (state .phase))
   unfolding scriptPerformed
   did-leaves {command} (refused-it refusal wrote) = refused-leaves command refusal (dueIn (state .phase))
@@ -120,12 +120,12 @@ module _ (rules : Rules) (state : State) where
 abbrev AsSaid : Sitting → Type 0
 AsSaid sitting = dueIn (sitting .state .phase) ≡ due (sitting .log)
 
-told-due : (sitting : Sitting) → AsSaid sitting → (command : Sent) → AsSaid (told sitting command)
+told-due : (sitting : Sitting) → AsSaid sitting → (command : Message) → AsSaid (told sitting command)
 unfolding due
 told-due sitting h command = did-leaves (sitting .rules) (sitting .state) (did (sitting .rules) (sitting .state) command) ∙ ap (dueBy command _) h
 
 -- WHAT IS DUE, by the card's phase, is what the conversation says: by any rules
-pub due-is : (rules : Rules) (setup : Setup) (commands : List Sent)
+pub due-is : (rules : Rules) (setup : Setup) (commands : List Message)
     → dueIn (satBy rules setup commands .state .phase) ≡ due (satBy rules setup commands .log)
 unfolding freshState due
 due-is rules setup commands = run-keeps AsSaid told-due _ refl commands

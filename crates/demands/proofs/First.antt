@@ -13,7 +13,7 @@ use Rattle.rules.specs.declared.Masks.{Masks}
 use Rattle.rules.specs.Rules.{Rules, profileAt}
 use Rattle.setup.specs.Setup.{profileIn}
 use Rattle.command.specs.declared.First.{First}
-use Rattle.card.specs.Sent.{Sent, StartCommand, FirstCommand, SecondCommand, ScriptCommand}
+use Rattle.card.specs.Message.{Message, StartCommand, FirstCommand, SecondCommand, ScriptCommand}
 use Rattle.purchase.specs.declared.Timing.{Timing}
 use Rattle.purchase.specs.declared.Purchase.{Purchase}
 use Rattle.state.specs.declared.History.{History}
@@ -118,20 +118,20 @@ module _ (setup : Setup) (sitting : Sitting) (ruled : Ruled setup sitting) (deal
         (these (λ m. m .online)) (these (λ m. m .decline)) (these (λ m. m .default))
         (decided adr masks (first .terminal) (first .requested) type)
 
-  abbrev Answers : Sent → Outcome → Type 0
+  abbrev Answers : Message → Outcome → Type 0
   Answers (StartCommand start) outcome = Unit
   Answers (FirstCommand first) outcome =
       (kind : Kind) (atc : ℕ) (iad : Iad) → outcome .answer ≡ Given kind atc iad → FirstAnswers now at first (by-the-log first) kind
   Answers (SecondCommand second) outcome = Unit
   Answers (ScriptCommand result template) outcome = Unit
 
-  refused-answers : (command : Sent) (r : Refusal) → Answers command (refused (sitting .state) r)
+  refused-answers : (command : Message) (r : Refusal) → Answers command (refused (sitting .state) r)
   refused-answers (StartCommand start) r = tt
   refused-answers (FirstCommand first) r = λ kind atc iad e. let z : _≡_ {A = ℕ} 0 1 = cc in absurd (omega arith)
   refused-answers (SecondCommand second) r = tt
   refused-answers (ScriptCommand result template) r = tt
 
-  did-answers : {command : Sent} {outcome : Outcome} → Did rules (sitting .state) command outcome → Answers command outcome
+  did-answers : {command : Message} {outcome : Outcome} → Did rules (sitting .state) command outcome → Answers command outcome
   unfolding firstPerformed firstAnswered
   did-answers {command} (refused-it r wrote) = refused-answers command r
   did-answers (started-it start place holds) = tt
@@ -143,7 +143,7 @@ module _ (setup : Setup) (sitting : Sitting) (ruled : Ruled setup sitting) (deal
   did-answers (took-script result template is small sound wrote) = tt
 
 -- WHAT FIRST ANSWERS
-pub first-answers : (setup : Setup) → AcceptedSetup setup → (commands : List Sent) → Spoken commands → (first : First) (kind : Kind) (atc : ℕ) (iad : Iad)
+pub first-answers : (setup : Setup) → AcceptedSetup setup → (commands : List Message) → Spoken commands → (first : First) (kind : Kind) (atc : ℕ) (iad : Iad)
     → next setup commands (FirstCommand first) .answer ≡ Given kind atc iad
     → FirstAnswers (inForce setup (sat setup commands .log)) (placeBy setup (sat setup commands .log)) first
     (flags (inForce setup (sat setup commands .log)) (placeBy setup (sat setup commands .log)) (brought (lastDate setup (sat setup commands .log)) first)

@@ -22,6 +22,7 @@ pub mod Decision
 pub mod First
 pub mod Verification
 pub mod Answers
+pub mod Sendable
 pub mod Edges
 pub mod Selected
 pub mod Alike

@@ -20,7 +20,7 @@ use Rattle.rules.specs.Rules.{Rules, profileAt}
 use Rattle.setup.specs.Setup.{profileIn}
 use Rattle.command.specs.declared.First.{First}
 use Rattle.command.specs.declared.Second.{Second}
-use Rattle.card.specs.Sent.{Sent, StartCommand, FirstCommand, SecondCommand, ScriptCommand}
+use Rattle.card.specs.Message.{Message, StartCommand, FirstCommand, SecondCommand, ScriptCommand}
 use Rattle.purchase.specs.declared.Timing.{Timing}
 use Rattle.purchase.specs.declared.Purchase.{Purchase}
 use Rattle.purchase.specs.Meter.{Meter, accumulator, counter, cyclic, IsMeter, MeterRule, ruleOf, valueOf, worthTo, capOf as cap}
@@ -154,7 +154,7 @@ module _ (setup : Setup) (sitting : Sitting) (ruled : Ruled setup sitting) (deal
   at = placeBy setup log
 
   -- if an answer approves a purchase in which the meter takes part, the value is within
-  abbrev Within : Sent → Outcome → Type 0
+  abbrev Within : Message → Outcome → Type 0
   Within command outcome =
       approves command (outcome .answer) ≡ true → takesPart (bought setup (after sitting command outcome .log)) meter ≡ true
       → valueOf (outcome .state .values) meter ≤ upperOf now at meter
@@ -217,9 +217,9 @@ module _ (setup : Setup) (sitting : Sitting) (ruled : Ruled setup sitting) (deal
       by true u rest e = unable-within _ refl _ _ _ _ e
       by false u rest e = absurd (never (rw u at e))
 
-  did-within : {command : Sent} {outcome : Outcome} → Did card-rules state command outcome → Within command outcome
+  did-within : {command : Message} {outcome : Outcome} → Did card-rules state command outcome → Within command outcome
   did-within {command} (refused-it r wrote) = λ e. absurd (never (not-refused command e)) where
-    not-refused : (command : Sent) → approves command (Refused r) ≡ true → false ≡ true
+    not-refused : (command : Message) → approves command (Refused r) ≡ true → false ≡ true
     not-refused (StartCommand start) e = e
     not-refused (FirstCommand first) e = e
     not-refused (SecondCommand second) e = both-false (isUnable (second .code)) e
@@ -231,7 +231,7 @@ module _ (setup : Setup) (sitting : Sitting) (ruled : Ruled setup sitting) (deal
   did-within (took-script result template is small sound wrote) = λ e. absurd (never e)
 
 -- DEMAND 3, THE UPPER LIMIT of a CPA card, which is the one in force at the approval: of a cyclic accumulator, for approvals without a date error
-pub limit : (setup : Setup) → AcceptedSetup setup → IsCpa setup → (commands : List Sent) → Spoken commands → (command : Sent) (meter : Meter) → IsMeter meter
+pub limit : (setup : Setup) → AcceptedSetup setup → IsCpa setup → (commands : List Message) → Spoken commands → (command : Message) (meter : Meter) → IsMeter meter
     → Guards (inForce setup (sat setup commands .log)) (placeBy setup (sat setup commands .log)) meter
     → approves command (next setup commands command .answer) ≡ true
     → takesPart (bought setup (told (sat setup commands) command .log)) meter ≡ true

@@ -14,7 +14,7 @@ use Rattle.rules.specs.Rules.{Rules}
 use Rattle.setup.specs.Setup.{freshIn, readSetup}
 use Rattle.command.specs.declared.First.{First}
 use Rattle.command.specs.declared.Second.{Second}
-use Rattle.card.specs.Sent.{Sent, StartCommand, FirstCommand, SecondCommand, ScriptCommand}
+use Rattle.card.specs.Message.{Message, StartCommand, FirstCommand, SecondCommand, ScriptCommand}
 use Rattle.purchase.specs.declared.Purchase.{Purchase}
 use Rattle.script.specs.declared.Scripts.{Scripts}
 use Rattle.state.specs.declared.History.{History}
@@ -44,7 +44,7 @@ pub record Recalls (setup : Setup) (sitting : Sitting) : Type 0 where
   pub atc-is : sitting .state .atc ≡ atcBy setup (sitting .log)
 
 -- after a step: the history and the ATC, and the ATC that was said
-pub record Keeps (setup : Setup) (sitting : Sitting) (command : Sent) (outcome : Outcome) : Type 0 where
+pub record Keeps (setup : Setup) (sitting : Sitting) (command : Message) (outcome : Outcome) : Type 0 where
   pub recalls : Recalls setup (after sitting command outcome)
   pub says : Says (outcome .answer) (atcBy setup (after sitting command outcome .log))
 
@@ -55,7 +55,7 @@ module _ (setup : Setup) (sitting : Sitting) (recalls : Recalls setup sitting) w
   abbrev state : State
   state = sitting .state
 
-  refused-keeps : (command : Sent) (r : Refusal) → Keeps setup sitting command (refused state r)
+  refused-keeps : (command : Message) (r : Refusal) → Keeps setup sitting command (refused state r)
   unfolding past atcBy
   refused-keeps (StartCommand start) r = record { recalls = record { history-is = recalls .history-is; atc-is = recalls .atc-is }; says = tt }
   refused-keeps (FirstCommand first) r = record { recalls = record { history-is = recalls .history-is; atc-is = recalls .atc-is }; says = tt }
@@ -137,7 +137,7 @@ module _ (setup : Setup) (sitting : Sitting) (recalls : Recalls setup sitting) w
     by false u false p true q = failed-keeps second pending u _ _ _ _ _ p q
     by false u false p false q = absent-keeps second pending u _ _ _ _ _ p q
 
-  pub did-keeps : {command : Sent} {outcome : Outcome} → Did rules state command outcome → Keeps setup sitting command outcome
+  pub did-keeps : {command : Message} {outcome : Outcome} → Did rules state command outcome → Keeps setup sitting command outcome
   unfolding past atcBy firstPerformed firstAnswered scriptPerformed
   did-keeps {command} (refused-it r wrote) = refused-keeps command r
   did-keeps (started-it start place holds) =
@@ -156,7 +156,7 @@ module _ (setup : Setup) where
   unfolding run freshState freshIn readSetup past atcBy
   begin-recalls good = rw (all-fit good) (record { history-is = refl; atc-is = refl })
 
-  module _ (good : AcceptedSetup setup) (commands : List Sent) (spoken : Spoken commands) where
+  module _ (good : AcceptedSetup setup) (commands : List Message) (spoken : Spoken commands) where
     recalled : Recalls setup (sat setup commands)
     recalled =
         ruled-keeps setup good (Recalls setup) (λ sitting ruled h command s. did-keeps setup sitting h (did-by setup sitting ruled command) .recalls)
@@ -170,6 +170,6 @@ module _ (setup : Setup) where
     pub atc : sat setup commands .state .atc ≡ atcBy setup (sat setup commands .log)
     atc = recalled .atc-is
 
-    pub said : (command : Sent) → Says (next setup commands command .answer) (atcBy setup (told (sat setup commands) command .log))
+    pub said : (command : Message) → Says (next setup commands command .answer) (atcBy setup (told (sat setup commands) command .log))
     said command =
         did-keeps setup (sat setup commands) recalled (did-by setup (sat setup commands) (always-ruled setup good commands spoken) command) .says

@@ -36,7 +36,7 @@ use Rattle.first.specs.First.{firstPerformed, firstAnswered, settled, asked, co
 use Rattle.second.specs.Second.{isUnable, unablePerformed, verifiedPerformed, failedPerformed, absentPerformed, secondPerformed, closed, ordered}
 use Rattle.second.specs.Second.{updateByte, orderedChange}
 use Rattle.card.specs.Card.{scriptPerformed}
-use Rattle.card.specs.Sent.{Sent}
+use Rattle.card.specs.Message.{Message}
 use Rattle.demands.specs.Ledger.{owed}
 use Rattle.demands.specs.Audit.{capOf, putBy, allPut}
 use Rattle.demands.proofs.Dated.{same-accumulators}
@@ -112,7 +112,7 @@ module _ (rules : Rules) (state : State) (four : Four (state .values)) where
     by false false true = four
     by false false false = four
 
-  pub did-four : {command : Sent} {outcome : Outcome} → Did rules state command outcome → Four (outcome .state .values)
+  pub did-four : {command : Message} {outcome : Outcome} → Did rules state command outcome → Four (outcome .state .values)
   unfolding firstPerformed firstAnswered scriptPerformed ranOf
   did-four (refused-it r wrote) = four
   did-four (started-it start place holds) = four

@@ -34,7 +34,7 @@ use Rattle.object.specs.Object.{readTemplate, readingNumber}
 use Rattle.trees.specs.Tree.{Fault, malformed, tooDeep, inside, TemplateFault, unframed, framed}
 use Rattle.trees.proofs.Faults.{fault-if-first, first-if-fault}
 use Rattle.auditor.specs.Template.{Bytes}
-use Rattle.card.specs.Sent.{Sent, StartCommand, FirstCommand, SecondCommand, ScriptCommand, sentStep}
+use Rattle.card.specs.Message.{Message, StartCommand, FirstCommand, SecondCommand, ScriptCommand, messageStep}
 use Rattle.state.specs.declared.Answer.{Answer}
 use Rattle.state.specs.declared.Answer.the-variants.{Refused, Started, Given, Done}
 use Rattle.state.specs.declared.Pending.{Pending}
@@ -65,15 +65,15 @@ use Rattle.demands.specs.Rows.{above-max, not-digits, not-a-day, SecondR
 record Taken (outcome : Outcome) : Type 0 where
   is : isAccepted (outcome .answer) ≡ true
 
-taken : (command : Sent) {outcome : Outcome} → InKind command (outcome .answer) → Taken outcome
+taken : (command : Message) {outcome : Outcome} → InKind command (outcome .answer) → Taken outcome
 taken command k = record { is = accepted-in-kind command _ k }
 
 -- ---- a ruling refuses with the first number that applies, and takes where none does
 
-abbrev First-of : Sent → (ℕ → Type 0) → ℕ → Type 0
+abbrev First-of : Message → (ℕ → Type 0) → ℕ → Type 0
 First-of command applies n = applies n × ((m : ℕ) → rank command m < rank command n → applies m → ⊥)
 
-abbrev Ruled : Sent → {A : Type 0} → (ℕ → Type 0) → Ruling A → Type 0
+abbrev Ruled : Message → {A : Type 0} → (ℕ → Type 0) → Ruling A → Type 0
 Ruled command applies (refuse refusal) = First-of command applies (refusalNumber refusal)
 Ruled command applies (take what) = (m : ℕ) → applies m → ⊥
 
@@ -266,7 +266,7 @@ script-ruled (Asked pending) result template bytes = fields-ruled aSecond (λ no
 
 -- ---- what a ruling carries
 
-module _ (rules : Rules) (state : State) (command : Sent) {A : Type 0} (perform : A → Outcome) (answers : (what : A) → Taken (perform what)) where
+module _ (rules : Rules) (state : State) (command : Message) {A : Type 0} (perform : A → Outcome) (answers : (what : A) → Taken (perform what)) where
   number-of : (answer : Answer) → isAccepted answer ≡ true → answerNumber answer ≡ 0
   number-of (Refused refusal) e = absurd (never e)
   number-of (Started atc visits) e = refl
@@ -297,9 +297,9 @@ module _ (rules : Rules) (state : State) where
   script-taken template verified = record { is = refl }
 
 -- A REFUSAL LEAVES THE CARD AS IT WAS
-pub refusal-keeps : (rules : Rules) (state : State) (command : Sent) (refusal : Refusal)
-    → sentStep rules state command .answer ≡ Refused refusal → sentStep rules state command .state ≡ state
-unfolding sentStep startStep firstStep secondStep scriptStep
+pub refusal-keeps : (rules : Rules) (state : State) (command : Message) (refusal : Refusal)
+    → messageStep rules state command .answer ≡ Refused refusal → messageStep rules state command .state ≡ state
+unfolding messageStep startStep firstStep secondStep scriptStep
 refusal-keeps rules state (StartCommand start) =
     keeps rules state (StartCommand start) (startPerformed state (visitsOf (start .chosen))) (start-taken rules state start)
     (ruleStart rules (state .atc) start)
@@ -312,9 +312,9 @@ refusal-keeps rules state (ScriptCommand result template) =
     (ruleScript (state .phase) result template)
 
 -- THE NUMBER OF AN ANSWER IS THE FIRST THAT APPLIES, 0 WHERE NONE DOES: of any rules and any state, by its own ATC and phase
-pub numbered-by-state : (rules : Rules) (state : State) (command : Sent) → IsSpoken command
-    → Numbered (InRules rules) (state .atc) (dueIn (state .phase)) command (answerNumber (sentStep rules state command .answer))
-unfolding sentStep startStep firstStep secondStep scriptStep
+pub numbered-by-state : (rules : Rules) (state : State) (command : Message) → IsSpoken command
+    → Numbered (InRules rules) (state .atc) (dueIn (state .phase)) command (answerNumber (messageStep rules state command .answer))
+unfolding messageStep startStep firstStep secondStep scriptStep
 numbered-by-state rules state (StartCommand start) spoken =
     numbers rules state (StartCommand start) (startPerformed state (visitsOf (start .chosen))) (start-taken rules state start)
     (ruleStart rules (state .atc) start) (start-ruled rules (state .atc) start)
@@ -349,7 +349,7 @@ module _ (setup : Setup) (good : AcceptedSetup setup) where
 
 -- rows over the same profiles
 module _ (P Q : ℕ → Type 0) (atc : ℕ) (due : Due) where
-  row : ((n : ℕ) → Q n → P n) → (command : Sent) (n : ℕ) → Applies P atc due command n → Applies Q atc due command n
+  row : ((n : ℕ) → Q n → P n) → (command : Message) (n : ℕ) → Applies P atc due command n → Applies Q atc due command n
   row from (StartCommand start) n =
       elim [
         | no-interface e h ↦ no-interface e h
@@ -361,14 +361,14 @@ module _ (P Q : ℕ → Type 0) (atc : ℕ) (due : Due) where
   row from (SecondCommand second) n = λ a. a
   row from (ScriptCommand result template) n = λ a. a
 
-same-rows : (P Q : ℕ → Type 0) → ((n : ℕ) → P n → Q n) → ((n : ℕ) → Q n → P n) → (atc : ℕ) (due : Due) (command : Sent) (n : ℕ)
+same-rows : (P Q : ℕ → Type 0) → ((n : ℕ) → P n → Q n) → ((n : ℕ) → Q n → P n) → (atc : ℕ) (due : Due) (command : Message) (n : ℕ)
     → Numbered P atc due command n → Numbered Q atc due command n
 same-rows P Q to from atc due command n (done e f) = done e (λ m a. f m (row Q P atc due to command m a))
 same-rows P Q to from atc due command n (refused a f) = refused (row P Q atc due from command n a) (λ m l b. f m l (row Q P atc due to command m b))
 
 -- THE NUMBER OF EVERY ANSWER, over every list of commands, is the first that applies, 0 where none does: by the profiles in the set-up's bytes,
 -- the ATC and what is due, as the conversation says
-pub numbered : (setup : Setup) → AcceptedSetup setup → (commands : List Sent) → Spoken commands → (command : Sent) → IsSpoken command
+pub numbered : (setup : Setup) → AcceptedSetup setup → (commands : List Message) → Spoken commands → (command : Message) → IsSpoken command
     → Numbered (InSetup (inForce setup (sat setup commands .log))) (atcBy setup (sat setup commands .log)) (due (sat setup commands .log)) command
     (answerNumber (next setup commands command .answer))
 numbered setup good commands spoken command bytes =
@@ -384,8 +384,8 @@ numbered setup good commands spoken command bytes =
     _ _ command _ (numbered-by-state (sitting .rules) (sitting .state) command bytes)))
 
 -- A COMMAND THAT IS TAKEN IS ANSWERED IN ITS KIND
-pub in-kind : (rules : Rules) (state : State) (command : Sent) → answerNumber (sentStep rules state command .answer) ≡ 0
-    → InKind command (sentStep rules state command .answer)
+pub in-kind : (rules : Rules) (state : State) (command : Message) → answerNumber (messageStep rules state command .answer) ≡ 0
+    → InKind command (messageStep rules state command .answer)
 unfolding scriptPerformed
 in-kind rules state command = by (did rules state command) where
   some-refusal : (refusal : Refusal) → refusalNumber refusal ≡ 0 → ⊥
@@ -405,7 +405,7 @@ in-kind rules state command = by (did rules state command) where
   some-refusal Malformed e = omega arith
   some-refusal TooDeep e = omega arith
 
-  by : {command : Sent} {outcome : Outcome} → Did rules state command outcome → answerNumber (outcome .answer) ≡ 0 → InKind command (outcome .answer)
+  by : {command : Message} {outcome : Outcome} → Did rules state command outcome → answerNumber (outcome .answer) ≡ 0 → InKind command (outcome .answer)
   by (refused-it refusal wrote) e = absurd (some-refusal refusal e)
   by (started-it start place holds) e = tt
   by (took-first first place is type small day) e = first-concludes rules state first place .in-kind
@@ -414,7 +414,7 @@ in-kind rules state command = by (did rules state command) where
 
 -- no row has a number below 2, and two that stand alike in the order are one
 module _ (Known : ℕ → Type 0) (atc : ℕ) (due : Due) where
-  some-number : (command : Sent) (n : ℕ) → Applies Known atc due command n → 1 < n
+  some-number : (command : Message) (n : ℕ) → Applies Known atc due command n → 1 < n
   some-number (StartCommand start) n =
       elim [ no-interface e h ↦ omega arith | not-selected e h ↦ omega arith | not-in-setup e h ↦ omega arith | used-up e h ↦ omega arith ]
   some-number (FirstCommand first) n =
@@ -428,7 +428,7 @@ module _ (Known : ℕ → Type 0) (atc : ℕ) (due : Due) where
   some-number (SecondCommand second) n = elim [ no-arqc e h ↦ omega arith | type-two e h ↦ omega arith | issuer-data e h ↦ omega arith ]
   some-number (ScriptCommand result template) n = λ row. omega (arith, script-least row .0)
 
-one-rank : (command : Sent) (n m : ℕ) → 1 < n → 1 < m → rank command n ≡ rank command m → n ≡ m
+one-rank : (command : Message) (n m : ℕ) → 1 < n → 1 < m → rank command n ≡ rank command m → n ≡ m
 one-rank (StartCommand start) n m h k = by (eqb n 6) refl (eqb n 12) refl (eqb m 6) refl (eqb m 12) refl where
   by : (a : Bool) → eqb n 6 ≡ a → (b : Bool) → eqb n 12 ≡ b → (c : Bool) → eqb m 6 ≡ c → (d : Bool) → eqb m 12 ≡ d
       → cond a 0 (cond b 1 n) ≡ cond c 0 (cond d 1 m) → n ≡ m
@@ -446,7 +446,7 @@ one-rank (SecondCommand second) n m h k = λ e. e
 one-rank (ScriptCommand result template) n m h k = λ e. e
 
 -- AND NO OTHER NUMBER IS
-pub only-number : (Known : ℕ → Type 0) (atc : ℕ) (due : Due) (command : Sent) (n m : ℕ)
+pub only-number : (Known : ℕ → Type 0) (atc : ℕ) (due : Due) (command : Message) (n m : ℕ)
     → Numbered Known atc due command n → Numbered Known atc due command m → n ≡ m
 only-number Known atc due command n m (done p f) (done q g) = p ∙ sym q
 only-number Known atc due command n m (done p f) (refused a g) = absurd (f m a)

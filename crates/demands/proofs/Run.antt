@@ -14,7 +14,7 @@ use Rattle.put_data.specs.declared.Write.{Write}
 use Rattle.script.specs.Script.{rulesAfter}
 use Rattle.auditor.specs.Template.{InRange}
 use Rattle.card.specs.Card.{freshState}
-use Rattle.card.specs.Sent.{Sent, sentStep, sentWrites}
+use Rattle.card.specs.Message.{Message, messageStep, messageWrites}
 use Rattle.demands.specs.Setup.{Setup, byteAt, AcceptedSetup}
 use Rattle.demands.specs.Conversation.{Exchange, Sitting, outcomeOf, told, run, satBy, rulesWritten, rulesBy, sat, satOver, IsSpoken, Spoken}
 use Rattle.demands.specs.Scripts.{remembered, wroteBy}
@@ -25,15 +25,15 @@ use Rattle.demands.proofs.Bytes.{fits, all-fit, required-is}
 use Rattle.demands.proofs.Scripts.{Keeps, did-remember, did-write, did-in-range, fresh-keeps}
 use Rattle.demands.proofs.Puts.{Four, did-four}
 
-pub run-keeps : (P : Sitting → Type 0) → ((sitting : Sitting) → P sitting → (command : Sent) → P (told sitting command))
-    → (sitting : Sitting) → P sitting → (commands : List Sent) → P (run sitting commands)
+pub run-keeps : (P : Sitting → Type 0) → ((sitting : Sitting) → P sitting → (command : Message) → P (told sitting command))
+    → (sitting : Sitting) → P sitting → (commands : List Message) → P (run sitting commands)
 unfolding run
 run-keeps P keeps sitting h [] = h
 run-keeps P keeps sitting h (command ∷ commands) = run-keeps P keeps (told sitting command) (keeps sitting h command) commands
 
 -- the same of commands whose templates are bytes
-spoken-keeps : (P : Sitting → Type 0) → ((sitting : Sitting) → P sitting → (command : Sent) → IsSpoken command → P (told sitting command))
-    → (sitting : Sitting) → P sitting → (commands : List Sent) → Spoken commands → P (run sitting commands)
+spoken-keeps : (P : Sitting → Type 0) → ((sitting : Sitting) → P sitting → (command : Message) → IsSpoken command → P (told sitting command))
+    → (sitting : Sitting) → P sitting → (commands : List Message) → Spoken commands → P (run sitting commands)
 unfolding run
 spoken-keeps P keeps sitting h [] spoken = h
 spoken-keeps P keeps sitting h (command ∷ commands) spoken =
@@ -82,11 +82,11 @@ unfolding run inForce freshState readSetup freshIn
 begin-ruled setup good = rw (all-fit good) (record { rules-are = refl; good = good; scripts-are = fresh-keeps setup; four = refl })
 
 -- what a command did, by the set-up in force
-pub did-by : (setup : Setup) (sitting : Sitting) → Ruled setup sitting → (command : Sent)
+pub did-by : (setup : Setup) (sitting : Sitting) → Ruled setup sitting → (command : Message)
     → Did (rulesBy (inForce setup (sitting .log))) (sitting .state) command (outcomeOf sitting command)
 did-by setup sitting ruled command =
     let rules = rulesBy (inForce setup (sitting .log)) in
-    subst (λ these. Did rules (sitting .state) command (sentStep these (sitting .state) command)) (sym (ruled .rules-are)) (did rules (sitting .state) command)
+    subst (λ these. Did rules (sitting .state) command (messageStep these (sitting .state) command)) (sym (ruled .rules-are)) (did rules (sitting .state) command)
 
 module _ (setup : Setup) (sitting : Sitting) (ruled : Ruled setup sitting) where
   abbrev now : Setup
@@ -103,7 +103,7 @@ module _ (setup : Setup) (sitting : Sitting) (ruled : Ruled setup sitting) where
       either (suc zero) l = refl
       either (suc (suc b)) l = absurd (omega arith)
 
-  told-ruled : (command : Sent) → IsSpoken command → Ruled setup (told sitting command)
+  told-ruled : (command : Message) → IsSpoken command → Ruled setup (told sitting command)
   unfolding inForce remembered
   told-ruled command spoken =
       let good = ruled .good in
@@ -131,20 +131,20 @@ module _ (setup : Setup) (sitting : Sitting) (ruled : Ruled setup sitting) where
 
 -- what each command keeps under the rules in force is kept
 pub ruled-keeps : (setup : Setup) → AcceptedSetup setup → (P : Sitting → Type 0)
-    → ((sitting : Sitting) → Ruled setup sitting → P sitting → (command : Sent) → IsSpoken command → P (told sitting command))
-    → P (sat setup []) → (commands : List Sent) → Spoken commands → P (sat setup commands)
+    → ((sitting : Sitting) → Ruled setup sitting → P sitting → (command : Message) → IsSpoken command → P (told sitting command))
+    → P (sat setup []) → (commands : List Message) → Spoken commands → P (sat setup commands)
 unfolding run
 ruled-keeps setup good P keeps h commands spoken =
     spoken-keeps (λ sitting. Ruled setup sitting × P sitting)
     (λ sitting both command s. (told-ruled setup sitting (both .0) command s, keeps sitting (both .0) (both .1) command s))
     _ (begin-ruled setup good, h) commands spoken .1
 
-pub always-ruled : (setup : Setup) → AcceptedSetup setup → (commands : List Sent) → Spoken commands → Ruled setup (sat setup commands)
+pub always-ruled : (setup : Setup) → AcceptedSetup setup → (commands : List Message) → Spoken commands → Ruled setup (sat setup commands)
 unfolding run
 always-ruled setup good commands spoken = spoken-keeps (Ruled setup) (told-ruled setup) _ (begin-ruled setup good) commands spoken
 
 -- OVER THE WORDS THAT A CARD WAS LENT, whatever they held, the conversation is the one over the set-up's bytes
-pub heard-over-words : (setup : Setup) → AcceptedSetup setup → (words : List ℕ) → length words ≡ wordCount → (commands : List Sent)
+pub heard-over-words : (setup : Setup) → AcceptedSetup setup → (words : List ℕ) → length words ≡ wordCount → (commands : List Message)
     → satOver words setup commands ≡ sat setup commands
 heard-over-words setup good words size commands =
     ap (λ rules. satBy (rulesWritten rules (setup .written)) setup commands)

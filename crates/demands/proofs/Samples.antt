@@ -21,7 +21,7 @@ use Rattle.selection.specs.declared.Selection.{Selection}
 use Rattle.selection.specs.declared.Selection.the-variants.{Selected, NotSelected}
 use Rattle.command.specs.declared.When.{When}
 use Rattle.command.specs.declared.When.the-variants.{Undated}
-use Rattle.card.specs.Sent.{Sent, StartCommand, FirstCommand, SecondCommand, ScriptCommand}
+use Rattle.card.specs.Message.{Message, StartCommand, FirstCommand, SecondCommand, ScriptCommand}
 use Rattle.card.specs.Card.{answerNumber}
 use Rattle.purchase.specs.Meter.{Meter, accumulator, counter, cyclic, valueOf}
 use Rattle.demands.specs.Setup.{Setup, byteAt}
@@ -52,7 +52,7 @@ abbrev sameDate : Date → Date → Bool
 sameDate a b = eqb (a .year) (b .year) && eqb (a .month) (b .month) && eqb (a .day) (b .day)
 
 -- `total`, `history`, `atc` and `last-date` of a card after a list of commands
-unfoldable pub agrees : Setup → List Sent → Bool
+unfoldable pub agrees : Setup → List Message → Bool
 agrees setup commands =
     let sitting = sat setup commands in
     holds setup sitting (accumulator 0) && holds setup sitting (accumulator 1) && holds setup sitting (accumulator 2)
@@ -69,13 +69,13 @@ dueCode nothing = 0
 dueCode aFirst = 1
 dueCode aSecond = 2
 
-unfoldable pub duly : List Sent → Bool
+unfoldable pub duly : List Message → Bool
 duly commands =
     let sitting = sat counting commands in
     eqb (dueCode (dueIn (sitting .state .phase))) (dueCode (due (sitting .log)))
 
 -- `in-kind`: Start starts, First and Second give
-abbrev isInKind : Sent → Answer → Bool
+abbrev isInKind : Message → Answer → Bool
 isInKind command (Refused refusal) = false
 isInKind (StartCommand start) (Started atc visits) = true
 isInKind (StartCommand start) (Given kind atc iad) = false
@@ -94,7 +94,7 @@ abbrev areInKind : List Exchange → Bool
 areInKind [] = true
 areInKind (exchange ∷ older) = isInKind (exchange .command) (exchange .answer) && areInKind older
 
-unfoldable pub kindly : List Sent → Bool
+unfoldable pub kindly : List Message → Bool
 kindly commands = areInKind (sat counting commands .log)
 
 abbrev isOf : Answer → Kind → Bool
@@ -159,7 +159,7 @@ abbrev areSending : Setup → List Exchange → Bool
 areSending setup [] = false
 areSending setup (exchange ∷ older) = isSending setup (exchange ∷ older) (exchange .answer)
 
-unfoldable pub sends : Setup → List Sent → Bool
+unfoldable pub sends : Setup → List Message → Bool
 sends setup commands = areSending setup (sat setup commands .log)
 
 -- `written-out`: under the one profile of a set-up that is accepted, the IAD of an AAC can be written

@@ -38,9 +38,9 @@ use Rattle.cycles.specs.Cycles.{dated}
 use Rattle.first.specs.First.{firstPerformed, firstAnswered, settled, asked, concluded}
 use Rattle.second.specs.Second.{isUnable, unablePerformed, verifiedPerformed, failedPerformed, absentPerformed, secondPerformed, closed}
 use Rattle.card.specs.Card.{refused, scriptPerformed}
-use Rattle.card.specs.Sent.{Sent, StartCommand, FirstCommand, SecondCommand, ScriptCommand, sentWrites}
+use Rattle.card.specs.Message.{Message, StartCommand, FirstCommand, SecondCommand, ScriptCommand, messageWrites}
 use Rattle.demands.specs.Setup.{Setup, byteAt}
-use Rattle.demands.specs.Conversation.{Exchange, IsSpoken}
+use Rattle.demands.specs.Conversation.{Exchange, IsSpoken, isAccepted}
 use Rattle.demands.specs.Scripts.{Trial, firstTried, trial, Remembered, trialOf, withTrial, clears, rememberedBy, remembered, wroteBy}
 use Rattle.demands.proofs.Dated.{same-scripts}
 use Rattle.demands.proofs.Step.{Did, refused-it, started-it, took-first, took-second, took-script}
@@ -195,10 +195,10 @@ module _ (setup : Setup) (rules : Rules) (required : rules .required ≡ not (eq
   memory = remembered setup log
 
   -- what is remembered then
-  abbrev Then : Sent → Outcome → Type 0
+  abbrev Then : Message → Outcome → Type 0
   Then command outcome = Keeps (rememberedBy setup command (outcome .answer) memory) (outcome .state .scripts)
 
-  refused-then : (command : Sent) (r : Refusal) → Then command (refused state r)
+  refused-then : (command : Message) (r : Refusal) → Then command (refused state r)
   refused-then (StartCommand start) r = keeps
   refused-then (FirstCommand first) r = keeps
   refused-then (SecondCommand second) r = keeps
@@ -236,7 +236,7 @@ module _ (setup : Setup) (rules : Rules) (required : rules .required ≡ not (eq
     by false u false p true q = rw (u, p, q) keeps
     by false u false p false q = rw (u, p, q) (absent (rules .required) (eqb (byteAt setup 2) 0) required)
 
-  pub did-remember : {command : Sent} {outcome : Outcome} → IsSpoken command → Did rules state command outcome → Then command outcome
+  pub did-remember : {command : Message} {outcome : Outcome} → IsSpoken command → Did rules state command outcome → Then command outcome
   unfolding firstPerformed firstAnswered scriptPerformed ranOf
   did-remember {command} spoken (refused-it r wrote) = refused-then command r
   did-remember spoken (started-it start place holds) = started-keeps keeps
@@ -246,11 +246,11 @@ module _ (setup : Setup) (rules : Rules) (required : rules .required ≡ not (eq
       template-agrees result template spoken sound memory (state .scripts) keeps .keeps
 
   -- and what was written
-  pub did-write : {command : Sent} {outcome : Outcome} → IsSpoken command → Did rules state command outcome
-      → sentWrites state command ≡ wroteBy command (outcome .answer) memory
-  unfolding sentWrites scriptPerformed
+  pub did-write : {command : Message} {outcome : Outcome} → IsSpoken command → Did rules state command outcome
+      → messageWrites state command ≡ wroteBy command (outcome .answer) memory
+  unfolding messageWrites scriptPerformed
   did-write {command} spoken (refused-it r wrote) = wrote ∙ nothing command where
-    nothing : (command : Sent) → [] ≡ wroteBy command (Refused r) memory
+    nothing : (command : Message) → [] ≡ wroteBy command (Refused r) memory
     nothing (StartCommand start) = refl
     nothing (FirstCommand first) = refl
     nothing (SecondCommand second) = refl
@@ -261,11 +261,11 @@ module _ (setup : Setup) (rules : Rules) (required : rules .required ≡ not (eq
   did-write spoken (took-script result template is small sound wrote) =
       wrote ∙ template-agrees result template spoken sound memory (state .scripts) keeps .writes
 
-  pub did-in-range : {command : Sent} {outcome : Outcome} → IsSpoken command → Did rules state command outcome
+  pub did-in-range : {command : Message} {outcome : Outcome} → IsSpoken command → Did rules state command outcome
       → InRange (wroteBy command (outcome .answer) memory)
   unfolding InRange scriptPerformed
   did-in-range {command} spoken (refused-it r wrote) = nothing command where
-    nothing : (command : Sent) → InRange (wroteBy command (Refused r) memory)
+    nothing : (command : Message) → InRange (wroteBy command (Refused r) memory)
     nothing (StartCommand start) = tt
     nothing (FirstCommand first) = tt
     nothing (SecondCommand second) = tt
@@ -280,3 +280,21 @@ module _ (setup : Setup) (rules : Rules) (required : rules .required ≡ not (eq
 pub fresh-keeps : (setup : Setup) → Keeps (remembered setup []) freshScripts
 unfolding remembered
 fresh-keeps setup = record { says = fresh-says; below = lit< tt }
+
+-- the count that is remembered stays below 16
+pub count-below : (setup : Setup) (log : List Exchange) → remembered setup log .count < 16
+unfolding remembered
+count-below setup [] = lit< tt
+count-below setup (exchange ∷ older) = by (exchange .command) (count-below setup older) where
+  before : Remembered
+  before = remembered setup older
+
+  either : (b : Bool) (a c : Remembered) → a .count < 16 → c .count < 16 → cond b a c .count < 16
+  either true a c p q = p
+  either false a c p q = q
+
+  by : (command : Message) → before .count < 16 → rememberedBy setup command (exchange .answer) before .count < 16
+  by (StartCommand start) below = either (isAccepted (exchange .answer)) _ _ below below
+  by (FirstCommand first) below = below
+  by (SecondCommand second) below = either (clears setup second (exchange .answer)) _ _ below below
+  by (ScriptCommand result template) below = either (isAccepted (exchange .answer)) (withTrial before (trialOf result template before)) _ (omega arith) below

@@ -18,7 +18,7 @@ use Rattle.shape.specs.declared.Dating.{Dating}
 use Rattle.shape.specs.declared.Family.the-variants.{Cpa, Cpace}
 use Rattle.refusal.specs.declared.Refusal.the-variants.{OutOfRange}
 use Rattle.command.specs.declared.First.{First}
-use Rattle.card.specs.Sent.{Sent, sentStep}
+use Rattle.card.specs.Message.{Message, messageStep}
 use Rattle.command.specs.declared.Command.{Command}
 use Rattle.command.specs.declared.ReadCommand.{ReadCommand}
 use Rattle.command.specs.declared.ReadCommand.the-variants.{Taken}
@@ -38,7 +38,7 @@ use Rattle.demands.specs.Audit.{capOf, startOf, approves, upperOf, takes
 use Rattle.demands.specs.Guards.{Guards}
 use Rattle.demands.specs.Past.{past}
 use Rattle.demands.specs.Decision.{flags, FirstAnswers}
-use Rattle.demands.specs.Selecting.{Said, start, startOn, first, second, script, IsBytes, AllBytes, slotsBy, asSent, selecting, heard, allHeard}
+use Rattle.demands.specs.Selecting.{Said, start, startOn, first, second, script, IsBytes, AllBytes, slotsBy, asMessage, selecting, heard, allHeard}
 use Rattle.demands.proofs.Total.{total}
 use Rattle.demands.proofs.Limit.{limit}
 use Rattle.demands.proofs.First.{first-answers}
@@ -59,8 +59,8 @@ isStart (Given kind atc iad) = 0
 isStart Done = 0
 
 -- a record that is read as a command is heard as that command is sent
-pub data Heard : ReadCommand → Sent → Type 0 where
-  as-read : (command : Command) → Heard (Taken command) (asSent command)
+pub data Heard : ReadCommand → Message → Type 0 where
+  as-read : (command : Command) → Heard (Taken command) (asMessage command)
 
 module _ (file : List ℕ) (entries : ℕ) where
   -- A START'S RECORD IS HEARD AS SELECTION OVER THE FILE'S BYTES, of a CPA card and of a CPACE one
@@ -76,9 +76,9 @@ module _ (file : List ℕ) (entries : ℕ) where
 
   -- AN ACCEPTED START OPENS THE PROFILE SELECTED, AND SAYS HOW MANY ENTRIES WERE VISITED
   pub start-selected : (rules : Rules) (state : State) (slots : Slots) (interface : ℕ) (read : List ℕ) (atc visits : ℕ)
-      → sentStep rules state (selecting file entries slots interface read) .answer ≡ Started atc visits
+      → messageStep rules state (selecting file entries slots interface read) .answer ≡ Started atc visits
       → selectionOf file entries read slots ≡ Selected (profileOf (selectionOf file entries read slots)) visits
-  unfolding sentStep startStep visitsIn isStart
+  unfolding messageStep startStep visitsIn isStart
   start-selected rules state slots interface read atc visits = on (ltb 1 interface) (selectionOf file entries read slots) where
     opened : (profile seen : ℕ) (found : Found) (b : Bool) → eqb (state .atc) 65535 ≡ b
         → carried state (startPerformed state seen) (ruleOpening (state .atc) found) .answer ≡ Started atc visits
@@ -115,7 +115,7 @@ module _ (file : List ℕ) (entries : ℕ) where
 
   module _ (setup : Setup) (good : AcceptedSetup setup) (said : List Said) (bytes : AllBytes said) where
     -- the commands heard so far, the conversation, and what one thing more that is said comes to
-    abbrev pub commands-so-far : List Sent
+    abbrev pub commands-so-far : List Message
     commands-so-far = allHeard file entries setup (sat setup []) said
 
     spoken : Spoken commands-so-far
@@ -124,7 +124,7 @@ module _ (file : List ℕ) (entries : ℕ) where
     abbrev pub sat-so-far : Sitting
     sat-so-far = sat setup commands-so-far
 
-    abbrev pub heard-now : Said → Sent
+    abbrev pub heard-now : Said → Message
     heard-now now = heard file entries (slotsBy setup (sat-so-far .log)) now
 
     abbrev pub next-heard : Said → Outcome

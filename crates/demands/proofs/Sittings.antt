@@ -8,7 +8,7 @@ use Rattle.cpace.specs.declared.Cvm.the-variants.{NoCvm}
 use Rattle.selection.specs.declared.Selection.the-variants.{Selected}
 use Rattle.command.specs.declared.When.{When}
 use Rattle.command.specs.declared.When.the-variants.{Undated, On}
-use Rattle.card.specs.Sent.{Sent, StartCommand, FirstCommand, SecondCommand, ScriptCommand}
+use Rattle.card.specs.Message.{Message, StartCommand, FirstCommand, SecondCommand, ScriptCommand}
 use Rattle.demands.specs.Setup.{Setup}
 
 abbrev pub zeros : ℕ → List ℕ
@@ -125,14 +125,14 @@ dual high low control control' cashback =
 
 -- ---- sittings
 
-abbrev pub startOn : (interface n : ℕ) → Sent
+abbrev pub startOn : (interface n : ℕ) → Message
 startOn interface n = StartCommand (record { interface = interface; chosen = Selected n 0 })
 
-abbrev pub start : ℕ → Sent
+abbrev pub start : ℕ → Message
 start n = startOn 0 n
 
 -- requested 0 AAC, 1 TC, 2 ARQC
-abbrev pub firstBy : Cvm → (cashback : Bool) → When → (amount currency requested : ℕ) → Sent
+abbrev pub firstBy : Cvm → (cashback : Bool) → When → (amount currency requested : ℕ) → Message
 firstBy cvm cashback when amount currency requested =
     FirstCommand (record {
       amount = record { 0 = amount };
@@ -144,18 +144,18 @@ firstBy cvm cashback when amount currency requested =
       cashback = cashback;
     })
 
-abbrev pub firstOn : When → (amount currency requested : ℕ) → Sent
+abbrev pub firstOn : When → (amount currency requested : ℕ) → Message
 firstOn when amount currency requested = firstBy NoCvm false when amount currency requested
 
-abbrev pub first : (amount currency requested : ℕ) → Sent
+abbrev pub first : (amount currency requested : ℕ) → Message
 first amount currency requested = firstOn Undated amount currency requested
 
 -- TC requested, the issuer's data verified, CSU byte 2
-abbrev pub second : ℕ → Sent
+abbrev pub second : ℕ → Message
 second update = SecondCommand (record { csu = update * 65536; code = 0x3030; requested = 1; issuer = 1 })
 
 -- approvals, in one of them nothing of an ARQC that the issuer approves, and one after a Start that another Start drops
-unfoldable pub approvals : List Sent
+unfoldable pub approvals : List Message
 approvals =
     start 1 ∷ first 100 0x0978 1 ∷ start 1 ∷ first 30 0x0978 2 ∷ second 0x80 ∷ start 1 ∷ first 10 0x0978 1
     ∷ start 2
@@ -164,24 +164,24 @@ approvals =
     ∷ []
 
 -- and then the upper limits from an issuer that declines; and then zero
-unfoldable pub limits : List Sent
+unfoldable pub limits : List Message
 limits = approvals ++ start 1 ∷ first 1 0x0978 2 ∷ second 0x01 ∷ []
 
-unfoldable pub resets : List Sent
+unfoldable pub resets : List Message
 resets = limits ++ start 1 ∷ first 1 0x0978 2 ∷ second 0x82 ∷ []
 
 -- TC requested after Y3; issuer data failed; absent
-abbrev pub unable : Sent
+abbrev pub unable : Message
 unable = SecondCommand (record { csu = 0; code = 0x5933; requested = 1; issuer = 0 })
 
-abbrev pub after : ℕ → Sent
+abbrev pub after : ℕ → Message
 after issuer = SecondCommand (record { csu = 0; code = 0x3030; requested = 1; issuer = issuer })
 
 -- one transaction that First answers, and one that it sends online
-unfoldable pub answered : ℕ → List Sent
+unfoldable pub answered : ℕ → List Message
 answered requested = start 1 ∷ first 1 0x0978 requested ∷ []
 
-unfoldable pub online : Sent → List Sent
+unfoldable pub online : Message → List Message
 online command = start 1 ∷ first 1 0x0978 2 ∷ command ∷ []
 
 -- ---- with dates
@@ -190,32 +190,32 @@ abbrev pub onDay : (year month day : ℕ) → When
 onDay year month day = On (record { year = year; month = month; day = day })
 
 -- a transaction of July 2000 under a profile
-unfoldable pub buy : (n day amount requested : ℕ) → List Sent
+unfoldable pub buy : (n day amount requested : ℕ) → List Message
 buy n day amount requested = start n ∷ firstOn (onDay 0x00 0x07 day) amount 0x0978 requested ∷ []
 
 -- one on the 14th, a day too early, which goes online, and a Second
-unfoldable pub late : Sent → List Sent
+unfoldable pub late : Message → List Message
 late command = start 1 ∷ firstOn (onDay 0x00 0x07 0x14) 5 0x0978 1 ∷ command ∷ []
 
 -- one of January 2000; on Sunday the 2nd and Monday the 3rd; and a week later
-abbrev pub inJanuary : ℕ → List Sent
+abbrev pub inJanuary : ℕ → List Message
 inJanuary day = start 1 ∷ firstOn (onDay 0x00 0x01 day) 1 0x0978 1 ∷ []
 
-unfoldable pub week : List Sent
+unfoldable pub week : List Message
 week = inJanuary 0x02 ++ inJanuary 0x03
 
-unfoldable pub weeks : List Sent
+unfoldable pub weeks : List Message
 weeks = inJanuary 0x02 ++ inJanuary 0x03 ++ inJanuary 0x09 ++ inJanuary 0x10
 
 -- 30 in July 2000 and 1 in July 2001
-unfoldable pub years : List Sent
+unfoldable pub years : List Message
 years = start 1 ∷ firstOn (onDay 0x00 0x07 0x15) 30 0x0978 1 ∷ start 1 ∷ firstOn (onDay 0x01 0x07 0x15) 1 0x0978 1 ∷ []
 
 -- ---- to a CPACE card
 
 -- a purchase of 4000 by its CVM, with cashback or without; and one that goes online, and a Second
-unfoldable pub pay : Cvm → (cashback : Bool) → (requested : ℕ) → List Sent
+unfoldable pub pay : Cvm → (cashback : Bool) → (requested : ℕ) → List Message
 pay cvm cashback requested = start 1 ∷ firstBy cvm cashback Undated 4000 0x0978 requested ∷ []
 
-unfoldable pub payOnline : Cvm → (cashback : Bool) → Sent → List Sent
+unfoldable pub payOnline : Cvm → (cashback : Bool) → Message → List Message
 payOnline cvm cashback command = pay cvm cashback 2 ++ command ∷ []

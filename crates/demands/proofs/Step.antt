@@ -23,7 +23,7 @@ use Rattle.object.specs.declared.Reading.{Reading}
 use Rattle.object.specs.declared.Reading.the-variants.{Sound, Malformed as NoTemplate, TooDeep as DeepTemplate}
 use Rattle.object.specs.Object.{readTemplate}
 use Rattle.script.specs.Script.{templateTried}
-use Rattle.card.specs.Sent.{Sent, StartCommand, FirstCommand, SecondCommand, ScriptCommand, sentStep, sentWrites}
+use Rattle.card.specs.Message.{Message, StartCommand, FirstCommand, SecondCommand, ScriptCommand, messageStep, messageWrites}
 use Rattle.state.specs.declared.Pending.{Pending}
 use Rattle.state.specs.declared.Phase.{Phase}
 use Rattle.state.specs.declared.Phase.the-variants.{Idle, Opened, Asked}
@@ -40,8 +40,8 @@ pub data Taking : Phase → Type 0 where
   idle : {phase : Phase} → phase ≡ Idle → Taking phase
   asked : {phase : Phase} (pending : Pending) → phase ≡ Asked pending → Taking phase
 
-pub data Did (rules : Rules) (state : State) : Sent → Outcome → Type 0 where
-  refused-it : {command : Sent} (refusal : Refusal) → sentWrites state command ≡ [] → Did rules state command (refused state refusal)
+pub data Did (rules : Rules) (state : State) : Message → Outcome → Type 0 where
+  refused-it : {command : Message} (refusal : Refusal) → messageWrites state command ≡ [] → Did rules state command (refused state refusal)
   started-it : (start : Start) (place : Place) → Holds rules (profileOf (start .chosen)) place
       → Did rules state (StartCommand start) (startPerformed state (visitsOf (start .chosen)) place)
   took-first : (first : First) (place : Place) → state .phase ≡ Opened place → first .requested ≤ 2 → first .amount .0 ≤ max
@@ -57,7 +57,7 @@ pub data Did (rules : Rules) (state : State) : Sent → Outcome → Type 0 where
 module _ (rules : Rules) (state : State) where
   opening-did : (start : Start) (found : Found) → Known rules (profileOf (start .chosen)) found
       → Did rules state (StartCommand start) (carried state (startPerformed state (visitsOf (start .chosen))) (ruleOpening (state .atc) found))
-  unfolding sentWrites
+  unfolding messageWrites
   opening-did start Nothing missing = refused-it UnknownProfile refl
   opening-did start (At place) holds = by (eqb (state .atc) 65535) where
     by : (b : Bool)
@@ -67,7 +67,7 @@ module _ (rules : Rules) (state : State) where
 
   chosen-did : (start : Start) (chosen : Selection) → start .chosen ≡ chosen
       → Did rules state (StartCommand start) (carried state (startPerformed state (visitsOf chosen)) (ruleChosen rules (state .atc) chosen))
-  unfolding sentWrites
+  unfolding messageWrites
   chosen-did start None is = refused-it NotSelected refl
   chosen-did start (Selected profile visits) is =
       subst (λ c. Did rules state (StartCommand start)
@@ -77,13 +77,13 @@ module _ (rules : Rules) (state : State) where
   start-did : (start : Start) (b : Bool)
       → Did rules state (StartCommand start) (carried state (startPerformed state (visitsOf (start .chosen)))
       (cond b (refuse OutOfRange) (ruleChosen rules (state .atc) (start .chosen))))
-  unfolding sentWrites
+  unfolding messageWrites
   start-did start true = refused-it OutOfRange refl
   start-did start false = chosen-did start (start .chosen) refl
 
   first-did : (first : First) (phase : Phase) → state .phase ≡ phase
       → Did rules state (FirstCommand first) (carried state (firstPerformed rules state first) (ruleFirst phase first))
-  unfolding sentWrites
+  unfolding messageWrites
   first-did first Idle is = refused-it OutOfTurn refl
   first-did first (Asked pending) is = refused-it OutOfTurn refl
   first-did first (Opened place) is =
@@ -100,7 +100,7 @@ module _ (rules : Rules) (state : State) where
 
   second-did : (second : Second) (phase : Phase) → state .phase ≡ phase
       → Did rules state (SecondCommand second) (carried state (secondPerformed rules state second) (ruleSecond phase second))
-  unfolding sentWrites
+  unfolding messageWrites
   second-did second Idle is = refused-it OutOfTurn refl
   second-did second (Opened place) is = refused-it OutOfTurn refl
   second-did second (Asked pending) is = by (ltb 1 (second .requested)) refl (ltb 2 (second .issuer)) refl where
@@ -114,7 +114,7 @@ module _ (rules : Rules) (state : State) where
   reading-did : (result : ℕ) (template : List ℕ) → Taking (state .phase) → result ≤ 1 → (reading : Reading) → readTemplate template ≡ reading
       → scriptWrites state result template ≡ writesRuled (state .scripts) template (ruleReading (eqb result 1) reading)
       → Did rules state (ScriptCommand result template) (carried state (scriptPerformed state template) (ruleReading (eqb result 1) reading))
-  unfolding sentWrites
+  unfolding messageWrites
   reading-did result template taking small Sound is wrote = took-script result template taking small is wrote
   reading-did result template taking small NoTemplate is wrote = refused-it Malformed wrote
   reading-did result template taking small DeepTemplate is wrote = refused-it TooDeep wrote
@@ -122,7 +122,7 @@ module _ (rules : Rules) (state : State) where
   fields-did : (result : ℕ) (template : List ℕ) → Taking (state .phase)
       → scriptWrites state result template ≡ writesRuled (state .scripts) template (ruleScriptFields result template)
       → Did rules state (ScriptCommand result template) (carried state (scriptPerformed state template) (ruleScriptFields result template))
-  unfolding sentWrites
+  unfolding messageWrites
   fields-did result template taking wrote = by (ltb 1 result) refl wrote where
     by : (b : Bool) → ltb 1 result ≡ b
         → scriptWrites state result template
@@ -135,13 +135,13 @@ module _ (rules : Rules) (state : State) where
   script-did : (result : ℕ) (template : List ℕ) (phase : Phase) → state .phase ≡ phase
       → scriptWrites state result template ≡ writesRuled (state .scripts) template (ruleScript phase result template)
       → Did rules state (ScriptCommand result template) (carried state (scriptPerformed state template) (ruleScript phase result template))
-  unfolding sentWrites
+  unfolding messageWrites
   script-did result template Idle is wrote = fields-did result template (idle is) wrote
   script-did result template (Opened place) is wrote = refused-it OutOfTurn wrote
   script-did result template (Asked pending) is wrote = fields-did result template (asked pending is) wrote
 
-  pub did : (command : Sent) → Did rules state command (sentStep rules state command)
-  unfolding sentStep sentWrites startStep firstStep secondStep scriptStep scriptWrites
+  pub did : (command : Message) → Did rules state command (messageStep rules state command)
+  unfolding messageStep messageWrites startStep firstStep secondStep scriptStep scriptWrites
   did (StartCommand start) = start-did start (ltb 1 (start .interface))
   did (FirstCommand first) = first-did first (state .phase) refl
   did (SecondCommand second) = second-did second (state .phase) refl

@@ -23,7 +23,7 @@ use Rattle.selection.specs.Selection.{profileOf, visitsOf}
 use Rattle.command.specs.declared.Start.{Start}
 use Rattle.command.specs.declared.First.{First}
 use Rattle.command.specs.declared.Second.{Second}
-use Rattle.card.specs.Sent.{Sent, StartCommand, FirstCommand, SecondCommand, ScriptCommand}
+use Rattle.card.specs.Message.{Message, StartCommand, FirstCommand, SecondCommand, ScriptCommand}
 use Rattle.meters.specs.declared.Change.the-variants.{Approve, Decline}
 use Rattle.meters.specs.Meters.{Entry, moved, offline, applied}
 use Rattle.object.specs.declared.Reading.the-variants.{Sound}
@@ -158,7 +158,7 @@ module _ (setup : Setup) (sitting : Sitting) (ruled : Ruled setup sitting) (deal
   carry values then meter older more held e fair =
       e ∙ ap (λ v. moved (capOf meter) v more) held ∙ grows (capOf meter) (startOf setup meter) older fair
 
-  refused-holds : (command : Sent) (r : Refusal) → Holding setup (after sitting command (refusal state r))
+  refused-holds : (command : Message) (r : Refusal) → Holding setup (after sitting command (refusal state r))
   unfolding named inForce ledger
   refused-holds (StartCommand start) r = record { agrees = holding .agrees; values = holding .values }
   refused-holds (FirstCommand first) r = record { agrees = holding .agrees; values = holding .values }
@@ -322,7 +322,7 @@ module _ (setup : Setup) (sitting : Sitting) (ruled : Ruled setup sitting) (deal
             ∙ all-put (startOf setup meter) meter l wrote (agree .in-range) (state .values) (ruled .four) (ledger setup meter log) (holding .values meter l);
       }
 
-  pub did-holds : {command : Sent} {outcome : Outcome} → IsSpoken command → Did rules state command outcome
+  pub did-holds : {command : Message} {outcome : Outcome} → IsSpoken command → Did rules state command outcome
       → Holding setup (after sitting command outcome)
   did-holds {command} spoken (refused-it r wrote) = refused-holds command r
   did-holds spoken (started-it start place holds) = start-taken start place (stands-at now (ruled .good) place (profileOf (start .chosen)) holds)
@@ -347,7 +347,7 @@ module _ (setup : Setup) where
       rw (all-fit good)
       (record { agrees = tt; values = λ meter l. fresh meter l ∙ starts (capOf meter) (startOf setup meter) (start-within setup good meter l) })
 
-  pub always : AcceptedSetup setup → (commands : List Sent) → Spoken commands → Holding setup (sat setup commands)
+  pub always : AcceptedSetup setup → (commands : List Message) → Spoken commands → Holding setup (sat setup commands)
   always good commands spoken =
       ruled-keeps setup good (λ sitting. Deals setup sitting × Holding setup sitting)
       (λ sitting ruled h command s.
@@ -356,6 +356,6 @@ module _ (setup : Setup) where
       (begin-deals setup good, begin-holds good) commands spoken .1
 
   -- DEMAND 3, THE TOTAL
-  pub total : AcceptedSetup setup → (commands : List Sent) → Spoken commands → (meter : Meter) → IsMeter meter
+  pub total : AcceptedSetup setup → (commands : List Message) → Spoken commands → (meter : Meter) → IsMeter meter
       → valueOf (sat setup commands .state .values) meter ≡ owed (capOf meter) (startOf setup meter) (ledger setup meter (sat setup commands .log))
   total good commands spoken meter l = always good commands spoken .values meter l

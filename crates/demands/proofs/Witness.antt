@@ -12,7 +12,7 @@ use Rattle.ranges.specs.Ranges.{isSetup, areCycles, isFamily}
 use Rattle.cpace.specs.declared.Cvm.the-variants.{OnlinePin, Signature, NoCvm}
 use Rattle.selection.specs.declared.Selection.the-variants.{Selected}
 use Rattle.command.specs.declared.When.the-variants.{Undated}
-use Rattle.card.specs.Sent.{Sent}
+use Rattle.card.specs.Message.{Message}
 use Rattle.auditor.specs.Template.{InRange}
 use Rattle.demands.specs.Setup.{Setup, IsCpa, AcceptedSetup}
 use Rattle.purchase.specs.Meter.{Meter, accumulator, cyclic, valueOf}
@@ -67,7 +67,7 @@ printed = refl
 
 -- an approval happens on a CPA card: the answer approves a purchase in which the meter takes part, the value is what it is after it, and the profile guards the
 -- meter against its upper limit
-pub record Approval (setup : Setup) (meter : Meter) (before : List Sent) (command : Sent) (value upper : ℕ) : Type 0 where
+pub record Approval (setup : Setup) (meter : Meter) (before : List Message) (command : Message) (value upper : ℕ) : Type 0 where
   pub cpa : IsCpa setup
   pub guards : Guards (inForce setup (sat setup before .log)) (placeBy setup (sat setup before .log)) meter
   pub approves-it : approves command (next setup before command .answer) ≡ true

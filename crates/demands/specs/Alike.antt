@@ -9,7 +9,7 @@ use Rattle.rules.specs.declared.Place.{Place}
 use Rattle.selection.specs.declared.Selection.{Selection}
 use Rattle.command.specs.declared.First.{First}
 use Rattle.command.specs.declared.Second.{Second}
-use Rattle.card.specs.Sent.{Sent, StartCommand, FirstCommand, SecondCommand, ScriptCommand}
+use Rattle.card.specs.Message.{Message, StartCommand, FirstCommand, SecondCommand, ScriptCommand}
 use Rattle.purchase.specs.declared.Purchase.{Purchase}
 use Rattle.state.specs.declared.Answer.{Answer}
 use Rattle.state.specs.declared.Pending.{Pending}
@@ -56,16 +56,16 @@ pendingWith cvm cashback pending =
     }
 
 -- commands alike but for a Start's interface, 0 or 1, and for a First's CVM and cashback, which may be any
-pub data AlikeCommands : Sent → Sent → Type 0 where
+pub data AlikeCommands : Message → Message → Type 0 where
   starts : (chosen : Selection) (i j : ℕ) → i ≤ 1 → j ≤ 1
       → AlikeCommands (StartCommand (record { interface = i; chosen = chosen })) (StartCommand (record { interface = j; chosen = chosen }))
   firsts : (first : First) (cvm : Cvm) (cashback : Bool) → AlikeCommands (FirstCommand first) (FirstCommand (firstWith cvm cashback first))
   seconds : (second : Second) → AlikeCommands (SecondCommand second) (SecondCommand second)
   scripts : (result : ℕ) (template : List ℕ) → AlikeCommands (ScriptCommand result template) (ScriptCommand result template)
 
-pub data AllAlike : List Sent → List Sent → Type 0 where
+pub data AllAlike : List Message → List Message → Type 0 where
   nothing : AllAlike [] []
-  more : {a b : Sent} {ms ns : List Sent} → AlikeCommands a b → AllAlike ms ns → AllAlike (a ∷ ms) (b ∷ ns)
+  more : {a b : Message} {ms ns : List Message} → AlikeCommands a b → AllAlike ms ns → AllAlike (a ∷ ms) (b ∷ ns)
 
 -- states alike but for the CVM and the cashback of a purchase whose ARQC is open
 pub data AlikePhases : Phase → Phase → Type 0 where

@@ -18,7 +18,7 @@ use Rattle.command.specs.declared.When.the-variants.{Undated as NoDate, On}
 use Rattle.command.specs.declared.First.{First}
 use Rattle.put_data.specs.declared.Write.{Write}
 use Rattle.put_data.specs.declared.Write.the-variants.{Value, AccumulatorLimits, CounterLimits}
-use Rattle.card.specs.Sent.{Sent, StartCommand, FirstCommand, SecondCommand, ScriptCommand}
+use Rattle.card.specs.Message.{Message, StartCommand, FirstCommand, SecondCommand, ScriptCommand}
 use Rattle.state.specs.declared.Answer.{Answer}
 use Rattle.state.specs.declared.Answer.the-variants.{Refused, Started, Given, Done}
 use Rattle.state.specs.declared.Kind.the-variants.{Aac, Tc, Arqc}
@@ -164,7 +164,7 @@ adds none = []
 -- ---- the conversation
 
 -- the profile that the last accepted Start named, or that selection gave it
-abbrev pub namedBy : Sent → Answer → ℕ → ℕ
+abbrev pub namedBy : Message → Answer → ℕ → ℕ
 namedBy (StartCommand start) answer before = cond (isAccepted answer) (profileOf (start .chosen)) before
 namedBy (FirstCommand first) answer before = before
 namedBy (SecondCommand second) answer before = before
@@ -194,7 +194,7 @@ brought last first =
     }
 
 -- the purchase that the last accepted First brought
-abbrev pub boughtBy : Sent → Answer → (last : Date) → Purchase → Purchase
+abbrev pub boughtBy : Message → Answer → (last : Date) → Purchase → Purchase
 boughtBy (StartCommand start) answer last before = before
 boughtBy (FirstCommand first) answer last before = cond (isAccepted answer) (brought last first) before
 boughtBy (SecondCommand second) answer last before = before
@@ -253,7 +253,7 @@ recovered Undated last = last
 recovered InOrder last = last
 recovered (DateError date) last = date
 
-abbrev pub lastBy : Sent → Answer → Purchase → (last : Date) → Date
+abbrev pub lastBy : Message → Answer → Purchase → (last : Date) → Date
 lastBy (StartCommand start) answer purchase last = last
 lastBy (FirstCommand first) answer purchase last = cond (isAccepted answer) (latest last (first .when)) last
 lastBy (SecondCommand second) answer purchase last =
@@ -285,7 +285,7 @@ abbrev pub lastDate : Setup → List Exchange → Date
 lastDate setup log = dealing setup log .last
 
 -- an offline approval is a TC at First, or at Second after Y3 or Z3, and nothing else
-abbrev pub approves : Sent → Answer → Bool
+abbrev pub approves : Message → Answer → Bool
 approves (StartCommand start) answer = false
 approves (FirstCommand first) answer = isTc answer
 approves (SecondCommand second) answer = couldNotGoOnline (second .code) && isTc answer
@@ -364,7 +364,7 @@ allPut (write ∷ writes) meter = allPut writes meter ++ putBy write meter
 
 -- what a command and its answer enter, for the profile and the purchase of the transaction, the newest first: whatever First answers, a
 -- cycle begins before it counts
-abbrev pub entered : Setup → (profile : ℕ) → (last : Date) → Purchase → Remembered → Meter → Sent → Answer → List Entry
+abbrev pub entered : Setup → (profile : ℕ) → (last : Date) → Purchase → Remembered → Meter → Message → Answer → List Entry
 entered setup profile last purchase scripts meter (StartCommand start) answer = []
 entered setup profile last purchase scripts meter (FirstCommand first) answer =
     cond (isTc answer) (counted setup profile purchase meter) (cond (isAac answer) (declined setup profile meter) [])

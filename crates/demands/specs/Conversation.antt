@@ -14,11 +14,11 @@ use Rattle.state.specs.declared.Answer.the-variants.{Refused, Started, Given, D
 use Rattle.state.specs.declared.State.{State}
 use Rattle.state.specs.declared.Outcome.{Outcome}
 use Rattle.card.specs.Card.{freshState}
-use Rattle.card.specs.Sent.{Sent, StartCommand, FirstCommand, SecondCommand, ScriptCommand, sentStep, sentWrites}
+use Rattle.card.specs.Message.{Message, StartCommand, FirstCommand, SecondCommand, ScriptCommand, messageStep, messageWrites}
 use Rattle.demands.specs.Setup.{Setup}
 
 pub record Exchange : Type 0 where
-  pub command : Sent
+  pub command : Message
   pub answer : Answer
 
 -- the rules in force, the state, and the exchanges so far, the newest first
@@ -28,27 +28,27 @@ pub record Sitting : Type 0 where
   pub log : List Exchange
 
 -- what a command comes to
-abbrev pub outcomeOf : Sitting → Sent → Outcome
-outcomeOf sitting command = sentStep (sitting .rules) (sitting .state) command
+abbrev pub outcomeOf : Sitting → Message → Outcome
+outcomeOf sitting command = messageStep (sitting .rules) (sitting .state) command
 
 -- the sitting then: a script alone writes the rules
-abbrev pub after : Sitting → Sent → Outcome → Sitting
+abbrev pub after : Sitting → Message → Outcome → Sitting
 after sitting command outcome =
     record {
-      rules = rulesAfter (sitting .rules) (sentWrites (sitting .state) command);
+      rules = rulesAfter (sitting .rules) (messageWrites (sitting .state) command);
       state = outcome .state;
       log = record { command = command; answer = outcome .answer } ∷ sitting .log;
     }
 
-abbrev pub told : Sitting → Sent → Sitting
+abbrev pub told : Sitting → Message → Sitting
 told sitting command = after sitting command (outcomeOf sitting command)
 
-unfoldable pub run : Sitting → List Sent → Sitting
+unfoldable pub run : Sitting → List Message → Sitting
 run sitting [] = sitting
 run sitting (command ∷ commands) = run (told sitting command) commands
 
 -- a card as reading a set-up makes it, over a list of commands, by these rules
-abbrev pub satBy : Rules → Setup → List Sent → Sitting
+abbrev pub satBy : Rules → Setup → List Message → Sitting
 satBy rules setup commands =
     run (record { rules = rules; state = freshState (readSetup (setup .bytes) (setup .tail) (setup .family) (setup .unnamed) .fresh); log = [] }) commands
 
@@ -61,28 +61,28 @@ rulesWritten rules (write ∷ older) = rulesWith (rulesWritten rules older) writ
 abbrev pub rulesBy : Setup → Rules
 rulesBy setup = rulesWritten (rulesIn (setup .bytes) (setup .tail) (setup .family) (setup .syllabus)) (setup .written)
 
-abbrev pub sat : Setup → List Sent → Sitting
+abbrev pub sat : Setup → List Message → Sitting
 sat setup commands = satBy (rulesBy setup) setup commands
 
 -- by those that stand in the words that it was lent, once it has read the set-up
-abbrev pub satOver : (words : List ℕ) → Setup → List Sent → Sitting
+abbrev pub satOver : (words : List ℕ) → Setup → List Message → Sitting
 satOver words setup commands =
     satBy
     (rulesWritten (rulesOf (wordsAfter words (setup .bytes) (setup .tail) (setup .family) (setup .syllabus) (setup .unnamed))) (setup .written))
     setup commands
 
 -- what one command more comes to
-abbrev pub next : Setup → List Sent → Sent → Outcome
+abbrev pub next : Setup → List Message → Message → Outcome
 next setup commands command = outcomeOf (sat setup commands) command
 
 -- the template of every script is bytes
-abbrev pub IsSpoken : Sent → Type 0
+abbrev pub IsSpoken : Message → Type 0
 IsSpoken (StartCommand start) = Unit
 IsSpoken (FirstCommand first) = Unit
 IsSpoken (SecondCommand second) = Unit
 IsSpoken (ScriptCommand result template) = Bytes template
 
-abbrev pub Spoken : List Sent → Type 0
+abbrev pub Spoken : List Message → Type 0
 Spoken [] = Unit
 Spoken (command ∷ commands) = IsSpoken command × Spoken commands
 

@@ -2,7 +2,7 @@
 -- kind of answer that each command gets.
 use mathlib.Core.Bool.{cond}
 use mathlib.Core.List.{List, [], _∷_}
-use Rattle.card.specs.Sent.{Sent, StartCommand, FirstCommand, SecondCommand, ScriptCommand}
+use Rattle.card.specs.Message.{Message, StartCommand, FirstCommand, SecondCommand, ScriptCommand}
 use Rattle.state.specs.declared.Answer.{Answer}
 use Rattle.state.specs.declared.Answer.the-variants.{Refused, Started, Given, Done}
 use Rattle.state.specs.declared.Kind.the-variants.{Aac, Tc, Arqc}
@@ -18,7 +18,7 @@ pub data Due : Type 0 where
 
 -- Start is allowed at any time, drops an unfinished transaction and opens the profile; at First an ARQC asks for a Second, TC or AAC closes
 -- the transaction; Second closes it; a script leaves what is due; a refusal changes nothing
-abbrev pub dueBy : Sent → Answer → Due → Due
+abbrev pub dueBy : Message → Answer → Due → Due
 dueBy (StartCommand start) answer before = cond (isAccepted answer) aFirst before
 dueBy (FirstCommand first) answer before = cond (isAccepted answer) (cond (isArqc answer) aSecond nothing) before
 dueBy (SecondCommand second) answer before = cond (isAccepted answer) nothing before
@@ -36,7 +36,7 @@ dueIn (Opened place) = aFirst
 dueIn (Asked pending) = aSecond
 
 -- a command that is taken is answered in its kind: Start starts, First gives a cryptogram, Second a TC or an AAC, a script is done
-abbrev pub InKind : Sent → Answer → Type 0
+abbrev pub InKind : Message → Answer → Type 0
 InKind (StartCommand start) (Refused refusal) = ⊥
 InKind (StartCommand start) (Started atc visits) = Unit
 InKind (StartCommand start) (Given kind atc iad) = ⊥

@@ -6,7 +6,7 @@ use mathlib.Core.Bool.{Bool, true, false, cond, _&&_}
 use mathlib.Core.List.{List, [], _∷_}
 use lib.Dec.{eqb}
 use Rattle.command.specs.declared.Second.{Second}
-use Rattle.card.specs.Sent.{Sent, StartCommand, FirstCommand, SecondCommand, ScriptCommand}
+use Rattle.card.specs.Message.{Message, StartCommand, FirstCommand, SecondCommand, ScriptCommand}
 use Rattle.state.specs.declared.History.{History}
 use Rattle.state.specs.declared.Answer.{Answer}
 use Rattle.state.specs.declared.Answer.the-variants.{Refused, Started, Given, Done}
@@ -24,14 +24,14 @@ isArqc (Given Arqc atc iad) = true
 isArqc Done = false
 
 -- what an answered Second makes of a history bit
-abbrev pub bySecond : Sent → Answer → (before : Bool) → (Second → Bool) → Bool
+abbrev pub bySecond : Message → Answer → (before : Bool) → (Second → Bool) → Bool
 bySecond (StartCommand start) answer before after = before
 bySecond (FirstCommand first) answer before after = before
 bySecond (SecondCommand second) answer before after = cond (isAccepted answer) (after second) before
 bySecond (ScriptCommand result template) answer before after = before
 
 -- bit 0, last online not completed: an ARQC sets it; verified clears it, and so does absent where authentication isn't required
-abbrev pub uncompletedBy : Setup → Sent → Answer → Bool → Bool
+abbrev pub uncompletedBy : Setup → Message → Answer → Bool → Bool
 uncompletedBy setup (StartCommand start) answer before = before
 uncompletedBy setup (FirstCommand first) answer before = cond (isArqc answer) true before
 uncompletedBy setup (SecondCommand second) answer before =
@@ -39,19 +39,19 @@ uncompletedBy setup (SecondCommand second) answer before =
 uncompletedBy setup (ScriptCommand result template) answer before = before
 
 -- bit 1, go online next: verified makes it CSU byte 2 b4
-abbrev pub onlineBy : Sent → Answer → Bool → Bool
+abbrev pub onlineBy : Message → Answer → Bool → Bool
 onlineBy command answer before = bySecond command answer before (λ second. byOutcome second before (isOn (second .csu / 65536) 8) before before)
 
 -- bit 2, issuer authentication failed
-abbrev pub failedBy : Sent → Answer → Bool → Bool
+abbrev pub failedBy : Message → Answer → Bool → Bool
 failedBy command answer before = bySecond command answer before (λ second. byOutcome second before false true before)
 
 -- bit 3, unable to go online
-abbrev pub unableBy : Sent → Answer → Bool → Bool
+abbrev pub unableBy : Message → Answer → Bool → Bool
 unableBy command answer before = bySecond command answer before (λ second. byOutcome second true false before before)
 
 -- bit 4, issuer data not received
-abbrev pub missingBy : Sent → Answer → Bool → Bool
+abbrev pub missingBy : Message → Answer → Bool → Bool
 missingBy command answer before = bySecond command answer before (λ second. byOutcome second before false before true)
 
 -- a fresh card's history is clear but for go online next
@@ -88,7 +88,7 @@ Says (Given kind atc iad) n = atc ≡ n
 Says Done n = Unit
 
 -- the conversation before the last accepted First
-abbrev pub beforeBy : Sent → Answer → (older before : List Exchange) → List Exchange
+abbrev pub beforeBy : Message → Answer → (older before : List Exchange) → List Exchange
 beforeBy (StartCommand start) answer older before = before
 beforeBy (FirstCommand first) answer older before = cond (isAccepted answer) older before
 beforeBy (SecondCommand second) answer older before = before

@@ -18,7 +18,7 @@ use Rattle.command.specs.declared.Start.{Start}
 use Rattle.command.specs.declared.First.{First}
 use Rattle.command.specs.declared.Second.{Second}
 use Rattle.trees.specs.Tree.{TemplateFault}
-use Rattle.card.specs.Sent.{Sent, StartCommand, FirstCommand, SecondCommand, ScriptCommand}
+use Rattle.card.specs.Message.{Message, StartCommand, FirstCommand, SecondCommand, ScriptCommand}
 use Rattle.demands.specs.Setup.{Setup, byteAt}
 use Rattle.demands.specs.Due.{Due, nothing, aFirst, aSecond}
 
@@ -87,7 +87,7 @@ pub data ScriptRow (due : Due) (result : ℕ) (template : List ℕ) (n : ℕ) : 
   at-fault : TemplateFault n template → ScriptRow due result template n
 
 -- the row of number n applies to a command
-abbrev pub Applies : (ℕ → Type 0) → ℕ → Due → Sent → ℕ → Type 0
+abbrev pub Applies : (ℕ → Type 0) → ℕ → Due → Message → ℕ → Type 0
 Applies Known atc due (StartCommand start) n = StartRow Known atc start n
 Applies Known atc due (FirstCommand first) n = FirstRow due first n
 Applies Known atc due (SecondCommand second) n = SecondRow due second n
@@ -95,14 +95,14 @@ Applies Known atc due (ScriptCommand result template) n = ScriptRow due result t
 
 -- where several apply: Start 6, 12, 3, 4; First 2, 5, 6, 13; Second 2, 5, 6; a script 2, 6, and of 18 and 19 one at most. So of Start 6 comes first,
 -- then 12, and otherwise the least
-abbrev pub rank : Sent → ℕ → ℕ
+abbrev pub rank : Message → ℕ → ℕ
 rank (StartCommand start) n = cond (eqb n 6) 0 (cond (eqb n 12) 1 n)
 rank (FirstCommand first) n = n
 rank (SecondCommand second) n = n
 rank (ScriptCommand result template) n = n
 
 -- 0 where no row applies; where several apply, the first
-pub data Numbered (Known : ℕ → Type 0) (atc : ℕ) (due : Due) (command : Sent) (n : ℕ) : Type 0 where
+pub data Numbered (Known : ℕ → Type 0) (atc : ℕ) (due : Due) (command : Message) (n : ℕ) : Type 0 where
   done : n ≡ 0 → ((m : ℕ) → Applies Known atc due command m → ⊥) → Numbered Known atc due command n
   refused : Applies Known atc due command n → ((m : ℕ) → rank command m < rank command n → Applies Known atc due command m → ⊥)
       → Numbered Known atc due command n

@@ -9,7 +9,7 @@ use Rattle.put_data.specs.declared.Write.{Write}
 use Rattle.auditor.specs.Template.{commandsIn, writesIn}
 use Rattle.command.specs.declared.Second.{Second}
 use Rattle.state.specs.declared.Answer.{Answer}
-use Rattle.card.specs.Sent.{Sent, StartCommand, FirstCommand, SecondCommand, ScriptCommand}
+use Rattle.card.specs.Message.{Message, StartCommand, FirstCommand, SecondCommand, ScriptCommand}
 use Rattle.demands.specs.Setup.{Setup, byteAt}
 use Rattle.demands.specs.Conversation.{Exchange, isAccepted, byOutcome}
 
@@ -52,7 +52,7 @@ abbrev pub clears : Setup → Second → Answer → Bool
 clears setup second answer = isAccepted answer && byOutcome second false true false (eqb (byteAt setup 2) 0)
 
 -- unless one failed in this transaction, which an accepted Start begins
-abbrev pub rememberedBy : Setup → Sent → Answer → Remembered → Remembered
+abbrev pub rememberedBy : Setup → Message → Answer → Remembered → Remembered
 rememberedBy setup (StartCommand start) answer before =
     cond (isAccepted answer) (record { count = before .count; failed = before .failed; here = false }) before
 rememberedBy setup (FirstCommand first) answer before = before
@@ -67,7 +67,7 @@ remembered setup [] = record { count = 0; failed = false; here = false }
 remembered setup (exchange ∷ older) = rememberedBy setup (exchange .command) (exchange .answer) (remembered setup older)
 
 -- WHAT A COMMAND WROTE, in that order: only a script writes
-abbrev pub wroteBy : Sent → Answer → Remembered → List Write
+abbrev pub wroteBy : Message → Answer → Remembered → List Write
 wroteBy (StartCommand start) answer before = []
 wroteBy (FirstCommand first) answer before = []
 wroteBy (SecondCommand second) answer before = []

@@ -13,7 +13,7 @@ use Rattle.command.specs.declared.First.{First}
 use Rattle.command.specs.declared.Second.{Second}
 use Rattle.command.specs.declared.Command.{Command}
 use Rattle.command.specs.declared.Command.the-variants.{Start as StartOf, First as FirstOf, Second as SecondOf}
-use Rattle.card.specs.Sent.{Sent, StartCommand, FirstCommand, SecondCommand, ScriptCommand}
+use Rattle.card.specs.Message.{Message, StartCommand, FirstCommand, SecondCommand, ScriptCommand}
 use Rattle.auditor.specs.Template.{Bytes}
 use Rattle.demands.specs.Setup.{Setup}
 use Rattle.demands.specs.Conversation.{Exchange, Sitting, told}
@@ -52,18 +52,18 @@ slotsBy setup log =
     }
 
 -- a command that was read, as it is sent
-abbrev pub asSent : Command → Sent
-asSent (StartOf s) = StartCommand s
-asSent (FirstOf f) = FirstCommand f
-asSent (SecondOf s) = SecondCommand s
+abbrev pub asMessage : Command → Message
+asMessage (StartOf s) = StartCommand s
+asMessage (FirstOf f) = FirstCommand f
+asMessage (SecondOf s) = SecondCommand s
 
 module _ (file : List ℕ) (entries : ℕ) where
   -- a Start on an interface, with the bytes that the file reads
-  abbrev pub selecting : Slots → (interface : ℕ) (read : List ℕ) → Sent
+  abbrev pub selecting : Slots → (interface : ℕ) (read : List ℕ) → Message
   selecting slots interface read = StartCommand (record { interface = interface; chosen = selectionOf file entries read slots })
 
   -- a CPA card's has none, which stands as 0; a CPACE card's is the first byte that the file reads
-  abbrev pub heard : Slots → Said → Sent
+  abbrev pub heard : Slots → Said → Message
   heard slots (start terminal) = selecting slots 0 terminal
   heard slots (startOn interface terminal) = selecting slots interface (interface ∷ terminal)
   heard slots (first f) = FirstCommand f
@@ -71,7 +71,7 @@ module _ (file : List ℕ) (entries : ℕ) where
   heard slots (script result template) = ScriptCommand result template
 
   -- one thing after the other, each heard by what the card holds when it comes
-  unfoldable pub allHeard : Setup → Sitting → List Said → List Sent
+  unfoldable pub allHeard : Setup → Sitting → List Said → List Message
   allHeard setup sitting [] = []
   allHeard setup sitting (now ∷ said) =
       let command = heard (slotsBy setup (sitting .log)) now in

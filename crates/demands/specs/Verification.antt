@@ -11,7 +11,7 @@ use Rattle.selection.specs.Selection.{profileOf}
 use Rattle.command.specs.declared.Start.{Start}
 use Rattle.command.specs.declared.First.{First}
 use Rattle.command.specs.declared.Second.{Second}
-use Rattle.card.specs.Sent.{Sent, StartCommand, FirstCommand, SecondCommand, ScriptCommand}
+use Rattle.card.specs.Message.{Message, StartCommand, FirstCommand, SecondCommand, ScriptCommand}
 use Rattle.purchase.specs.declared.Purchase.{Purchase}
 use Rattle.state.specs.declared.History.{History}
 use Rattle.state.specs.declared.Answer.the-variants.{Started, Given}
@@ -145,7 +145,7 @@ pub record StartGives (setup : Setup) (before : List Exchange) (start : Start) (
   pub known : InSetup (inForce setup before) (profileOf (start .chosen))
 
 -- WHAT AN OUTCOME GIVES
-abbrev pub Gives : Setup → List Exchange → Sent → Outcome → Type 0
+abbrev pub Gives : Setup → List Exchange → Message → Outcome → Type 0
 Gives setup before (StartCommand start) outcome =
     (atc visits : ℕ) → outcome .answer ≡ Started atc visits → StartGives setup before start atc visits
 Gives setup before (FirstCommand first) outcome =
