@@ -398,7 +398,7 @@ module _ (setup : Setup) (sitting : Sitting) (ruled : Ruled setup sitting) (know
       (firstKind rules (dated rules state (first .when)) place first (timingOf (state .last) (first .when)))
   did-kept (took-second second pending is type issuer) =
       subst (PendsIn setup _ _ _) (sym (second-closes rules state second pending .idle)) tt
-  did-kept (took-script result template is small sound wrote) =
+  did-kept (took-script result template sound wrote) =
       let wrote = trialOf result template (remembered setup log) .writes in
       subst (λ here. PendsIn setup (beforeFirst log) here (bought setup log) (state .phase)) (sym (place-written now wrote (named log))) (knows .keeps)
 
@@ -414,7 +414,7 @@ module _ (setup : Setup) (sitting : Sitting) (ruled : Ruled setup sitting) (know
       }
   did-gives (took-first first place is type small day) held = first-gives first place (stood place is) type small day held
   did-gives (took-second second pending is type issuer) held = second-gives second pending is type held
-  did-gives (took-script result template is small sound wrote) held = tt
+  did-gives (took-script result template sound wrote) held = tt
 
 module _ (setup : Setup) where
   told-knows : (sitting : Sitting) → Ruled setup sitting → Knows setup sitting → (command : Message) → IsSpoken command → Knows setup (told sitting command)

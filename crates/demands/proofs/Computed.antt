@@ -32,7 +32,7 @@ use Rattle.script.specs.declared.Scripts.{Scripts}
 use Rattle.script.specs.declared.Ran.{Ran}
 use Rattle.script.specs.Script.{valueIn, kept, freshScripts, oneDone, oneFailed, started, heard, marksOf, done, tried, templateTried, ranOf}
 use Rattle.auditor.specs.Template.{shortIn, valueIn as valueRead, commandsBy, digitsIn, areDigits, decimal, isAmount, amountIn, ofAccumulator, ofCounter}
-use Rattle.auditor.specs.Template.{listBy, begins as begunWith, dataIn, writesIn}
+use Rattle.auditor.specs.Template.{commandsIn, listBy, begins as begunWith, dataIn, writesIn}
 use Rattle.card.specs.Message.{Message, messageStep, messageWrites}
 use Rattle.purchase.specs.declared.Purchase.{Purchase}
 use Rattle.purchase.specs.Meter.{worth, cyclicWorth, isOpen, Meter}
@@ -136,7 +136,7 @@ unfolding shortIn digitsIn areDigits decimal isAmount amountIn ofAccumulator ofC
 listsRead command = writesIn command
 
 unfoldable pub triedIn : Bool → List (List ℕ) → Trial
-unfolding listsRead valueRead commandsBy trial remembered
+unfolding listsRead valueRead commandsBy commandsIn trial remembered
 triedIn allowed commands = trial allowed commands
 
 unfoldable pub found : Setup → List Exchange → Meter → ℕ

@@ -214,7 +214,7 @@ module _ (setup : Setup) (sitting : Sitting) (ruled : Ruled setup sitting) (deal
   did-deals (took-first first place is type small day) =
       concluded-deals first small day place _ _ (firstKind rules (begun first small day) place first (timing first small day))
   did-deals (took-second second pending is type issuer) = second-deals second pending is
-  did-deals (took-script result template is small sound wrote) =
+  did-deals (took-script result template sound wrote) =
       record {
         last-date-is = deals .last-date-is;
         lasting = written-lasts (trialOf result template (remembered setup log) .writes) (deals .lasting);

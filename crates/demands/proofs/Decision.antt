@@ -15,7 +15,7 @@ use Rattle.rules.specs.declared.Place.{Place}
 use Rattle.rules.specs.declared.Values.{Values}
 use Rattle.rules.specs.declared.Masks.{Masks}
 use Rattle.rules.specs.declared.MaximumAmount.{MaximumAmount}
-use Rattle.rules.specs.Rules.{Rules, Profile, four}
+use Rattle.rules.specs.Rules.{Rules, four}
 use Rattle.setup.specs.Setup.{profileIn}
 use Rattle.purchase.specs.declared.Timing.{Timing}
 use Rattle.purchase.specs.declared.Timing.the-variants.{Undated, InOrder, DateError}

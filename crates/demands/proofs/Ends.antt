@@ -113,7 +113,7 @@ module _ (rules : Rules) (state : State) where
       let outcome = secondPerformed rules state second pending in
       ap dueIn (closes .idle)
       ∙ sym (ap (λ b. cond b nothing (dueIn (state .phase))) (accepted-in-kind (SecondCommand second) (outcome .answer) (closes .in-kind)))
-  did-leaves (took-script result template is small sound wrote) = refl
+  did-leaves (took-script result template sound wrote) = refl
 
 -- ---- over a list of commands
 

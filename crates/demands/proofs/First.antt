@@ -140,7 +140,7 @@ module _ (setup : Setup) (sitting : Sitting) (ruled : Ruled setup sitting) (deal
       subst (FirstAnswers now at first (by-the-log first)) (concluded-kind rules _ place _ _ _ _ kind atc iad e)
       (kind-answers first place (subst (Agrees now (named log)) is (holding .agrees)) type small day)
   did-answers (took-second second pending is type issuer) = tt
-  did-answers (took-script result template is small sound wrote) = tt
+  did-answers (took-script result template sound wrote) = tt
 
 -- WHAT FIRST ANSWERS
 pub first-answers : (setup : Setup) → AcceptedSetup setup → (commands : List Message) → Spoken commands → (first : First) (kind : Kind) (atc : ℕ) (iad : Iad)

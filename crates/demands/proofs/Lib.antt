@@ -1,6 +1,7 @@
 pub mod Found
 pub mod Step
 pub mod Run
+pub mod Scripting
 pub mod Ends
 pub mod Owed
 pub mod Written

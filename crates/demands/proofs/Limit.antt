@@ -228,7 +228,7 @@ module _ (setup : Setup) (sitting : Sitting) (ruled : Ruled setup sitting) (deal
   did-within (took-first first place is type small day) = first-within first small day place (subst (Agrees now (named log)) is (holding .agrees))
   did-within (took-second second pending is type issuer) =
       second-within second pending (subst (Agrees now (named log)) is (holding .agrees)) (subst (Remembers (bought setup log)) is (deals .remembers) .0)
-  did-within (took-script result template is small sound wrote) = λ e. absurd (never e)
+  did-within (took-script result template sound wrote) = λ e. absurd (never e)
 
 -- DEMAND 3, THE UPPER LIMIT of a CPA card, which is the one in force at the approval: of a cyclic accumulator, for approvals without a date error
 pub limit : (setup : Setup) → AcceptedSetup setup → IsCpa setup → (commands : List Message) → Spoken commands → (command : Message) (meter : Meter) → IsMeter meter

@@ -148,7 +148,7 @@ module _ (setup : Setup) (sitting : Sitting) (recalls : Recalls setup sitting) w
   did-keeps (took-first first place is type small day) =
       concluded-keeps first place _ _ _ (firstKind rules (dated rules state (first .when)) place first (timingOf (state .last) (first .when)))
   did-keeps (took-second second pending is type issuer) = second-keeps second pending
-  did-keeps (took-script result template is small sound wrote) =
+  did-keeps (took-script result template sound wrote) =
       record { recalls = record { history-is = recalls .history-is; atc-is = recalls .atc-is }; says = tt }
 
 module _ (setup : Setup) where

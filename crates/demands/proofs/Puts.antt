@@ -1,6 +1,6 @@
 -- What a script writes to values is what the auditor enters; and a card keeps four accumulators, whatever is done to them. Assumes nothing.
 use mathlib.Core.Path.{_≡_, refl, sym, ap, _∙_}
-use mathlib.Core.Bool.{Bool, true, false, cond, not}
+use mathlib.Core.Bool.{Bool, true, false, cond}
 use mathlib.Core.List.{List, [], _∷_, _++_, append-assoc}
 use Prim.Native.Nat.{ℕ, _%_}
 use native.Mathlib.Omega.{arith}
@@ -8,7 +8,6 @@ use borrow.Author.Tests.{eqb-true, eqb-false}
 use lib.Dec.{eqb}
 use lib.ListN.{length}
 use lib.Seq.{getD-set-same, getD-set-other}
-use Rattle.calendar.specs.declared.Date.{Date}
 use Rattle.money.specs.declared.AccumulatorAmount.{AccumulatorAmount}
 use Rattle.money.specs.Money.{max}
 use Rattle.iad.specs.declared.Cvr.{Cvr}
@@ -118,5 +117,5 @@ module _ (rules : Rules) (state : State) (four : Four (state .values)) where
   did-four (started-it start place holds) = four
   did-four (took-first first place is type small day) = concluded-four first place _ _ _ _
   did-four (took-second second pending is type issuer) = second-four second pending
-  did-four (took-script result template is small sound wrote) =
+  did-four (took-script result template sound wrote) =
       as-many (state .values) (templateTried (eqb result 1) (state .scripts) template .writes) ∙ four

@@ -410,7 +410,7 @@ in-kind rules state command = by (did rules state command) where
   by (started-it start place holds) e = tt
   by (took-first first place is type small day) e = first-concludes rules state first place .in-kind
   by (took-second second pending is type issuer) e = second-closes rules state second pending .in-kind
-  by (took-script result template is small sound wrote) e = tt
+  by (took-script result template sound wrote) e = tt
 
 -- no row has a number below 2, and two that stand alike in the order are one
 module _ (Known : ℕ → Type 0) (atc : ℕ) (due : Due) where

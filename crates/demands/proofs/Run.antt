@@ -1,7 +1,7 @@
 -- Over a list of commands: what each command keeps is kept; the rules in force are those of the set-up in force, and what the card keeps of scripts
 -- is what the auditor remembers; and a card that reads its lent words answers as one that reads the set-up's bytes. Assumes nothing.
 use mathlib.Core.Path.{_≡_, refl, sym, ap, ap₂, _∙_, subst}
-use mathlib.Core.Bool.{Bool, true, false, not}
+use mathlib.Core.Bool.{not}
 use mathlib.Core.List.{List, [], _∷_}
 use Prim.Native.Nat.{ℕ, zero, suc, _≤_}
 use native.Mathlib.Omega.{arith}
@@ -14,7 +14,7 @@ use Rattle.put_data.specs.declared.Write.{Write}
 use Rattle.script.specs.Script.{rulesAfter}
 use Rattle.auditor.specs.Template.{InRange}
 use Rattle.card.specs.Card.{freshState}
-use Rattle.card.specs.Message.{Message, messageStep, messageWrites}
+use Rattle.card.specs.Message.{Message, messageStep}
 use Rattle.demands.specs.Setup.{Setup, byteAt, AcceptedSetup}
 use Rattle.demands.specs.Conversation.{Exchange, Sitting, outcomeOf, told, run, satBy, rulesWritten, rulesBy, sat, satOver, IsSpoken, Spoken}
 use Rattle.demands.specs.Scripts.{remembered, wroteBy}
@@ -39,16 +39,13 @@ spoken-keeps P keeps sitting h [] spoken = h
 spoken-keeps P keeps sitting h (command ∷ commands) spoken =
     spoken-keeps P keeps (told sitting command) (keeps sitting h command (spoken .0)) commands (spoken .1)
 
--- what no script writes stays: the set-up's bytes, the tail with the cyclic accumulators, and the family's
+-- what no script writes stays: the set-up's bytes, among them the PIN's, the tail with the cyclic accumulators, and the family's
 module _ {A : Type 0} (part : Setup → A) (unwritten : (before : Setup) (writes : List Write) → part (withWrites before writes) ≡ part before) where
   stays : (setup : Setup) (log : List Exchange) → part (inForce setup log) ≡ part setup
   unfolding inForce
   stays setup [] = refl
   stays setup (exchange ∷ older) =
       unwritten (inForce setup older) (wroteBy (exchange .command) (exchange .answer) (remembered setup older)) ∙ stays setup older
-
-pub bytes-stay : (setup : Setup) (log : List Exchange) → inForce setup log .bytes ≡ setup .bytes
-bytes-stay = stays (λ setup. setup .bytes) (λ before writes. refl)
 
 pub tail-stays : (setup : Setup) (log : List Exchange) → inForce setup log .tail ≡ setup .tail
 tail-stays = stays (λ setup. setup .tail) (λ before writes. refl)
@@ -92,16 +89,11 @@ module _ (setup : Setup) (sitting : Sitting) (ruled : Ruled setup sitting) where
   abbrev now : Setup
   now = inForce setup (sitting .log)
 
-  requires : rulesBy now .required ≡ not (eqb (byteAt setup 2) 0)
+  requires : not (rulesBy now .required) ≡ eqb (byteAt setup 2) 0
   requires =
-      required-is now
-      ∙ either (byteAt now 2) (fits (ruled .good) .required)
-      ∙ ap (λ b. not (eqb b 0)) (stays (λ s. byteAt s 2) (λ before writes. refl) setup (sitting .log))
-    where
-      either : (b : ℕ) → b ≤ 1 → eqb b 1 ≡ not (eqb b 0)
-      either zero l = refl
-      either (suc zero) l = refl
-      either (suc (suc b)) l = absurd (omega arith)
+      ap not (required-is now)
+      ∙ not-required (byteAt now 2) (fits (ruled .good) .required)
+      ∙ ap (λ b. eqb b 0) (stays (λ s. byteAt s 2) (λ before writes. refl) setup (sitting .log))
 
   told-ruled : (command : Message) → IsSpoken command → Ruled setup (told sitting command)
   unfolding inForce remembered

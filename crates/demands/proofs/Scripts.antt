@@ -1,39 +1,35 @@
 -- What an auditor reads of scripts is what the card keeps of them, and what it reads of their writes is what they wrote. Assumes nothing.
 use mathlib.Core.Path.{_≡_, refl, sym, ap, ap₂, _∙_, subst}
-use mathlib.Core.Bool.{Bool, true, false, cond, not, _&&_, _||_}
+use mathlib.Core.Bool.{Bool, true, false, cond, not, _&&_, or-true, or-false}
 use mathlib.Core.List.{List, [], _∷_, _++_}
 use mathlib.Core.Option.{Option, none, some}
-use Prim.Native.Nat.{ℕ, _+_, _%_, _≤_, _<_}
+use Prim.Native.Nat.{ℕ, _+_, _%_, _<_}
 use native.Mathlib.Omega.{arith}
 use lib.Dec.{eqb, lit<}
-use Rattle.calendar.specs.declared.Date.{Date}
 use Rattle.refusal.specs.declared.Refusal.{Refusal}
 use Rattle.iad.specs.declared.Cvr.{Cvr}
 use Rattle.rules.specs.declared.Place.{Place}
-use Rattle.rules.specs.declared.Values.{Values}
 use Rattle.rules.specs.Rules.{Rules}
 use Rattle.object.specs.declared.Reading.the-variants.{Sound}
 use Rattle.object.specs.Object.{readTemplate, commandsOf}
 use Rattle.put_data.specs.declared.Write.{Write}
 use Rattle.put_data.specs.PutData.{writesOf}
-use Rattle.auditor.specs.Template.{commandsIn, writesIn, Bytes, EachBytes, InRange}
+use Rattle.auditor.specs.Template.{writesIn, Bytes, EachBytes, InRange}
 use Rattle.auditor.proofs.Commands.{same-commands}
 use Rattle.auditor.proofs.Writes.{same-writes}
 use Rattle.auditor.proofs.Ranges.{commands-bytes, writes-in-range}
 use Rattle.script.specs.declared.Scripts.{Scripts}
-use Rattle.script.specs.Script.{countOf, hasFailedHere, freshScripts, started, heard, done, oneDone, oneFailed, Tried, triedNext, tried, templateTried, ranOf}
+use Rattle.script.specs.Script.{hasFailedHere, freshScripts, started, heard, done, oneDone, oneFailed, Tried, triedNext, tried, templateTried, ranOf}
 use Rattle.script.proofs.Marks.{Says, fresh-says, done-says, failed-says, started-says, heard-says}
 use Rattle.command.specs.declared.First.{First}
 use Rattle.command.specs.declared.Second.{Second}
 use Rattle.purchase.specs.declared.Purchase.{Purchase}
-use Rattle.state.specs.declared.History.{History}
 use Rattle.state.specs.declared.Answer.the-variants.{Refused}
 use Rattle.state.specs.declared.Kind.{Kind}
 use Rattle.state.specs.declared.Kind.the-variants.{Aac, Tc, Arqc}
 use Rattle.state.specs.declared.Pending.{Pending}
 use Rattle.state.specs.declared.State.{State}
 use Rattle.state.specs.declared.Outcome.{Outcome}
-use Rattle.cryptogram.specs.declared.Issuer.{Issuer}
 use Rattle.cycles.specs.Cycles.{dated}
 use Rattle.first.specs.First.{firstPerformed, firstAnswered, settled, asked, concluded}
 use Rattle.second.specs.Second.{isUnable, unablePerformed, verifiedPerformed, failedPerformed, absentPerformed, secondPerformed, closed}
@@ -51,14 +47,6 @@ pub record Keeps (memory : Remembered) (scripts : Scripts) : Type 0 where
   pub below : memory .count < 16
 
 -- ---- commands that are tried
-
-or-false : (b : Bool) → (b || false) ≡ b
-or-false true = refl
-or-false false = refl
-
-or-true : (b : Bool) → (b || true) ≡ true
-or-true true = refl
-or-true false = refl
 
 append-in-range : (ws vs : List Write) → InRange ws → InRange vs → InRange (ws ++ vs)
 unfolding InRange
@@ -189,7 +177,7 @@ started-keeps {memory} {scripts} keeps =
       below = keeps .below;
     }
 
-module _ (setup : Setup) (rules : Rules) (required : rules .required ≡ not (eqb (byteAt setup 2) 0)) (state : State) (log : List Exchange)
+module _ (setup : Setup) (rules : Rules) (required : not (rules .required) ≡ eqb (byteAt setup 2) 0) (state : State) (log : List Exchange)
     (keeps : Keeps (remembered setup log) (state .scripts)) where
   abbrev memory : Remembered
   memory = remembered setup log
@@ -219,13 +207,12 @@ module _ (setup : Setup) (rules : Rules) (required : rules .required ≡ not (eq
   second-then : (second : Second) (pending : Pending) → Then (SecondCommand second) (secondPerformed rules state second pending)
   unfolding secondPerformed unablePerformed verifiedPerformed failedPerformed absentPerformed closed
   second-then second pending = by (isUnable (second .code)) refl (eqb (second .issuer) 1) refl (eqb (second .issuer) 2) refl where
-    absent : (r z : Bool) → r ≡ not z
-        → Keeps (cond z (record { count = memory .count; failed = memory .failed && memory .here; here = memory .here }) memory)
-        (cond r (state .scripts) (heard (state .scripts)))
-    absent true true e = let z : _≡_ {A = ℕ} 0 1 = cc in absurd (omega arith)
-    absent true false e = keeps
-    absent false true e = heard-keeps keeps
-    absent false false e = let z : _≡_ {A = ℕ} 0 1 = cc in absurd (omega arith)
+    cleared : Remembered
+    cleared = record { count = memory .count; failed = memory .failed && memory .here; here = memory .here }
+
+    absent : (r : Bool) → Keeps (cond (not r) cleared memory) (cond r (state .scripts) (heard (state .scripts)))
+    absent true = keeps
+    absent false = heard-keeps keeps
 
     by : (u : Bool) → isUnable (second .code) ≡ u → (v : Bool) → eqb (second .issuer) 1 ≡ v → (f : Bool) → eqb (second .issuer) 2 ≡ f
         → Then (SecondCommand second) (cond u (unablePerformed rules state (second .requested) pending)
@@ -234,7 +221,7 @@ module _ (setup : Setup) (rules : Rules) (required : rules .required ≡ not (eq
     by true u v p f q = rw u keeps
     by false u true p f q = rw (u, p) (heard-keeps keeps)
     by false u false p true q = rw (u, p, q) keeps
-    by false u false p false q = rw (u, p, q) (absent (rules .required) (eqb (byteAt setup 2) 0) required)
+    by false u false p false q = rw (u, p, q) (subst (λ z. Keeps (cond z cleared memory) (cond (rules .required) (state .scripts) (heard (state .scripts)))) required (absent (rules .required)))
 
   pub did-remember : {command : Message} {outcome : Outcome} → IsSpoken command → Did rules state command outcome → Then command outcome
   unfolding firstPerformed firstAnswered scriptPerformed ranOf
@@ -242,7 +229,7 @@ module _ (setup : Setup) (rules : Rules) (required : rules .required ≡ not (eq
   did-remember spoken (started-it start place holds) = started-keeps keeps
   did-remember spoken (took-first first place is type small day) = concluded-then first place _ _ _ _
   did-remember spoken (took-second second pending is type issuer) = second-then second pending
-  did-remember spoken (took-script result template is small sound wrote) =
+  did-remember spoken (took-script result template sound wrote) =
       template-agrees result template spoken sound memory (state .scripts) keeps .keeps
 
   -- and what was written
@@ -258,7 +245,7 @@ module _ (setup : Setup) (rules : Rules) (required : rules .required ≡ not (eq
   did-write spoken (started-it start place holds) = refl
   did-write spoken (took-first first place is type small day) = refl
   did-write spoken (took-second second pending is type issuer) = refl
-  did-write spoken (took-script result template is small sound wrote) =
+  did-write spoken (took-script result template sound wrote) =
       wrote ∙ template-agrees result template spoken sound memory (state .scripts) keeps .writes
 
   pub did-in-range : {command : Message} {outcome : Outcome} → IsSpoken command → Did rules state command outcome
@@ -273,7 +260,7 @@ module _ (setup : Setup) (rules : Rules) (required : rules .required ≡ not (eq
   did-in-range spoken (started-it start place holds) = tt
   did-in-range spoken (took-first first place is type small day) = tt
   did-in-range spoken (took-second second pending is type issuer) = tt
-  did-in-range spoken (took-script result template is small sound wrote) =
+  did-in-range spoken (took-script result template sound wrote) =
       template-agrees result template spoken sound memory (state .scripts) keeps .in-range
 
 -- a fresh card's

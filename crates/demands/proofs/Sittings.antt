@@ -1,8 +1,8 @@
 -- Set-ups and commands of a few sittings, for the rows of Samples and the premises of Witness. Assumes nothing.
 use mathlib.Core.Bool.{Bool, false}
 use mathlib.Core.List.{List, [], _∷_, _++_}
-use Prim.Native.Nat.{ℕ, _*_, _^_}
-use lib.ListN.{replicate}
+use Prim.Native.Nat.{ℕ, _+_, _*_, _^_}
+use lib.ListN.{length, drop, replicate}
 use Rattle.cpace.specs.declared.Cvm.{Cvm}
 use Rattle.cpace.specs.declared.Cvm.the-variants.{NoCvm}
 use Rattle.selection.specs.declared.Selection.the-variants.{Selected}
@@ -219,3 +219,56 @@ pay cvm cashback requested = start 1 ∷ firstBy cvm cashback Undated 4000 0x097
 
 unfoldable pub payOnline : Cvm → (cashback : Bool) → Message → List Message
 payOnline cvm cashback command = pay cvm cashback 2 ++ command ∷ []
+
+-- ---- scripts
+
+-- an amount below 10000, in 12 digits
+abbrev pub digits : (high low : ℕ) → List ℕ
+digits high low = zeros 4 ++ high ∷ low ∷ []
+
+-- an element; a PUT DATA command over a few of them, with a MAC of zeros
+abbrev pub element : (tag : ℕ) → List ℕ → List ℕ
+element tag value = 0xDF ∷ tag ∷ length value ∷ value
+
+abbrev pub putData : (object : ℕ) → List ℕ → List ℕ
+putData object list = 0x0C ∷ 0xDA ∷ 0xBF ∷ object ∷ (length list + 8) ∷ 0x81 ∷ length list ∷ list ++ 0x8E ∷ 0x04 ∷ zeros 4
+
+-- of accumulator i the value, and the limits, lower and upper; of counter i the limits; and one with a digit above 9
+abbrev pub value : (i high low : ℕ) → List ℕ
+value i high low = putData 0x30 (element i (digits high low))
+
+abbrev pub limit : (i high low high' low' : ℕ) → List ℕ
+limit i high low high' low' = putData 0x30 (element (0x10 + i) (digits high low ++ digits high' low'))
+
+abbrev pub counterLimit : (i lower upper : ℕ) → List ℕ
+counterLimit i lower upper = putData 0x35 (element (0x10 + i) (lower ∷ upper ∷ []))
+
+abbrev pub wrong : List ℕ
+wrong = value 1 0 0x0A
+
+-- n without elements, which are done
+abbrev pub empties : ℕ → List (List ℕ)
+empties n = replicate n (putData 0x30 [])
+
+-- a template of a few commands, verified or not
+abbrev pub objects : List (List ℕ) → List ℕ
+objects [] = []
+objects (command ∷ commands) = 0x86 ∷ length command ∷ command ++ objects commands
+
+abbrev pub templateOf : List (List ℕ) → List ℕ
+templateOf commands = 0x72 ∷ length (objects commands) ∷ objects commands
+
+abbrev pub script : List (List ℕ) → Message
+script commands = ScriptCommand 1 (templateOf commands)
+
+abbrev pub unverified : List (List ℕ) → Message
+unverified commands = ScriptCommand 0 (templateOf commands)
+
+-- issuer authentication required
+unfoldable pub requiring : Setup
+unfolding counting
+requiring = setupOf (1 ∷ 3 ∷ 1 ∷ drop 3 (counting .bytes))
+
+-- a transaction that goes online, in which a script comes, and a Second
+unfoldable pub between : Message → Message → List Message
+between now command = start 1 ∷ first 1 0x0978 2 ∷ now ∷ command ∷ []

@@ -35,11 +35,6 @@ use Rattle.card.specs.Card.{refuse, take, ruleChosen, ruleOpening, isDated, rul
 use Rattle.card.specs.Card.{firstStep, secondStep, ruleScript, ruleScriptFields, ruleReading, scriptPerformed, scriptStep, writesRuled, scriptWrites}
 use Rattle.demands.proofs.Found.{Holds, Known, known}
 
--- a script is taken on a card that no Start has opened, and while an ARQC is open
-pub data Taking : Phase → Type 0 where
-  idle : {phase : Phase} → phase ≡ Idle → Taking phase
-  asked : {phase : Phase} (pending : Pending) → phase ≡ Asked pending → Taking phase
-
 pub data Did (rules : Rules) (state : State) : Message → Outcome → Type 0 where
   refused-it : {command : Message} (refusal : Refusal) → messageWrites state command ≡ [] → Did rules state command (refused state refusal)
   started-it : (start : Start) (place : Place) → Holds rules (profileOf (start .chosen)) place
@@ -49,8 +44,7 @@ pub data Did (rules : Rules) (state : State) : Message → Outcome → Type 0 wh
       → Did rules state (FirstCommand first) (firstPerformed rules state first place)
   took-second : (second : Second) (pending : Pending) → state .phase ≡ Asked pending → second .requested ≤ 1 → second .issuer ≤ 2
       → Did rules state (SecondCommand second) (secondPerformed rules state second pending)
-  took-script : (result : ℕ) (template : List ℕ) → Taking (state .phase) → result ≤ 1
-      → readTemplate template ≡ Sound
+  took-script : (result : ℕ) (template : List ℕ) → readTemplate template ≡ Sound
       → scriptWrites state result template ≡ templateTried (eqb result 1) (state .scripts) template .writes
       → Did rules state (ScriptCommand result template) (scriptPerformed state template (eqb result 1))
 
@@ -111,38 +105,38 @@ module _ (rules : Rules) (state : State) where
     by false t true i = refused-it OutOfRange refl
     by false t false i = took-second second pending is (ltb-false 1 (second .requested) t) (ltb-false 2 (second .issuer) i)
 
-  reading-did : (result : ℕ) (template : List ℕ) → Taking (state .phase) → result ≤ 1 → (reading : Reading) → readTemplate template ≡ reading
+  reading-did : (result : ℕ) (template : List ℕ) (reading : Reading) → readTemplate template ≡ reading
       → scriptWrites state result template ≡ writesRuled (state .scripts) template (ruleReading (eqb result 1) reading)
       → Did rules state (ScriptCommand result template) (carried state (scriptPerformed state template) (ruleReading (eqb result 1) reading))
   unfolding messageWrites
-  reading-did result template taking small Sound is wrote = took-script result template taking small is wrote
-  reading-did result template taking small NoTemplate is wrote = refused-it Malformed wrote
-  reading-did result template taking small DeepTemplate is wrote = refused-it TooDeep wrote
+  reading-did result template Sound is wrote = took-script result template is wrote
+  reading-did result template NoTemplate is wrote = refused-it Malformed wrote
+  reading-did result template DeepTemplate is wrote = refused-it TooDeep wrote
 
-  fields-did : (result : ℕ) (template : List ℕ) → Taking (state .phase)
+  fields-did : (result : ℕ) (template : List ℕ)
       → scriptWrites state result template ≡ writesRuled (state .scripts) template (ruleScriptFields result template)
       → Did rules state (ScriptCommand result template) (carried state (scriptPerformed state template) (ruleScriptFields result template))
   unfolding messageWrites
-  fields-did result template taking wrote = by (ltb 1 result) refl wrote where
-    by : (b : Bool) → ltb 1 result ≡ b
+  fields-did result template wrote = by (ltb 1 result) wrote where
+    by : (b : Bool)
         → scriptWrites state result template
         ≡ writesRuled (state .scripts) template (cond b (refuse OutOfRange) (ruleReading (eqb result 1) (readTemplate template)))
         → Did rules state (ScriptCommand result template)
         (carried state (scriptPerformed state template) (cond b (refuse OutOfRange) (ruleReading (eqb result 1) (readTemplate template))))
-    by true e wrote = refused-it OutOfRange wrote
-    by false e wrote = reading-did result template taking (ltb-false 1 result e) (readTemplate template) refl wrote
+    by true wrote = refused-it OutOfRange wrote
+    by false wrote = reading-did result template (readTemplate template) refl wrote
 
-  script-did : (result : ℕ) (template : List ℕ) (phase : Phase) → state .phase ≡ phase
+  script-did : (result : ℕ) (template : List ℕ) (phase : Phase)
       → scriptWrites state result template ≡ writesRuled (state .scripts) template (ruleScript phase result template)
       → Did rules state (ScriptCommand result template) (carried state (scriptPerformed state template) (ruleScript phase result template))
   unfolding messageWrites
-  script-did result template Idle is wrote = fields-did result template (idle is) wrote
-  script-did result template (Opened place) is wrote = refused-it OutOfTurn wrote
-  script-did result template (Asked pending) is wrote = fields-did result template (asked pending is) wrote
+  script-did result template Idle wrote = fields-did result template wrote
+  script-did result template (Opened place) wrote = refused-it OutOfTurn wrote
+  script-did result template (Asked pending) wrote = fields-did result template wrote
 
   pub did : (command : Message) → Did rules state command (messageStep rules state command)
   unfolding messageStep messageWrites startStep firstStep secondStep scriptStep scriptWrites
   did (StartCommand start) = start-did start (ltb 1 (start .interface))
   did (FirstCommand first) = first-did first (state .phase) refl
   did (SecondCommand second) = second-did second (state .phase) refl
-  did (ScriptCommand result template) = script-did result template (state .phase) refl refl
+  did (ScriptCommand result template) = script-did result template (state .phase) refl

@@ -332,7 +332,7 @@ module _ (setup : Setup) (sitting : Sitting) (ruled : Ruled setup sitting) (deal
       let remembers = subst (Remembers (bought setup log)) is (deals .remembers) in
       performed-holds second pending (subst (Agrees now (named log)) is (holding .agrees)) (remembers .0)
       (subst (λ (purchase : Purchase). purchase .amount .0 ≤ max) (sym (remembers .0)) (remembers .1))
-  did-holds spoken (took-script result template is small sound wrote) = script-holds result template spoken sound
+  did-holds spoken (took-script result template sound wrote) = script-holds result template spoken sound
 
 module _ (setup : Setup) where
   fresh : (meter : Meter) → IsMeter meter → valueOf (freshIn (setup .bytes) (setup .tail) .values) meter ≡ startOf setup meter

@@ -16,13 +16,13 @@ use Rattle.card.specs.Message.{Message}
 use Rattle.auditor.specs.Template.{InRange}
 use Rattle.demands.specs.Setup.{Setup, IsCpa, AcceptedSetup}
 use Rattle.purchase.specs.Meter.{Meter, accumulator, cyclic, valueOf}
-use Rattle.demands.specs.Conversation.{told, sat, next}
+use Rattle.demands.specs.Conversation.{told, sat, next, Spoken}
 use Rattle.demands.specs.Audit.{upperOf, takesPart, bought, inForce, placeBy, approves}
 use Rattle.demands.specs.Guards.{Guards}
 use Rattle.demands.specs.Printed.{body, start, first, second, commands, linesOf, lines}
 use Rattle.demands.specs.Alike.{AlikeSetups, AlikeCommands, starts, firsts, seconds, AllAlike, nothing, more}
 use Rattle.demands.proofs.Computed.{computed}
-use Rattle.demands.proofs.Sittings.{zeros, spending, dual, startOn, firstBy, firstOn, onDay}
+use Rattle.demands.proofs.Sittings.{zeros, spending, dual, startOn, firstBy, firstOn, onDay, limit, templateOf, script}
 
 abbrev areBytes : List ℕ → Bool
 areBytes [] = true
@@ -69,6 +69,7 @@ printed = refl
 -- meter against its upper limit
 pub record Approval (setup : Setup) (meter : Meter) (before : List Message) (command : Message) (value upper : ℕ) : Type 0 where
   pub cpa : IsCpa setup
+  pub spoken : Spoken before
   pub guards : Guards (inForce setup (sat setup before .log)) (placeBy setup (sat setup before .log)) meter
   pub approves-it : approves command (next setup before command .answer) ≡ true
   pub takes-part : takesPart (bought setup (told (sat setup before) command .log)) meter ≡ true
@@ -81,6 +82,7 @@ unfolding body computed
 at-first =
     record {
       cpa = refl;
+      spoken = (tt, tt);
       guards = record { active = refl; included = refl; decline = refl; default = refl };
       approves-it = refl;
       takes-part = refl;
@@ -93,6 +95,21 @@ unfolding body computed
 at-second =
     record {
       cpa = refl;
+      spoken = (tt, (tt, (tt, (tt, tt))));
+      guards = record { active = refl; included = refl; decline = refl; default = refl };
+      approves-it = refl;
+      takes-part = refl;
+      value-is = refl;
+      upper-is = refl;
+    }
+
+-- with an upper limit that a script wrote, between First and Second: 6,000 in place of 10,000
+pub at-changed-limit : Approval setup (accumulator 0) (start ∷ first 5001 ∷ script (limit 1 0x50 0x00 0x60 0x00 ∷ []) ∷ []) second 5001 6000
+unfolding body computed
+at-changed-limit =
+    record {
+      cpa = refl;
+      spoken = (tt, (tt, (bytes-of (templateOf (limit 1 0x50 0x00 0x60 0x00 ∷ [])) refl, tt)));
       guards = record { active = refl; included = refl; decline = refl; default = refl };
       approves-it = refl;
       takes-part = refl;
@@ -113,6 +130,7 @@ unfolding spending computed
 in-a-cycle =
     record {
       cpa = refl;
+      spoken = (tt, tt);
       guards = record { active = refl; included = refl; decline = refl; default = refl };
       approves-it = refl;
       takes-part = refl;

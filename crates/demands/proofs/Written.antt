@@ -6,10 +6,7 @@ use Prim.Native.Nat.{ℕ, zero, suc, _+_, _*_, _<_}
 use borrow.Author.Tests.{eqb-true, eqb-false}
 use lib.Dec.{ltb, eqb}
 use lib.ListN.{length, getD}
-use Rattle.money.specs.declared.AccumulatorAmount.{AccumulatorAmount}
 use Rattle.rules.specs.declared.Place.{Place}
-use Rattle.rules.specs.declared.AccumulatorRule.{AccumulatorRule}
-use Rattle.rules.specs.declared.CounterRule.{CounterRule}
 use Rattle.rules.specs.Rules.{Profile, Rules, accumulatorRule, counterRule, blankProfile}
 use Rattle.rules.specs.Limits.{withAccumulatorLimits, withCounterLimits}
 use Rattle.rules.proofs.Limits.{Whole, Stays, accumulator-limited, counter-limited}

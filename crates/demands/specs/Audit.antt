@@ -2,7 +2,7 @@
 -- accumulator. Each offset and each rule is spelled from document 01 ("The paper", "First: the answer", "Second: the answer", "Numbers")
 -- and requests Five, dates by the almanac, Twelve and Thirteen; nothing here knows of a card's state, of its step or of the rules that it decoded.
 use Prim.Native.Nat.{ℕ, zero, suc, _+_, _-_, _*_, _/_, _%_, _^_}
-use mathlib.Core.Bool.{Bool, true, false, cond, not, _&&_, _||_}
+use mathlib.Core.Bool.{Bool, true, false, cond, not, _&&_}
 use mathlib.Core.List.{List, [], _∷_, _++_}
 use lib.Dec.{ltb, eqb}
 use lib.ListN.{length}

@@ -57,7 +57,7 @@ abbrev pub rulesWritten : Rules → List Write → Rules
 rulesWritten rules [] = rules
 rulesWritten rules (write ∷ older) = rulesWith (rulesWritten rules older) write
 
--- by the rules that stand in the set-up's bytes
+-- by the rules that stand in the set-up's bytes, with what scripts wrote
 abbrev pub rulesBy : Setup → Rules
 rulesBy setup = rulesWritten (rulesIn (setup .bytes) (setup .tail) (setup .family) (setup .syllabus)) (setup .written)
 
