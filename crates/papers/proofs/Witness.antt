@@ -15,12 +15,11 @@ use Rattle.shape.specs.declared.Dating.the-variants.{On as DatesOn}
 use Rattle.shape.specs.declared.Family.the-variants.{Cpace}
 use Rattle.shape.specs.Shape.{based, selects, dates, families}
 use Rattle.command.specs.declared.When.the-variants.{On}
-use Rattle.command.specs.declared.Command.{Command}
-use Rattle.command.specs.declared.Command.the-variants.{First as FirstCommand}
 use Rattle.state.specs.declared.Answer.{Answer}
 use Rattle.state.specs.declared.Answer.the-variants.{Refused}
+use Rattle.card.specs.Message.{Message, FirstCommand}
 use Rattle.conversation.specs.declared.Event.{Event}
-use Rattle.conversation.specs.declared.Event.the-variants.{SetUp, Answered}
+use Rattle.conversation.specs.declared.Event.the-variants.{SetUp}
 use Rattle.lines.specs.Sitting.{sittingLines}
 use Rattle.demands.specs.Conversation.{Exchange, run, rulesBy, sat}
 use Rattle.demands.specs.Audit.{inForce, placeBy, approves, bought, takesPart}
@@ -32,7 +31,7 @@ use Rattle.rows.specs.Rows.{setupRow, headRow, profileRow, spelled, written}
 use Rattle.rows.specs.Tails.{off, third}
 use Rattle.rows.specs.Whole.{wholeBody}
 use Rattle.rows.proofs.Witness as R
-use Rattle.spelling.specs.Spelling.{Bytes, big, recordOf, spellAll, paperOf, byName, byFile, undated, dated, cpa, cpace, Manner}
+use Rattle.spelling.specs.Spelling.{Bytes, big, recordOf, spellAll, paperOf, byName, byFile, undated, dated, cpa, cpace, unscripted, Manner}
 use Rattle.spelling.specs.Spelling.{Sent, standsFor}
 use Rattle.spelling.specs.Sitting.{allStandFor}
 use Rattle.spelling.specs.Printed.{printed, body, sent, printedLines, selection, selectionBody, file, brought, calendar, calendarBody, datedSent}
@@ -40,9 +39,9 @@ use Rattle.spelling.specs.Printed.{cpacePaper, cpaceBody, cpaceSent}
 use Rattle.spelling.proofs.Witness as W
 use Rattle.spelling.proofs.Text.{printed-text}
 use Rattle.papers.specs.Papers.{entriesLong, setupOf, mannerOf, choiceOf, Accepted, frontOf, meant, walk, walked, commandsOf, faulty}
-use Rattle.papers.specs.Talk.{allAnswered, talk, CutBehind, newest}
+use Rattle.papers.specs.Talk.{allAnswered, talk, commandsIn, CutBehind, CutBehindOne, newest}
 use Rattle.papers.specs.Lines.{text}
-use Rattle.papers.proofs.Talk.{answered-both}
+use Rattle.papers.proofs.Talk.{answered-both, said-both, talk-said}
 use Rattle.papers.proofs.Events.{accepted-if-taken, events-are}
 
 -- ---- the printed sitting
@@ -52,7 +51,7 @@ pub accepted : Accepted printed
 accepted = accepted-if-taken printed W.bytes 1 body (spellAll sent) W.opens (based 159) W.set-up
 
 -- ITS SET-UP AND ITS COMMANDS, from its bytes; it ends without a fault
-pub its-setup : setupOf printed ≡ record { bytes = D.body; tail = []; family = []; syllabus = 0; unnamed = 2 ^ 22 }
+pub its-setup : setupOf printed ≡ record { bytes = D.body; tail = []; family = []; syllabus = 0; unnamed = 2 ^ 22; written = [] }
 unfolding printed D.body setupOf entriesLong number
 its-setup = refl
 
@@ -85,18 +84,24 @@ cut-in : (words paper : List ℕ) → length words ≡ wordCount → Bytes paper
     → CutBehind words paper (take n (saidIn paper)) (allAnswered (drop n (saidIn paper)))
 cut-in words paper lent bytes a none n =
     let all = saidIn paper in
-    events-are words paper lent bytes a
-    ∙ ap (λ (l : List Event). SetUp ∷ l)
-    (rw none (append-nil (allAnswered all)) ∙ ap allAnswered (sym (take-append-drop n all)) ∙ answered-both (take n all) (drop n all))
+    let both = sym (take-append-drop n all) in
+    record {
+      events =
+          events-are words paper lent bytes a
+          ∙ ap (λ (l : List Event). SetUp ∷ l)
+          (rw none (append-nil (allAnswered all)) ∙ ap allAnswered both ∙ answered-both (take n all) (drop n all));
+      left = commandsIn (drop n all);
+      commands = sym (talk-said (setupOf paper) (commandsOf paper)) ∙ ap commandsIn both ∙ said-both (take n all) (drop n all);
+    }
 
 pub cut-behind : (words : List ℕ) → length words ≡ wordCount → (n : ℕ) → CutBehind words printed (take n said) (allAnswered (drop n said))
 cut-behind words lent n = cut-in words printed lent W.bytes accepted no-fault n
 
 -- an offline approval under a guarding profile stands behind so many answers
-pub record Approval (words paper : List ℕ) (meter : Meter) (n : ℕ) (command : Command) : Type 0 where
+pub record Approval (words paper : List ℕ) (meter : Meter) (n : ℕ) (command : Message) : Type 0 where
   pub answer : Answer
   pub more : List Event
-  pub cut : CutBehind words paper (take n (saidIn paper)) (Answered command answer ∷ more)
+  pub cut : CutBehindOne words paper (take n (saidIn paper)) command answer more
   pub guards : Guards (inForce (setupOf paper) (newest (take n (saidIn paper)))) (placeBy (setupOf paper) (newest (take n (saidIn paper)))) meter
   pub approves-it : approves command answer ≡ true
   pub takes-part : takesPart (bought (setupOf paper) (record { command = command; answer = answer } ∷ newest (take n (saidIn paper)))) meter ≡ true
@@ -112,7 +117,7 @@ at-first words lent =
     record {
       answer = answerOf (drop 1 said);
       more = allAnswered (drop 2 said);
-      cut = cut-behind words lent 1;
+      cut = cut-behind words lent 2;
       guards = record { active = refl; included = refl; decline = refl; default = refl };
       approves-it = refl;
       takes-part = refl;
@@ -124,21 +129,21 @@ at-second words lent =
     record {
       answer = answerOf (drop 4 said);
       more = allAnswered (drop 5 said);
-      cut = cut-behind words lent 4;
+      cut = cut-behind words lent 5;
       guards = record { active = refl; included = refl; decline = refl; default = refl };
       approves-it = refl;
       takes-part = refl;
     }
 
 -- AND THE LAST SECOND IS REFUSED
-pub refused-there : (words : List ℕ) → length words ≡ wordCount → CutBehind words printed (take 7 said) (Answered second (Refused OutOfTurn) ∷ [])
+pub refused-there : (words : List ℕ) → length words ≡ wordCount → CutBehindOne words printed (take 7 said) second (Refused OutOfTurn) []
 unfolding printed setupOf mannerOf entriesLong number frontOf meant walk walked talk computed
-refused-there words lent = cut-behind words lent 7
+refused-there words lent = cut-behind words lent 8
 
 -- ---- the paper whose Starts bring the terminal's data
 
 -- what is sent stands for these commands at a paper's card
-abbrev standIn : (paper : List ℕ) → Manner → List Sent → List Command
+abbrev standIn : (paper : List ℕ) → Manner → List Sent → List Message
 standIn paper manner xs = allStandFor (rulesBy (setupOf paper)) manner (sat (setupOf paper) [] .state) xs
 
 pub brought-accepted : Accepted selection
@@ -149,7 +154,7 @@ pub brought-choice : choiceOf selection ≡ byFile file 1
 unfolding selection mannerOf entriesLong number
 brought-choice = refl
 
-pub brought-commands : commandsOf selection ≡ standIn selection (record { choice = byFile file 1; dates = undated; family = cpa }) brought
+pub brought-commands : commandsOf selection ≡ standIn selection (record { choice = byFile file 1; dates = undated; family = cpa; scripts = unscripted }) brought
 unfolding selection brought mannerOf entriesLong number frontOf meant walk walked standsFor allStandFor run
 brought-commands = refl
 
@@ -180,7 +185,7 @@ latest-accepted =
           };
     }
 
-pub latest-setup : setupOf latest ≡ record { bytes = D.body; tail = []; family = []; syllabus = 1; unnamed = 2 ^ 22 }
+pub latest-setup : setupOf latest ≡ record { bytes = D.body; tail = []; family = []; syllabus = 1; unnamed = 2 ^ 22; written = [] }
 unfolding latest R.printed recordOf big setupRow headRow profileRow spelled written D.body setupOf entriesLong number
 latest-setup = refl
 
@@ -192,12 +197,12 @@ dated-accepted =
 
 -- its base has 159 bytes, and its tail of version 04, behind one byte for selection and one for the syllabus, 46
 pub dated-setup : setupOf calendar
-    ≡ record { bytes = take 159 (drop 4 calendar); tail = take 46 (drop 165 calendar); family = []; syllabus = 0; unnamed = 2 ^ 25 }
+    ≡ record { bytes = take 159 (drop 4 calendar); tail = take 46 (drop 165 calendar); family = []; syllabus = 0; unnamed = 2 ^ 25; written = [] }
 unfolding calendar setupOf entriesLong number
 dated-setup = refl
 
 abbrev onDays : Manner
-onDays = record { choice = byName; dates = dated; family = cpa }
+onDays = record { choice = byName; dates = dated; family = cpa; scripts = unscripted }
 
 pub dated-manner : mannerOf calendar ≡ onDays
 unfolding calendar mannerOf entriesLong number
@@ -212,7 +217,7 @@ unfolding calendar mannerOf entriesLong number frontOf meant walk walked
 dated-no-fault = refl
 
 -- an approval of the day and of the month, and the one that begins a month
-abbrev bought-on : (month day amount : ℕ) → Command
+abbrev bought-on : (month day amount : ℕ) → Message
 bought-on month day amount =
     FirstCommand (record {
       requested = 1;
@@ -230,7 +235,7 @@ in-a-day words lent =
     record {
       answer = answerOf (drop 1 (saidIn calendar));
       more = allAnswered (drop 2 (saidIn calendar));
-      cut = cut-in words calendar lent W.dated-bytes dated-accepted dated-no-fault 1;
+      cut = cut-in words calendar lent W.dated-bytes dated-accepted dated-no-fault 2;
       guards = record { active = refl; included = refl; decline = refl; default = refl };
       approves-it = refl;
       takes-part = refl;
@@ -242,7 +247,7 @@ in-a-month words lent =
     record {
       answer = answerOf (drop 11 (saidIn calendar));
       more = allAnswered (drop 12 (saidIn calendar));
-      cut = cut-in words calendar lent W.dated-bytes dated-accepted dated-no-fault 11;
+      cut = cut-in words calendar lent W.dated-bytes dated-accepted dated-no-fault 12;
       guards = record { active = refl; included = refl; decline = refl; default = refl };
       approves-it = refl;
       takes-part = refl;
@@ -256,12 +261,12 @@ cpace-accepted =
 
 -- its base has 159 bytes, and its tail of version 05, behind one byte each for selection, syllabus and dates, 10
 pub cpace-setup : setupOf cpacePaper
-    ≡ record { bytes = take 159 (drop 4 cpacePaper); tail = []; family = take 10 (drop 166 cpacePaper); syllabus = 0; unnamed = 2 ^ 26 }
+    ≡ record { bytes = take 159 (drop 4 cpacePaper); tail = []; family = take 10 (drop 166 cpacePaper); syllabus = 0; unnamed = 2 ^ 26; written = [] }
 unfolding cpacePaper setupOf entriesLong number
 cpace-setup = refl
 
 abbrev presenting : Manner
-presenting = record { choice = byName; dates = undated; family = cpace }
+presenting = record { choice = byName; dates = undated; family = cpace; scripts = unscripted }
 
 pub cpace-manner : mannerOf cpacePaper ≡ presenting
 unfolding cpacePaper mannerOf entriesLong number
