@@ -1,6 +1,7 @@
 -- One record: what is sent is read as that, whatever is read was sent, and refusal 9 has one of its causes. Assumes nothing.
 use mathlib.Core.Path.{_≡_, refl, sym, ap, subst, _∙_}
-use mathlib.Core.Bool.{Bool, true, false}
+use mathlib.Core.Bool.{Bool, true, false, _&&_}
+use lib.Dec.{eqb}
 use mathlib.Core.Logic.{_↔_}
 use mathlib.Core.List.{List, [], _++_}
 use Prim.Native.Nat.{ℕ, _+_, _-_, _<_, _≤_}
@@ -132,9 +133,16 @@ scripts-same : (b : Bool) → isScripted (scriptsIn b) ≡ b
 scripts-same true = refl
 scripts-same false = refl
 
+either-first : (a b : Bool) → (a && b) ≡ (b && a)
+either-first true true = refl
+either-first true false = refl
+either-first false true = refl
+either-first false false = refl
+
 records-same : (form : PaperShape) (values : Values) (s : List ℕ) → Lies (form .selecting) s → (kind : ℕ) (body : List ℕ)
     → recordRead form values s kind body ≡ hears (mannerIn form s) (slotsIn (familyIn (form .family)) values) kind body
-records-same form values s h kind body = rw (commands-same form values s h kind body, scripts-same (form .scripting))
+records-same form values s h kind body =
+    rw (commands-same form values s h kind body, either-first (form .scripting) (eqb kind 5), scripts-same (form .scripting))
 
 -- a record stands at a place, is read as that by the card's values, and the next place is its end
 pub record Stands (form : PaperShape) (values : Values) (s : List ℕ) (at : ℕ) (read : Read) (end : ℕ) : Type 0 where
