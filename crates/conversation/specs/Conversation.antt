@@ -45,7 +45,7 @@ scriptedBy state (result ∷ template) end =
 
 -- kind 5, where scripts are on
 abbrev pub isScript : Shape → (kind : ℕ) → Bool
-isScript shape kind = eqb kind 5 && shape .scripting
+isScript shape kind = shape .scripting && eqb kind 5
 
 -- a record cut short or of length 0 ends the paper with refusal 9, its end with nothing
 abbrev pub nextTaken : Rules → Shape → State → (paper : List ℕ) (at : ℕ) → Next → Taken

@@ -205,7 +205,7 @@ pub record Samples : Type 0 where
   -- 4 bytes and any 65,533 more
   pub over-long : (more : List ℕ) → length more ≡ 65533 → T (isUnread (1 ∷ 0 ∷ 1 ∷ 1 ∷ more))
   pub version-0 : T (isUnread (0 ∷ 0 ∷ 1 ∷ 1 ∷ []))
-  pub version-6 : T (isUnread (6 ∷ 0 ∷ 1 ∷ 1 ∷ []))
+  pub version-7 : T (isUnread (7 ∷ 0 ∷ 1 ∷ 1 ∷ []))
   pub first-fields : T (isFirst (readingWith (based 0) (spell (first 1 5000 0x0978 0x22 unshown)) 0) 1 5000 0x0978 0x22 15)
   pub dated-fields : T (isFirst (readingWith withDates onDay 0) 1 5000 0x0978 0x22 18)
   pub date-field : T (isFirstOn (readingWith withDates onDay 0) 0x05 0x07 0x15)
@@ -270,7 +270,7 @@ samples =
     record {
       over-long = λ more e. rw e tt;
       version-0 = tt;
-      version-6 = tt;
+      version-7 = tt;
       first-fields = tt;
       dated-fields = tt;
       date-field = tt;
