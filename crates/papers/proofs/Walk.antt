@@ -1,6 +1,6 @@
 -- The conversation takes each record of a paper once, in order: what the walk over its bytes meets. Assumes nothing.
 use mathlib.Core.Path.{_≡_, refl, sym, ap, _∙_}
-use mathlib.Core.Bool.{Bool, true, false, cond}
+use mathlib.Core.Bool.{Bool, true, false, cond, _&&_}
 use mathlib.Core.List.{List, [], _∷_, _++_}
 use Prim.Native.Nat.{ℕ, zero, suc, _+_, _-_, _*_, _≤_, _<_}
 use native.Mathlib.Omega.{arith}
@@ -214,13 +214,15 @@ module _ (form : Shape) (s : List ℕ) (lies : Lies (form .selecting) s) where
           start = at + start;
           next = place (Record kind start end) e;
           is =
-              rw (commands-same form (sitting .state .values) s lies kind (part s (at + start) (at + end)), scripts-on (form .scripting))
+              rw (commands-same form (sitting .state .values) s lies kind (part s (at + start) (at + end)), scripts-on (form .scripting) (eqb kind 5))
               (ap (hears manner slots kind) (part-drop s at start end) ∙ meant-read manner slots kind (part rest start end) ∙ ap asRead f);
         }
       where
-        scripts-on : (b : Bool) → b ≡ isScripted (scriptsIn b)
-        scripts-on true = refl
-        scripts-on false = refl
+        scripts-on : (on five : Bool) → (on && five) ≡ (five && isScripted (scriptsIn on))
+        scripts-on true true = refl
+        scripts-on true false = refl
+        scripts-on false true = refl
+        scripts-on false false = refl
 
     by-meaning : (kind start end : ℕ) → nextAt rest 0 ≡ Record kind start end → (m : Meaning) → meant manner slots kind (part rest start end) ≡ m
         → Turn sitting at
