@@ -15,9 +15,9 @@ use Rattle.conversation.specs.declared.Event.the-variants.{Answered}
 use Rattle.conversation.specs.declared.Said.{Said}
 use Rattle.conversation.specs.declared.Said.the-variants.{Command, Script}
 use Rattle.demands.specs.Setup.{Setup}
-use Rattle.demands.specs.Conversation.{Exchange, Sitting, outcomeOf, told, run, rulesBy, sat}
+use Rattle.demands.specs.Conversation.{Exchange, Sitting, outcomeOf, told, run, rulesBy}
 use Rattle.spelling.specs.Sitting.{saidOf, happened}
-use Rattle.papers.specs.Talk.{answered, allAnswered, turned, talk, ending, commandsIn}
+use Rattle.papers.specs.Talk.{answered, allAnswered, turned, talk, ending, commandsIn, IsCommand, Plain}
 
 -- ---- in order
 
@@ -124,21 +124,12 @@ messageOf (Command (First first)) = FirstCommand first
 messageOf (Command (Second second)) = SecondCommand second
 messageOf Script = ScriptCommand 0 []
 
-abbrev IsCommand : Said → Type 0
-IsCommand (Command command) = Unit
-IsCommand Script = ⊥
-
 told-back : (m : Message) → IsCommand (saidOf m) → messageOf (saidOf m) ≡ m
 unfolding messageOf
 told-back (StartCommand start) h = refl
 told-back (FirstCommand first) h = refl
 told-back (SecondCommand second) h = refl
 told-back (ScriptCommand result template) h = absurd h
-
--- no script is among them
-abbrev pub Plain : List Exchange → Type 0
-Plain [] = Unit
-Plain (x ∷ said) = IsCommand (saidOf (x .command)) × Plain said
 
 -- SO WITHOUT SCRIPTS THE EVENTS ALONE SAY WHAT WAS SAID
 pub plain-said : (sitting : Sitting) (commands : List Message) (fault : Bool) (before : List Exchange) (more : List Event) → Plain before

@@ -1,6 +1,6 @@
 -- The conversation takes each record of a paper once, in order: what the walk over its bytes meets. Assumes nothing.
 use mathlib.Core.Path.{_≡_, refl, sym, ap, _∙_}
-use mathlib.Core.Bool.{Bool, true, false, cond}
+use mathlib.Core.Bool.{Bool, true, false, cond, _&&_, and-true, and-false}
 use mathlib.Core.List.{List, [], _∷_, _++_}
 use Prim.Native.Nat.{ℕ, zero, suc, _+_, _-_, _*_, _≤_, _<_}
 use native.Mathlib.Omega.{arith}
@@ -33,12 +33,12 @@ use Rattle.conversation.specs.declared.Event.the-variants.{End, Refused, Answer
 use Rattle.conversation.specs.Conversation.{takenOf, takenWrites}
 use Rattle.conversation.specs.Events.{eventsFrom}
 use Rattle.demands.specs.Conversation.{Sitting, outcomeOf, told as heard, run}
-use Rattle.spelling.specs.Spelling.{Choice, byName, byFile, Dates, undated, dated, CardFamily, cpa, cpace, Scripting, unscripted, scripted, scriptsIn}
+use Rattle.spelling.specs.Spelling.{Choice, byName, byFile, Dates, undated, dated, CardFamily, cpa, cpace, Scripting, scriptsIn}
 use Rattle.spelling.specs.Spelling.{Manner, mannerIn, cvmOf, cashbackOf}
 use Rattle.spelling.specs.Faults.{cut-in-length, cut-short, no-kind}
 use Rattle.spelling.specs.Sitting.{Read, sends, refuses, commandRead, scriptRead, Lies, saidOf, happened}
 use Rattle.spelling.proofs.Shapes.{shift, next-drop, part-drop, next-broken}
-use Rattle.spelling.proofs.Commands.{of, datingOf, familyOf, readBy, isScripted, hears, not-start, Shows, cvm-read, cashback-read}
+use Rattle.spelling.proofs.Commands.{of, datingOf, familyOf, readBy, not-start, Shows, cvm-read, cashback-read}
 use Rattle.spelling.proofs.Records.{commands-same, Stands}
 use Rattle.spelling.proofs.Lines.{takenAs, taken-as}
 use Rattle.papers.specs.Papers.{Front, nothing, broken, one, frontBy, frontOf, Meaning, none, means, startMeant, shownAt, firstMeant, secondMeant}
@@ -143,30 +143,35 @@ module _ (body : List ℕ) where
   unfolding commandOf secondOf
   second-meant dating family = if-so (eqb (length body) 8) _ _ refl
 
-script-meant : (manner : Manner) (slots : Slots) (scripts : Scripting) (body : List ℕ)
-    → cond (isScripted scripts) (scriptRead body) (commandRead (readBy manner slots 5 body)) ≡ asRead (scriptMeant scripts body)
+script-meant : (manner : Manner) (slots : Slots) (on : Bool) (body : List ℕ)
+    → cond on (scriptRead body) (commandRead (readBy manner slots 5 body)) ≡ asRead (scriptMeant (scriptsIn on) body)
 unfolding commandOf
-script-meant manner slots unscripted body = ap commandRead (not-start manner slots 5 body (λ e. omega arith))
-script-meant manner slots scripted [] = refl
-script-meant manner slots scripted (result ∷ template) = refl
+script-meant manner slots false body = ap commandRead (not-start manner slots 5 body (λ e. omega arith))
+script-meant manner slots true [] = refl
+script-meant manner slots true (result ∷ template) = refl
 
-meant-read : (manner : Manner) (slots : Slots) (kind : ℕ) (body : List ℕ) → hears manner slots kind body ≡ asRead (meant manner slots kind body)
+-- what a record is read as, where scripts are on or not
+abbrev readAs : (on : Bool) → Manner → Slots → (kind : ℕ) (body : List ℕ) → Read
+readAs on manner slots kind body = cond (on && eqb kind 5) (scriptRead body) (commandRead (readBy manner slots kind body))
+
+meant-read : (on : Bool) (manner : Manner) → manner .scripts ≡ scriptsIn on → (slots : Slots) (kind : ℕ) (body : List ℕ)
+    → readAs on manner slots kind body ≡ asRead (meant manner slots kind body)
 unfolding meant commandOf
-meant-read manner slots kind body = by (eqb kind 2) (eqb kind 3) (eqb kind 4) (eqb kind 5) refl refl refl refl where
+meant-read on manner scripts slots kind body = by (eqb kind 2) (eqb kind 3) (eqb kind 4) (eqb kind 5) refl refl refl refl where
   other : (k : ℕ) → (k ≡ 2 → ⊥)
       → commandRead (readBy manner slots k body) ≡ commandRead (commandOf (datingOf (manner .dates)) (familyOf (manner .family)) k body)
   other k n = ap commandRead (not-start manner slots k body n)
 
   by : (two three four five : Bool) → eqb kind 2 ≡ two → eqb kind 3 ≡ three → eqb kind 4 ≡ four → eqb kind 5 ≡ five
-      → hears manner slots kind body ≡ asRead (meant manner slots kind body)
+      → readAs on manner slots kind body ≡ asRead (meant manner slots kind body)
   by true three four five e f g h =
-      rw (eqb-true kind 2 e) (start-meant body (manner .choice) (manner .dates) (manner .family) (manner .scripts) slots)
+      rw (eqb-true kind 2 e, and-false on) (start-meant body (manner .choice) (manner .dates) (manner .family) (manner .scripts) slots)
   by false true four five e f g h =
-      rw (eqb-true kind 3 f) (other 3 (λ z. omega arith) ∙ first-meant body (manner .dates) (manner .family))
+      rw (eqb-true kind 3 f, and-false on) (other 3 (λ z. omega arith) ∙ first-meant body (manner .dates) (manner .family))
   by false false true five e f g h =
-      rw (eqb-true kind 4 g) (other 4 (λ z. omega arith) ∙ second-meant body (datingOf (manner .dates)) (familyOf (manner .family)))
-  by false false false true e f g h = rw (eqb-true kind 5 h) (script-meant manner slots (manner .scripts) body)
-  by false false false false e f g h = rw (e, f, g, h) (other kind (eqb-false kind 2 e) ∙ rw (e, f, g))
+      rw (eqb-true kind 4 g, and-false on) (other 4 (λ z. omega arith) ∙ second-meant body (datingOf (manner .dates)) (familyOf (manner .family)))
+  by false false false true e f g h = rw (eqb-true kind 5 h, and-true on, scripts) (script-meant manner slots on body)
+  by false false false false e f g h = rw (e, f, g, h, and-false on) (other kind (eqb-false kind 2 e) ∙ rw (e, f, g))
 
 -- ---- one turn, and all of them
 
@@ -214,13 +219,11 @@ module _ (form : Shape) (s : List ℕ) (lies : Lies (form .selecting) s) where
           start = at + start;
           next = place (Record kind start end) e;
           is =
-              rw (commands-same form (sitting .state .values) s lies kind (part s (at + start) (at + end)), scripts-on (form .scripting))
-              (ap (hears manner slots kind) (part-drop s at start end) ∙ meant-read manner slots kind (part rest start end) ∙ ap asRead f);
+              rw (commands-same form (sitting .state .values) s lies kind (part s (at + start) (at + end)))
+              (ap (readAs (form .scripting) manner slots kind) (part-drop s at start end)
+              ∙ meant-read (form .scripting) manner refl slots kind (part rest start end)
+              ∙ ap asRead f);
         }
-      where
-        scripts-on : (b : Bool) → b ≡ isScripted (scriptsIn b)
-        scripts-on true = refl
-        scripts-on false = refl
 
     by-meaning : (kind start end : ℕ) → nextAt rest 0 ≡ Record kind start end → (m : Meaning) → meant manner slots kind (part rest start end) ≡ m
         → Turn sitting at

@@ -1,12 +1,14 @@
 -- The premises are met: by the printed sitting, its 242 bytes and the 322 bytes of its lines; by a paper whose Starts bring the terminal's data; by
--- one of version 03; by one whose Firsts have their dates; and by a CPACE card's. Assumes nothing.
+-- one of version 03; by one whose Firsts have their dates; by a CPACE card's; and by one with a script. Assumes nothing.
 use mathlib.Core.Path.{_≡_, refl, sym, ap, _∙_}
-use mathlib.Core.Bool.{true, false}
+use mathlib.Core.Bool.{Bool, true, false, _&&_}
 use mathlib.Core.List.{List, [], _∷_, append-nil}
 use Prim.Native.Nat.{ℕ, _^_}
-use lib.Dec.{lit≤}
+use borrow.Author.Tests.{ltb-true}
+use lib.Dec.{lit≤, ltb}
 use lib.ListN.{length, take, drop, take-append-drop}
 use Rattle.wire.specs.Wire.{number}
+use Rattle.wire.proofs.Pairs.{both}
 use Rattle.refusal.specs.declared.Refusal.the-variants.{OutOfTurn}
 use Rattle.rules.specs.Word.{wordCount}
 use Rattle.cpace.specs.declared.Cvm.the-variants.{NoCvm}
@@ -22,17 +24,19 @@ use Rattle.conversation.specs.declared.Event.{Event}
 use Rattle.conversation.specs.declared.Event.the-variants.{SetUp}
 use Rattle.lines.specs.Sitting.{sittingLines}
 use Rattle.demands.specs.Conversation.{Exchange, run, rulesBy, sat}
-use Rattle.demands.specs.Audit.{inForce, placeBy, approves, bought, takesPart}
+use Rattle.demands.specs.Audit.{inForce, placeBy, upperOf, approves, bought, takesPart}
 use Rattle.demands.specs.Guards.{Guards}
 use Rattle.demands.specs.Printed.{first, second, commands}
 use Rattle.demands.specs.Printed as D
 use Rattle.demands.proofs.Computed.{computed}
+use Rattle.demands.proofs.Sittings.{templateOf, limit}
 use Rattle.rows.specs.Rows.{setupRow, headRow, profileRow, spelled, written}
-use Rattle.rows.specs.Tails.{off, third}
+use Rattle.rows.specs.Rows as Rows
+use Rattle.rows.specs.Tails.{off, Tail, third, sixth}
 use Rattle.rows.specs.Whole.{wholeBody}
 use Rattle.rows.proofs.Witness as R
-use Rattle.spelling.specs.Spelling.{Bytes, big, recordOf, spellAll, paperOf, byName, byFile, undated, dated, cpa, cpace, unscripted, Manner}
-use Rattle.spelling.specs.Spelling.{Sent, standsFor}
+use Rattle.spelling.specs.Spelling.{Bytes, big, recordOf, spellAll, paperOf, byName, byFile, undated, dated, cpa, cpace, unscripted, scripted, Manner}
+use Rattle.spelling.specs.Spelling.{Sent, names, first as said-first, second as said-second, script, unsaid, unshown, kindOf, bodyOf, standsFor}
 use Rattle.spelling.specs.Sitting.{allStandFor}
 use Rattle.spelling.specs.Printed.{printed, body, sent, printedLines, selection, selectionBody, file, brought, calendar, calendarBody, datedSent}
 use Rattle.spelling.specs.Printed.{cpacePaper, cpaceBody, cpaceSent}
@@ -279,3 +283,85 @@ cpace-commands = refl
 pub cpace-no-fault : faulty cpacePaper ≡ false
 unfolding cpacePaper mannerOf entriesLong number frontOf meant walk walked
 cpace-no-fault = refl
+
+-- ---- a paper of version 06: the printed set-up with scripts on, and between First and Second a script that sets accumulator 1's upper limit to 6,000
+
+abbrev scriptsTail : Tail
+scriptsTail = sixth off 0 Rows.undated Rows.cpa true
+
+abbrev limitedSent : List Sent
+limitedSent = names unsaid 1 ∷ said-first 1 5001 0x0978 0x22 unshown ∷ script 1 (templateOf (limit 1 0x50 0x00 0x60 0x00 ∷ [])) ∷ said-second 1 0x5933 0 0 ∷ []
+
+unfoldable pub limited : List ℕ
+unfolding R.printed recordOf big setupRow headRow profileRow spelled written spellAll kindOf bodyOf
+limited = paperOf 6 (wholeBody R.printed scriptsTail) (spellAll limitedSent)
+
+unfoldable pub areBytes : List ℕ → Bool
+areBytes [] = true
+areBytes (b ∷ s) = ltb b 256 && areBytes s
+
+pub bytes-of : (s : List ℕ) → areBytes s ≡ true → Bytes s
+unfolding areBytes
+bytes-of [] e = tt
+bytes-of (b ∷ s) e = let t = both (ltb b 256) (areBytes s) e in (ltb-true b 256 (t .0), bytes-of s (t .1))
+
+pub limited-bytes : Bytes limited
+unfolding limited areBytes
+limited-bytes = bytes-of limited refl
+
+pub limited-accepted : Accepted limited
+unfolding limited
+limited-accepted =
+    record {
+      version = 6;
+      body = wholeBody R.printed scriptsTail;
+      rest = spellAll limitedSent;
+      opens = record { is = refl; least = lit≤ tt; most = lit≤ tt; short = lit≤ tt };
+      set-up =
+          record {
+            setup = R.printed;
+            tail = scriptsTail;
+            version-is = refl;
+            fits = R.printed-fits;
+            in-range = R.printed-in-range-5;
+            fine = (tt, lit≤ tt, tt, tt);
+            dates-in-range = tt;
+            families-in-range = tt;
+            spelled = refl;
+          };
+    }
+
+abbrev issuing : Manner
+issuing = record { choice = byName; dates = undated; family = cpa; scripts = scripted }
+
+pub limited-manner : mannerOf limited ≡ issuing
+unfolding limited mannerOf entriesLong number
+limited-manner = refl
+
+pub limited-commands : commandsOf limited ≡ standIn limited issuing limitedSent
+unfolding limited mannerOf entriesLong number frontOf meant walk walked standsFor allStandFor
+limited-commands = refl
+
+pub limited-no-fault : faulty limited ≡ false
+unfolding limited mannerOf entriesLong number frontOf meant walk walked
+limited-no-fault = refl
+
+-- THE UPPER LIMIT IN FORCE AT THE APPROVAL IS THE ONE THAT THE SCRIPT WROTE
+pub at-written-limit : (words : List ℕ) → length words ≡ wordCount → Approval words limited (accumulator 0) 3 second
+unfolding limited setupOf mannerOf entriesLong number frontOf meant walk walked talk computed
+at-written-limit words lent =
+    record {
+      answer = answerOf (drop 3 (saidIn limited));
+      more = allAnswered (drop 4 (saidIn limited));
+      cut = cut-in words limited lent limited-bytes limited-accepted limited-no-fault 4;
+      guards = record { active = refl; included = refl; decline = refl; default = refl };
+      approves-it = refl;
+      takes-part = refl;
+    }
+
+abbrev soFar : List Exchange
+soFar = newest (take 3 (saidIn limited))
+
+pub written-limit : upperOf (inForce (setupOf limited) soFar) (placeBy (setupOf limited) soFar) (accumulator 0) ≡ 6000
+unfolding limited setupOf mannerOf entriesLong number frontOf meant walk walked talk computed
+written-limit = refl

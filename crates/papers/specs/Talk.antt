@@ -14,6 +14,8 @@ use Rattle.script.specs.Script.{rulesAfter}
 use Rattle.card.specs.Message.{Message}
 use Rattle.conversation.specs.declared.Event.{Event}
 use Rattle.conversation.specs.declared.Event.the-variants.{SetUp, Refused, Answered}
+use Rattle.conversation.specs.declared.Said.{Said}
+use Rattle.conversation.specs.declared.Said.the-variants.{Command, Script}
 use Rattle.conversation.specs.Conversation.{takenOf, takenWrites, begunOf, wordsBegun}
 use Rattle.conversation.specs.Events.{eventsOf}
 use Rattle.demands.specs.Setup.{Setup}
@@ -62,6 +64,15 @@ pub record CutBehind (words paper : List ℕ) (before : List Exchange) (more : L
 -- and behind one more, a command and its answer
 abbrev pub CutBehindOne : (words paper : List ℕ) (before : List Exchange) (command : Message) (answer : Answer) (more : List Event) → Type 0
 CutBehindOne words paper before command answer more = CutBehind words paper (before ++ record { command = command; answer = answer } ∷ []) more
+
+-- no script is among them: then the events alone say where they are cut
+abbrev pub IsCommand : Said → Type 0
+IsCommand (Command command) = Unit
+IsCommand Script = ⊥
+
+abbrev pub Plain : List Exchange → Type 0
+Plain [] = Unit
+Plain (exchange ∷ more) = IsCommand (saidOf (exchange .command)) × Plain more
 
 -- the conversation so far, the newest first, as the demands read it
 abbrev pub newest : List Exchange → List Exchange
