@@ -23,7 +23,7 @@ use Rattle.command.specs.declared.ReadCommand.{ReadCommand}
 use Rattle.command.specs.declared.ReadCommand.the-variants.{Taken as CommandTaken, Refused as CommandRefused}
 use Rattle.command.specs.Command.{commandIn}
 use Rattle.state.specs.declared.State.{State}
-use Rattle.put_data.specs.declared.Write.{Write}
+use Rattle.element.specs.declared.Write.{Write}
 use Rattle.card.specs.Card.{stepOf, scriptStep, scriptWrites, freshState}
 use Rattle.conversation.specs.declared.Event.{Event}
 use Rattle.conversation.specs.declared.Event.the-variants.{SetUp, End, Refused, Answered}

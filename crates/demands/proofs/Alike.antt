@@ -20,7 +20,7 @@ use Rattle.rules.proofs.Places.{four-at, eight-at, eight-past}
 use Rattle.setup.specs.Setup.{rulesIn, freshIn, readSetup}
 use Rattle.command.specs.declared.First.{First}
 use Rattle.command.specs.declared.Second.{Second}
-use Rattle.put_data.specs.declared.Write.{Write}
+use Rattle.element.specs.declared.Write.{Write}
 use Rattle.script.specs.Script.{heard, rulesAfter}
 use Rattle.script.proofs.Stays.{rules-stay}
 use Rattle.rules.proofs.Limits.{Stays}

@@ -27,7 +27,7 @@ use Rattle.purchase.specs.declared.Timing.{Timing}
 use Rattle.purchase.specs.declared.Timing.the-variants.{Undated, InOrder, DateError}
 use Rattle.purchase.specs.declared.Purchase.{Purchase}
 use Rattle.purchase.specs.Meter.{Meter, IsMeter, valueOf}
-use Rattle.put_data.specs.declared.Write.{Write}
+use Rattle.element.specs.declared.Write.{Write}
 use Rattle.meters.specs.Meters.{moved}
 use Rattle.script.specs.declared.Scripts.{Scripts}
 use Rattle.state.specs.declared.History.{History}

@@ -20,8 +20,8 @@ use Rattle.purchase.specs.declared.Purchase.{Purchase}
 use Rattle.purchase.specs.Meter.{Meter, accumulator, counter, cyclic, IsMeter, valueOf}
 use Rattle.meters.specs.declared.Change.{Change}
 use Rattle.meters.specs.Meters.{Entry, put, applied}
-use Rattle.put_data.specs.declared.Write.{Write}
-use Rattle.put_data.specs.declared.Write.the-variants.{Value, AccumulatorLimits, CounterLimits}
+use Rattle.element.specs.declared.Write.{Write}
+use Rattle.element.specs.declared.Write.the-variants.{Value, AccumulatorLimits, CounterLimits}
 use Rattle.script.specs.Script.{valueIn, valuesWith, valuesAfter, templateTried, ranOf}
 use Rattle.script.proofs.Stays.{as-many}
 use Rattle.auditor.specs.Template.{IsInRange, InRange}

@@ -10,7 +10,7 @@ use lib.ListN.{length}
 use Rattle.rules.specs.Word.{wordCount}
 use Rattle.setup.specs.Setup.{freshIn, readSetup}
 use Rattle.setup.proofs.Faithful.{faithful}
-use Rattle.put_data.specs.declared.Write.{Write}
+use Rattle.element.specs.declared.Write.{Write}
 use Rattle.script.specs.Script.{rulesAfter}
 use Rattle.auditor.specs.Template.{InRange}
 use Rattle.card.specs.Card.{freshState}

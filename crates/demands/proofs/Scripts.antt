@@ -12,7 +12,7 @@ use Rattle.rules.specs.declared.Place.{Place}
 use Rattle.rules.specs.Rules.{Rules}
 use Rattle.object.specs.declared.Reading.the-variants.{Sound}
 use Rattle.object.specs.Object.{readTemplate, commandsOf}
-use Rattle.put_data.specs.declared.Write.{Write}
+use Rattle.element.specs.declared.Write.{Write}
 use Rattle.put_data.specs.PutData.{writesOf}
 use Rattle.auditor.specs.Template.{writesIn, Bytes, EachBytes, InRange}
 use Rattle.auditor.proofs.Commands.{same-commands}

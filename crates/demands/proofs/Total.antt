@@ -28,8 +28,8 @@ use Rattle.meters.specs.declared.Change.the-variants.{Approve, Decline}
 use Rattle.meters.specs.Meters.{Entry, moved, offline, applied}
 use Rattle.object.specs.declared.Reading.the-variants.{Sound}
 use Rattle.object.specs.Object.{readTemplate}
-use Rattle.put_data.specs.declared.Write.{Write}
-use Rattle.put_data.specs.declared.Write.the-variants.{Value, AccumulatorLimits, CounterLimits}
+use Rattle.element.specs.declared.Write.{Write}
+use Rattle.element.specs.declared.Write.the-variants.{Value, AccumulatorLimits, CounterLimits}
 use Rattle.auditor.specs.Template.{Bytes, InRange}
 use Rattle.script.specs.declared.Scripts.{Scripts}
 use Rattle.script.specs.Script.{valuesAfter, ranOf}

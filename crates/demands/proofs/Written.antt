@@ -12,8 +12,8 @@ use Rattle.rules.specs.Limits.{withAccumulatorLimits, withCounterLimits}
 use Rattle.rules.proofs.Limits.{Whole, Stays, accumulator-limited, counter-limited}
 use Rattle.setup.specs.Setup.{profileIn, rulesIn}
 use Rattle.purchase.specs.Meter.{MeterRule, accumulating, counting}
-use Rattle.put_data.specs.declared.Write.{Write}
-use Rattle.put_data.specs.declared.Write.the-variants.{Value, AccumulatorLimits, CounterLimits}
+use Rattle.element.specs.declared.Write.{Write}
+use Rattle.element.specs.declared.Write.the-variants.{Value, AccumulatorLimits, CounterLimits}
 use Rattle.script.specs.Script.{rulesAfter}
 use Rattle.script.proofs.Stays.{stays-refl, stays-trans, rules-stay, rules-whole}
 use Rattle.demands.specs.Setup.{Setup, byteAt}

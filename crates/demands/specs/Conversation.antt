@@ -5,7 +5,7 @@ use mathlib.Core.List.{List, [], _∷_}
 use lib.Dec.{eqb}
 use Rattle.rules.specs.Rules.{Rules, rulesOf}
 use Rattle.setup.specs.Setup.{rulesIn, readSetup, wordsAfter}
-use Rattle.put_data.specs.declared.Write.{Write}
+use Rattle.element.specs.declared.Write.{Write}
 use Rattle.script.specs.Script.{rulesWith, rulesAfter}
 use Rattle.auditor.specs.Template.{Bytes}
 use Rattle.command.specs.declared.Second.{Second}

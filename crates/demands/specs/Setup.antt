@@ -5,7 +5,7 @@ use mathlib.Core.List.{List, []}
 use Prim.Native.Nat.{ℕ}
 use Rattle.wire.specs.Wire.{byte, number}
 use Rattle.ranges.specs.Ranges.{isSetup, areCycles, isFamily}
-use Rattle.put_data.specs.declared.Write.{Write}
+use Rattle.element.specs.declared.Write.{Write}
 use Rattle.auditor.specs.Template.{InRange}
 use Rattle.setup.proofs.Faithful.{Bytes}
 

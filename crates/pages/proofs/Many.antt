@@ -10,8 +10,8 @@ use Rattle.rules.specs.declared.Place.the-variants.{One, Two, Three, Four}
 use Rattle.rules.specs.Rules.{profileBase}
 use Rattle.rules.specs.Word as word
 use Rattle.rules.specs.Limits.{limitsPut, limitsPutInAll, accumulatorLimitsPut, counterLimitsPut}
-use Rattle.put_data.specs.declared.Write.{Write}
-use Rattle.put_data.specs.declared.Write.the-variants.{Value, AccumulatorLimits, CounterLimits}
+use Rattle.element.specs.declared.Write.{Write}
+use Rattle.element.specs.declared.Write.the-variants.{Value, AccumulatorLimits, CounterLimits}
 use Rattle.script.specs.Script.{wordsWith, wordsAfter}
 
 in-one : (place : Place) (rule lower upper : ℕ) (w : List ℕ) → length (limitsPut place rule lower upper w) ≡ length w

@@ -17,8 +17,8 @@ use Rattle.rules.specs.declared.Values.{Values}
 use Rattle.rules.specs.Rules.{Rules, accumulatorRule, counterRule}
 use Rattle.rules.specs.Limits.{accumulatorWithin, counterWithin, withAccumulatorLimits, withCounterLimits}
 use Rattle.rules.proofs.Limits.{Whole, Stays, accumulator-limited, counter-limited}
-use Rattle.put_data.specs.declared.Write.{Write}
-use Rattle.put_data.specs.declared.Write.the-variants.{Value, AccumulatorLimits, CounterLimits}
+use Rattle.element.specs.declared.Write.{Write}
+use Rattle.element.specs.declared.Write.the-variants.{Value, AccumulatorLimits, CounterLimits}
 use Rattle.object.specs.Object.{commandsOf}
 use Rattle.script.specs.declared.Scripts.{Scripts}
 use Rattle.script.specs.Script.{valueIn, valuesWith, rulesWith, valuesAfter, rulesAfter, countOf, templateTried, ranOf, rulesRun}

@@ -24,9 +24,10 @@ use Rattle.command.specs.declared.Command.{Command}
 use Rattle.command.specs.Command.{startOf, firstOf, secondOf, commandOf, commandIn}
 use Rattle.object.specs.Object.{lengthSize, lengthAt, valueSize, headSize, headFormed, headRight, valueOf, readObject, readBehind, readList, isTemplate}
 use Rattle.object.specs.Object.{readTemplate, placesBehind, placesFrom, cut, commandsOf}
-use Rattle.put_data.specs.declared.Write.{Write}
-use Rattle.put_data.specs.PutData.{lengthSize as putSize, lengthAt as putAt, valueWritten, limitsWritten, meaningOf, headSize as putHead}
-use Rattle.put_data.specs.PutData.{elementSize, elementMeaning, writesBy, isPutData, listPlace, macPlace, isSecured, elementsOf, writesOf}
+use Rattle.element.specs.declared.Write.{Write}
+use Rattle.element.specs.Element.{lengthSize as putSize, lengthAt as putAt, valueWritten, limitsWritten, meaningOf, headSize as putHead}
+use Rattle.element.specs.Element.{elementSize, elementMeaning}
+use Rattle.put_data.specs.PutData.{writesBy, isPutData, listPlace, macPlace, isSecured, elementsOf, writesOf}
 use Rattle.script.specs.Script.{kept, freshScripts, started, oneDone, marksOf, valueIn, done, tried, templateTried, ranOf}
 use Rattle.purchase.specs.Meter.{worth, cyclicWorth, isOpen}
 use Rattle.meters.specs.Meters.{applied}

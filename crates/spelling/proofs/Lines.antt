@@ -14,7 +14,7 @@ use Rattle.command.specs.declared.Command.the-variants.{Start, First, Second}
 use Rattle.command.specs.declared.ReadCommand.{ReadCommand}
 use Rattle.command.specs.declared.ReadCommand.the-variants.{Taken as CommandTaken, Refused as CommandRefused}
 use Rattle.command.specs.Command.{commandIn}
-use Rattle.put_data.specs.declared.Write.{Write}
+use Rattle.element.specs.declared.Write.{Write}
 use Rattle.state.specs.declared.State.{State}
 use Rattle.card.specs.Card.{stepOf}
 use Rattle.card.specs.Message.{messageStep, messageWrites}

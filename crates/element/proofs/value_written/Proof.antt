@@ -1,7 +1,7 @@
 use borrow.Author.Needs.{needs}
-use Rattle.put_data.specs.PutData.{valueWritten}
-use Rattle.put_data.proofs.value_written.Statement.{statement}
-use Rattle.put_data.proofs.value_written.Tie as tie
+use Rattle.element.specs.Element.{valueWritten}
+use Rattle.element.proofs.value_written.Statement.{statement}
+use Rattle.element.proofs.value_written.Tie as tie
 
 returns : tie.Need-returns
 unfolding valueWritten

@@ -1,9 +1,9 @@
 use mathlib.Core.Path.{sym, _∙_}
 use borrow.Author.Tests.{eq-eqb, ne-eqb}
 use borrow.Author.Needs.{needs}
-use Rattle.put_data.specs.PutData.{lengthSize}
-use Rattle.put_data.proofs.length_size.Statement.{statement}
-use Rattle.put_data.proofs.length_size.Tie as tie
+use Rattle.element.specs.Element.{lengthSize}
+use Rattle.element.proofs.length_size.Statement.{statement}
+use Rattle.element.proofs.length_size.Tie as tie
 
 returns : tie.Need-returns
 unfolding lengthSize

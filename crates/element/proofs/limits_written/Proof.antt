@@ -1,7 +1,7 @@
 use borrow.Author.Needs.{needs}
-use Rattle.put_data.specs.PutData.{limitsWritten}
-use Rattle.put_data.proofs.limits_written.Statement.{statement}
-use Rattle.put_data.proofs.limits_written.Tie as tie
+use Rattle.element.specs.Element.{limitsWritten}
+use Rattle.element.proofs.limits_written.Statement.{statement}
+use Rattle.element.proofs.limits_written.Tie as tie
 
 returns : tie.Need-returns
 unfolding limitsWritten

@@ -1,8 +1,8 @@
 use borrow.Author.Needs.{needs}
-use Rattle.put_data.specs.PutData.{meaningOf}
-use Rattle.put_data.proofs.Laws.{from-first}
-use Rattle.put_data.proofs.meaning_of.Statement.{statement}
-use Rattle.put_data.proofs.meaning_of.Tie as tie
+use Rattle.element.specs.Element.{meaningOf}
+use Rattle.element.proofs.Laws.{from-first}
+use Rattle.element.proofs.meaning_of.Statement.{statement}
+use Rattle.element.proofs.meaning_of.Tie as tie
 
 sub-value-written : tie.Need-sub-value-written
 sub-value-written c =

@@ -3,10 +3,10 @@ use mathlib.Core.Path.{ap₂, _∙_}
 use native.Mathlib.Omega.{arith}
 use lib.ListN.{length}
 use borrow.Author.Needs.{needs}
-use Rattle.put_data.specs.PutData.{asMeaning, meaningOf, elementSize, elementMeaning}
-use Rattle.put_data.proofs.Laws.{and-fits, part}
-use Rattle.put_data.proofs.element_meaning.Statement.{statement}
-use Rattle.put_data.proofs.element_meaning.Tie as tie
+use Rattle.element.specs.Element.{asMeaning, meaningOf, elementSize, elementMeaning}
+use Rattle.element.proofs.Laws.{and-fits, part}
+use Rattle.element.proofs.element_meaning.Statement.{statement}
+use Rattle.element.proofs.element_meaning.Tie as tie
 
 sub-meaning-of : tie.Need-sub-meaning-of
 unfolding elementSize

@@ -1,7 +1,7 @@
 use borrow.Author.Needs.{needs}
-use Rattle.put_data.specs.PutData.{elementSize}
-use Rattle.put_data.proofs.element_size.Statement.{statement}
-use Rattle.put_data.proofs.element_size.Tie as tie
+use Rattle.element.specs.Element.{elementSize}
+use Rattle.element.proofs.element_size.Statement.{statement}
+use Rattle.element.proofs.element_size.Tie as tie
 
 returns : tie.Need-returns
 unfolding elementSize

@@ -1,8 +1,8 @@
 use borrow.Author.Tests.{eq-eqb, ne-eqb}
 use borrow.Author.Needs.{needs}
-use Rattle.put_data.specs.PutData.{countsWritten}
-use Rattle.put_data.proofs.counts_written.Statement.{statement}
-use Rattle.put_data.proofs.counts_written.Tie as tie
+use Rattle.element.specs.Element.{countsWritten}
+use Rattle.element.proofs.counts_written.Statement.{statement}
+use Rattle.element.proofs.counts_written.Tie as tie
 
 returns : tie.Need-returns
 unfolding countsWritten

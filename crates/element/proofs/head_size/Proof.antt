@@ -1,7 +1,7 @@
 use borrow.Author.Needs.{needs}
-use Rattle.put_data.specs.PutData.{headSize}
-use Rattle.put_data.proofs.head_size.Statement.{statement}
-use Rattle.put_data.proofs.head_size.Tie as tie
+use Rattle.element.specs.Element.{headSize}
+use Rattle.element.proofs.head_size.Statement.{statement}
+use Rattle.element.proofs.head_size.Tie as tie
 
 returns : tie.Need-returns
 unfolding headSize
