@@ -16,8 +16,8 @@ use Rattle.lines.specs.Sitting.{sittingLines}
 use Rattle.lines.proofs.Each.{Each, none, more}
 use Rattle.transcript.specs.Transcript.{transcriptOf}
 use Rattle.pages.specs.Stack.{pageOf, sizeOf, paperOf, behind, stackOf}
-use Rattle.pages.proofs.Stack as Front
-use Rattle.pages.proofs.Alone.{words-length, apart}
+use Rattle.stacks.proofs.Stack as Front
+use Rattle.stacks.proofs.Alone.{words-length, apart}
 use Rattle.spelling.specs.Spelling.{Bytes, big}
 use Rattle.spelling.specs.Faults.{over}
 use Rattle.spelling.proofs.Numbers.{big-length, big-read, big-back, number-small, bytes-drop, peel}

@@ -10,11 +10,11 @@ use lib.ListN.{length, drop, length-append, length-drop}
 use lib.Seq.{drop-length, take-append-le, drop-append-le, drop-append-add}
 use Rattle.conversation.specs.Events.{wordsLeft}
 use Rattle.transcript.specs.Transcript.{joined, roomFor}
 use Rattle.pages.specs.declared.Wants.the-variants.{Turn, Input, Room}
 use Rattle.pages.specs.Stack.{pageOf, sizeOf, paperOf, stackOf}
 use Rattle.pages.specs.Turn.{tooLong, longestPaper, owed, Deal, hold, page, passing, opening, dealOf, lastText}
-use Rattle.pages.specs.Pieces.{dealt, toldIn, toldOf}
-use Rattle.pages.proofs.Stack.{number-front, none, cut, front, owed-cut, owed-page, owed-long}
+use Rattle.stacks.specs.Pieces.{dealt, toldIn, toldOf}
+use Rattle.stacks.proofs.Stack.{number-front, none, cut, front, owed-cut, owed-page, owed-long}
 
 abbrev paged : (words input : List ℕ) → Deal
 paged words input = page (4 + sizeOf input) (roomFor (sizeOf input)) (pageOf words (paperOf input)) (wordsLeft words (paperOf input))

@@ -32,9 +32,9 @@ use Rattle.conversation.specs.Events.{ending, wordsFrom, wordsLeft}
 use Rattle.lines.specs.Lines.{refusalLine}
 use Rattle.transcript.specs.Transcript.{transcriptOf, restOf}
 use Rattle.transcript.proofs.Steps.{Beginning, accepted, refused, begins, set-up, not-set-up}
 use Rattle.pages.specs.Stack.{paperOf, behind, pagesIn, stackOf}
-use Rattle.pages.specs.Alone.{apartIn, apartOf}
-use Rattle.pages.proofs.Many.{as-many}
+use Rattle.stacks.specs.Alone.{apartIn, apartOf}
+use Rattle.stacks.proofs.Many.{as-many}
 
 -- ---- as many words as before
 
