@@ -4,7 +4,7 @@
 #define MODEL_LATEST_H
 
 #ifndef LATEST
-#define LATEST 5
+#define LATEST 6
 #endif
 
 #endif

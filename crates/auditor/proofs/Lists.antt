@@ -11,8 +11,9 @@ use lib.Dec.{ltb, leb, eqb}
 use borrow.Author.Tests.{leb-true, ltb-true, ne-eqb, eqb-true, eqb-false}
 use Rattle.wire.specs.Wire.{byte, number}
 use Rattle.wire.proofs.Pairs.{both}
-use Rattle.put_data.specs.declared.Write.{Write}
-use Rattle.put_data.specs.PutData.{isLength, lengthSize, lengthAt, isOneOf, meaningOf, headSize, elementSize, elementMeaning, before, writesBy, writesIn}
+use Rattle.element.specs.declared.Write.{Write}
+use Rattle.element.specs.Element.{isLength, lengthSize, lengthAt, isOneOf, meaningOf, headSize, elementSize, elementMeaning}
+use Rattle.put_data.specs.PutData.{before, writesBy, writesIn}
 use Rattle.put_laws.proofs.Elements.{list-element}
 use Rattle.put_laws.proofs.Octets.{drop-bytes}
 use Rattle.put_laws.proofs.Parts.{two-at}

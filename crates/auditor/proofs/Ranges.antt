@@ -6,8 +6,8 @@ use Prim.Native.Nat.{ℕ}
 use lib.ListN.{drop}
 use Rattle.object.specs.Object.{Place, placesFrom, cut, commandsOf}
 use Rattle.trees.proofs.Octets.{drop-bytes, take-bytes}
-use Rattle.put_data.specs.declared.Write.{Write}
-use Rattle.put_data.specs.declared.Write.the-variants.{Value, AccumulatorLimits, CounterLimits}
+use Rattle.element.specs.declared.Write.{Write}
+use Rattle.element.specs.declared.Write.the-variants.{Value, AccumulatorLimits, CounterLimits}
 use Rattle.put_data.specs.PutData.{writesOf, isSome, isValid}
 use Rattle.put_laws.specs.Written.{Object, accumulators, counters, IsOf, Item, filler, element, listWrites, AreOf}
 use Rattle.put_laws.proofs.Back.{from-proper, proper-valid}

@@ -12,8 +12,8 @@ use borrow.Author.Tests.{leb-true, ltb-true, le-leb, lt-leb, lt-ltb, eqb-true, e
 use Rattle.wire.proofs.Pairs.{both}
 use Rattle.digits.specs.Digits.{arePairs, pairsValue}
 use Rattle.iad.proofs.Runs.{run, run-take}
-use Rattle.put_data.specs.declared.Write.the-variants.{Value, AccumulatorLimits}
-use Rattle.put_data.specs.PutData.{amountAt, valueWritten, limitsWritten, countsWritten, isOneOf, meaningOf}
+use Rattle.element.specs.declared.Write.the-variants.{Value, AccumulatorLimits}
+use Rattle.element.specs.Element.{amountAt, valueWritten, limitsWritten, countsWritten, isOneOf, meaningOf}
 use Rattle.auditor.specs.Template.{digitsIn, areDigits, decimal, isAmount, amountIn, isSlot, ofAccumulator, ofCounter}
 
 -- two tests that each pass where the other does

@@ -9,10 +9,11 @@ use lib.Dec.{T, eqb}
 use Rattle.wire.specs.Wire.{number}
 use Rattle.digits.specs.Digits.{arePairs, pairsValue}
 use Rattle.object.specs.Object.{lengthSize, lengthAt, valueSize, headSize, headFormed, headRight, placesBehind, placesFrom, cut, commandsOf}
-use Rattle.put_data.specs.declared.Write.{Write}
-use Rattle.put_data.specs.declared.Write.the-variants.{Value, AccumulatorLimits, CounterLimits}
-use Rattle.put_data.specs.PutData.{lengthSize as putSize, lengthAt as putAt, valueWritten, limitsWritten, countsWritten, meaningOf, headSize as putHead}
-use Rattle.put_data.specs.PutData.{elementSize, elementMeaning, writesBy, isPutData, listPlace, macPlace, isSecured, elementsOf, writesOf}
+use Rattle.element.specs.declared.Write.{Write}
+use Rattle.element.specs.declared.Write.the-variants.{Value, AccumulatorLimits, CounterLimits}
+use Rattle.element.specs.Element.{lengthSize as putSize, lengthAt as putAt, valueWritten, limitsWritten, countsWritten, meaningOf, headSize as putHead}
+use Rattle.element.specs.Element.{elementSize, elementMeaning}
+use Rattle.put_data.specs.PutData.{writesBy, isPutData, listPlace, macPlace, isSecured, elementsOf, writesOf}
 use Rattle.put_laws.proofs.Vectors.{bytes, amountOf}
 use Rattle.auditor.specs.Template.{shortIn, valueIn, commandsBy, commandsIn, digitsIn, areDigits, decimal, isAmount, amountIn, ofAccumulator}
 use Rattle.auditor.specs.Template.{ofCounter, listBy, begins, dataIn, writesIn}

@@ -12,8 +12,9 @@ use lib.Dec.{leb, eqb}
 use borrow.Author.Tests.{leb-true, leb-false, le-leb, ne-eqb, eqb-true, eqb-false}
 use Rattle.wire.specs.Wire.{byte}
 use Rattle.wire.proofs.Pairs.{both}
-use Rattle.put_data.specs.declared.Write.{Write}
-use Rattle.put_data.specs.PutData.{isLength, lengthSize, lengthAt, meaningOf, writesIn as cardWrites, objectOf, isPutData, listPlace, macPlace, isSecured, elementsOf, writesOf}
+use Rattle.element.specs.declared.Write.{Write}
+use Rattle.element.specs.Element.{isLength, lengthSize, lengthAt, meaningOf}
+use Rattle.put_data.specs.PutData.{writesIn as cardWrites, objectOf, isPutData, listPlace, macPlace, isSecured, elementsOf, writesOf}
 use Rattle.put_laws.proofs.Octets.{drop-bytes, take-bytes}
 use Rattle.put_laws.proofs.Parts.{two-at}
 use Rattle.auditor.specs.Template.{shortIn, ofAccumulator, ofCounter, begins, isMac, fromList, dataIn, writesIn, Bytes}

@@ -8,8 +8,8 @@ use lib.ListN.{length, take, drop, getD}
 use lib.Dec.{ltb, leb, eqb}
 use Rattle.wire.specs.Wire.{byte}
 use Rattle.money.specs.declared.AccumulatorAmount.{AccumulatorAmount}
-use Rattle.put_data.specs.declared.Write.{Write}
-use Rattle.put_data.specs.declared.Write.the-variants.{Value, AccumulatorLimits, CounterLimits}
+use Rattle.element.specs.declared.Write.{Write}
+use Rattle.element.specs.declared.Write.the-variants.{Value, AccumulatorLimits, CounterLimits}
 
 -- A VALUE, which stands behind its length, and what is behind the value
 pub record Parted : Type 0 where

@@ -34,7 +34,7 @@ use Rattle.state.specs.declared.Outcome.{Outcome}
 use Rattle.object.specs.declared.Reading.{Reading}
 use Rattle.object.specs.declared.Reading.the-variants.{Sound, Malformed as NoTemplate, TooDeep as DeepTemplate}
 use Rattle.object.specs.Object.{readTemplate}
-use Rattle.put_data.specs.declared.Write.{Write}
+use Rattle.element.specs.declared.Write.{Write}
 use Rattle.script.specs.declared.Scripts.{Scripts}
 use Rattle.script.specs.Script.{freshScripts, started, templateTried, ranOf}
 use Rattle.first.specs.First.{firstPerformed}

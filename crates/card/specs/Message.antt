@@ -1,7 +1,7 @@
 -- What a card is sent, and what that comes to: a command, or an issuer's script (request Twelve).
 use Prim.Native.Nat.{ℕ}
 use mathlib.Core.List.{List, []}
-use Rattle.put_data.specs.declared.Write.{Write}
+use Rattle.element.specs.declared.Write.{Write}
 use Rattle.rules.specs.Rules.{Rules}
 use Rattle.command.specs.declared.Start.{Start}
 use Rattle.command.specs.declared.First.{First}

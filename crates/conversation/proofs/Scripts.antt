@@ -1,8 +1,12 @@
--- A script's body: without a byte, or a first byte and what is behind it. Assumes nothing.
-use mathlib.Core.Path.{_≡_, refl}
+-- A record that is a script's, its body without a byte, or a first byte and what is behind it; and one that is not. Assumes nothing.
+use mathlib.Core.Path.{_≡_, refl, sym, ap}
+use mathlib.Core.Bool.{Bool, true, false, cond, _&&_}
+use mathlib.Core.Logic.{_⊎_, inl, inr}
 use mathlib.Core.List.{List, [], _∷_}
 use Prim.Native.Nat.{ℕ, _-_}
 use native.Mathlib.Omega.{arith}
+use borrow.Author.Tests.{ne-eqb}
+use lib.Dec.{eqb}
 use lib.ListN.{length, getD, take, drop}
 use lib.Seq.{take-all}
 use Rattle.refusal.specs.declared.Refusal.the-variants.{Unreadable}
@@ -10,7 +14,13 @@ use Rattle.state.specs.declared.State.{State}
 use Rattle.card.specs.Card.{scriptStep, scriptWrites}
 use Rattle.conversation.specs.declared.Event.the-variants.{Refused, Answered}
 use Rattle.conversation.specs.declared.Said.the-variants.{Script}
-use Rattle.conversation.specs.Conversation.{scriptedBy, bodyWrites}
+use Rattle.rules.specs.Rules.{Rules}
+use Rattle.shape.specs.declared.Shape.{Shape}
+use Rattle.paper.specs.declared.Next.the-variants.{Record}
+use Rattle.paper.specs.Paper.{nextAt}
+use Rattle.paper.specs.Walk.{part}
+use Rattle.command.specs.Command.{commandIn}
+use Rattle.conversation.specs.Conversation.{answeredBy, scriptedBy, bodyWrites, isScript, takenOf, takenWrites}
 
 module _ (state : State) (end : ℕ) where
   pub without : (body : List ℕ) → length body ≡ 0
@@ -27,3 +37,16 @@ module _ (state : State) (end : ℕ) where
   unfolding scriptedBy bodyWrites
   with-template [] h = absurd (h refl)
   with-template (result ∷ template) h = rw (take-all (length (result ∷ template) - 1) template (omega arith)) (refl, refl)
+
+-- scripts are off, or it is another kind
+pub not-script : {P Q : Type 0} (on : Bool) (kind : ℕ) → (P → kind ≡ 5 → ⊥) → (Q → on ≡ false) → P ⊎ Q → (on && eqb kind 5) ≡ false
+not-script true kind other off (inl p) = ne-eqb kind 5 (other p)
+not-script false kind other off (inl p) = refl
+not-script on kind other off (inr q) = ap (λ b. b && eqb kind 5) (off q)
+
+pub by-command : (rules : Rules) (shape : Shape) (state : State) (paper : List ℕ) (at kind start end : ℕ)
+    → nextAt paper at ≡ Record kind start end → isScript shape kind ≡ false
+    → (answeredBy rules state end (commandIn shape (state .values) paper kind (part paper start end)) ≡ takenOf rules shape state paper at)
+    × ([] ≡ takenWrites shape state paper at)
+unfolding takenOf takenWrites
+by-command rules shape state paper at kind start end next other = rw (next, other) (refl, refl)

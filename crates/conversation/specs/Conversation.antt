@@ -23,7 +23,7 @@ use Rattle.command.specs.declared.ReadCommand.{ReadCommand}
 use Rattle.command.specs.declared.ReadCommand.the-variants.{Taken as CommandTaken, Refused as CommandRefused}
 use Rattle.command.specs.Command.{commandIn}
 use Rattle.state.specs.declared.State.{State}
-use Rattle.put_data.specs.declared.Write.{Write}
+use Rattle.element.specs.declared.Write.{Write}
 use Rattle.card.specs.Card.{stepOf, scriptStep, scriptWrites, freshState}
 use Rattle.conversation.specs.declared.Event.{Event}
 use Rattle.conversation.specs.declared.Event.the-variants.{SetUp, End, Refused, Answered}
@@ -45,7 +45,7 @@ scriptedBy state (result ∷ template) end =
 
 -- kind 5, where scripts are on
 abbrev pub isScript : Shape → (kind : ℕ) → Bool
-isScript shape kind = eqb kind 5 && shape .scripting
+isScript shape kind = shape .scripting && eqb kind 5
 
 -- a record cut short or of length 0 ends the paper with refusal 9, its end with nothing
 abbrev pub nextTaken : Rules → Shape → State → (paper : List ℕ) (at : ℕ) → Next → Taken

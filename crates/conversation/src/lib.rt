@@ -4,11 +4,11 @@ ghost use mathlib.Core.Path.{_≡_};
 ghost use Prim.Native.Nat.{_+_, _<_, _≤_, _^_};
 ghost use lib.ListN.{length};
 ghost use Rattle.rules.specs.Rules.{rulesOf};
-ghost use Rattle.setup.specs.Setup.{wordsAfter};
+ghost use Rattle.setup.specs.Setup.{wordsAfter as wordsRead};
 ghost use Rattle.shape.specs.Shape.{cyclesPart, familyPart, Lies, Spans, Holds, selectingAt, datingAt, familyAt, shapeAt};
 ghost use Rattle.shape.specs.declared.ReadShape.the-variants.{Taken as ShapeTaken};
 ghost use Rattle.shape.proofs.Inside.{Inside};
-ghost use Rattle.script.specs.Script.{rulesAfter, wordsAfter as wordsWritten};
+ghost use Rattle.script.specs.Script.{rulesAfter, wordsAfter};
 ghost use Rattle.conversation.specs.Conversation.{scriptedBy, bodyWrites, takenWrites};
 ghost use Rattle.conversation.specs.Conversation.{answeredBy, takenOf, setUpEvent, refusedAt, baseBegun, shapedBegun, shapedWords};
 ghost use Rattle.conversation.specs.Conversation.{setupBegun, setupWords, begunOf, wordsBegun};
@@ -89,7 +89,7 @@ fn answer(words: &Words, state: State, read: ReadCommand, end: usize) -> Taken
 // A script's body: the secure messaging result, and the template to its end.
 fn take_script(words: &mut Words, state: State, body: &[u8], end: usize) -> Taken
     ensures { λ r. ⌜ (r ≡ scriptedBy state (now (body .entry)) end)
-        × (now (words .exit) ≡ wordsWritten (now (words .entry)) (bodyWrites state (now (body .entry))))
+        × (now (words .exit) ≡ wordsAfter (now (words .entry)) (bodyWrites state (now (body .entry))))
         × (rulesOf (now (words .exit)) ≡ rulesAfter (rulesOf (now (words .entry))) (bodyWrites state (now (body .entry)))) ⌝ }
 {
     if body.len() == 0 {
@@ -116,7 +116,7 @@ fn take_script(words: &mut Words, state: State, body: &[u8], end: usize) -> Take
 // The record at a place of a paper.
 pub fn take(words: &mut Words, shape: Shape, state: State, paper: &[u8], at: usize) -> Taken
     ensures { λ r. ⌜ (r ≡ takenOf (rulesOf (now (words .entry))) shape state (now (paper .entry)) at)
-        × (now (words .exit) ≡ wordsWritten (now (words .entry)) (takenWrites shape state (now (paper .entry)) at))
+        × (now (words .exit) ≡ wordsAfter (now (words .entry)) (takenWrites shape state (now (paper .entry)) at))
         × (rulesOf (now (words .exit)) ≡ rulesAfter (rulesOf (now (words .entry))) (takenWrites shape state (now (paper .entry)) at)) ⌝ }
 {
     match paper::record_at(paper, at) {
@@ -132,8 +132,10 @@ pub fn take(words: &mut Words, shape: Shape, state: State, paper: &[u8], at: usi
         },
         Next::Record { kind, start, end } => {
             let body = &paper[start..end];
-            if (kind == SCRIPT) & shape.scripting {
-                return take_script(words, state, body, end);
+            if shape.scripting {
+                if kind == SCRIPT {
+                    return take_script(words, state, body, end);
+                }
             }
             let values = state.values;
             let read = command::read_record(shape, values, paper, kind, body);
@@ -183,7 +185,7 @@ fn take_base(
     words: &mut Words,
 ) -> Begun
     ensures { λ r. ⌜ (r ≡ baseBegun shape (now (base .entry)) (now (cycles .entry)) (now (family .entry)) end)
-        × (now (words .exit) ≡ wordsAfter (now (words .entry)) (now (base .entry)) (now (cycles .entry)) (now (family .entry))
+        × (now (words .exit) ≡ wordsRead (now (words .entry)) (now (base .entry)) (now (cycles .entry)) (now (family .entry))
         (shape .syllabus) (shape .unnamed)) ⌝ }
 {
     let read = setup::read_setup(base, cycles, family, shape.syllabus, shape.unnamed, words);

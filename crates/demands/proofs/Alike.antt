@@ -20,7 +20,11 @@ use Rattle.rules.proofs.Places.{four-at, eight-at, eight-past}
 use Rattle.setup.specs.Setup.{rulesIn, freshIn, readSetup}
 use Rattle.command.specs.declared.First.{First}
 use Rattle.command.specs.declared.Second.{Second}
-use Rattle.command.specs.declared.Command.{Command}
+use Rattle.element.specs.declared.Write.{Write}
+use Rattle.script.specs.Script.{heard, rulesAfter}
+use Rattle.script.proofs.Stays.{rules-stay}
+use Rattle.rules.proofs.Limits.{Stays}
+use Rattle.card.specs.Message.{Message, messageStep, messageWrites}
 use Rattle.purchase.specs.declared.Timing.{Timing}
 use Rattle.purchase.specs.declared.Purchase.{Purchase}
 use Rattle.purchase.specs.Meter.{Meter, accumulator, counter, cyclic, amountAt, countAt, cyclicAt, counterCap, worth, cyclicWorth, isDateError, isOpen}
@@ -46,12 +50,14 @@ use Rattle.first.specs.First as issuing
 use Rattle.second.specs.Second.{closed, recovered, isUnable, unableBits, issuerUnable, unablePerformed, updateByte, ordered}
 use Rattle.second.specs.Second.{verifiedPerformed, failedPerformed, absentPerformed, secondPerformed}
 use Rattle.card.specs.Card.{freshState, Ruling, refuse, take, ruleChosen, ruleFirstFields, refused, carried, startPerformed, startStep}
-use Rattle.card.specs.Card.{firstStep, secondStep, stepOf}
+use Rattle.card.specs.Card.{firstStep, secondStep, ruleScriptFields, scriptPerformed, scriptStep, scriptWrites}
 use Rattle.demands.specs.Setup.{Setup, AcceptedSetup}
-use Rattle.demands.specs.Conversation.{Exchange, Sitting, run, rulesBy, sat}
-use Rattle.demands.specs.Alike.{AlikeSetups, firstWith, purchaseWith, pendingWith, AlikeCommands, starts, firsts, seconds, AllAlike, nothing, more}
+use Rattle.demands.specs.Conversation.{Exchange, Sitting, run, rulesWritten, rulesBy, sat}
+use Rattle.demands.specs.Alike.{AlikeSetups, firstWith, purchaseWith, pendingWith, AlikeCommands, starts, firsts, seconds, scripts, AllAlike}
+use Rattle.demands.specs.Alike.{nothing, more}
 use Rattle.demands.specs.Alike.{AlikePhases, idle, opened, asked, AlikeStates, answersOf, AlikeSittings}
 use Rattle.demands.proofs.Found.{below-four}
+use Rattle.demands.proofs.Written.{stays}
 use Rattle.demands.proofs.Bytes.{all-fit}
 
 record AlikeOutcomes (a b : Outcome) : Type 0 where
@@ -59,7 +65,8 @@ record AlikeOutcomes (a b : Outcome) : Type 0 where
   state : AlikeStates (a .state) (b .state)
 
 abbrev inPhase : State → Phase → State
-inPhase state phase = record { values = state .values; phase = phase; atc = state .atc; last = state .last; history = state .history }
+inPhase state phase =
+    record { values = state .values; phase = phase; atc = state .atc; last = state .last; history = state .history; scripts = state .scripts }
 
 -- all is alike itself
 itself-phase : (phase : Phase) → AlikePhases phase phase
@@ -68,13 +75,13 @@ itself-phase (Opened place) = opened place
 itself-phase (Asked pending) = asked pending (pending .purchase .cvm) (pending .purchase .cashback)
 
 itself-state : (state : State) → AlikeStates state state
-itself-state state = record { values = refl; phase = itself-phase (state .phase); atc = refl; last = refl; history = refl }
+itself-state state = record { values = refl; phase = itself-phase (state .phase); atc = refl; last = refl; history = refl; scripts = refl }
 
 itself : (outcome : Outcome) → AlikeOutcomes outcome outcome
 itself outcome = record { answer = refl; state = itself-state (outcome .state) }
 
 in-phases : (state : State) {p q : Phase} → AlikePhases p q → AlikeStates (inPhase state p) (inPhase state q)
-in-phases state phases = record { values = refl; phase = phases; atc = refl; last = refl; history = refl }
+in-phases state phases = record { values = refl; phase = phases; atc = refl; last = refl; history = refl; scripts = refl }
 
 -- rules that close no slot and check no cashback
 record Plain (rules : Rules) : Type 0 where
@@ -162,10 +169,12 @@ module _ (rules : Rules) (plain : Plain rules) where
           state =
               record {
                 values = refl;
-                phase = asked (record { purchase = purchase; limits = limits; place = place; history = state .history }) cvm cashback;
+                phase =
+                    asked (record { purchase = purchase; limits = limits; place = place; history = state .history; scripts = state .scripts }) cvm cashback;
                 atc = refl;
                 last = refl;
                 history = refl;
+                scripts = refl;
               };
         }
     concluded-alike state place purchase limits cvr Aac = itself (concluded rules state place purchase limits cvr Aac)
@@ -173,7 +182,7 @@ module _ (rules : Rules) (plain : Plain rules) where
         let same = sym (approved-same cvm cashback purchase place (state .values)) in
         record {
           answer = ap (λ values. Given Tc (state .atc) (sentIad rules place values cvr)) same;
-          state = record { values = same; phase = idle; atc = refl; last = refl; history = refl };
+          state = record { values = same; phase = idle; atc = refl; last = refl; history = refl; scripts = refl };
         }
 
     answered-alike : (state : State) (first : First) (place : Place) (timing : Timing)
@@ -182,7 +191,7 @@ module _ (rules : Rules) (plain : Plain rules) where
     answered-alike state first place timing =
         let kind : ℕ → Kind = λ bits. decision (first .requested) bits (profileAt rules place .masks) (first .terminal) in
         let cvr : ℕ → Cvr =
-        λ bits. verification rules (state .history) (limitsByte bits) (kind bits) NotRequested (issuerBefore (state .history)) in
+        λ bits. verification rules (state .history) (limitsByte bits) (state .scripts) (kind bits) NotRequested (issuerBefore (state .history)) in
         let bits = firstBits rules state place first timing in
         subst
         (λ b. AlikeOutcomes (firstAnswered rules state first place timing)
@@ -207,7 +216,7 @@ module _ (rules : Rules) (plain : Plain rules) where
           let place = pending .place in
           let approves : ℕ → Bool = λ bits. not (eqb (second .requested) 0 || meetsMask bits (profileAt rules place .masks .default)) in
           let ends : Bool → Values → Outcome =
-          λ b values. closed rules (state .atc) pending b values (state .last) (unableIn (state .history)) (issuerUnable (pending .history)) in
+          λ b values. closed rules (state .atc) pending b values (state .last) (unableIn (state .history)) (state .scripts) (issuerUnable (pending .history)) in
           let moves : Bool → Values = λ b. applied rules place (state .values) (offline b (other cvm cashback (pending .purchase))) in
           ap (λ bits. ends (approves bits) (moves (approves bits))) (bits-same cvm cashback (pending .purchase) place (state .values) (unableIn (pending .history)))
           ∙ ap (ends (approves (unableBits rules state pending)))
@@ -220,7 +229,7 @@ module _ (rules : Rules) (plain : Plain rules) where
           let approves = eqb (second .requested) 1 && leb 128 update in
           ap (λ values. closed rules (state .atc) pending approves values (recovered (pending .purchase .timing) approves (state .last))
           (record { uncompleted = false; online = eqb (update / 8 % 2) 1; failed = false; unable = false; missing = false })
-          (record { unperformed = false; failed = false; unable = false }))
+          (heard (state .scripts)) (record { unperformed = false; failed = false; unable = false }))
           (ordered-same cvm cashback (pending .purchase) (pending .place) (state .values) update)
 
       second-same : secondPerformed rules state second asks ≡ secondPerformed rules state second pending
@@ -234,15 +243,15 @@ module _ (rules : Rules) (plain : Plain rules) where
 
   module _ (state : State) where
     -- a ruling refuses both or takes both
-    carried-alike : {p q : Phase} → AlikePhases p q → (f g : Place → Outcome) → ((place : Place) → AlikeOutcomes (f place) (g place))
-        → (ruling : Ruling Place) → AlikeOutcomes (carried (inPhase state p) f ruling) (carried (inPhase state q) g ruling)
+    carried-alike : {A : Type 0} {p q : Phase} → AlikePhases p q → (f g : A → Outcome) → ((what : A) → AlikeOutcomes (f what) (g what))
+        → (ruling : Ruling A) → AlikeOutcomes (carried (inPhase state p) f ruling) (carried (inPhase state q) g ruling)
     carried-alike phases f g alike (refuse refusal) = record { answer = refl; state = in-phases state phases }
-    carried-alike phases f g alike (take place) = alike place
+    carried-alike phases f g alike (take what) = alike what
 
     start-alike : {p q : Phase} → AlikePhases p q → (visits : ℕ) (place : Place)
         → AlikeOutcomes (startPerformed (inPhase state p) visits place) (startPerformed (inPhase state q) visits place)
     start-alike phases visits place =
-        record { answer = refl; state = record { values = refl; phase = opened place; atc = refl; last = refl; history = refl } }
+        record { answer = refl; state = record { values = refl; phase = opened place; atc = refl; last = refl; history = refl; scripts = refl } }
 
     refused-alike : {p q : Phase} → AlikePhases p q → (refusal : Refusal) → AlikeOutcomes (refused (inPhase state p) refusal) (refused (inPhase state q) refusal)
     refused-alike phases refusal = record { answer = refl; state = in-phases state phases }
@@ -283,30 +292,81 @@ module _ (rules : Rules) (plain : Plain rules) where
           (unread (Asked pending) (Asked asks) second pending ∙ sym (second-same cvm cashback before second pending))
           (itself (secondPerformed rules (inPhase state (Asked pending)) second pending))
 
-    step-alike : {p q : Phase} → AlikePhases p q → {a b : Command} → AlikeCommands a b
-        → AlikeOutcomes (stepOf rules (inPhase state p) a) (stepOf rules (inPhase state q) b)
-    unfolding stepOf startStep
+    script-alike : {p q : Phase} → AlikePhases p q → (template : List ℕ) (verified : Bool)
+        → AlikeOutcomes (scriptPerformed (inPhase state p) template verified) (scriptPerformed (inPhase state q) template verified)
+    unfolding scriptPerformed
+    script-alike phases template verified =
+        record { answer = refl; state = record { values = refl; phase = phases; atc = refl; last = refl; history = refl; scripts = refl } }
+
+    script-step : {p q : Phase} → AlikePhases p q → (result : ℕ) (template : List ℕ)
+        → AlikeOutcomes (scriptStep (inPhase state p) result template) (scriptStep (inPhase state q) result template)
+    unfolding scriptStep
+    script-step idle result template = carried-alike idle _ _ (script-alike idle template) (ruleScriptFields result template)
+    script-step (opened place) result template = refused-alike (opened place) OutOfTurn
+    script-step (asked pending cvm cashback) result template =
+        let phases = asked pending cvm cashback in
+        carried-alike phases _ _ (script-alike phases template) (ruleScriptFields result template)
+
+    step-alike : {p q : Phase} → AlikePhases p q → {a b : Message} → AlikeCommands a b
+        → AlikeOutcomes (messageStep rules (inPhase state p) a) (messageStep rules (inPhase state q) b)
+    unfolding messageStep startStep
     step-alike phases (starts chosen i j near far) =
         rw (le-ltb 1 i near, le-ltb 1 j far)
         (carried-alike phases _ _ (start-alike phases (visitsOf chosen)) (ruleChosen rules (state .atc) chosen))
     step-alike phases (firsts first cvm cashback) = first-step phases first cvm cashback
     step-alike phases (seconds second) = second-step phases second
+    step-alike phases (scripts result template) = script-step phases result template
+
+    -- and both write the same
+    write-alike : {p q : Phase} → AlikePhases p q → {a b : Message} → AlikeCommands a b → messageWrites (inPhase state p) a ≡ messageWrites (inPhase state q) b
+    unfolding messageWrites scriptWrites
+    write-alike phases (starts chosen i j near far) = refl
+    write-alike phases (firsts first cvm cashback) = refl
+    write-alike phases (seconds second) = refl
+    write-alike idle (scripts result template) = refl
+    write-alike (opened place) (scripts result template) = refl
+    write-alike (asked pending cvm cashback) (scripts result template) = refl
 
   -- ---- over two lists of commands
 
-  told-alike : {s t : State} → AlikeStates s t → {a b : Command} → AlikeCommands a b → AlikeOutcomes (stepOf rules s a) (stepOf rules t b)
+  record Told (s t : State) (a b : Message) : Type 0 where
+    outcomes : AlikeOutcomes (messageStep rules s a) (messageStep rules t b)
+    writes : messageWrites s a ≡ messageWrites t b
+
+  told-alike : {s t : State} → AlikeStates s t → {a b : Message} → AlikeCommands a b → Told s t a b
   told-alike {s} {t} same {a} {b} commands =
       let is : inPhase s (t .phase) ≡ t =
-      λ k. record { values = same .values k; phase = t .phase; atc = same .atc k; last = same .last k; history = same .history k } in
-      subst (λ u. AlikeOutcomes (stepOf rules s a) (stepOf rules u b)) is (step-alike s (same .phase) commands)
+      λ k. record {
+        values = same .values k;
+        phase = t .phase;
+        atc = same .atc k;
+        last = same .last k;
+        history = same .history k;
+        scripts = same .scripts k;
+      } in
+      subst (λ u. Told s u a b) is (record { outcomes = step-alike s (same .phase) commands; writes = write-alike s (same .phase) commands })
 
-  run-alike : {ms ns : List Command} → AllAlike ms ns → (s t : State) → AlikeStates s t → (p q : List Exchange) → answersOf p ≡ answersOf q
-      → AlikeSittings (run (record { rules = rules; state = s; log = p }) ms) (run (record { rules = rules; state = t; log = q }) ns)
-  unfolding run
-  run-alike nothing s t states p q answers = record { answers = answers; states = states }
-  run-alike (more command commands) s t states p q answers =
-      let step = told-alike states command in
-      run-alike commands _ _ (step .state) _ _ (ap₂ _∷_ (step .answer) answers)
+-- what is written leaves the rules plain
+still-plain : (rules after : Rules) → Stays rules after → Plain rules → Plain after
+still-plain rules after stay plain =
+    record { open-all = λ slot. stay .control slot ∙ plain .open-all slot; unchecked = λ place. stay .cashback place ∙ plain .unchecked place }
+
+run-alike : {ms ns : List Message} → AllAlike ms ns → (rules : Rules) → Plain rules → (s t : State) → AlikeStates s t → (p q : List Exchange)
+    → answersOf p ≡ answersOf q
+    → AlikeSittings (run (record { rules = rules; state = s; log = p }) ms) (run (record { rules = rules; state = t; log = q }) ns)
+unfolding run
+run-alike nothing rules plain s t states p q answers = record { answers = answers; states = states }
+run-alike (more {a} {b} {ms} {ns} command commands) rules plain s t states p q answers =
+    let both = told-alike rules plain states command in
+    let step = both .outcomes in
+    let ws = messageWrites s a in
+    let one : Exchange = record { command = a; answer = messageStep rules s a .answer } in
+    let other : Exchange = record { command = b; answer = messageStep rules t b .answer } in
+    let then : List Write → State → List Exchange → Sitting = λ vs state log. record { rules = rulesAfter rules vs; state = state; log = log } in
+    subst (λ vs. AlikeSittings (run (then ws (messageStep rules s a .state) (one ∷ p)) ms) (run (then vs (messageStep rules t b .state) (other ∷ q)) ns))
+    (both .writes)
+    (run-alike commands (rulesAfter rules ws) (still-plain rules (rulesAfter rules ws) (rules-stay rules ws) plain) _ _ (step .state) _ _
+    (ap₂ _∷_ (step .answer) answers))
 
 -- ---- the rules of the two set-ups
 
@@ -325,17 +385,20 @@ unfolding rulesIn
 zeros-unread s t f syllabus z = rw (z 0, z 1, z 2, z 3, z 4, z 5, z 6, z 7, z 8, z 9, z 10, z 11)
 
 -- A CPACE CARD WHOSE CONTROLS ARE ALL 00 AND WHOSE CASHBACK SWITCHES ARE OFF ANSWERS AS THE CPA CARD DOES
-pub alike : (cpa cpace : Setup) → AcceptedSetup cpa → AcceptedSetup cpace → AlikeSetups cpa cpace → (said heard : List Command) → AllAlike said heard
-    → AlikeSittings (sat cpa said) (sat cpace heard)
+pub alike : (cpa cpace : Setup) → AcceptedSetup cpa → AcceptedSetup cpace → AlikeSetups cpa cpace → (said told : List Message) → AllAlike said told
+    → AlikeSittings (sat cpa said) (sat cpace told)
 unfolding readSetup
-alike cpa cpace good good' same said heard all =
+alike cpa cpace good good' same said told all =
     let s = cpace .bytes in
     let t = cpace .tail in
-    let rules = rulesIn s t [] (cpace .syllabus) in
+    let base = rulesIn s t [] (cpace .syllabus) in
+    let ws = cpace .written in
+    let rules = rulesWritten base ws in
     let fresh = freshState (freshIn s t) in
     let begins : Rules → State → Sitting = λ r state. record { rules = r; state = state; log = [] } in
-    let one : rulesBy cpa ≡ rules = λ k. rulesIn (same .bytes k) (same .tail k) (same .none k) (same .syllabus k) in
-    let other : rulesBy cpace ≡ rules = zeros-unread s t (cpace .family) (cpace .syllabus) (same .zeros) in
+    let one : rulesBy cpa ≡ rules =
+    λ k. rulesWritten (rulesIn (same .bytes k) (same .tail k) (same .none k) (same .syllabus k)) (same .written k) in
+    let other : rulesBy cpace ≡ rules = ap (λ r. rulesWritten r ws) (zeros-unread s t (cpace .family) (cpace .syllabus) (same .zeros)) in
     let starts : freshState (freshIn (cpa .bytes) (cpa .tail)) ≡ fresh = λ k. freshState (freshIn (same .bytes k) (same .tail k)) in
     rw (all-fit good, all-fit good', one, other, starts)
-    (run-alike rules (plain-rules s t (cpace .syllabus)) all fresh fresh (itself-state fresh) [] [] refl)
+    (run-alike all rules (still-plain base rules (stays base ws) (plain-rules s t (cpace .syllabus))) fresh fresh (itself-state fresh) [] [] refl)

@@ -13,21 +13,22 @@ use Rattle.refusal.specs.declared.Refusal.{Refusal}
 use Rattle.iad.specs.declared.Cvr.{Cvr}
 use Rattle.rules.specs.declared.Place.{Place}
 use Rattle.rules.specs.declared.Values.{Values}
-use Rattle.rules.specs.Rules.{Rules, Profile, indexOf, profileAt}
-use Rattle.setup.specs.Setup.{profileIn, rulesIn}
+use Rattle.rules.specs.declared.Masks.{Masks}
+use Rattle.rules.specs.Rules.{Rules, indexOf, profileAt}
+use Rattle.setup.specs.Setup.{profileIn}
 use Rattle.selection.specs.declared.Selection.{Selection}
 use Rattle.selection.specs.declared.Selection.the-variants.{Selected, NotSelected}
 use Rattle.selection.specs.Selection.{profileOf, visitsOf}
 use Rattle.command.specs.declared.First.{First}
 use Rattle.command.specs.declared.Second.{Second}
-use Rattle.command.specs.declared.Command.{Command}
-use Rattle.command.specs.declared.Command.the-variants.{Start as StartCommand, First as FirstCommand, Second as SecondCommand}
+use Rattle.card.specs.Message.{Message, StartCommand, FirstCommand, SecondCommand, ScriptCommand}
 use Rattle.purchase.specs.declared.Timing.{Timing}
 use Rattle.purchase.specs.declared.Purchase.{Purchase}
+use Rattle.script.specs.declared.Scripts.{Scripts}
 use Rattle.state.specs.declared.History.{History}
 use Rattle.checks.specs.Checks.{meetsMask}
 use Rattle.state.specs.declared.Answer.{Answer}
-use Rattle.state.specs.declared.Answer.the-variants.{Refused, Started, Given}
+use Rattle.state.specs.declared.Answer.the-variants.{Refused, Started, Given, Done}
 use Rattle.cryptogram.specs.declared.Issuer.{Issuer}
 use Rattle.state.specs.declared.Kind.{Kind}
 use Rattle.state.specs.declared.Kind.the-variants.{Aac, Tc, Arqc}
@@ -43,22 +44,25 @@ use Rattle.first.specs.First.{purchaseOf, firstBits, firstKind, firstPerformed,
 use Rattle.state.specs.State.{unableIn}
 use Rattle.second.specs.Second.{isUnable, unableBits, issuerUnable, closingKind, laterKind, unablePerformed, verifiedPerformed}
 use Rattle.second.specs.Second.{failedPerformed, absentPerformed, secondPerformed, closed, updateByte}
-use Rattle.card.specs.Card.{refused, isDated, freshState}
+use Rattle.card.specs.Card.{refused, isDated, freshState, scriptPerformed}
 use Rattle.demands.specs.Setup.{Setup, byteAt, numberAt, AcceptedSetup}
 use Rattle.purchase.specs.Meter.{Meter, valueOf}
-use Rattle.demands.specs.Conversation.{Exchange, Sitting, after, told, run, rulesBy, sat, next}
+use Rattle.demands.specs.Conversation.{Exchange, Sitting, after, told, run, rulesBy, sat, next, IsSpoken, Spoken}
+use Rattle.demands.specs.Scripts.{Remembered, trialOf, remembered}
 use Rattle.demands.specs.Audit.{isOn, named, brought, bought, lastDate, dealing, inForce, placeBy, audited, tested}
 use Rattle.demands.specs.Past.{past, beforeFirst}
 use Rattle.demands.specs.Rows.{InSetup}
 use Rattle.demands.specs.Decision.{flags, meets}
 use Rattle.demands.specs.Verification.{Issuing, Verifies, typeOf, notRequested, issuingAtFirst, issuingAtSecond, secondApproves, withUnable}
 use Rattle.demands.specs.Verification.{FirstGives, SecondGives, Gives}
-use Rattle.demands.proofs.Step.{Did, refused-it, started-it, took-first, took-second}
-use Rattle.demands.proofs.Run.{Ruled, ruled-keeps, always-ruled, did-by, pin-stays}
+use Rattle.demands.proofs.Step.{Did, refused-it, started-it, took-first, took-second, took-script}
+use Rattle.demands.proofs.Run.{Ruled, ruled-keeps, always-ruled, did-by, pin-stays, not-required}
 use Rattle.demands.proofs.Ends.{second-closes}
 use Rattle.demands.proofs.Refusal.{in-rules, in-bytes}
-use Rattle.demands.proofs.Bytes.{fits, Stands, profile-is, number-there}
-use Rattle.demands.proofs.Dated.{same-history}
+use Rattle.demands.proofs.Written.{place-written}
+use Rattle.demands.proofs.Bytes.{fits, Stands, pin-is, required-is, masks-are, number-there}
+use Rattle.demands.proofs.Dated.{same-history, same-scripts}
+use Rattle.demands.proofs.Scripts.{Keeps}
 use Rattle.demands.proofs.Deals.{Remembers, Deals, brought-as, did-deals, begin-deals}
 use Rattle.demands.proofs.Total.{Agrees, Holding, begun-values, did-holds, begin-holds}
 use Rattle.demands.proofs.Past.{Recalls, did-keeps, begin-recalls}
@@ -70,6 +74,7 @@ use Rattle.demands.proofs.Verification.{limits-are, limitsBy, limits-au
 pub record Pends (setup : Setup) (before : List Exchange) (at : ℕ) (purchase : Purchase) (pending : Pending) : Type 0 where
   pub history-is : pending .history ≡ past setup before
   pub limits-is : pending .limits ≡ limitsBy (inForce setup before) at purchase (audited setup before)
+  pub scripts-are : Keeps (remembered setup before) (pending .scripts)
 
 abbrev pub PendsIn : Setup → List Exchange → (at : ℕ) → Purchase → Phase → Type 0
 PendsIn setup before at purchase Idle = Unit
@@ -144,14 +149,19 @@ module _ (setup : Setup) (sitting : Sitting) (ruled : Ruled setup sitting) (know
     history-then : begun .history ≡ past setup log
     history-then = same-history rules state (first .when) ∙ knows .recalls .history-is
 
+    scripts-then : Keeps (remembered setup log) (begun .scripts)
+    scripts-then = subst (Keeps (remembered setup log)) (sym (same-scripts rules state (first .when))) (ruled .scripts-are)
+
     abbrev cvr-of : Kind → Cvr
-    cvr-of kind = verification rules (begun .history) limits kind NotRequested (issuerBefore (begun .history))
+    cvr-of kind = verification rules (begun .history) limits (begun .scripts) kind NotRequested (issuerBefore (begun .history))
 
     cvr-verifies : (kind : Kind)
-        → Verifies now at purchase value (past setup log) notRequested (typeOf kind) (issuingAtFirst (past setup log)) (cvr-of kind)
+        → Verifies now at purchase value (past setup log) (remembered setup log) notRequested (typeOf kind) (issuingAtFirst (past setup log)) (cvr-of kind)
     cvr-verifies kind =
-        subst (λ history. Verifies now at purchase value history notRequested (typeOf kind) (issuingAtFirst history) (cvr-of kind)) history-then
-        (verifies now at purchase value (begun .history) limits limits-now kind NotRequested (issuerBefore (begun .history)))
+        let memory = remembered setup log in
+        subst (λ history. Verifies now at purchase value history memory notRequested (typeOf kind) (issuingAtFirst history) (cvr-of kind)) history-then
+        (verifies now at purchase value (begun .history) memory (begun .scripts) scripts-then limits limits-now kind NotRequested
+        (issuerBefore (begun .history)))
 
     abbrev outcome-of : Kind → Outcome
     outcome-of kind = concluded rules begun place (purchaseOf first timing) limits (cvr-of kind) kind
@@ -166,7 +176,7 @@ module _ (setup : Setup) (sitting : Sitting) (ruled : Ruled setup sitting) (know
     unfolding settled asked concluded beforeFirst named dealing inForce
     concluded-knows Aac = tt
     concluded-knows Tc = tt
-    concluded-knows Arqc = record { history-is = history-then; limits-is = limits-now }
+    concluded-knows Arqc = record { history-is = history-then; limits-is = limits-now; scripts-are = scripts-then }
 
     -- the parts of an answer are those of the answer that it equals
     first-gives : Holding setup (after sitting (FirstCommand first) (outcome-of (firstKind rules begun place first timing)))
@@ -212,6 +222,9 @@ module _ (setup : Setup) (sitting : Sitting) (ruled : Ruled setup sitting) (know
     abbrev first-past : History
     first-past = past setup (beforeFirst log)
 
+    abbrev first-memory : Remembered
+    first-memory = remembered setup (beforeFirst log)
+
     abbrev fs : List Bool
     fs = flags now at (bought setup log) (audited setup log) (withUnable first-past)
 
@@ -230,24 +243,26 @@ module _ (setup : Setup) (sitting : Sitting) (ruled : Ruled setup sitting) (know
     later-is false = refl
 
     same-pin : rulesBy first-setup .pin ≡ rules .pin
-    unfolding rulesIn
-    same-pin = pin-stays setup (beforeFirst log) ∙ sym (pin-stays setup log)
+    same-pin = pin-is first-setup ∙ pin-stays setup (beforeFirst log) ∙ sym (pin-is now ∙ pin-stays setup log)
 
     cvr-closed : (approves : Bool) (issuer : Issuer)
-        → Verifies first-setup at (bought setup log) first-values first-past (typeOf (closingKind approves)) (typeOf Arqc) (issuing-of issuer)
-        (verification rules (pending .history) (pending .limits) Arqc (laterKind approves) issuer)
+        → Verifies first-setup at (bought setup log) first-values first-past first-memory (typeOf (closingKind approves)) (typeOf Arqc) (issuing-of issuer)
+        (verification rules (pending .history) (pending .limits) (pending .scripts) Arqc (laterKind approves) issuer)
     cvr-closed approves issuer =
-        subst₃ (λ history second cvr. Verifies first-setup at (bought setup log) first-values history second (typeOf Arqc) (issuing-of issuer) cvr)
+        let later = laterKind approves in
+        subst₃ (λ history second cvr. Verifies first-setup at (bought setup log) first-values history first-memory second (typeOf Arqc) (issuing-of issuer) cvr)
         (kept .history-is) (later-is approves)
-        (same-cvr (rulesBy first-setup) rules same-pin (pending .history) (pending .limits) Arqc (laterKind approves) issuer)
-        (verifies first-setup at (bought setup log) first-values (pending .history) (pending .limits) (kept .limits-is) Arqc (laterKind approves) issuer)
+        (same-cvr (rulesBy first-setup) rules same-pin (pending .history) (pending .limits) (pending .scripts) Arqc later issuer)
+        (verifies first-setup at (bought setup log) first-values (pending .history) first-memory (pending .scripts) (kept .scripts-are) (pending .limits)
+        (kept .limits-is) Arqc later issuer)
 
-    closed-gives : (approves : Bool) (values : Values) (last : Date) (history : History) (issuer : Issuer) → approves ≡ secondApproves now at fs second
-        → issuing-of issuer ≡ issuingAtSecond second first-past → Given-by (closed rules (state .atc) pending approves values last history issuer)
+    closed-gives : (approves : Bool) (values : Values) (last : Date) (history : History) (scripts : Scripts) (issuer : Issuer)
+        → approves ≡ secondApproves now at fs second → issuing-of issuer ≡ issuingAtSecond second first-past
+        → Given-by (closed rules (state .atc) pending approves values last history scripts issuer)
     unfolding closed sentIad
-    closed-gives approves values last history issuer right issuing held kind atc iad e =
-        let cvr = verification rules (pending .history) (pending .limits) Arqc (laterKind approves) issuer in
-        let answer = closed rules (state .atc) pending approves values last history issuer .answer in
+    closed-gives approves values last history scripts issuer right issuing held kind atc iad e =
+        let cvr = verification rules (pending .history) (pending .limits) (pending .scripts) Arqc (laterKind approves) issuer in
+        let answer = closed rules (state .atc) pending approves values last history scripts issuer .answer in
         let exchange : Exchange = record { command = SecondCommand second; answer = answer } in
         let same : closingKind approves ≡ kind = cc in
         let sent : sentIad rules (pending .place) values cvr ≡ iad = cc in
@@ -256,7 +271,8 @@ module _ (setup : Setup) (sitting : Sitting) (ruled : Ruled setup sitting) (know
           known = standing (pending .place) stands-there;
           decides = closing-is approves ∙ ap (λ b. cond b Tc Aac) right;
           verifies =
-              subst (λ i. Verifies first-setup at (bought setup log) first-values first-past (typeOf (closingKind approves)) (typeOf Arqc) i cvr) issuing
+              subst (λ i. Verifies first-setup at (bought setup log) first-values first-past first-memory (typeOf (closingKind approves)) (typeOf Arqc) i cvr)
+              issuing
               (cvr-closed approves issuer);
           sends = sends-audited now good (named log) (pending .place) stands-there values cvr _ (held .values);
         } in
@@ -277,16 +293,17 @@ module _ (setup : Setup) (sitting : Sitting) (ruled : Ruled setup sitting) (know
         ∙ ap (λ f. meets f default-mask)
         (flags-same now at (pending .purchase) (valueOf (state .values)) (audited setup log) history (knows .holding .values)
         ∙ ap₂ (λ purchase h. flags now at purchase (audited setup log) (withUnable h)) purchase-is (kept .history-is))
-        ∙ ap (λ (p : Profile). meets fs (p .masks .default)) (profile-is now (pending .place) at stands)
+        ∙ ap (λ (m : Masks). meets fs (m .default)) (masks-are now (pending .place) at stands)
 
     unable-right : (r : ℕ) → r ≤ 1 → (m : Bool) → not (eqb r 0 || m) ≡ (eqb r 1 && not m)
     unable-right zero l m = refl
     unable-right (suc zero) l m = refl
     unable-right (suc (suc r)) l m = absurd (omega arith)
 
-    unable-gives : isUnable (second .code) ≡ true → (values : Values) (last : Date) (history : History)
-        → Given-by (closed rules (state .atc) pending (not (eqb (second .requested) 0 || meets-default)) values last history (issuerUnable (pending .history)))
-    unable-gives u values last history = closed-gives _ values last history (issuerUnable (pending .history)) right issuing where
+    unable-gives : isUnable (second .code) ≡ true → (values : Values) (last : Date) (history : History) (scripts : Scripts)
+        → Given-by (closed rules (state .atc) pending (not (eqb (second .requested) 0 || meets-default)) values last history scripts
+        (issuerUnable (pending .history)))
+    unable-gives u values last history scripts = closed-gives _ values last history scripts (issuerUnable (pending .history)) right issuing where
       issuing : issuing-of (issuerUnable (pending .history)) ≡ issuingAtSecond second first-past
       issuing = rw u (ap (λ (h : History). record { unperformed = true; failed = h .failed; unable = true }) (kept .history-is))
 
@@ -299,36 +316,30 @@ module _ (setup : Setup) (sitting : Sitting) (ruled : Ruled setup sitting) (know
       by true e = let h = leb-true 128 (n % 256) e in sym (eq-eqb (n / 128 % 2) 1 (omega arith))
       by false e = let h = leb-false 128 (n % 256) e in sym (ne-eqb (n / 128 % 2) 1 (λ z. omega arith))
 
-    not-required : (b : ℕ) → b ≤ 1 → not (eqb b 1) ≡ eqb b 0
-    not-required zero l = refl
-    not-required (suc zero) l = refl
-    not-required (suc (suc b)) l = absurd (omega arith)
-
-    module _ (u : isUnable (second .code) ≡ false) (values : Values) (last : Date) (history : History) where
+    module _ (u : isUnable (second .code) ≡ false) (values : Values) (last : Date) (history : History) (scripts : Scripts) where
       verified-gives : eqb (second .issuer) 1 ≡ true
-          → Given-by (closed rules (state .atc) pending (eqb (second .requested) 1 && leb 128 (updateByte (second .csu))) values last history
+          → Given-by (closed rules (state .atc) pending (eqb (second .requested) 1 && leb 128 (updateByte (second .csu))) values last history scripts
           (record { unperformed = false; failed = false; unable = false }))
       verified-gives v =
-          closed-gives (eqb (second .requested) 1 && leb 128 (updateByte (second .csu))) values last history
+          closed-gives (eqb (second .requested) 1 && leb 128 (updateByte (second .csu))) values last history scripts
           (record { unperformed = false; failed = false; unable = false })
           (rw (u, v) (ap (λ b. eqb (second .requested) 1 && b) (b8 (second .csu / 65536)))) (rw (u, v))
 
       failed-gives : eqb (second .issuer) 1 ≡ false → eqb (second .issuer) 2 ≡ true
-          → Given-by (closed rules (state .atc) pending false values last history
+          → Given-by (closed rules (state .atc) pending false values last history scripts
           (record { unperformed = issuerBefore (pending .history) .unperformed; failed = true; unable = false }))
       failed-gives v f =
-          closed-gives false values last history (record { unperformed = issuerBefore (pending .history) .unperformed; failed = true; unable = false })
+          closed-gives false values last history scripts (record { unperformed = issuerBefore (pending .history) .unperformed; failed = true; unable = false })
           (rw (u, v, f))
           (rw (u, v, f) (ap (λ (h : History). record { unperformed = h .unable || h .missing; failed = true; unable = false }) (kept .history-is)))
 
       absent-gives : eqb (second .issuer) 1 ≡ false → eqb (second .issuer) 2 ≡ false
-          → Given-by (closed rules (state .atc) pending (eqb (second .requested) 1 && not (rules .required)) values last history
+          → Given-by (closed rules (state .atc) pending (eqb (second .requested) 1 && not (rules .required)) values last history scripts
           (record { unperformed = true; failed = pending .history .failed; unable = false }))
-      unfolding rulesIn
       absent-gives v f =
-          closed-gives (eqb (second .requested) 1 && not (rules .required)) values last history
+          closed-gives (eqb (second .requested) 1 && not (rules .required)) values last history scripts
           (record { unperformed = true; failed = pending .history .failed; unable = false })
-          (rw (u, v, f) (ap (λ b. eqb (second .requested) 1 && b) (not-required (byteAt now 2) (fits good .required))))
+          (rw (u, v, f) (ap (λ b. eqb (second .requested) 1 && b) (ap not (required-is now) ∙ not-required (byteAt now 2) (fits good .required))))
           (rw (u, v, f) (ap (λ (h : History). record { unperformed = true; failed = h .failed; unable = false }) (kept .history-is)))
 
     second-gives : Given-by (secondPerformed rules state second pending)
@@ -338,10 +349,10 @@ module _ (setup : Setup) (sitting : Sitting) (ruled : Ruled setup sitting) (know
           → Given-by (cond u (unablePerformed rules state (second .requested) pending)
           (cond v (verifiedPerformed rules state second pending)
           (cond f (failedPerformed rules state pending) (absentPerformed rules state (second .requested) pending))))
-      by true u v p f q = unable-gives u _ _ _
-      by false u true p f q = verified-gives u _ _ _ p
-      by false u false p true q = failed-gives u _ _ _ p q
-      by false u false p false q = absent-gives u _ _ _ p q
+      by true u v p f q = unable-gives u _ _ _ _
+      by false u true p f q = verified-gives u _ _ _ _ p
+      by false u false p true q = failed-gives u _ _ _ _ p q
+      by false u false p false q = absent-gives u _ _ _ _ p q
 
   -- ---- every step
 
@@ -350,44 +361,51 @@ module _ (setup : Setup) (sitting : Sitting) (ruled : Ruled setup sitting) (know
   saidAtc (Refused refusal) = 0
   saidAtc (Started atc visits) = atc
   saidAtc (Given kind atc iad) = 0
+  saidAtc Done = 0
 
   abbrev saidVisits : Answer → ℕ
   saidVisits (Refused refusal) = 0
   saidVisits (Started atc visits) = visits
   saidVisits (Given kind atc iad) = 0
+  saidVisits Done = 0
 
   selected : (chosen : Selection) → 1 ≤ profileOf chosen → chosen ≡ Selected (profileOf chosen) (visitsOf chosen)
   selected (Selected profile visits) some = refl
   selected NotSelected some = absurd (omega arith)
 
-  refused-kept : (command : Command) (r : Refusal) → Keeping setup (after sitting command (refused state r))
+  refused-kept : (command : Message) (r : Refusal) → Keeping setup (after sitting command (refused state r))
   unfolding beforeFirst named dealing inForce
   refused-kept (StartCommand start) r = knows .keeps
   refused-kept (FirstCommand first) r = knows .keeps
   refused-kept (SecondCommand second) r = knows .keeps
+  refused-kept (ScriptCommand result template) r = knows .keeps
 
-  refused-gives : (command : Command) (r : Refusal) → Gives setup log command (refused state r)
+  refused-gives : (command : Message) (r : Refusal) → Gives setup log command (refused state r)
   refused-gives (StartCommand start) r = λ atc visits e. let z : _≡_ {A = ℕ} 0 1 = cc in absurd (omega arith)
   refused-gives (FirstCommand first) r = λ kind atc iad e. let z : _≡_ {A = ℕ} 0 1 = cc in absurd (omega arith)
   refused-gives (SecondCommand second) r = λ kind atc iad e. let z : _≡_ {A = ℕ} 0 1 = cc in absurd (omega arith)
+  refused-gives (ScriptCommand result template) r = tt
 
   stood : (place : Place) → state .phase ≡ Opened place → Stands now place at
   stood place is = subst (Agrees now (named log)) is (knows .holding .agrees)
 
-  did-kept : {command : Command} {outcome : Outcome} → Did rules state command outcome → Keeping setup (after sitting command outcome)
-  unfolding firstPerformed firstAnswered
-  did-kept {command} (refused-it r) = refused-kept command r
+  did-kept : {command : Message} {outcome : Outcome} → Did rules state command outcome → Keeping setup (after sitting command outcome)
+  unfolding firstPerformed firstAnswered beforeFirst named dealing inForce scriptPerformed
+  did-kept {command} (refused-it r wrote) = refused-kept command r
   did-kept (started-it start place holds) = tt
   did-kept (took-first first place is type small day) =
       concluded-knows first place (stood place is) type small day
       (firstKind rules (dated rules state (first .when)) place first (timingOf (state .last) (first .when)))
   did-kept (took-second second pending is type issuer) =
       subst (PendsIn setup _ _ _) (sym (second-closes rules state second pending .idle)) tt
+  did-kept (took-script result template sound wrote) =
+      let wrote = trialOf result template (remembered setup log) .writes in
+      subst (λ here. PendsIn setup (beforeFirst log) here (bought setup log) (state .phase)) (sym (place-written now wrote (named log))) (knows .keeps)
 
-  did-gives : {command : Command} {outcome : Outcome} → Did rules state command outcome → Holding setup (after sitting command outcome)
+  did-gives : {command : Message} {outcome : Outcome} → Did rules state command outcome → Holding setup (after sitting command outcome)
       → Gives setup log command outcome
   unfolding firstPerformed firstAnswered
-  did-gives {command} (refused-it r) held = refused-gives command r
+  did-gives {command} (refused-it r wrote) held = refused-gives command r
   did-gives (started-it start place holds) held = λ atc visits e.
       record {
         counts = sym (ap saidAtc e) ∙ ap (λ n. n + 1) (knows .recalls .atc-is);
@@ -396,14 +414,15 @@ module _ (setup : Setup) (sitting : Sitting) (ruled : Ruled setup sitting) (know
       }
   did-gives (took-first first place is type small day) held = first-gives first place (stood place is) type small day held
   did-gives (took-second second pending is type issuer) held = second-gives second pending is type held
+  did-gives (took-script result template sound wrote) held = tt
 
 module _ (setup : Setup) where
-  told-knows : (sitting : Sitting) → Ruled setup sitting → Knows setup sitting → (command : Command) → Knows setup (told sitting command)
-  told-knows sitting ruled knows command =
+  told-knows : (sitting : Sitting) → Ruled setup sitting → Knows setup sitting → (command : Message) → IsSpoken command → Knows setup (told sitting command)
+  told-knows sitting ruled knows command spoken =
       let step = did-by setup sitting ruled command in
       record {
         deals = did-deals setup sitting ruled (knows .deals) step;
-        holding = did-holds setup sitting ruled (knows .deals) (knows .holding) step;
+        holding = did-holds setup sitting ruled (knows .deals) (knows .holding) spoken step;
         recalls = did-keeps setup sitting (knows .recalls) step .recalls;
         keeps = did-kept setup sitting ruled knows step;
       }
@@ -412,12 +431,21 @@ module _ (setup : Setup) where
   unfolding run freshState
   begin-knows good = record { deals = begin-deals setup good; holding = begin-holds setup good; recalls = begin-recalls setup good; keeps = tt }
 
+  -- of a script nothing is said
+  unless-script : (before : List Exchange) (command : Message) (outcome : Outcome) → (IsSpoken command → Gives setup before command outcome)
+      → Gives setup before command outcome
+  unless-script before (StartCommand start) outcome gives = gives tt
+  unless-script before (FirstCommand first) outcome gives = gives tt
+  unless-script before (SecondCommand second) outcome gives = gives tt
+  unless-script before (ScriptCommand result template) outcome gives = tt
+
   -- WHAT FIRST AND SECOND ANSWER
-  pub gives : AcceptedSetup setup → (commands : List Command) (command : Command)
+  pub gives : AcceptedSetup setup → (commands : List Message) → Spoken commands → (command : Message)
       → Gives setup (sat setup commands .log) command (next setup commands command)
-  gives good commands command =
+  gives good commands spoken command =
       let sitting = sat setup commands in
-      let ruled = always-ruled setup good commands in
-      let knows = ruled-keeps setup good (Knows setup) told-knows (begin-knows good) commands in
+      let ruled = always-ruled setup good commands spoken in
+      let knows = ruled-keeps setup good (Knows setup) told-knows (begin-knows good) commands spoken in
       let step = did-by setup sitting ruled command in
-      did-gives setup sitting ruled knows step (did-holds setup sitting ruled (knows .deals) (knows .holding) step)
+      unless-script (sitting .log) command (next setup commands command)
+      (λ bytes. did-gives setup sitting ruled knows step (did-holds setup sitting ruled (knows .deals) (knows .holding) bytes step))

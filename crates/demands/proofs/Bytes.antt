@@ -19,6 +19,7 @@ use Rattle.rules.specs.declared.Cycle.{Cycle}
 use Rattle.rules.specs.declared.CyclicRule.{CyclicRule}
 use Rattle.rules.specs.Rules.{Profile, two, blankProfile, blankAccumulator, blankCounter, blankCycle, blankCyclic, indexOf, profileAt}
 use Rattle.rules.specs.Rules.{currencyAt, accumulatorRule, counterRule, cycleOf, cyclicRule, controlAt, checksCashback}
+use Rattle.rules.proofs.Limits.{Stays}
 use Rattle.rules.proofs.Places.{four-at, two-at, eight-at}
 use Rattle.ranges.proofs.Accepted.{Accepted, accepted, CyclesAccepted, cycles-accepted}
 use Rattle.setup.specs.Setup.{rateIn, accumulatorIn, counterIn, profileIn, cycleIn, cyclicIn, rulesIn, isAccepted}
@@ -29,9 +30,10 @@ use Rattle.meters.specs.Meters.{addition}
 use Rattle.demands.specs.Setup.{Setup, byteAt, numberAt, familyByte, AcceptedSetup}
 use Rattle.demands.specs.Conversation.{rulesBy}
 use Rattle.demands.specs.Audit.{placeFrom, placeOf, Conversion, comesTo, over, none, whole, upToMax, byEntry, converted, adds}
-use Rattle.demands.specs.Audit.{isActive, isAllowed, isIncluded, countsDeclines, upperOf, worthTo}
+use Rattle.demands.specs.Audit.{isActive, isAllowed, isIncluded, countsDeclines, upperOf, worthTo, accumulatorLimits, counterLimits}
 use Rattle.demands.specs.Decision.{lowerOf}
 use Rattle.demands.proofs.Found.{Holds, below-four}
+use Rattle.demands.proofs.Written.{limitedTo, itsLimits, stays, accumulator-written, counter-written, given, given-whole}
 
 -- every field of an accepted set-up is in its range
 pub fits : {setup : Setup} → AcceptedSetup setup → Accepted (setup .bytes) (setup .unnamed)
@@ -50,27 +52,57 @@ pub record Stands (setup : Setup) (place : Place) (at : ℕ) : Type 0 where
   pub offset : at ≡ 52 + 107 * indexOf place
 
 at-index : (setup : Setup) (place : Place)
-    → profileAt (rulesBy setup) place ≡ cond (ltb (indexOf place) (byteAt setup 3)) (profileIn (setup .bytes) (52 + 107 * indexOf place)) blankProfile
+    → profileAt (given setup) place ≡ cond (ltb (indexOf place) (byteAt setup 3)) (profileIn (setup .bytes) (52 + 107 * indexOf place)) blankProfile
 unfolding rulesIn
 at-index setup One = refl
 at-index setup Two = refl
 at-index setup Three = refl
 at-index setup Four = refl
 
+-- what no script writes
+abbrev kept : (setup : Setup) → Stays (given setup) (rulesBy setup)
+kept setup = stays (given setup) (setup .written)
+
+-- of no profile
+module _ (setup : Setup) where
+  pub key-is : rulesBy setup .key ≡ byteAt setup 0
+  unfolding rulesIn
+  key-is = kept setup .key
+
+  pub pin-is : rulesBy setup .pin ≡ byteAt setup 1
+  unfolding rulesIn
+  pin-is = kept setup .pin
+
+  pub required-is : rulesBy setup .required ≡ eqb (byteAt setup 2) 1
+  unfolding rulesIn
+  required-is = kept setup .required
+
 module _ (setup : Setup) (place : Place) (at : ℕ) (stands : Stands setup place at) where
-  pub profile-is : profileAt (rulesBy setup) place ≡ profileIn (setup .bytes) at
+  profile-is : profileAt (given setup) place ≡ profileIn (setup .bytes) at
   profile-is =
       at-index setup place
       ∙ ap (λ b. cond b (profileIn (setup .bytes) (52 + 107 * indexOf place)) blankProfile) (lt-ltb (indexOf place) (byteAt setup 3) (stands .there))
       ∙ ap (profileIn (setup .bytes)) (sym (stands .offset))
 
-  pub accumulator-is : (i : ℕ) → i < 4 → accumulatorRule (rulesBy setup) place i ≡ accumulatorIn (setup .bytes) (at + (24 + 17 * i))
+  pub number-is : profileAt (rulesBy setup) place .number ≡ profileIn (setup .bytes) at .number
+  number-is = kept setup .number place ∙ ap (λ (p : Profile). p .number) profile-is
+
+  pub masks-are : profileAt (rulesBy setup) place .masks ≡ profileIn (setup .bytes) at .masks
+  masks-are = kept setup .masks place ∙ ap (λ (p : Profile). p .masks) profile-is
+
+  pub maximum-is : profileAt (rulesBy setup) place .maximum ≡ profileIn (setup .bytes) at .maximum
+  maximum-is = kept setup .maximum place ∙ ap (λ (p : Profile). p .maximum) profile-is
+
+  pub sent-is : profileAt (rulesBy setup) place .sent ≡ profileIn (setup .bytes) at .sent
+  sent-is = kept setup .sent place ∙ ap (λ (p : Profile). p .sent) profile-is
+
+  accumulator-is : (i : ℕ) → i < 4 → accumulatorRule (given setup) place i ≡ accumulatorIn (setup .bytes) (at + (24 + 17 * i))
   unfolding profileIn
   accumulator-is i l =
       ap (λ profile. getD (profile .accumulators) i blankAccumulator) profile-is
       ∙ four-at (λ j. accumulatorIn (setup .bytes) (at + (24 + 17 * j))) blankAccumulator i l
 
-  pub counter-is : (i : ℕ) → i < 4 → counterRule (rulesBy setup) place i ≡ counterIn (setup .bytes) (at + (92 + 3 * i))
+  counter-is : (i : ℕ) → i < 4 → counterRule (given setup) place i ≡ counterIn (setup .bytes) (at + (92 + 3 * i))
   unfolding profileIn
   counter-is i l =
       ap (λ profile. getD (profile .counters) i blankCounter) profile-is
@@ -82,7 +114,8 @@ module _ (setup : Setup) (place : Place) (at : ℕ) (stands : Stands setup place
   cyclic-is i l =
       let before : indexOf place ≡ (at - 52) / 107 = omega (arith, stands .offset) in
       let each : ℕ → List CyclicRule = λ j. two (λ k. cyclicIn (setup .tail) (28 + 18 * j + 9 * k)) in
-      ap (λ rules. getD rules i blankCyclic) (four-at each [] (indexOf place) (below-four place))
+      kept setup .cyclic place i
+      ∙ ap (λ rules. getD rules i blankCyclic) (four-at each [] (indexOf place) (below-four place))
       ∙ two-at (λ k. cyclicIn (setup .tail) (28 + 18 * indexOf place + 9 * k)) blankCyclic i l
       ∙ ap (λ j. cyclicIn (setup .tail) (28 + 18 * j + 9 * i)) before
 
@@ -91,13 +124,14 @@ module _ (setup : Setup) (place : Place) (at : ℕ) (stands : Stands setup place
   unfolding rulesIn
   cashback-is =
       let before : indexOf place ≡ (at - 52) / 107 = omega (arith, stands .offset) in
-      four-at (λ j. eqb (familyByte setup (9 + j)) 1) false (indexOf place) (below-four place)
+      kept setup .cashback place
+      ∙ four-at (λ j. eqb (familyByte setup (9 + j)) 1) false (indexOf place) (below-four place)
       ∙ ap (λ j. eqb (familyByte setup (9 + j)) 1) before
 
 -- the control of a slot
 pub control-is : (setup : Setup) (i : ℕ) → i < 8 → controlAt (rulesBy setup) i ≡ familyByte setup (1 + i)
 unfolding rulesIn
-control-is setup i l = eight-at (λ j. familyByte setup (1 + j)) 0 i l
+control-is setup i l = kept setup .control i ∙ eight-at (λ j. familyByte setup (1 + j)) 0 i l
 
 -- the rule of a meter as the auditor reads it
 abbrev pub ruleRead : Setup → ℕ → Meter → MeterRule
@@ -114,14 +148,22 @@ ruleRead setup at meter =
 pub rule-read : (setup : Setup) (place : Place) (at : ℕ) → Stands setup place at → (meter : Meter) → IsMeter meter
     → ruleOf (rulesBy setup) place meter ≡ ruleRead setup at meter
 unfolding accumulatorIn counterIn cyclicIn
-rule-read setup place at stands (accumulator i) l = ap accumulating (accumulator-is setup place at stands i l) ∙ rw div-one
-rule-read setup place at stands (counter i) l = ap counting (counter-is setup place at stands i l) ∙ rw div-one
+rule-read setup place at stands (accumulator i) l =
+    let ws = setup .written in
+    accumulator-written (given setup) (given-whole setup) place i l ws
+    ∙ ap (λ rule. limitedTo (accumulatorLimits i ws (itsLimits (accumulating rule))) (accumulating rule)) (accumulator-is setup place at stands i l)
+    ∙ rw div-one
+rule-read setup place at stands (counter i) l =
+    let ws = setup .written in
+    counter-written (given setup) (given-whole setup) place i l ws
+    ∙ ap (λ rule. limitedTo (counterLimits i ws (itsLimits (counting rule))) (counting rule)) (counter-is setup place at stands i l)
+    ∙ rw div-one
 rule-read setup place at stands (cyclic i) l = ap cycling (cyclic-is setup place at stands i l) ∙ rw div-one
 
 -- a cyclic accumulator as it stands in the tail
 pub cycle-is : (setup : Setup) (i : ℕ) → i < 2 → cycleOf (rulesBy setup) i ≡ cycleIn (setup .tail) (4 + 12 * i)
 unfolding rulesIn
-cycle-is setup i l = two-at (λ j. cycleIn (setup .tail) (4 + 12 * j)) blankCycle i l
+cycle-is setup i l = kept setup .cycle i ∙ two-at (λ j. cycleIn (setup .tail) (4 + 12 * j)) blankCycle i l
 
 -- the card's answer as the auditor reads it
 abbrev pub asRead : Converted → Conversion
@@ -167,8 +209,16 @@ module _ (setup : Setup) (good : AcceptedSetup setup) where
       → getD (rulesBy setup .profiles) i blankProfile .number ≡ cond (ltb i (byteAt setup 3)) (byteAt setup (52 + 107 * i)) 0
   unfolding rulesIn profileIn
   numbered-at i l =
-      ap (λ (p : Profile). p .number) (four-at (λ j. cond (ltb j (byteAt setup 3)) (profileIn (setup .bytes) (52 + 107 * j)) blankProfile) blankProfile i l)
+      kept-number i l
+      ∙ ap (λ (p : Profile). p .number) (four-at (λ j. cond (ltb j (byteAt setup 3)) (profileIn (setup .bytes) (52 + 107 * j)) blankProfile) blankProfile i l)
       ∙ by (ltb i (byteAt setup 3)) where
+        kept-number : (i : ℕ) → i < 4 → getD (rulesBy setup .profiles) i blankProfile .number ≡ getD (given setup .profiles) i blankProfile .number
+        kept-number zero l = kept setup .number One
+        kept-number (suc zero) l = kept setup .number Two
+        kept-number (suc (suc zero)) l = kept setup .number Three
+        kept-number (suc (suc (suc zero))) l = kept setup .number Four
+        kept-number (suc (suc (suc (suc i)))) l = absurd (omega arith)
+
         by : (b : Bool) → cond b (profileIn (setup .bytes) (52 + 107 * i)) blankProfile .number ≡ cond b (byteAt setup (52 + 107 * i)) 0
         by true = refl
         by false = refl
@@ -200,7 +250,7 @@ module _ (setup : Setup) (good : AcceptedSetup setup) where
   -- ---- conversion
 
   entry-at : (i : ℕ) → i < 5
-      → getD (rulesBy setup .rates .entries) i blank ≡ cond (ltb i (byteAt setup 4)) (rateIn (setup .bytes) (52 + 107 * byteAt setup 3 + 7 * i)) blank
+      → getD (given setup .rates .entries) i blank ≡ cond (ltb i (byteAt setup 4)) (rateIn (setup .bytes) (52 + 107 * byteAt setup 3 + 7 * i)) blank
   unfolding rulesIn
   entry-at zero l = refl
   entry-at (suc zero) l = refl
@@ -216,7 +266,7 @@ module _ (setup : Setup) (good : AcceptedSetup setup) where
   module _ (purchase : Purchase) (to : ℕ) where
     -- the entry for the purchase among n of them from i on
     abbrev entry : (i n : ℕ) → Rate
-    entry i n = rateFor (rulesBy setup .rates .entries) (purchase .currency) to i n
+    entry i n = rateFor (given setup .rates .entries) (purchase .currency) to i n
 
     -- the amount by entry i + 1, in billionths of a unit
     abbrev billionths : ℕ → ℕ
@@ -235,7 +285,7 @@ module _ (setup : Setup) (good : AcceptedSetup setup) where
     unfolding rateFor
     blanks i zero c l = refl
     blanks i (suc n) c l =
-        let none : getD (rulesBy setup .rates .entries) i blank ≡ blank =
+        let none : getD (given setup .rates .entries) i blank ≡ blank =
         entry-at i (omega arith) ∙ ap (λ b. cond b (rateIn (setup .bytes) (52 + 107 * byteAt setup 3 + 7 * i)) blank) (le-ltb i (byteAt setup 4) c) in
         ap (λ rate. cond (is-for rate) rate (entry (suc i) n)) none
         ∙ ap (λ rate. cond (is-for blank) blank rate) (blanks (suc i) n (omega arith) (omega arith))
@@ -251,7 +301,7 @@ module _ (setup : Setup) (good : AcceptedSetup setup) where
     by-entry i (suc n) zero c l = let most = fits good .conversions-most in absurd (omega arith)
     by-entry i (suc n) (suc m) c l =
         let at = 52 + 107 * byteAt setup 3 + 7 * i in
-        let here : getD (rulesBy setup .rates .entries) i blank ≡ rateIn (setup .bytes) at =
+        let here : getD (given setup .rates .entries) i blank ≡ rateIn (setup .bytes) at =
         entry-at i (omega arith) ∙ ap (λ b. cond b (rateIn (setup .bytes) at) blank) (lt-ltb i (byteAt setup 4) (omega arith)) in
         ap (λ rate. byRate (cond (is-for rate) rate (entry (suc i) m))) here
         ∙ found (is-for (rateIn (setup .bytes) at)) (by-entry (suc i) n m (omega arith) (omega arith))
@@ -266,9 +316,9 @@ module _ (setup : Setup) (good : AcceptedSetup setup) where
 
   currency-at : (i : ℕ) → i < 4 → currencyAt (rulesBy setup) i ≡ numberAt setup (8 + 10 * i) 2
   unfolding rulesIn
-  currency-at i l = four-at (λ j. numberAt setup (8 + 10 * j) 2) 0 i l
+  currency-at i l = kept setup .currency i ∙ four-at (λ j. numberAt setup (8 + 10 * j) 2) 0 i l
 
-  rule-is : rulesBy setup .rates .up ≡ eqb (setup .syllabus) 1
+  rule-is : given setup .rates .up ≡ eqb (setup .syllabus) 1
   unfolding rulesIn
   rule-is = refl
 
@@ -278,8 +328,9 @@ module _ (setup : Setup) (good : AcceptedSetup setup) where
   unfolding convertOf converted
   converts-to purchase to small =
       let rate = entry purchase to 0 5 in
-      let stays : stopped (purchase .amount .0) ≡ purchase .amount .0 = simp (le-ltb max (purchase .amount .0) small) in
-      ap₂ (λ up a. asRead (cond (eqb (purchase .currency) to) (amountOf a) (cond (isRate rate) (amountOrOver (scaled up a rate)) NoEntry))) rule-is stays
+      let small-stays : stopped (purchase .amount .0) ≡ purchase .amount .0 = simp (le-ltb max (purchase .amount .0) small) in
+      ap (λ rates. asRead (convertOf (purchase .amount) (purchase .currency) to rates)) (kept setup .rates)
+      ∙ ap₂ (λ up a. asRead (cond (eqb (purchase .currency) to) (amountOf a) (cond (isRate rate) (amountOrOver (scaled up a rate)) NoEntry))) rule-is small-stays
       ∙ same (eqb (purchase .currency) to)
     where
       same : (b : Bool)

@@ -55,6 +55,14 @@ pub same-atc : (rules : Rules) (state : State) (when : When) → dated rules sta
 unfolding advanced
 same-atc rules state = dated-keeps rules state (λ s. s .atc) (λ date. refl)
 
+pub same-scripts : (rules : Rules) (state : State) (when : When) → dated rules state when .scripts ≡ state .scripts
+unfolding advanced
+same-scripts rules state = dated-keeps rules state (λ s. s .scripts) (λ date. refl)
+
+pub same-accumulators : (rules : Rules) (state : State) (when : When) → dated rules state when .values .accumulators ≡ state .values .accumulators
+unfolding advanced
+same-accumulators rules state = dated-keeps rules state (λ s. s .values .accumulators) (λ date. refl)
+
 -- a last date is a calendar day; where dates are off, 000000 until a First brings one
 abbrev pub noDate : Date
 noDate = record { year = 0; month = 0; day = 0 }

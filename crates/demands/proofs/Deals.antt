@@ -22,13 +22,14 @@ use Rattle.ranges.proofs.Accepted.{CyclesAccepted}
 use Rattle.setup.specs.Setup.{freshIn, readSetup}
 use Rattle.command.specs.declared.First.{First}
 use Rattle.command.specs.declared.Second.{Second}
-use Rattle.command.specs.declared.Command.{Command}
-use Rattle.command.specs.declared.Command.the-variants.{Start as StartCommand, First as FirstCommand, Second as SecondCommand}
+use Rattle.card.specs.Message.{Message, StartCommand, FirstCommand, SecondCommand, ScriptCommand}
 use Rattle.purchase.specs.declared.Timing.{Timing}
 use Rattle.purchase.specs.declared.Timing.the-variants.{Undated, InOrder, DateError}
 use Rattle.purchase.specs.declared.Purchase.{Purchase}
 use Rattle.purchase.specs.Meter.{Meter, IsMeter, valueOf}
+use Rattle.element.specs.declared.Write.{Write}
 use Rattle.meters.specs.Meters.{moved}
+use Rattle.script.specs.declared.Scripts.{Scripts}
 use Rattle.state.specs.declared.History.{History}
 use Rattle.cryptogram.specs.declared.Issuer.{Issuer}
 use Rattle.state.specs.declared.Kind.{Kind}
@@ -42,11 +43,13 @@ use Rattle.cycles.specs.Cycles.{timingOf, dated}
 use Rattle.first.specs.First.{purchaseOf, firstKind, firstPerformed, firstAnswered, settled, asked, concluded}
 use Rattle.second.specs.Second.{isUnable, unablePerformed, verifiedPerformed, failedPerformed, absentPerformed, secondPerformed, closed}
 use Rattle.second.specs.Second.{recovered as cardRecovered}
-use Rattle.card.specs.Card.{refused, isDated, freshState}
+use Rattle.card.specs.Card.{refused, isDated, freshState, scriptPerformed}
 use Rattle.demands.specs.Setup.{Setup, AcceptedSetup}
-use Rattle.demands.specs.Conversation.{Exchange, Sitting, after, run, rulesBy, sat}
-use Rattle.demands.specs.Audit.{capOf, timed, latest, recovered, brought, bought, lastDate, Dealing, dealing, inForce, begun as entersBegun}
-use Rattle.demands.proofs.Step.{Did, refused-it, started-it, took-first, took-second}
+use Rattle.demands.specs.Conversation.{Exchange, Sitting, after, run, rulesBy, sat, Spoken}
+use Rattle.demands.specs.Scripts.{remembered, trialOf}
+use Rattle.demands.specs.Audit.{capOf, timed, latest, recovered, brought, bought, lastDate, Dealing, dealing, withWrites, inForce}
+use Rattle.demands.specs.Audit.{begun as entersBegun}
+use Rattle.demands.proofs.Step.{Did, refused-it, started-it, took-first, took-second, took-script}
 use Rattle.demands.proofs.Run.{Ruled, ruled-keeps, did-by, tail-stays}
 use Rattle.demands.proofs.Bytes.{fits-tail, all-fit}
 use Rattle.demands.proofs.Dated.{Lasting, a-day, none-yet, OnDay, timing-is, on-day, still-lasting, last-is, begun-moves}
@@ -82,11 +85,17 @@ module _ (setup : Setup) (sitting : Sitting) (ruled : Ruled setup sitting) (deal
   abbrev last : Date
   last = lastDate setup log
 
-  refused-deals : (command : Command) (r : Refusal) → Deals setup (after sitting command (refused state r))
+  refused-deals : (command : Message) (r : Refusal) → Deals setup (after sitting command (refused state r))
   unfolding dealing inForce
   refused-deals (StartCommand start) r = deals
   refused-deals (FirstCommand first) r = deals
   refused-deals (SecondCommand second) r = deals
+  refused-deals (ScriptCommand result template) r = deals
+
+  -- a script leaves the tail
+  written-lasts : (writes : List Write) {last : Date} → Lasting now last → Lasting (withWrites now writes) last
+  written-lasts writes (a-day day) = a-day day
+  written-lasts writes (none-yet off) = none-yet off
 
   -- ---- First
 
@@ -160,11 +169,11 @@ module _ (setup : Setup) (sitting : Sitting) (ruled : Ruled setup sitting) (deal
     unless false true x y = refl
     unless false false x y = refl
 
-    closed-deals : (approves : Bool) (values : Values) (then : Date) (history : History) (issuer : Issuer)
+    closed-deals : (approves : Bool) (values : Values) (then : Date) (history : History) (scripts : Scripts) (issuer : Issuer)
         → then ≡ cond (isUnable (second .code)) last (cond approves (recovered timing-then last) last)
-        → Deals setup (after sitting (SecondCommand second) (closed rules (state .atc) pending approves values then history issuer))
+        → Deals setup (after sitting (SecondCommand second) (closed rules (state .atc) pending approves values then history scripts issuer))
     unfolding dealing inForce closed
-    closed-deals true values then history issuer e =
+    closed-deals true values then history scripts issuer e =
         let unable = isUnable (second .code) in
         record {
           last-date-is = e ∙ unless true unable (recovered timing-then last) last;
@@ -172,7 +181,7 @@ module _ (setup : Setup) (sitting : Sitting) (ruled : Ruled setup sitting) (deal
           error-day = deals .error-day;
           remembers = tt;
         }
-    closed-deals false values then history issuer e =
+    closed-deals false values then history scripts issuer e =
         record {
           last-date-is = e ∙ unless false (isUnable (second .code)) (recovered timing-then last) last;
           lasting = deals .lasting;
@@ -192,19 +201,26 @@ module _ (setup : Setup) (sitting : Sitting) (ruled : Ruled setup sitting) (deal
           → Deals setup (after sitting (SecondCommand second) (cond u (unablePerformed rules state (second .requested) pending)
           (cond v (verifiedPerformed rules state second pending)
           (cond f (failedPerformed rules state pending) (absentPerformed rules state (second .requested) pending)))))
-      by true u v f = closed-deals _ _ _ _ _ (rw u (deals .last-date-is))
-      by false u true f = closed-deals _ _ _ _ _ (rw u (recovering _))
-      by false u false true = closed-deals _ _ _ _ _ (rw u (deals .last-date-is))
-      by false u false false = closed-deals _ _ _ _ _ (rw u (recovering _))
+      by true u v f = closed-deals _ _ _ _ _ _ (rw u (deals .last-date-is))
+      by false u true f = closed-deals _ _ _ _ _ _ (rw u (recovering _))
+      by false u false true = closed-deals _ _ _ _ _ _ (rw u (deals .last-date-is))
+      by false u false false = closed-deals _ _ _ _ _ _ (rw u (recovering _))
 
-  pub did-deals : {command : Command} {outcome : Outcome} → Did rules state command outcome → Deals setup (after sitting command outcome)
-  unfolding dealing inForce firstPerformed firstAnswered
-  did-deals {command} (refused-it r) = refused-deals command r
+  pub did-deals : {command : Message} {outcome : Outcome} → Did rules state command outcome → Deals setup (after sitting command outcome)
+  unfolding dealing inForce firstPerformed firstAnswered scriptPerformed
+  did-deals {command} (refused-it r wrote) = refused-deals command r
   did-deals (started-it start place holds) =
       record { last-date-is = deals .last-date-is; lasting = deals .lasting; error-day = deals .error-day; remembers = tt }
   did-deals (took-first first place is type small day) =
       concluded-deals first small day place _ _ (firstKind rules (begun first small day) place first (timing first small day))
   did-deals (took-second second pending is type issuer) = second-deals second pending is
+  did-deals (took-script result template sound wrote) =
+      record {
+        last-date-is = deals .last-date-is;
+        lasting = written-lasts (trialOf result template (remembered setup log) .writes) (deals .lasting);
+        error-day = deals .error-day;
+        remembers = deals .remembers;
+      }
 
 module _ (setup : Setup) (good : AcceptedSetup setup) where
   -- a fresh card's last date
@@ -225,11 +241,11 @@ module _ (setup : Setup) (good : AcceptedSetup setup) where
   unfolding run freshState readSetup freshIn dealing inForce dateAt
   begin-deals = rw (all-fit good) (record { last-date-is = refl; lasting = begin-lasting; error-day = tt; remembers = tt })
 
-  module _ (commands : List Command) where
+  module _ (commands : List Message) (spoken : Spoken commands) where
     pub always-deals : Deals setup (sat setup commands)
     always-deals =
-        ruled-keeps setup good (Deals setup) (λ sitting ruled h command. did-deals setup sitting ruled h (did-by setup sitting ruled command))
-        begin-deals commands
+        ruled-keeps setup good (Deals setup) (λ sitting ruled h command s. did-deals setup sitting ruled h (did-by setup sitting ruled command))
+        begin-deals commands spoken
 
     -- THE LAST DATE, whichever commands carry one: before the first, on a card without dates, both calendars put 000000 before every day
     pub last-date : sat setup commands .state .last ≡ lastDate setup (sat setup commands .log)

@@ -14,7 +14,8 @@ use Rattle.money.specs.Money.{max, convertOf}
 use Rattle.rules.specs.declared.Place.{Place}
 use Rattle.rules.specs.declared.Values.{Values}
 use Rattle.rules.specs.declared.Masks.{Masks}
-use Rattle.rules.specs.Rules.{Rules, Profile, four}
+use Rattle.rules.specs.declared.MaximumAmount.{MaximumAmount}
+use Rattle.rules.specs.Rules.{Rules, four}
 use Rattle.setup.specs.Setup.{profileIn}
 use Rattle.purchase.specs.declared.Timing.{Timing}
 use Rattle.purchase.specs.declared.Timing.the-variants.{Undated, InOrder, DateError}
@@ -33,7 +34,7 @@ use Rattle.demands.specs.Conversation.{rulesBy}
 use Rattle.demands.specs.Audit.{takesPart}
 use Rattle.demands.specs.Decision.{exceedsWith, exceeds, exceedsMta, eachOf, aboveLower, aboveUpper, isError, findsCashback, flags, meets, Decides}
 use Rattle.demands.specs.Decision.{aac-requested, meets-decline, arqc-requested, meets-default, offline-approves, meets-online, online-approves}
-use Rattle.demands.proofs.Bytes.{Stands, profile-is, cashback-is, ruleRead, rule-read, asRead, converts-to, worth-read}
+use Rattle.demands.proofs.Bytes.{Stands, maximum-is, cashback-is, ruleRead, rule-read, asRead, converts-to, worth-read}
 use Rattle.demands.proofs.Moves.{takes-part, takes-up}
 
 -- ---- a mask that is met
@@ -114,7 +115,7 @@ module _ (setup : Setup) (good : AcceptedSetup setup) (place : Place) (at : ℕ)
   unfolding maximumExceeded profileIn
   mta-flag =
       let in-currency : ℕ → Converted = λ currency. convertOf (purchase .amount) (purchase .currency) currency (rules .rates) in
-      ap (λ (p : Profile). p .maximum .on && spentExceeds (p .maximum .amount .0) (in-currency (p .maximum .currency))) (profile-is setup place at stands)
+      ap (λ (m : MaximumAmount). m .on && spentExceeds (m .amount .0) (in-currency (m .currency))) (maximum-is setup place at stands)
       ∙ ap (λ b. eqb (byteAt setup (at + 13)) 1 && b)
       (spent-is (numberAt setup (at + 16) 8) (in-currency (numberAt setup (at + 14) 2))
       ∙ ap (exceedsWith (numberAt setup (at + 16) 8) 0) (converts-to setup good purchase (numberAt setup (at + 14) 2) small))

@@ -7,10 +7,9 @@ use lib.ListN.{replicate}
 use Rattle.cpace.specs.declared.Cvm.the-variants.{NoCvm}
 use Rattle.selection.specs.declared.Selection.the-variants.{Selected}
 use Rattle.command.specs.declared.When.the-variants.{Undated}
-use Rattle.command.specs.declared.Command.{Command}
-use Rattle.command.specs.declared.Command.the-variants.{Start as StartCommand, First as FirstCommand}
+use Rattle.card.specs.Message.{Message, StartCommand, FirstCommand}
 use Rattle.state.specs.declared.Answer.{Answer}
-use Rattle.state.specs.declared.Answer.the-variants.{Refused, Started, Given}
+use Rattle.state.specs.declared.Answer.the-variants.{Refused, Started, Given, Done}
 use Rattle.state.specs.declared.Kind.the-variants.{Aac, Tc, Arqc}
 use Rattle.state.specs.declared.Outcome.{Outcome}
 use Rattle.demands.specs.Setup.{Setup}
@@ -30,13 +29,14 @@ body value switches lower =
       family = [];
       syllabus = 0;
       unnamed = 2 ^ 22;
+      written = [];
     }
 
-abbrev start : Command
+abbrev start : Message
 start = StartCommand (record { interface = 0; chosen = Selected 1 0 })
 
 -- an AAC requested
-abbrev first : Command
+abbrev first : Message
 first =
     FirstCommand (record {
       amount = record { 0 = 1 };
@@ -58,6 +58,7 @@ shows (Started atc visits) count limits = false
 shows (Given Aac atc iad) count limits = eqb (iad .first) count && eqb (iad .cvr .byte3) limits
 shows (Given Tc atc iad) count limits = false
 shows (Given Arqc atc iad) count limits = false
+shows Done count limits = false
 
 pub record Row : Type 0 where
   pub value : ℕ

@@ -16,6 +16,7 @@ use Rattle.purchase.specs.declared.Purchase.{Purchase}
 use Rattle.purchase.specs.Meter.{amountAt, countAt}
 use Rattle.meters.specs.declared.Change.the-variants.{Approve}
 use Rattle.meters.specs.Meters.{applied}
+use Rattle.script.specs.Script.{freshScripts}
 use Rattle.state.specs.declared.History.{History}
 use Rattle.checks.specs.Checks.{decisionBits}
 use Rattle.state.specs.declared.Kind.{Kind}
@@ -108,7 +109,7 @@ holds (amountRow value more result) =
 holds (countRow value result) = eqb (countAt (applied (card max) One (values 0 value) (Approve (purchase 1))) 0) result
 holds (kindRow requested adr online decline default terminal k) =
     eqb (kindCode (decision requested adr (record { online = online; decline = decline; default = default }) terminal)) (kindCode k)
-holds (byteRow k n) = eqb (verification (card max) clear 0 k NotRequested (issuerBefore clear) .byte1) n
+holds (byteRow k n) = eqb (verification (card max) clear 0 freshScripts k NotRequested (issuerBefore clear) .byte1) n
 
 unfoldable pub table : List Row
 table =

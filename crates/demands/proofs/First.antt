@@ -10,11 +10,10 @@ use Rattle.iad.specs.declared.Cvr.{Cvr}
 use Rattle.iad.specs.declared.Iad.{Iad}
 use Rattle.rules.specs.declared.Place.{Place}
 use Rattle.rules.specs.declared.Masks.{Masks}
-use Rattle.rules.specs.Rules.{Rules, Profile, profileAt}
+use Rattle.rules.specs.Rules.{Rules, profileAt}
 use Rattle.setup.specs.Setup.{profileIn}
 use Rattle.command.specs.declared.First.{First}
-use Rattle.command.specs.declared.Command.{Command}
-use Rattle.command.specs.declared.Command.the-variants.{Start as StartCommand, First as FirstCommand, Second as SecondCommand}
+use Rattle.card.specs.Message.{Message, StartCommand, FirstCommand, SecondCommand, ScriptCommand}
 use Rattle.purchase.specs.declared.Timing.{Timing}
 use Rattle.purchase.specs.declared.Purchase.{Purchase}
 use Rattle.state.specs.declared.History.{History}
@@ -30,13 +29,13 @@ use Rattle.card.specs.Card.{refused, isDated}
 use Rattle.refusal.specs.declared.Refusal.{Refusal}
 use Rattle.demands.specs.Setup.{Setup, AcceptedSetup}
 use Rattle.purchase.specs.Meter.{Meter, accumulator, counter, cyclic, IsMeter, valueOf}
-use Rattle.demands.specs.Conversation.{Exchange, Sitting, rulesBy, sat, next}
+use Rattle.demands.specs.Conversation.{Exchange, Sitting, rulesBy, sat, next, Spoken}
 use Rattle.demands.specs.Audit.{named, brought, lastDate, inForce, placeBy, tested}
 use Rattle.demands.specs.Past.{past}
 use Rattle.demands.specs.Decision.{flags, meets, isOfflineOnly, Decides, FirstAnswers}
-use Rattle.demands.proofs.Step.{Did, refused-it, started-it, took-first, took-second}
+use Rattle.demands.proofs.Step.{Did, refused-it, started-it, took-first, took-second, took-script}
 use Rattle.demands.proofs.Run.{Ruled, always-ruled, did-by}
-use Rattle.demands.proofs.Bytes.{Stands, profile-is}
+use Rattle.demands.proofs.Bytes.{Stands, masks-are}
 use Rattle.demands.proofs.Dated.{same-history}
 use Rattle.demands.proofs.Deals.{Deals, brought-as, always-deals}
 use Rattle.demands.proofs.Total.{Agrees, Holding, begun-values, always}
@@ -114,40 +113,43 @@ module _ (setup : Setup) (sitting : Sitting) (ruled : Ruled setup sitting) (deal
         λ mask. met-is now (ruled .good) place at stands (begun .values) (purchaseOf first timing) small (begun .history) mask
         ∙ ap (λ f. meets f mask) same-flags in
         let these : (mask : Masks → ℕ) → meetsMask adr (mask masks) ≡ meets fs (mask (profileIn (now .bytes) at .masks)) =
-        λ mask. met (mask masks) ∙ ap (λ (p : Profile). meets fs (mask (p .masks))) (profile-is now place at stands) in
+        λ mask. met (mask masks) ∙ ap (λ m. meets fs (mask m)) (masks-are now place at stands) in
         subst₃ (λ o d f. Decides (first .requested) o d f (isOfflineOnly (first .terminal)) (firstKind rules begun place first timing))
         (these (λ m. m .online)) (these (λ m. m .decline)) (these (λ m. m .default))
         (decided adr masks (first .terminal) (first .requested) type)
 
-  abbrev Answers : Command → Outcome → Type 0
+  abbrev Answers : Message → Outcome → Type 0
   Answers (StartCommand start) outcome = Unit
   Answers (FirstCommand first) outcome =
       (kind : Kind) (atc : ℕ) (iad : Iad) → outcome .answer ≡ Given kind atc iad → FirstAnswers now at first (by-the-log first) kind
   Answers (SecondCommand second) outcome = Unit
+  Answers (ScriptCommand result template) outcome = Unit
 
-  refused-answers : (command : Command) (r : Refusal) → Answers command (refused (sitting .state) r)
+  refused-answers : (command : Message) (r : Refusal) → Answers command (refused (sitting .state) r)
   refused-answers (StartCommand start) r = tt
   refused-answers (FirstCommand first) r = λ kind atc iad e. let z : _≡_ {A = ℕ} 0 1 = cc in absurd (omega arith)
   refused-answers (SecondCommand second) r = tt
+  refused-answers (ScriptCommand result template) r = tt
 
-  did-answers : {command : Command} {outcome : Outcome} → Did rules (sitting .state) command outcome → Answers command outcome
+  did-answers : {command : Message} {outcome : Outcome} → Did rules (sitting .state) command outcome → Answers command outcome
   unfolding firstPerformed firstAnswered
-  did-answers {command} (refused-it r) = refused-answers command r
+  did-answers {command} (refused-it r wrote) = refused-answers command r
   did-answers (started-it start place holds) = tt
   did-answers (took-first first place is type small day) =
       λ kind atc iad e.
       subst (FirstAnswers now at first (by-the-log first)) (concluded-kind rules _ place _ _ _ _ kind atc iad e)
       (kind-answers first place (subst (Agrees now (named log)) is (holding .agrees)) type small day)
   did-answers (took-second second pending is type issuer) = tt
+  did-answers (took-script result template sound wrote) = tt
 
 -- WHAT FIRST ANSWERS
-pub first-answers : (setup : Setup) → AcceptedSetup setup → (commands : List Command) (first : First) (kind : Kind) (atc : ℕ) (iad : Iad)
+pub first-answers : (setup : Setup) → AcceptedSetup setup → (commands : List Message) → Spoken commands → (first : First) (kind : Kind) (atc : ℕ) (iad : Iad)
     → next setup commands (FirstCommand first) .answer ≡ Given kind atc iad
     → FirstAnswers (inForce setup (sat setup commands .log)) (placeBy setup (sat setup commands .log)) first
     (flags (inForce setup (sat setup commands .log)) (placeBy setup (sat setup commands .log)) (brought (lastDate setup (sat setup commands .log)) first)
     (tested setup (sat setup commands .log) first) (past setup (sat setup commands .log))) kind
-first-answers setup good commands first =
+first-answers setup good commands spoken first =
     let sitting = sat setup commands in
-    let ruled = always-ruled setup good commands in
-    did-answers setup sitting ruled (always-deals setup good commands) (always setup good commands) (history setup good commands)
+    let ruled = always-ruled setup good commands spoken in
+    did-answers setup sitting ruled (always-deals setup good commands spoken) (always setup good commands spoken) (history setup good commands spoken)
     (did-by setup sitting ruled (FirstCommand first))

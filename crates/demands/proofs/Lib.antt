@@ -1,10 +1,14 @@
 pub mod Found
 pub mod Step
 pub mod Run
+pub mod Scripting
 pub mod Ends
 pub mod Owed
+pub mod Written
 pub mod Bytes
 pub mod Dated
+pub mod Scripts
+pub mod Puts
 pub mod Deals
 pub mod Moves
 pub mod Total

@@ -16,12 +16,11 @@ use Rattle.iad.specs.declared.Cvr.{Cvr}
 use Rattle.rules.specs.declared.Place.{Place}
 use Rattle.rules.specs.declared.Values.{Values}
 use Rattle.rules.specs.declared.Masks.{Masks}
-use Rattle.rules.specs.Rules.{Rules, Profile, profileAt}
+use Rattle.rules.specs.Rules.{Rules, profileAt}
 use Rattle.setup.specs.Setup.{profileIn}
 use Rattle.command.specs.declared.First.{First}
 use Rattle.command.specs.declared.Second.{Second}
-use Rattle.command.specs.declared.Command.{Command}
-use Rattle.command.specs.declared.Command.the-variants.{Start as StartCommand, First as FirstCommand, Second as SecondCommand}
+use Rattle.card.specs.Message.{Message, StartCommand, FirstCommand, SecondCommand, ScriptCommand}
 use Rattle.purchase.specs.declared.Timing.{Timing}
 use Rattle.purchase.specs.declared.Purchase.{Purchase}
 use Rattle.purchase.specs.Meter.{Meter, accumulator, counter, cyclic, IsMeter, MeterRule, ruleOf, valueOf, worthTo, capOf as cap}
@@ -29,6 +28,7 @@ use Rattle.purchase.specs.Meter.{takesUp as cardTakesUp}
 use Rattle.meters.specs.declared.Change.the-variants.{Approve}
 use Rattle.meters.specs.Meters.{add, moved, addition, offline, applied, entered as entriesOf}
 use Rattle.meters.proofs.Ledger.{applied-moves}
+use Rattle.script.specs.declared.Scripts.{Scripts}
 use Rattle.state.specs.declared.History.{History}
 use Rattle.checks.specs.Checks.{bit, exceedsUpper, decisionBits, meetsMask, upperBit as upperFlag}
 use Rattle.checks.proofs.Bits.{bitOf, meets-at, house-order}
@@ -46,13 +46,13 @@ use Rattle.state.specs.State.{unableIn}
 use Rattle.second.specs.Second.{isUnable, unableBits, unablePerformed, secondPerformed, closed}
 use Rattle.card.specs.Card.{isDated}
 use Rattle.demands.specs.Setup.{Setup, numberAt, IsCpa, AcceptedSetup}
-use Rattle.demands.specs.Conversation.{Exchange, Sitting, after, told, rulesBy, sat, next}
+use Rattle.demands.specs.Conversation.{Exchange, Sitting, after, told, rulesBy, sat, next, Spoken}
 use Rattle.demands.specs.Audit.{isOn, isActive, isIncluded, upperOf, approves, takesPart, named, bought, dealing, inForce, placeBy}
 use Rattle.demands.specs.Guards.{upperBit, Guards}
 use Rattle.demands.proofs.Refusal.{never}
-use Rattle.demands.proofs.Step.{Did, refused-it, started-it, took-first, took-second}
+use Rattle.demands.proofs.Step.{Did, refused-it, started-it, took-first, took-second, took-script}
 use Rattle.demands.proofs.Run.{Ruled, always-ruled, did-by, family-stays}
-use Rattle.demands.proofs.Bytes.{Stands, profile-is, ruleRead, rule-read}
+use Rattle.demands.proofs.Bytes.{Stands, masks-are, ruleRead, rule-read}
 use Rattle.demands.proofs.Deals.{Remembers, Deals, brought-as, always-deals}
 use Rattle.demands.proofs.Moves.{takes-part, takes-up, takes-all}
 use Rattle.demands.proofs.Total.{Agrees, Holding, always}
@@ -154,7 +154,7 @@ module _ (setup : Setup) (sitting : Sitting) (ruled : Ruled setup sitting) (deal
   at = placeBy setup log
 
   -- if an answer approves a purchase in which the meter takes part, the value is within
-  abbrev Within : Command → Outcome → Type 0
+  abbrev Within : Message → Outcome → Type 0
   Within command outcome =
       approves command (outcome .answer) ≡ true → takesPart (bought setup (after sitting command outcome .log)) meter ≡ true
       → valueOf (outcome .state .values) meter ≤ upperOf now at meter
@@ -176,7 +176,7 @@ module _ (setup : Setup) (sitting : Sitting) (ruled : Ruled setup sitting) (deal
     unfolding settled asked concluded dealing profileIn
     concluded-within place stands limits cvr Tc is e takes =
         let mask : profileAt card-rules place .masks .decline ≡ numberAt now (at + 5) 4 =
-        ap (λ (p : Profile). p .masks .decline) (profile-is now place at stands) in
+        ap (λ (m : Masks). m .decline) (masks-are now place at stands) in
         approved-within now place at stands (begun .values) (begun .history) (purchaseOf first timing) cpa meter l (guards .active) (guards .included)
         (takes-as (brought-as setup sitting ruled deals first small day) takes)
         (profileAt card-rules place .masks .decline) (rw mask (guards .decline))
@@ -191,15 +191,15 @@ module _ (setup : Setup) (sitting : Sitting) (ruled : Ruled setup sitting) (deal
   module _ (second : Second) (pending : Pending) (stands : Stands now (pending .place) at) (purchase-is : pending .purchase ≡ bought setup log) where
     unable-within : (b : Bool)
         → not (eqb (second .requested) 0 || meetsMask (unableBits card-rules state pending) (profileAt card-rules (pending .place) .masks .default)) ≡ b
-        → (last : Date) (history : History) (issuer : Issuer)
+        → (last : Date) (history : History) (scripts : Scripts) (issuer : Issuer)
         → Within (SecondCommand second)
-        (closed card-rules (state .atc) pending b (applied card-rules (pending .place) (state .values) (offline b (pending .purchase))) last history issuer)
+        (closed card-rules (state .atc) pending b (applied card-rules (pending .place) (state .values) (offline b (pending .purchase))) last history scripts issuer)
     unfolding closed dealing profileIn
-    unable-within false q last history issuer e takes = absurd (never (both-false (isUnable (second .code)) e))
-    unable-within true q last history issuer e takes =
+    unable-within false q last history scripts issuer e takes = absurd (never (both-false (isUnable (second .code)) e))
+    unable-within true q last history scripts issuer e takes =
         let place = pending .place in
         let mask : profileAt card-rules place .masks .default ≡ numberAt now (at + 9) 4 =
-        ap (λ (p : Profile). p .masks .default) (profile-is now place at stands) in
+        ap (λ (m : Masks). m .default) (masks-are now place at stands) in
         approved-within now place at stands (state .values) (unableIn (pending .history)) (pending .purchase) cpa meter l (guards .active) (guards .included)
         (takes-as purchase-is takes)
         (profileAt card-rules place .masks .default) (rw mask (guards .default)) (neither (eqb (second .requested) 0) _ q)
@@ -214,29 +214,31 @@ module _ (setup : Setup) (sitting : Sitting) (ruled : Ruled setup sitting) (deal
     second-within = by (isUnable (second .code)) refl _ where
       by : (u : Bool) → isUnable (second .code) ≡ u → (rest : Outcome)
           → Within (SecondCommand second) (cond u (unablePerformed card-rules state (second .requested) pending) rest)
-      by true u rest e = unable-within _ refl _ _ _ e
+      by true u rest e = unable-within _ refl _ _ _ _ e
       by false u rest e = absurd (never (rw u at e))
 
-  did-within : {command : Command} {outcome : Outcome} → Did card-rules state command outcome → Within command outcome
-  did-within {command} (refused-it r) = λ e. absurd (never (not-refused command e)) where
-    not-refused : (command : Command) → approves command (Refused r) ≡ true → false ≡ true
+  did-within : {command : Message} {outcome : Outcome} → Did card-rules state command outcome → Within command outcome
+  did-within {command} (refused-it r wrote) = λ e. absurd (never (not-refused command e)) where
+    not-refused : (command : Message) → approves command (Refused r) ≡ true → false ≡ true
     not-refused (StartCommand start) e = e
     not-refused (FirstCommand first) e = e
     not-refused (SecondCommand second) e = both-false (isUnable (second .code)) e
+    not-refused (ScriptCommand result template) e = e
   did-within (started-it start place holds) = λ e. absurd (never e)
   did-within (took-first first place is type small day) = first-within first small day place (subst (Agrees now (named log)) is (holding .agrees))
   did-within (took-second second pending is type issuer) =
       second-within second pending (subst (Agrees now (named log)) is (holding .agrees)) (subst (Remembers (bought setup log)) is (deals .remembers) .0)
+  did-within (took-script result template sound wrote) = λ e. absurd (never e)
 
--- DEMAND 3, THE UPPER LIMIT of a CPA card, which is the one in force: of a cyclic accumulator, for approvals without a date error
-pub limit : (setup : Setup) → AcceptedSetup setup → IsCpa setup → (commands : List Command) (command : Command) (meter : Meter) → IsMeter meter
+-- DEMAND 3, THE UPPER LIMIT of a CPA card, which is the one in force at the approval: of a cyclic accumulator, for approvals without a date error
+pub limit : (setup : Setup) → AcceptedSetup setup → IsCpa setup → (commands : List Message) → Spoken commands → (command : Message) (meter : Meter) → IsMeter meter
     → Guards (inForce setup (sat setup commands .log)) (placeBy setup (sat setup commands .log)) meter
     → approves command (next setup commands command .answer) ≡ true
     → takesPart (bought setup (told (sat setup commands) command .log)) meter ≡ true
     → valueOf (next setup commands command .state .values) meter
     ≤ upperOf (inForce setup (sat setup commands .log)) (placeBy setup (sat setup commands .log)) meter
-limit setup good cpa commands command meter l guards =
+limit setup good cpa commands spoken command meter l guards =
     let sitting = sat setup commands in
-    let ruled = always-ruled setup good commands in
-    did-within setup sitting ruled (always-deals setup good commands) (always setup good commands) (family-stays setup (sitting .log) ∙ cpa) meter l guards
+    let ruled = always-ruled setup good commands spoken in
+    did-within setup sitting ruled (always-deals setup good commands spoken) (always setup good commands spoken) (family-stays setup (sitting .log) ∙ cpa) meter l guards
     (did-by setup sitting ruled command)

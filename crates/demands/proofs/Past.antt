@@ -1,5 +1,5 @@
 -- The card's history and its ATC are those that the conversation and the set-up's bytes say. Assumes nothing.
-use mathlib.Core.Path.{_≡_, refl, ap, _∙_}
+use mathlib.Core.Path.{_≡_, refl, ap, ap₂, _∙_}
 use mathlib.Core.Bool.{Bool, true, false, cond, _&&_}
 use mathlib.Core.List.{List, []}
 use Prim.Native.Nat.{ℕ, _+_, _/_, _%_}
@@ -11,12 +11,12 @@ use Rattle.iad.specs.declared.Cvr.{Cvr}
 use Rattle.rules.specs.declared.Place.{Place}
 use Rattle.rules.specs.declared.Values.{Values}
 use Rattle.rules.specs.Rules.{Rules}
-use Rattle.setup.specs.Setup.{rulesIn, freshIn, readSetup}
+use Rattle.setup.specs.Setup.{freshIn, readSetup}
 use Rattle.command.specs.declared.First.{First}
 use Rattle.command.specs.declared.Second.{Second}
-use Rattle.command.specs.declared.Command.{Command}
-use Rattle.command.specs.declared.Command.the-variants.{Start as StartCommand, First as FirstCommand, Second as SecondCommand}
+use Rattle.card.specs.Message.{Message, StartCommand, FirstCommand, SecondCommand, ScriptCommand}
 use Rattle.purchase.specs.declared.Purchase.{Purchase}
+use Rattle.script.specs.declared.Scripts.{Scripts}
 use Rattle.state.specs.declared.History.{History}
 use Rattle.cryptogram.specs.declared.Issuer.{Issuer}
 use Rattle.state.specs.declared.Kind.{Kind}
@@ -29,14 +29,14 @@ use Rattle.first.specs.First.{firstKind, firstPerformed, firstAnswered, settled
 use Rattle.state.specs.State.{uncompletedIn, unableIn}
 use Rattle.second.specs.Second.{isUnable, unablePerformed, verifiedPerformed, failedPerformed, absentPerformed, secondPerformed}
 use Rattle.second.specs.Second.{closed, updateByte}
-use Rattle.card.specs.Card.{freshState, refused}
+use Rattle.card.specs.Card.{freshState, refused, scriptPerformed}
 use Rattle.demands.specs.Setup.{Setup, AcceptedSetup}
-use Rattle.demands.specs.Conversation.{Sitting, after, told, run, rulesBy, sat, next}
+use Rattle.demands.specs.Conversation.{Sitting, after, told, run, rulesBy, sat, next, Spoken}
 use Rattle.demands.specs.Audit.{inForce}
 use Rattle.demands.specs.Past.{past, atcBy, Says}
-use Rattle.demands.proofs.Step.{Did, refused-it, started-it, took-first, took-second}
+use Rattle.demands.proofs.Step.{Did, refused-it, started-it, took-first, took-second, took-script}
 use Rattle.demands.proofs.Run.{ruled-keeps, always-ruled, did-by}
-use Rattle.demands.proofs.Bytes.{all-fit}
+use Rattle.demands.proofs.Bytes.{all-fit, required-is}
 use Rattle.demands.proofs.Dated.{same-history, same-atc}
 
 pub record Recalls (setup : Setup) (sitting : Sitting) : Type 0 where
@@ -44,7 +44,7 @@ pub record Recalls (setup : Setup) (sitting : Sitting) : Type 0 where
   pub atc-is : sitting .state .atc ≡ atcBy setup (sitting .log)
 
 -- after a step: the history and the ATC, and the ATC that was said
-pub record Keeps (setup : Setup) (sitting : Sitting) (command : Command) (outcome : Outcome) : Type 0 where
+pub record Keeps (setup : Setup) (sitting : Sitting) (command : Message) (outcome : Outcome) : Type 0 where
   pub recalls : Recalls setup (after sitting command outcome)
   pub says : Says (outcome .answer) (atcBy setup (after sitting command outcome .log))
 
@@ -55,11 +55,12 @@ module _ (setup : Setup) (sitting : Sitting) (recalls : Recalls setup sitting) w
   abbrev state : State
   state = sitting .state
 
-  refused-keeps : (command : Command) (r : Refusal) → Keeps setup sitting command (refused state r)
+  refused-keeps : (command : Message) (r : Refusal) → Keeps setup sitting command (refused state r)
   unfolding past atcBy
   refused-keeps (StartCommand start) r = record { recalls = record { history-is = recalls .history-is; atc-is = recalls .atc-is }; says = tt }
   refused-keeps (FirstCommand first) r = record { recalls = record { history-is = recalls .history-is; atc-is = recalls .atc-is }; says = tt }
   refused-keeps (SecondCommand second) r = record { recalls = record { history-is = recalls .history-is; atc-is = recalls .atc-is }; says = tt }
+  refused-keeps (ScriptCommand result template) r = record { recalls = record { history-is = recalls .history-is; atc-is = recalls .atc-is }; says = tt }
 
   -- a First's date leaves both
   concluded-keeps : (first : First) (place : Place) (purchase : Purchase) (limits : ℕ) (cvr : Cvr) (kind : Kind)
@@ -77,22 +78,22 @@ module _ (setup : Setup) (sitting : Sitting) (recalls : Recalls setup sitting) w
     by Aac = record { recalls = record { history-is = past-is; atc-is = atc-then }; says = atc-then }
     by Arqc = record { recalls = record { history-is = ap uncompletedIn past-is; atc-is = atc-then }; says = atc-then }
 
-  closed-keeps : (second : Second) (pending : Pending) (approves : Bool) (values : Values) (last : Date) (history : History) (issuer : Issuer)
-      → history ≡ past setup (after sitting (SecondCommand second) (closed rules (state .atc) pending approves values last history issuer) .log)
-      → Keeps setup sitting (SecondCommand second) (closed rules (state .atc) pending approves values last history issuer)
+  closed-keeps : (second : Second) (pending : Pending) (approves : Bool) (values : Values) (last : Date) (history : History) (scripts : Scripts) (issuer : Issuer)
+      → history ≡ past setup (after sitting (SecondCommand second) (closed rules (state .atc) pending approves values last history scripts issuer) .log)
+      → Keeps setup sitting (SecondCommand second) (closed rules (state .atc) pending approves values last history scripts issuer)
   unfolding closed atcBy
-  closed-keeps second pending approves values last history issuer is =
+  closed-keeps second pending approves values last history scripts issuer is =
       record { recalls = record { history-is = is; atc-is = recalls .atc-is }; says = recalls .atc-is }
 
-  unable-keeps : (second : Second) (pending : Pending) → isUnable (second .code) ≡ true → (approves : Bool) (values : Values) (last : Date) (issuer : Issuer)
-      → Keeps setup sitting (SecondCommand second) (closed rules (state .atc) pending approves values last (unableIn (state .history)) issuer)
+  unable-keeps : (second : Second) (pending : Pending) → isUnable (second .code) ≡ true → (approves : Bool) (values : Values) (last : Date) (scripts : Scripts) (issuer : Issuer)
+      → Keeps setup sitting (SecondCommand second) (closed rules (state .atc) pending approves values last (unableIn (state .history)) scripts issuer)
   unfolding past closed
-  unable-keeps second pending u approves values last issuer =
-      closed-keeps second pending approves values last (unableIn (state .history)) issuer (rw u (ap unableIn (recalls .history-is)))
+  unable-keeps second pending u approves values last scripts issuer =
+      closed-keeps second pending approves values last (unableIn (state .history)) scripts issuer (rw u (ap unableIn (recalls .history-is)))
 
-  module _ (second : Second) (pending : Pending) (u : isUnable (second .code) ≡ false) (approves : Bool) (values : Values) (last : Date) (issuer : Issuer) where
+  module _ (second : Second) (pending : Pending) (u : isUnable (second .code) ≡ false) (approves : Bool) (values : Values) (last : Date) (scripts : Scripts) (issuer : Issuer) where
     abbrev closing : History → Outcome
-    closing history = closed rules (state .atc) pending approves values last history issuer
+    closing history = closed rules (state .atc) pending approves values last history scripts issuer
 
     abbrev whenVerified : Bool → History
     whenVerified online = record { uncompleted = false; online = online; failed = false; unable = false; missing = false }
@@ -109,20 +110,20 @@ module _ (setup : Setup) (sitting : Sitting) (recalls : Recalls setup sitting) w
     unfolding past closed
     verified-keeps v =
         let b4 : second .csu / 65536 % 256 / 8 % 2 ≡ second .csu / 65536 / 8 % 2 = omega arith in
-        closed-keeps second pending approves values last (whenVerified (eqb (updateByte (second .csu) / 8 % 2) 1)) issuer (rw (u, v, b4))
+        closed-keeps second pending approves values last (whenVerified (eqb (updateByte (second .csu) / 8 % 2) 1)) scripts issuer (rw (u, v, b4))
 
     failed-keeps : eqb (second .issuer) 1 ≡ false → eqb (second .issuer) 2 ≡ true
         → Keeps setup sitting (SecondCommand second) (closing (whenFailed (state .history)))
     unfolding past closed
     failed-keeps v f =
-        closed-keeps second pending approves values last (whenFailed (state .history)) issuer (rw (u, v, f) (ap whenFailed (recalls .history-is)))
+        closed-keeps second pending approves values last (whenFailed (state .history)) scripts issuer (rw (u, v, f) (ap whenFailed (recalls .history-is)))
 
     absent-keeps : eqb (second .issuer) 1 ≡ false → eqb (second .issuer) 2 ≡ false
         → Keeps setup sitting (SecondCommand second) (closing (whenAbsent (rules .required) (state .history)))
-    unfolding past closed rulesIn
+    unfolding past closed
     absent-keeps v f =
-        closed-keeps second pending approves values last (whenAbsent (rules .required) (state .history)) issuer
-        (rw (u, v, f) (ap (whenAbsent (rules .required)) (recalls .history-is)))
+        closed-keeps second pending approves values last (whenAbsent (rules .required) (state .history)) scripts issuer
+        (rw (u, v, f) (ap₂ whenAbsent (required-is (inForce setup (sitting .log))) (recalls .history-is)))
 
   second-keeps : (second : Second) (pending : Pending) → Keeps setup sitting (SecondCommand second) (secondPerformed rules state second pending)
   unfolding secondPerformed unablePerformed verifiedPerformed failedPerformed absentPerformed
@@ -131,14 +132,14 @@ module _ (setup : Setup) (sitting : Sitting) (recalls : Recalls setup sitting) w
         → Keeps setup sitting (SecondCommand second) (cond u (unablePerformed rules state (second .requested) pending)
         (cond v (verifiedPerformed rules state second pending)
         (cond f (failedPerformed rules state pending) (absentPerformed rules state (second .requested) pending))))
-    by true u v p f q = unable-keeps second pending u _ _ _ _
-    by false u true p f q = verified-keeps second pending u _ _ _ _ p
-    by false u false p true q = failed-keeps second pending u _ _ _ _ p q
-    by false u false p false q = absent-keeps second pending u _ _ _ _ p q
+    by true u v p f q = unable-keeps second pending u _ _ _ _ _
+    by false u true p f q = verified-keeps second pending u _ _ _ _ _ p
+    by false u false p true q = failed-keeps second pending u _ _ _ _ _ p q
+    by false u false p false q = absent-keeps second pending u _ _ _ _ _ p q
 
-  pub did-keeps : {command : Command} {outcome : Outcome} → Did rules state command outcome → Keeps setup sitting command outcome
-  unfolding past atcBy firstPerformed firstAnswered
-  did-keeps {command} (refused-it r) = refused-keeps command r
+  pub did-keeps : {command : Message} {outcome : Outcome} → Did rules state command outcome → Keeps setup sitting command outcome
+  unfolding past atcBy firstPerformed firstAnswered scriptPerformed
+  did-keeps {command} (refused-it r wrote) = refused-keeps command r
   did-keeps (started-it start place holds) =
       record {
         recalls = record { history-is = recalls .history-is; atc-is = ap (λ n. n + 1) (recalls .atc-is) };
@@ -147,17 +148,19 @@ module _ (setup : Setup) (sitting : Sitting) (recalls : Recalls setup sitting) w
   did-keeps (took-first first place is type small day) =
       concluded-keeps first place _ _ _ (firstKind rules (dated rules state (first .when)) place first (timingOf (state .last) (first .when)))
   did-keeps (took-second second pending is type issuer) = second-keeps second pending
+  did-keeps (took-script result template sound wrote) =
+      record { recalls = record { history-is = recalls .history-is; atc-is = recalls .atc-is }; says = tt }
 
 module _ (setup : Setup) where
   pub begin-recalls : AcceptedSetup setup → Recalls setup (sat setup [])
   unfolding run freshState freshIn readSetup past atcBy
   begin-recalls good = rw (all-fit good) (record { history-is = refl; atc-is = refl })
 
-  module _ (good : AcceptedSetup setup) (commands : List Command) where
+  module _ (good : AcceptedSetup setup) (commands : List Message) (spoken : Spoken commands) where
     recalled : Recalls setup (sat setup commands)
     recalled =
-        ruled-keeps setup good (Recalls setup) (λ sitting ruled h command. did-keeps setup sitting h (did-by setup sitting ruled command) .recalls)
-        (begin-recalls good) commands
+        ruled-keeps setup good (Recalls setup) (λ sitting ruled h command s. did-keeps setup sitting h (did-by setup sitting ruled command) .recalls)
+        (begin-recalls good) commands spoken
 
     -- THE HISTORY
     pub history : sat setup commands .state .history ≡ past setup (sat setup commands .log)
@@ -167,6 +170,6 @@ module _ (setup : Setup) where
     pub atc : sat setup commands .state .atc ≡ atcBy setup (sat setup commands .log)
     atc = recalled .atc-is
 
-    pub said : (command : Command) → Says (next setup commands command .answer) (atcBy setup (told (sat setup commands) command .log))
+    pub said : (command : Message) → Says (next setup commands command .answer) (atcBy setup (told (sat setup commands) command .log))
     said command =
-        did-keeps setup (sat setup commands) recalled (did-by setup (sat setup commands) (always-ruled setup good commands) command) .says
+        did-keeps setup (sat setup commands) recalled (did-by setup (sat setup commands) (always-ruled setup good commands spoken) command) .says

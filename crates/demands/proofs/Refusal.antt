@@ -12,7 +12,7 @@ use Rattle.wire.specs.Wire.{isCurrency}
 use Rattle.money.specs.Money.{max}
 use Rattle.refusal.specs.declared.Refusal.{Refusal}
 use Rattle.refusal.specs.declared.Refusal.the-variants.{BadSetup, OutOfTurn, UnknownProfile, AtcUsedUp, BadType, OutOfRange, RoomTooSmall, NotAnIad}
-use Rattle.refusal.specs.declared.Refusal.the-variants.{Unreadable, BadRate, BadMta, NotSelected, NotADay}
+use Rattle.refusal.specs.declared.Refusal.the-variants.{Unreadable, BadRate, BadMta, NotSelected, NotADay, Malformed, TooDeep}
 use Rattle.refusal.specs.Refusal.{refusalNumber}
 use Rattle.calendar.proofs.Dates.{calendar-days}
 use Rattle.ranges.proofs.Accepted.{Currency, currency}
@@ -28,10 +28,15 @@ use Rattle.command.specs.declared.When.the-variants.{Undated, On}
 use Rattle.command.specs.declared.Start.{Start}
 use Rattle.command.specs.declared.First.{First}
 use Rattle.command.specs.declared.Second.{Second}
-use Rattle.command.specs.declared.Command.{Command}
-use Rattle.command.specs.declared.Command.the-variants.{Start as StartCommand, First as FirstCommand, Second as SecondCommand}
+use Rattle.object.specs.declared.Reading.{Reading}
+use Rattle.object.specs.declared.Reading.the-variants.{Sound, Malformed as NoTemplate, TooDeep as DeepTemplate}
+use Rattle.object.specs.Object.{readTemplate, readingNumber}
+use Rattle.trees.specs.Tree.{Fault, malformed, tooDeep, inside, TemplateFault, unframed, framed}
+use Rattle.trees.proofs.Faults.{fault-if-first, first-if-fault}
+use Rattle.auditor.specs.Template.{Bytes}
+use Rattle.card.specs.Message.{Message, StartCommand, FirstCommand, SecondCommand, ScriptCommand, messageStep}
 use Rattle.state.specs.declared.Answer.{Answer}
-use Rattle.state.specs.declared.Answer.the-variants.{Refused, Started, Given}
+use Rattle.state.specs.declared.Answer.the-variants.{Refused, Started, Given, Done}
 use Rattle.state.specs.declared.Pending.{Pending}
 use Rattle.state.specs.declared.Phase.{Phase}
 use Rattle.state.specs.declared.Phase.the-variants.{Idle, Opened, Asked}
@@ -40,19 +45,19 @@ use Rattle.state.specs.declared.Outcome.{Outcome}
 use Rattle.first.specs.First.{firstPerformed}
 use Rattle.second.specs.Second.{secondPerformed}
 use Rattle.card.specs.Card.{Ruling, refuse, take, ruleStart, ruleChosen, ruleOpening, isDated, ruleFirst, ruleSecond, carried, startPerformed, startStep}
-use Rattle.card.specs.Card.{firstStep, secondStep, stepOf, answerNumber}
+use Rattle.card.specs.Card.{firstStep, secondStep, ruleReading, ruleScriptFields, ruleScript, scriptPerformed, scriptStep, answerNumber}
 use Rattle.demands.proofs.Found.{Holds, Known, known, below-four}
 use Rattle.demands.specs.Setup.{Setup, AcceptedSetup}
-use Rattle.demands.specs.Conversation.{rulesBy, sat, next}
-use Rattle.demands.specs.Audit.{isAccepted, inForce}
+use Rattle.demands.specs.Conversation.{rulesBy, sat, next, IsSpoken, Spoken, isAccepted}
+use Rattle.demands.specs.Audit.{inForce}
 use Rattle.demands.specs.Past.{atcBy}
 use Rattle.demands.specs.Due.{Due, aFirst, aSecond, due, dueIn, InKind}
-use Rattle.demands.proofs.Step.{Did, refused-it, started-it, took-first, took-second, did}
+use Rattle.demands.proofs.Step.{Did, refused-it, started-it, took-first, took-second, took-script, did}
 use Rattle.demands.proofs.Run.{always-ruled}
 use Rattle.demands.proofs.Bytes.{fits, number-in, number-out}
 use Rattle.demands.proofs.Ends.{accepted-in-kind, first-concludes, second-closes, due-is}
 use Rattle.demands.proofs.Past.{atc}
-use Rattle.demands.specs.Rows.{InSetup, InRules, NoStart, NoArqc, Unselected, NoDay}
+use Rattle.demands.specs.Rows.{InSetup, InRules, NoStart, NoArqc, IsFirst, Unselected, NoDay, ScriptRow, first-due, no-result, at-fault}
 use Rattle.demands.specs.Rows.{StartRow, no-interface, not-selected, not-in-setup, used-up, FirstRow, no-start, type-three}
 use Rattle.demands.specs.Rows.{above-max, not-digits, not-a-day, SecondRow, no-arqc, type-two, issuer-data, Applies, rank, Numbered, done, refused}
 
@@ -60,15 +65,15 @@ use Rattle.demands.specs.Rows.{above-max, not-digits, not-a-day, SecondR
 record Taken (outcome : Outcome) : Type 0 where
   is : isAccepted (outcome .answer) ≡ true
 
-taken : (command : Command) {outcome : Outcome} → InKind command (outcome .answer) → Taken outcome
+taken : (command : Message) {outcome : Outcome} → InKind command (outcome .answer) → Taken outcome
 taken command k = record { is = accepted-in-kind command _ k }
 
 -- ---- a ruling refuses with the first number that applies, and takes where none does
 
-abbrev First-of : Command → (ℕ → Type 0) → ℕ → Type 0
+abbrev First-of : Message → (ℕ → Type 0) → ℕ → Type 0
 First-of command applies n = applies n × ((m : ℕ) → rank command m < rank command n → applies m → ⊥)
 
-abbrev Ruled : Command → {A : Type 0} → (ℕ → Type 0) → Ruling A → Type 0
+abbrev Ruled : Message → {A : Type 0} → (ℕ → Type 0) → Ruling A → Type 0
 Ruled command applies (refuse refusal) = First-of command applies (refusalNumber refusal)
 Ruled command applies (take what) = (m : ℕ) → applies m → ⊥
 
@@ -213,13 +218,60 @@ second-ruled (Asked pending) second = by-type (ltb 1 (second .requested)) refl w
   by-type true e = (type-two refl (ltb-true _ _ e), λ m l row. omega (arith, second-least row .1 (λ none. none)))
   by-type false e = by-issuer (ltb-false _ _ e) (ltb 2 (second .issuer)) refl
 
+-- of a script likewise: a template's fault is the one that is read
+list-fault : {k n : ℕ} {s : List ℕ} → Fault k n s → 18 ≤ n
+list-fault (malformed i w e g d x) = omega arith
+list-fault (tooDeep i t f v r e g d x h) = omega arith
+list-fault (inside i t f v r e g d x h within) = list-fault within
+
+some-fault : {n : ℕ} {s : List ℕ} → TemplateFault n s → 18 ≤ n
+some-fault (unframed h) = omega arith
+some-fault (framed b f v h within) = list-fault within
+
+script-least : {due : Due} {result : ℕ} {template : List ℕ} {m : ℕ} → ScriptRow due result template m
+    → (2 ≤ m) × ((IsFirst due → ⊥) → (6 ≤ m) × (result ≤ 1 → TemplateFault m template))
+script-least (first-due n h) = (omega arith, λ closed. absurd (closed h))
+script-least (no-result n h) = (omega arith, λ closed. (omega arith, λ small. absurd (omega arith)))
+script-least (at-fault f) = let h = some-fault f in (omega arith, λ closed. (omega arith, λ small. f))
+
+module _ (due : Due) (closed : IsFirst due → ⊥) (result : ℕ) (template : List ℕ) (bytes : Bytes template) where
+  reading-ruled : result ≤ 1 → (verified : Bool) (reading : Reading) → readTemplate template ≡ reading
+      → Ruled (ScriptCommand result template) (ScriptRow due result template) (ruleReading verified reading)
+  reading-ruled small verified Sound is =
+      λ m row.
+      let f = fault-if-first (script-least row .1 closed .1 small) bytes in
+      f .1 (sym (f .0) ∙ ap readingNumber is)
+  reading-ruled small verified NoTemplate is = (
+    at-fault (first-if-fault 18 template bytes (ap readingNumber is) (λ z. omega arith)),
+    λ m l row. omega (arith, some-fault (script-least row .1 closed .1 small)),
+  )
+  reading-ruled small verified DeepTemplate is = (
+    at-fault (first-if-fault 19 template bytes (ap readingNumber is) (λ z. omega arith)),
+    λ m l row. omega (arith, fault-if-first (script-least row .1 closed .1 small) bytes .0, ap readingNumber is),
+  )
+
+  fields-ruled : Ruled (ScriptCommand result template) (ScriptRow due result template) (ruleScriptFields result template)
+  fields-ruled = by (ltb 1 result) refl where
+    by : (b : Bool) → ltb 1 result ≡ b
+        → Ruled (ScriptCommand result template) (ScriptRow due result template)
+        (cond b (refuse OutOfRange) (ruleReading (eqb result 1) (readTemplate template)))
+    by true e = (no-result refl (ltb-true _ _ e), λ m l row. omega (arith, script-least row .1 closed .0))
+    by false e = reading-ruled (ltb-false _ _ e) (eqb result 1) (readTemplate template) refl
+
+script-ruled : (phase : Phase) (result : ℕ) (template : List ℕ) → Bytes template
+    → Ruled (ScriptCommand result template) (ScriptRow (dueIn phase) result template) (ruleScript phase result template)
+script-ruled Idle result template bytes = fields-ruled (dueIn Idle) (λ none. none) result template bytes
+script-ruled (Opened place) result template bytes = (first-due refl tt, λ m l row. omega (arith, script-least row .0))
+script-ruled (Asked pending) result template bytes = fields-ruled aSecond (λ none. none) result template bytes
+
 -- ---- what a ruling carries
 
-module _ (rules : Rules) (state : State) (command : Command) {A : Type 0} (perform : A → Outcome) (answers : (what : A) → Taken (perform what)) where
+module _ (rules : Rules) (state : State) (command : Message) {A : Type 0} (perform : A → Outcome) (answers : (what : A) → Taken (perform what)) where
   number-of : (answer : Answer) → isAccepted answer ≡ true → answerNumber answer ≡ 0
   number-of (Refused refusal) e = absurd (never e)
   number-of (Started atc visits) e = refl
   number-of (Given kind atc iad) e = refl
+  number-of Done e = refl
 
   numbers : (ruling : Ruling A) → Ruled command (Applies (InRules rules) (state .atc) (dueIn (state .phase)) command) ruling
       → Numbered (InRules rules) (state .atc) (dueIn (state .phase)) command (answerNumber (carried state perform ruling .answer))
@@ -240,10 +292,14 @@ module _ (rules : Rules) (state : State) where
   second-taken : (second : Second) (pending : Pending) → Taken (secondPerformed rules state second pending)
   second-taken second pending = taken (SecondCommand second) (second-closes rules state second pending .in-kind)
 
+  script-taken : (template : List ℕ) (verified : Bool) → Taken (scriptPerformed state template verified)
+  unfolding scriptPerformed
+  script-taken template verified = record { is = refl }
+
 -- A REFUSAL LEAVES THE CARD AS IT WAS
-pub refusal-keeps : (rules : Rules) (state : State) (command : Command) (refusal : Refusal)
-    → stepOf rules state command .answer ≡ Refused refusal → stepOf rules state command .state ≡ state
-unfolding stepOf startStep firstStep secondStep
+pub refusal-keeps : (rules : Rules) (state : State) (command : Message) (refusal : Refusal)
+    → messageStep rules state command .answer ≡ Refused refusal → messageStep rules state command .state ≡ state
+unfolding messageStep startStep firstStep secondStep scriptStep
 refusal-keeps rules state (StartCommand start) =
     keeps rules state (StartCommand start) (startPerformed state (visitsOf (start .chosen))) (start-taken rules state start)
     (ruleStart rules (state .atc) start)
@@ -251,20 +307,26 @@ refusal-keeps rules state (FirstCommand first) =
     keeps rules state (FirstCommand first) (firstPerformed rules state first) (first-taken rules state first) (ruleFirst (state .phase) first)
 refusal-keeps rules state (SecondCommand second) =
     keeps rules state (SecondCommand second) (secondPerformed rules state second) (second-taken rules state second) (ruleSecond (state .phase) second)
+refusal-keeps rules state (ScriptCommand result template) =
+    keeps rules state (ScriptCommand result template) (scriptPerformed state template) (script-taken rules state template)
+    (ruleScript (state .phase) result template)
 
 -- THE NUMBER OF AN ANSWER IS THE FIRST THAT APPLIES, 0 WHERE NONE DOES: of any rules and any state, by its own ATC and phase
-pub numbered-by-state : (rules : Rules) (state : State) (command : Command)
-    → Numbered (InRules rules) (state .atc) (dueIn (state .phase)) command (answerNumber (stepOf rules state command .answer))
-unfolding stepOf startStep firstStep secondStep
-numbered-by-state rules state (StartCommand start) =
+pub numbered-by-state : (rules : Rules) (state : State) (command : Message) → IsSpoken command
+    → Numbered (InRules rules) (state .atc) (dueIn (state .phase)) command (answerNumber (messageStep rules state command .answer))
+unfolding messageStep startStep firstStep secondStep scriptStep
+numbered-by-state rules state (StartCommand start) spoken =
     numbers rules state (StartCommand start) (startPerformed state (visitsOf (start .chosen))) (start-taken rules state start)
     (ruleStart rules (state .atc) start) (start-ruled rules (state .atc) start)
-numbered-by-state rules state (FirstCommand first) =
+numbered-by-state rules state (FirstCommand first) spoken =
     numbers rules state (FirstCommand first) (firstPerformed rules state first) (first-taken rules state first) (ruleFirst (state .phase) first)
     (first-ruled (state .phase) first)
-numbered-by-state rules state (SecondCommand second) =
+numbered-by-state rules state (SecondCommand second) spoken =
     numbers rules state (SecondCommand second) (secondPerformed rules state second) (second-taken rules state second) (ruleSecond (state .phase) second)
     (second-ruled (state .phase) second)
+numbered-by-state rules state (ScriptCommand result template) spoken =
+    numbers rules state (ScriptCommand result template) (scriptPerformed state template) (script-taken rules state template)
+    (ruleScript (state .phase) result template) (script-ruled (state .phase) result template spoken)
 
 -- ---- the profiles of the rules are those of the bytes
 
@@ -287,7 +349,7 @@ module _ (setup : Setup) (good : AcceptedSetup setup) where
 
 -- rows over the same profiles
 module _ (P Q : ℕ → Type 0) (atc : ℕ) (due : Due) where
-  row : ((n : ℕ) → Q n → P n) → (command : Command) (n : ℕ) → Applies P atc due command n → Applies Q atc due command n
+  row : ((n : ℕ) → Q n → P n) → (command : Message) (n : ℕ) → Applies P atc due command n → Applies Q atc due command n
   row from (StartCommand start) n =
       elim [
         | no-interface e h ↦ no-interface e h
@@ -297,32 +359,34 @@ module _ (P Q : ℕ → Type 0) (atc : ℕ) (due : Due) where
       ]
   row from (FirstCommand first) n = λ a. a
   row from (SecondCommand second) n = λ a. a
+  row from (ScriptCommand result template) n = λ a. a
 
-same-rows : (P Q : ℕ → Type 0) → ((n : ℕ) → P n → Q n) → ((n : ℕ) → Q n → P n) → (atc : ℕ) (due : Due) (command : Command) (n : ℕ)
+same-rows : (P Q : ℕ → Type 0) → ((n : ℕ) → P n → Q n) → ((n : ℕ) → Q n → P n) → (atc : ℕ) (due : Due) (command : Message) (n : ℕ)
     → Numbered P atc due command n → Numbered Q atc due command n
 same-rows P Q to from atc due command n (done e f) = done e (λ m a. f m (row Q P atc due to command m a))
 same-rows P Q to from atc due command n (refused a f) = refused (row P Q atc due from command n a) (λ m l b. f m l (row Q P atc due to command m b))
 
 -- THE NUMBER OF EVERY ANSWER, over every list of commands, is the first that applies, 0 where none does: by the profiles in the set-up's bytes,
 -- the ATC and what is due, as the conversation says
-pub numbered : (setup : Setup) → AcceptedSetup setup → (commands : List Command) (command : Command)
+pub numbered : (setup : Setup) → AcceptedSetup setup → (commands : List Message) → Spoken commands → (command : Message) → IsSpoken command
     → Numbered (InSetup (inForce setup (sat setup commands .log))) (atcBy setup (sat setup commands .log)) (due (sat setup commands .log)) command
     (answerNumber (next setup commands command .answer))
-numbered setup good commands command =
+numbered setup good commands spoken command bytes =
     let sitting = sat setup commands in
     let now = inForce setup (sitting .log) in
-    let ruled = always-ruled setup good commands in
+    let ruled = always-ruled setup good commands spoken in
     let number = answerNumber (next setup commands command .answer) in
-    subst (λ atc. Numbered (InSetup now) atc (due (sitting .log)) command number) (atc setup good commands)
+    subst (λ atc. Numbered (InSetup now) atc (due (sitting .log)) command number) (atc setup good commands spoken)
     (subst (λ d. Numbered (InSetup now) (sitting .state .atc) d command number) (due-is (rulesBy setup) setup commands)
     (same-rows (InRules (sitting .rules)) (InSetup now)
     (λ n i. in-bytes now (ruled .good) n (subst (λ rules. InRules rules n) (ruled .rules-are) i))
     (λ n i. subst (λ rules. InRules rules n) (sym (ruled .rules-are)) (of-bytes now (ruled .good) n i))
-    _ _ command _ (numbered-by-state (sitting .rules) (sitting .state) command)))
+    _ _ command _ (numbered-by-state (sitting .rules) (sitting .state) command bytes)))
 
 -- A COMMAND THAT IS TAKEN IS ANSWERED IN ITS KIND
-pub in-kind : (rules : Rules) (state : State) (command : Command) → answerNumber (stepOf rules state command .answer) ≡ 0
-    → InKind command (stepOf rules state command .answer)
+pub in-kind : (rules : Rules) (state : State) (command : Message) → answerNumber (messageStep rules state command .answer) ≡ 0
+    → InKind command (messageStep rules state command .answer)
+unfolding scriptPerformed
 in-kind rules state command = by (did rules state command) where
   some-refusal : (refusal : Refusal) → refusalNumber refusal ≡ 0 → ⊥
   some-refusal BadSetup e = omega arith
@@ -338,16 +402,19 @@ in-kind rules state command = by (did rules state command) where
   some-refusal BadMta e = omega arith
   some-refusal NotSelected e = omega arith
   some-refusal NotADay e = omega arith
+  some-refusal Malformed e = omega arith
+  some-refusal TooDeep e = omega arith
 
-  by : {command : Command} {outcome : Outcome} → Did rules state command outcome → answerNumber (outcome .answer) ≡ 0 → InKind command (outcome .answer)
-  by (refused-it refusal) e = absurd (some-refusal refusal e)
+  by : {command : Message} {outcome : Outcome} → Did rules state command outcome → answerNumber (outcome .answer) ≡ 0 → InKind command (outcome .answer)
+  by (refused-it refusal wrote) e = absurd (some-refusal refusal e)
   by (started-it start place holds) e = tt
   by (took-first first place is type small day) e = first-concludes rules state first place .in-kind
   by (took-second second pending is type issuer) e = second-closes rules state second pending .in-kind
+  by (took-script result template sound wrote) e = tt
 
 -- no row has a number below 2, and two that stand alike in the order are one
 module _ (Known : ℕ → Type 0) (atc : ℕ) (due : Due) where
-  some-number : (command : Command) (n : ℕ) → Applies Known atc due command n → 1 < n
+  some-number : (command : Message) (n : ℕ) → Applies Known atc due command n → 1 < n
   some-number (StartCommand start) n =
       elim [ no-interface e h ↦ omega arith | not-selected e h ↦ omega arith | not-in-setup e h ↦ omega arith | used-up e h ↦ omega arith ]
   some-number (FirstCommand first) n =
@@ -359,8 +426,9 @@ module _ (Known : ℕ → Type 0) (atc : ℕ) (due : Due) where
         | not-a-day e h ↦ omega arith
       ]
   some-number (SecondCommand second) n = elim [ no-arqc e h ↦ omega arith | type-two e h ↦ omega arith | issuer-data e h ↦ omega arith ]
+  some-number (ScriptCommand result template) n = λ row. omega (arith, script-least row .0)
 
-one-rank : (command : Command) (n m : ℕ) → 1 < n → 1 < m → rank command n ≡ rank command m → n ≡ m
+one-rank : (command : Message) (n m : ℕ) → 1 < n → 1 < m → rank command n ≡ rank command m → n ≡ m
 one-rank (StartCommand start) n m h k = by (eqb n 6) refl (eqb n 12) refl (eqb m 6) refl (eqb m 12) refl where
   by : (a : Bool) → eqb n 6 ≡ a → (b : Bool) → eqb n 12 ≡ b → (c : Bool) → eqb m 6 ≡ c → (d : Bool) → eqb m 12 ≡ d
       → cond a 0 (cond b 1 n) ≡ cond c 0 (cond d 1 m) → n ≡ m
@@ -375,9 +443,10 @@ one-rank (StartCommand start) n m h k = by (eqb n 6) refl (eqb n 12) refl (eqb m
   by false p false q false r true s e = omega arith
 one-rank (FirstCommand first) n m h k = λ e. e
 one-rank (SecondCommand second) n m h k = λ e. e
+one-rank (ScriptCommand result template) n m h k = λ e. e
 
 -- AND NO OTHER NUMBER IS
-pub only-number : (Known : ℕ → Type 0) (atc : ℕ) (due : Due) (command : Command) (n m : ℕ)
+pub only-number : (Known : ℕ → Type 0) (atc : ℕ) (due : Due) (command : Message) (n m : ℕ)
     → Numbered Known atc due command n → Numbered Known atc due command m → n ≡ m
 only-number Known atc due command n m (done p f) (done q g) = p ∙ sym q
 only-number Known atc due command n m (done p f) (refused a g) = absurd (f m a)

@@ -1,9 +1,9 @@
 -- The statements of `demands`, computed for a few sittings: what a card holds and what the auditor finds, value by value. They follow
--- from `total`, `history`, `atc`, `last-date`, `due-is`, `in-kind`, `numbered`, `first-answers`, `gives` and `written-out`; said apart, they show of a wrong card that
--- the statement itself is false of it. Assumes nothing.
+-- from `total`, `history`, `atc`, `last-date`, `due-is`, `in-kind`, `numbered`, `first-answers`, `gives`, `kept-is` and `written-out`; said apart, they show of a
+-- wrong card that the statement itself is false of it. Assumes nothing.
 use mathlib.Core.Bool.{Bool, true, false, not, _&&_, _||_}
 use mathlib.Core.List.{List, [], _∷_, _++_}
-use Prim.Native.Nat.{ℕ, _+_}
+use Prim.Native.Nat.{ℕ, _+_, _*_, _/_}
 use lib.Dec.{T, eqb}
 use Rattle.calendar.specs.declared.Date.{Date}
 use Rattle.cpace.specs.declared.Cvm.{Cvm}
@@ -11,9 +11,12 @@ use Rattle.cpace.specs.declared.Cvm.the-variants.{OnlinePin, Signature, NoCvm}
 use Rattle.iad.specs.Iad.{isCvr, isWritable}
 use Rattle.ranges.specs.Ranges.{isSetup}
 use Rattle.setup.specs.Setup.{isAccepted}
+use Rattle.put_laws.proofs.Vectors.{bytes}
+use Rattle.script.specs.Script.{countOf, hasFailed, hasFailedHere}
+use Rattle.purchase.specs.declared.Purchase.{Purchase}
 use Rattle.state.specs.declared.History.{History}
 use Rattle.state.specs.declared.Answer.{Answer}
-use Rattle.state.specs.declared.Answer.the-variants.{Refused, Started, Given}
+use Rattle.state.specs.declared.Answer.the-variants.{Refused, Started, Given, Done}
 use Rattle.state.specs.declared.Kind.{Kind}
 use Rattle.state.specs.declared.Kind.the-variants.{Aac, Tc, Arqc}
 use Rattle.cryptogram.specs.Cryptogram.{kindCode}
@@ -21,20 +24,22 @@ use Rattle.selection.specs.declared.Selection.{Selection}
 use Rattle.selection.specs.declared.Selection.the-variants.{Selected, NotSelected}
 use Rattle.command.specs.declared.When.{When}
 use Rattle.command.specs.declared.When.the-variants.{Undated}
-use Rattle.command.specs.declared.Command.{Command}
-use Rattle.command.specs.declared.Command.the-variants.{Start as StartCommand, First as FirstCommand, Second as SecondCommand}
+use Rattle.card.specs.Message.{Message, StartCommand, FirstCommand, SecondCommand, ScriptCommand}
 use Rattle.card.specs.Card.{answerNumber}
 use Rattle.purchase.specs.Meter.{Meter, accumulator, counter, cyclic, valueOf}
 use Rattle.demands.specs.Setup.{Setup, byteAt}
 use Rattle.demands.specs.Conversation.{Exchange, Sitting, sat, next}
-use Rattle.demands.specs.Audit.{named, lastDate, placeBy, audited}
-use Rattle.demands.specs.Past.{past, atcBy}
+use Rattle.demands.specs.Scripts.{Remembered, remembered}
+use Rattle.demands.specs.Audit.{named, brought, bought, lastDate, inForce, placeBy, audited, tested}
+use Rattle.demands.specs.Past.{past, atcBy, beforeFirst}
 use Rattle.demands.specs.Due.{Due, nothing, aFirst, aSecond, due, dueIn}
-use Rattle.demands.specs.Verification.{sentOf}
+use Rattle.demands.specs.Decision.{aboveLower, aboveUpper}
+use Rattle.demands.specs.Verification.{bit, anyOf, sentOf}
 use Rattle.demands.proofs.Computed.{computed}
 use Rattle.demands.proofs.Sittings.{counting, limiting, defaulting, full, sending, spending, weekly, dual}
 use Rattle.demands.proofs.Sittings.{start, first, firstOn, second, unable, after, onDay, approvals, limits, resets, answered, online, buy, late}
-use Rattle.demands.proofs.Sittings.{week, weeks, years, firstBy, pay, payOnline}
+use Rattle.demands.proofs.Sittings.{week, weeks, years, firstBy, pay, payOnline, digits, element, putData, value, limit, counterLimit, wrong}
+use Rattle.demands.proofs.Sittings.{empties, script, unverified, requiring, between}
 
 abbrev same : Bool → Bool → Bool
 same true b = b
@@ -53,7 +58,7 @@ abbrev sameDate : Date → Date → Bool
 sameDate a b = eqb (a .year) (b .year) && eqb (a .month) (b .month) && eqb (a .day) (b .day)
 
 -- `total`, `history`, `atc` and `last-date` of a card after a list of commands
-unfoldable pub agrees : Setup → List Command → Bool
+unfoldable pub agrees : Setup → List Message → Bool
 agrees setup commands =
     let sitting = sat setup commands in
     holds setup sitting (accumulator 0) && holds setup sitting (accumulator 1) && holds setup sitting (accumulator 2)
@@ -70,13 +75,13 @@ dueCode nothing = 0
 dueCode aFirst = 1
 dueCode aSecond = 2
 
-unfoldable pub duly : List Command → Bool
+unfoldable pub duly : List Message → Bool
 duly commands =
     let sitting = sat counting commands in
     eqb (dueCode (dueIn (sitting .state .phase))) (dueCode (due (sitting .log)))
 
 -- `in-kind`: Start starts, First and Second give
-abbrev isInKind : Command → Answer → Bool
+abbrev isInKind : Message → Answer → Bool
 isInKind command (Refused refusal) = false
 isInKind (StartCommand start) (Started atc visits) = true
 isInKind (StartCommand start) (Given kind atc iad) = false
@@ -84,18 +89,25 @@ isInKind (FirstCommand first) (Started atc visits) = false
 isInKind (FirstCommand first) (Given kind atc iad) = true
 isInKind (SecondCommand second) (Started atc visits) = false
 isInKind (SecondCommand second) (Given kind atc iad) = true
+isInKind (ScriptCommand result template) (Started atc visits) = false
+isInKind (ScriptCommand result template) (Given kind atc iad) = false
+isInKind (StartCommand start) Done = false
+isInKind (FirstCommand first) Done = false
+isInKind (SecondCommand second) Done = false
+isInKind (ScriptCommand result template) Done = true
 
 abbrev areInKind : List Exchange → Bool
 areInKind [] = true
 areInKind (exchange ∷ older) = isInKind (exchange .command) (exchange .answer) && areInKind older
 
-unfoldable pub kindly : List Command → Bool
+unfoldable pub kindly : List Message → Bool
 kindly commands = areInKind (sat counting commands .log)
 
 abbrev isOf : Answer → Kind → Bool
 isOf (Refused refusal) kind = false
 isOf (Started atc visits) kind = false
 isOf (Given given atc iad) kind = eqb (kindCode given) (kindCode kind)
+isOf Done kind = false
 
 -- what First answers, requested a TC of 1 in a currency
 unfoldable pub answersTo : Setup → (currency : ℕ) → Kind → Bool
@@ -114,6 +126,7 @@ abbrev hasLimits : Answer → ℕ → Bool
 hasLimits (Refused refusal) limits = false
 hasLimits (Started atc visits) limits = false
 hasLimits (Given kind atc iad) limits = eqb (iad .cvr .byte3) limits
+hasLimits Done limits = false
 
 unfoldable pub showsOn : Setup → (day limits : ℕ) → Bool
 showsOn setup day limits = hasLimits (next setup (start 1 ∷ []) (firstOn (onDay 0x00 0x07 day) 1 0x0978 1) .answer) limits
@@ -140,6 +153,7 @@ opensAs interface chosen number =
 abbrev isSending : Setup → List Exchange → Answer → Bool
 isSending setup log (Refused refusal) = false
 isSending setup log (Started atc visits) = false
+isSending setup log Done = false
 isSending setup log (Given kind atc iad) =
     let profile = placeBy setup log in
     let value = audited setup log in
@@ -151,7 +165,7 @@ abbrev areSending : Setup → List Exchange → Bool
 areSending setup [] = false
 areSending setup (exchange ∷ older) = isSending setup (exchange ∷ older) (exchange .answer)
 
-unfoldable pub sends : Setup → List Command → Bool
+unfoldable pub sends : Setup → List Message → Bool
 sends setup commands = areSending setup (sat setup commands .log)
 
 -- `written-out`: under the one profile of a set-up that is accepted, the IAD of an AAC can be written
@@ -159,9 +173,67 @@ abbrev canWrite : Answer → Bool
 canWrite (Refused refusal) = false
 canWrite (Started atc visits) = false
 canWrite (Given kind atc iad) = isWritable iad
+canWrite Done = false
 
 unfoldable pub writes : (n : ℕ) → Bool
 writes n = not (isSetup (sending n .bytes) (sending n .unnamed)) || canWrite (next (sending n) (start n ∷ []) (first 1 0x0978 0) .answer)
+
+-- `gives` with scripts: what First or Second answers after a list of commands
+unfoldable pub answersAfter : Setup → List Message → Message → Kind → Bool
+answersAfter setup before command kind = isOf (next setup before command .answer) kind
+
+-- CVR byte 3 but for the date error, and byte 4 from b4 up: of an answer, by the auditor at First, and as they must be
+abbrev limitsAt : Setup → (profile : ℕ) → Purchase → (Meter → ℕ) → ℕ
+limitsAt setup profile purchase values =
+    bit (anyOf counter (aboveLower setup profile purchase values)) * 128 + bit (anyOf counter (aboveUpper setup profile purchase values)) * 64
+    + bit (anyOf accumulator (aboveLower setup profile purchase values)) * 32
+    + bit (anyOf accumulator (aboveUpper setup profile purchase values)) * 16
+
+abbrev marksAt : Remembered → ℕ
+marksAt scripts = scripts .count * 16 + bit (scripts .failed) * 8
+
+abbrev foundAt : Setup → List Exchange → Message → (limits marks : ℕ) → Bool
+foundAt setup log (StartCommand start) limits marks = false
+foundAt setup log (FirstCommand first) limits marks =
+    eqb (limitsAt (inForce setup log) (placeBy setup log) (brought (lastDate setup log) first) (tested setup log first)) limits
+    && eqb (marksAt (remembered setup log)) marks
+foundAt setup log (SecondCommand second) limits marks =
+    let before = beforeFirst log in
+    eqb (limitsAt (inForce setup before) (placeBy setup log) (bought setup log) (audited setup before)) limits
+    && eqb (marksAt (remembered setup before)) marks
+foundAt setup log (ScriptCommand result template) limits marks = false
+
+abbrev isShown : Answer → (limits marks : ℕ) → Bool
+isShown (Refused refusal) limits marks = false
+isShown (Started atc visits) limits marks = false
+isShown (Given kind atc iad) limits marks = eqb (iad .cvr .byte3 / 16 * 16) limits && eqb (iad .cvr .byte4 / 8 * 8) marks
+isShown Done limits marks = false
+
+unfoldable pub showsAfter : Setup → List Message → Message → (limits marks : ℕ) → Bool
+showsAfter setup before command limits marks =
+    foundAt setup (sat setup before .log) command limits marks && isShown (next setup before command .answer) limits marks
+
+-- what the next First shows of scripts
+abbrev marksAfter : Setup → List Message → (marks : ℕ) → Bool
+marksAfter setup commands marks = showsAfter setup (commands ++ start 1 ∷ []) (first 1 0x0978 1) 0 marks
+
+-- `total` of one meter
+unfoldable pub agreesIn : Setup → List Message → Meter → (value : ℕ) → Bool
+agreesIn setup commands meter value =
+    let sitting = sat setup commands in
+    holds setup sitting meter && eqb (valueOf (sitting .state .values) meter) value
+
+-- `kept-is`
+unfoldable pub keeps : Setup → List Message → Bool
+keeps setup commands =
+    let sitting = sat setup commands in
+    let memory = remembered setup (sitting .log) in
+    let scripts = sitting .state .scripts in
+    eqb (countOf scripts) (memory .count) && same (hasFailed scripts) (memory .failed) && same (hasFailedHere scripts) (memory .here)
+
+-- `numbered`: the number of a script's answer
+unfoldable pub scriptNumber : List Message → (result : ℕ) → (template : List ℕ) → (number : ℕ) → Bool
+scriptNumber before result template number = eqb (answerNumber (next counting before (ScriptCommand result template) .answer)) number
 
 abbrev areSetups : List Setup → Bool
 areSetups [] = true
@@ -259,10 +331,64 @@ pub record Samples : Type 0 where
   pub cashback-again : T (closesBy (dual 0 0 1 6 1) true Aac && closesBy (dual 0 0 1 6 1) false Tc)
   -- 6 before 12 and before 3
   pub six-first : T (opensAs 2 NotSelected 6 && opensAs 2 (Selected 9 0) 6 && opensAs 1 NotSelected 12 && opensAs 1 (Selected 9 0) 3)
+  pub scripts-accepted : T (areSetups (requiring ∷ []))
+  -- a value that a script writes is put, of an accumulator that is active or not, the last of two; an approval goes on from it
+  pub value-written : T (agreesIn counting (script (value 1 0x40 0x00 ∷ []) ∷ answered 1) (accumulator 0) 4001)
+  pub value-inactive : T (agreesIn counting (script (value 4 0x12 0x34 ∷ []) ∷ []) (accumulator 3) 1234)
+  pub value-twice : T (agreesIn counting (answered 1 ++ script (putData 0x30 (element 1 (digits 0 0x07) ++ element 1 (digits 0 0x05)) ∷ []) ∷ []) (accumulator 0) 5)
+  pub value-sent : T (sends (sending 1) (script (value 1 0x12 0x34 ∷ []) ∷ answered 0))
+  -- limits of 10 and 50, and of 50 and 100, in place of 1000 and 5000: Decline the upper, Online the lower
+  pub limit-changed : T (answersAfter (limiting 5 0 0) (script (limit 1 0 0x10 0 0x50 ∷ []) ∷ start 1 ∷ []) (first 51 0x0978 1) Aac)
+  pub lower-changed : T (answersAfter (limiting 5 0 0) (script (limit 1 0 0x50 0x01 0x00 ∷ []) ∷ start 1 ∷ []) (first 51 0x0978 1) Arqc
+      && answersAfter (limiting 5 0 0) (script (limit 1 0 0x50 0x01 0x00 ∷ []) ∷ start 1 ∷ []) (first 50 0x0978 1) Tc)
+  -- between First and Second the lower limit, in Default, is raised to the value, or falls below it: after Y3 the one in force decides; the CVR is First's
+  pub limit-raised-between : T (answersAfter defaulting (start 1 ∷ first 1 0x0978 2 ∷ script (limit 1 0x20 0x00 0x50 0x00 ∷ []) ∷ []) unable Tc)
+  pub limit-lowered-between : T (answersAfter defaulting (script (limit 1 0x20 0x00 0x50 0x00 ∷ []) ∷ start 1 ∷ first 1 0x0978 2 ∷ script (limit 1 0x19 0x99 0x50 0x00 ∷ []) ∷ []) unable Aac)
+  pub cvr-of-first : T (showsAfter defaulting (start 1 ∷ first 1 0x0978 2 ∷ script (limit 1 0x20 0x00 0x50 0x00 ∷ []) ∷ []) unable 0x20 0x00)
+  -- order 01 puts the upper limit in force
+  pub order-by-limit : T (agreesIn counting (between (script (limit 1 0 0x10 0 0x50 ∷ [])) (second 0x01)) (accumulator 0) 50)
+  -- limits are written in every profile: counter 1's, and accumulator 2's
+  pub counter-in-each : T (showsAfter counting (script (counterLimit 1 0 0 ∷ []) ∷ answered 1 ++ start 1 ∷ []) (first 1 0x0978 1) 0xC0 0x10
+      && showsAfter counting (script (counterLimit 1 0 0 ∷ []) ∷ answered 1 ++ start 2 ∷ []) (first 1 0x0978 1) 0xC0 0x10)
+  pub accumulator-in-each : T (showsAfter counting (script (limit 2 0 0 0 0x01 ∷ []) ∷ answered 1 ++ start 1 ∷ []) (first 1 0x0978 1) 0x30 0x10
+      && showsAfter counting (script (limit 2 0 0 0 0x01 ∷ []) ∷ answered 1 ++ start 2 ∷ []) (first 1 0x0978 1) 0x30 0x10)
+  -- commands done are counted, one by one; one that fails, and none behind it, is not; what those before it wrote stays
+  pub count-shown : T (marksAfter counting (script (putData 0x30 (element 1 (digits 0 0x07) ++ element 2 (digits 0 0x05)) ∷ value 2 0 0x02 ∷ []) ∷ script (value 1 0 0x01 ∷ []) ∷ []) 0x30)
+  pub count-round : T (marksAfter counting (script (empties 8) ∷ script (empties 7) ∷ []) 0xF0 && marksAfter counting (script (empties 8) ∷ script (empties 8) ∷ []) 0x00)
+  pub count-stays : T (marksAfter counting (script (empties 1) ∷ online (second 0x80)) 0x10)
+  pub failed-shown : T (marksAfter counting (script (value 1 0 0x40 ∷ wrong ∷ value 1 0 0x09 ∷ []) ∷ []) 0x18)
+  pub written-before-failure : T (agreesIn counting (script (value 1 0 0x40 ∷ wrong ∷ value 1 0 0x09 ∷ []) ∷ []) (accumulator 0) 40)
+  pub half-unwritten : T (agreesIn counting (script (putData 0x30 (element 1 (digits 0 0x07) ++ element 2 (digits 0 0x0A)) ∷ []) ∷ []) (accumulator 0) 0)
+  -- where the result is not "verified" the first command fails, and a template without one does not
+  pub unverified-fails : T (marksAfter counting (unverified (value 1 0 0x01 ∷ []) ∷ []) 0x08 && agreesIn counting (unverified (value 1 0 0x01 ∷ []) ∷ []) (accumulator 0) 0)
+  pub nothing-fails : T (marksAfter counting (unverified [] ∷ []) 0x00)
+  -- after a failure none is done until the next accepted Start
+  pub later-rejected : T (agreesIn counting (script (wrong ∷ []) ∷ script (value 1 0 0x01 ∷ []) ∷ []) (accumulator 0) 0)
+  pub taken-again : T (agreesIn counting (script (wrong ∷ []) ∷ start 1 ∷ first 1 0x0978 2 ∷ script (value 1 0 0x05 ∷ []) ∷ []) (accumulator 0) 5)
+  pub not-by-refused : T (agreesIn counting (script (wrong ∷ []) ∷ start 3 ∷ script (value 1 0 0x01 ∷ []) ∷ []) (accumulator 0) 0)
+  pub not-by-second : T (agreesIn counting (between (script (wrong ∷ [])) (second 0x80) ++ script (value 1 0 0x01 ∷ []) ∷ []) (accumulator 0) 0)
+  -- a failure is cleared by a Second that verified, TC or AAC, or absent where authentication isn't required, and by no other; not in its own transaction
+  pub failure-cleared : T (marksAfter counting (script (wrong ∷ []) ∷ online (second 0x80)) 0x00 && marksAfter counting (script (wrong ∷ []) ∷ online (second 0x00)) 0x00)
+  pub cleared-by-absent : T (marksAfter counting (script (wrong ∷ []) ∷ online (after 0)) 0x00)
+  pub not-where-required : T (marksAfter requiring (script (wrong ∷ []) ∷ online (after 0)) 0x08)
+  pub not-by-failed : T (marksAfter counting (script (wrong ∷ []) ∷ online (after 2)) 0x08 && marksAfter counting (script (wrong ∷ []) ∷ online unable) 0x08)
+  pub not-once-shown : T (marksAfter counting (script (wrong ∷ []) ∷ answered 1) 0x08)
+  pub not-here : T (marksAfter counting (between (script (wrong ∷ [])) (second 0x80)) 0x08 && keeps counting (between (script (wrong ∷ [])) (second 0x80)))
+  -- Second keeps First's
+  pub shown-at-second : T (showsAfter counting (script (wrong ∷ []) ∷ start 1 ∷ first 1 0x0978 2 ∷ script (value 1 0 0x01 ∷ []) ∷ []) (second 0x80) 0 0x08)
+  pub kept-alike : T (keeps counting (script (value 1 0 0x01 ∷ wrong ∷ []) ∷ []) && keeps counting (script (value 1 0 0x01 ∷ wrong ∷ []) ∷ start 1 ∷ []))
+  -- a script is done, and leaves what is due
+  pub scripts-in-kind : T (kindly (script [] ∷ []) && kindly (between (script (wrong ∷ [])) unable))
+  pub due-after-script : T (duly (script [] ∷ []) && duly (start 1 ∷ script [] ∷ []) && duly (start 1 ∷ first 1 0x0978 2 ∷ script [] ∷ []))
+  -- 2 before 6 before 18, on a fresh card and while an ARQC is open; depth 5 is 19, and of its object the head comes first
+  pub script-numbers : T (scriptNumber (start 1 ∷ []) 2 [] 2 && scriptNumber (start 1 ∷ []) 1 [] 2 && scriptNumber [] 2 [] 6 && scriptNumber [] 1 [] 18 && scriptNumber [] 1 (0x71 ∷ 0x00 ∷ []) 0)
+  pub script-asked : T (scriptNumber (start 1 ∷ first 1 0x0978 2 ∷ []) 0 (0x71 ∷ 0x00 ∷ []) 0 && scriptNumber (start 1 ∷ first 1 0x0978 2 ∷ []) 2 [] 6)
+  pub too-deep : T (scriptNumber [] 1 (bytes 10 0x7108710671047102E100) 19 && scriptNumber [] 1 (bytes 10 0x7108710671047102E101) 18)
 
 pub samples : Samples
 unfolding counting limiting defaulting full sending spending weekly dual approvals limits resets answered online buy late week weeks years pay payOnline agrees
-    duly kindly answersTo answersOn showsOn numbers answersBy closesBy opensAs sends writes isWritable isCvr computed
+    duly kindly answersTo answersOn showsOn numbers answersBy closesBy opensAs sends writes isWritable isCvr requiring between answersAfter showsAfter
+    agreesIn keeps scriptNumber beforeFirst computed
 samples =
     record {
       accepted = tt;
@@ -334,4 +460,42 @@ samples =
       no-cashback = tt;
       cashback-again = tt;
       six-first = tt;
+      scripts-accepted = tt;
+      value-written = tt;
+      value-inactive = tt;
+      value-twice = tt;
+      value-sent = tt;
+      limit-changed = tt;
+      lower-changed = tt;
+      limit-raised-between = tt;
+      limit-lowered-between = tt;
+      cvr-of-first = tt;
+      order-by-limit = tt;
+      counter-in-each = tt;
+      accumulator-in-each = tt;
+      count-shown = tt;
+      count-round = tt;
+      count-stays = tt;
+      failed-shown = tt;
+      written-before-failure = tt;
+      half-unwritten = tt;
+      unverified-fails = tt;
+      nothing-fails = tt;
+      later-rejected = tt;
+      taken-again = tt;
+      not-by-refused = tt;
+      not-by-second = tt;
+      failure-cleared = tt;
+      cleared-by-absent = tt;
+      not-where-required = tt;
+      not-by-failed = tt;
+      not-once-shown = tt;
+      not-here = tt;
+      shown-at-second = tt;
+      kept-alike = tt;
+      scripts-in-kind = tt;
+      due-after-script = tt;
+      script-numbers = tt;
+      script-asked = tt;
+      too-deep = tt;
     }

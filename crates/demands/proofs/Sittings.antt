@@ -1,15 +1,14 @@
 -- Set-ups and commands of a few sittings, for the rows of Samples and the premises of Witness. Assumes nothing.
 use mathlib.Core.Bool.{Bool, false}
 use mathlib.Core.List.{List, [], _∷_, _++_}
-use Prim.Native.Nat.{ℕ, _*_, _^_}
-use lib.ListN.{replicate}
+use Prim.Native.Nat.{ℕ, _+_, _*_, _^_}
+use lib.ListN.{length, drop, replicate}
 use Rattle.cpace.specs.declared.Cvm.{Cvm}
 use Rattle.cpace.specs.declared.Cvm.the-variants.{NoCvm}
 use Rattle.selection.specs.declared.Selection.the-variants.{Selected}
 use Rattle.command.specs.declared.When.{When}
 use Rattle.command.specs.declared.When.the-variants.{Undated, On}
-use Rattle.command.specs.declared.Command.{Command}
-use Rattle.command.specs.declared.Command.the-variants.{Start as StartCommand, First as FirstCommand, Second as SecondCommand}
+use Rattle.card.specs.Message.{Message, StartCommand, FirstCommand, SecondCommand, ScriptCommand}
 use Rattle.demands.specs.Setup.{Setup}
 
 abbrev pub zeros : ℕ → List ℕ
@@ -19,7 +18,7 @@ zeros n = replicate n 0
 
 -- of version 01
 abbrev pub setupOf : List ℕ → Setup
-setupOf body = record { bytes = body; tail = []; family = []; syllabus = 0; unnamed = 2 ^ 22 }
+setupOf body = record { bytes = body; tail = []; family = []; syllabus = 0; unnamed = 2 ^ 22; written = [] }
 
 -- p profiles, c conversions, ATC 0; accumulators in 0978 from a number below 65536, in 0840 from 0, in 0978 from 7
 abbrev pub head : (p c high low : ℕ) → List ℕ
@@ -91,6 +90,7 @@ datedOf month day cycles rules =
       family = [];
       syllabus = 0;
       unnamed = 2 ^ 25;
+      written = [];
     }
 
 -- last date 15 July; cyclic accumulator 1 by its kind from a number, against 1000 in profile 1, not active in profile 2; cyclic
@@ -120,18 +120,19 @@ dual high low control control' cashback =
       family = 1 ∷ control ∷ zeros 3 ++ control' ∷ zeros 3 ++ cashback ∷ [];
       syllabus = 0;
       unnamed = 2 ^ 26;
+      written = [];
     }
 
 -- ---- sittings
 
-abbrev pub startOn : (interface n : ℕ) → Command
+abbrev pub startOn : (interface n : ℕ) → Message
 startOn interface n = StartCommand (record { interface = interface; chosen = Selected n 0 })
 
-abbrev pub start : ℕ → Command
+abbrev pub start : ℕ → Message
 start n = startOn 0 n
 
 -- requested 0 AAC, 1 TC, 2 ARQC
-abbrev pub firstBy : Cvm → (cashback : Bool) → When → (amount currency requested : ℕ) → Command
+abbrev pub firstBy : Cvm → (cashback : Bool) → When → (amount currency requested : ℕ) → Message
 firstBy cvm cashback when amount currency requested =
     FirstCommand (record {
       amount = record { 0 = amount };
@@ -143,18 +144,18 @@ firstBy cvm cashback when amount currency requested =
       cashback = cashback;
     })
 
-abbrev pub firstOn : When → (amount currency requested : ℕ) → Command
+abbrev pub firstOn : When → (amount currency requested : ℕ) → Message
 firstOn when amount currency requested = firstBy NoCvm false when amount currency requested
 
-abbrev pub first : (amount currency requested : ℕ) → Command
+abbrev pub first : (amount currency requested : ℕ) → Message
 first amount currency requested = firstOn Undated amount currency requested
 
 -- TC requested, the issuer's data verified, CSU byte 2
-abbrev pub second : ℕ → Command
+abbrev pub second : ℕ → Message
 second update = SecondCommand (record { csu = update * 65536; code = 0x3030; requested = 1; issuer = 1 })
 
 -- approvals, in one of them nothing of an ARQC that the issuer approves, and one after a Start that another Start drops
-unfoldable pub approvals : List Command
+unfoldable pub approvals : List Message
 approvals =
     start 1 ∷ first 100 0x0978 1 ∷ start 1 ∷ first 30 0x0978 2 ∷ second 0x80 ∷ start 1 ∷ first 10 0x0978 1
     ∷ start 2
@@ -163,24 +164,24 @@ approvals =
     ∷ []
 
 -- and then the upper limits from an issuer that declines; and then zero
-unfoldable pub limits : List Command
+unfoldable pub limits : List Message
 limits = approvals ++ start 1 ∷ first 1 0x0978 2 ∷ second 0x01 ∷ []
 
-unfoldable pub resets : List Command
+unfoldable pub resets : List Message
 resets = limits ++ start 1 ∷ first 1 0x0978 2 ∷ second 0x82 ∷ []
 
 -- TC requested after Y3; issuer data failed; absent
-abbrev pub unable : Command
+abbrev pub unable : Message
 unable = SecondCommand (record { csu = 0; code = 0x5933; requested = 1; issuer = 0 })
 
-abbrev pub after : ℕ → Command
+abbrev pub after : ℕ → Message
 after issuer = SecondCommand (record { csu = 0; code = 0x3030; requested = 1; issuer = issuer })
 
 -- one transaction that First answers, and one that it sends online
-unfoldable pub answered : ℕ → List Command
+unfoldable pub answered : ℕ → List Message
 answered requested = start 1 ∷ first 1 0x0978 requested ∷ []
 
-unfoldable pub online : Command → List Command
+unfoldable pub online : Message → List Message
 online command = start 1 ∷ first 1 0x0978 2 ∷ command ∷ []
 
 -- ---- with dates
@@ -189,32 +190,85 @@ abbrev pub onDay : (year month day : ℕ) → When
 onDay year month day = On (record { year = year; month = month; day = day })
 
 -- a transaction of July 2000 under a profile
-unfoldable pub buy : (n day amount requested : ℕ) → List Command
+unfoldable pub buy : (n day amount requested : ℕ) → List Message
 buy n day amount requested = start n ∷ firstOn (onDay 0x00 0x07 day) amount 0x0978 requested ∷ []
 
 -- one on the 14th, a day too early, which goes online, and a Second
-unfoldable pub late : Command → List Command
+unfoldable pub late : Message → List Message
 late command = start 1 ∷ firstOn (onDay 0x00 0x07 0x14) 5 0x0978 1 ∷ command ∷ []
 
 -- one of January 2000; on Sunday the 2nd and Monday the 3rd; and a week later
-abbrev pub inJanuary : ℕ → List Command
+abbrev pub inJanuary : ℕ → List Message
 inJanuary day = start 1 ∷ firstOn (onDay 0x00 0x01 day) 1 0x0978 1 ∷ []
 
-unfoldable pub week : List Command
+unfoldable pub week : List Message
 week = inJanuary 0x02 ++ inJanuary 0x03
 
-unfoldable pub weeks : List Command
+unfoldable pub weeks : List Message
 weeks = inJanuary 0x02 ++ inJanuary 0x03 ++ inJanuary 0x09 ++ inJanuary 0x10
 
 -- 30 in July 2000 and 1 in July 2001
-unfoldable pub years : List Command
+unfoldable pub years : List Message
 years = start 1 ∷ firstOn (onDay 0x00 0x07 0x15) 30 0x0978 1 ∷ start 1 ∷ firstOn (onDay 0x01 0x07 0x15) 1 0x0978 1 ∷ []
 
 -- ---- to a CPACE card
 
 -- a purchase of 4000 by its CVM, with cashback or without; and one that goes online, and a Second
-unfoldable pub pay : Cvm → (cashback : Bool) → (requested : ℕ) → List Command
+unfoldable pub pay : Cvm → (cashback : Bool) → (requested : ℕ) → List Message
 pay cvm cashback requested = start 1 ∷ firstBy cvm cashback Undated 4000 0x0978 requested ∷ []
 
-unfoldable pub payOnline : Cvm → (cashback : Bool) → Command → List Command
+unfoldable pub payOnline : Cvm → (cashback : Bool) → Message → List Message
 payOnline cvm cashback command = pay cvm cashback 2 ++ command ∷ []
+
+-- ---- scripts
+
+-- an amount below 10000, in 12 digits
+abbrev pub digits : (high low : ℕ) → List ℕ
+digits high low = zeros 4 ++ high ∷ low ∷ []
+
+-- an element; a PUT DATA command over a few of them, with a MAC of zeros
+abbrev pub element : (tag : ℕ) → List ℕ → List ℕ
+element tag value = 0xDF ∷ tag ∷ length value ∷ value
+
+abbrev pub putData : (object : ℕ) → List ℕ → List ℕ
+putData object list = 0x0C ∷ 0xDA ∷ 0xBF ∷ object ∷ (length list + 8) ∷ 0x81 ∷ length list ∷ list ++ 0x8E ∷ 0x04 ∷ zeros 4
+
+-- of accumulator i the value, and the limits, lower and upper; of counter i the limits; and one with a digit above 9
+abbrev pub value : (i high low : ℕ) → List ℕ
+value i high low = putData 0x30 (element i (digits high low))
+
+abbrev pub limit : (i high low high' low' : ℕ) → List ℕ
+limit i high low high' low' = putData 0x30 (element (0x10 + i) (digits high low ++ digits high' low'))
+
+abbrev pub counterLimit : (i lower upper : ℕ) → List ℕ
+counterLimit i lower upper = putData 0x35 (element (0x10 + i) (lower ∷ upper ∷ []))
+
+abbrev pub wrong : List ℕ
+wrong = value 1 0 0x0A
+
+-- n without elements, which are done
+abbrev pub empties : ℕ → List (List ℕ)
+empties n = replicate n (putData 0x30 [])
+
+-- a template of a few commands, verified or not
+abbrev pub objects : List (List ℕ) → List ℕ
+objects [] = []
+objects (command ∷ commands) = 0x86 ∷ length command ∷ command ++ objects commands
+
+abbrev pub templateOf : List (List ℕ) → List ℕ
+templateOf commands = 0x72 ∷ length (objects commands) ∷ objects commands
+
+abbrev pub script : List (List ℕ) → Message
+script commands = ScriptCommand 1 (templateOf commands)
+
+abbrev pub unverified : List (List ℕ) → Message
+unverified commands = ScriptCommand 0 (templateOf commands)
+
+-- issuer authentication required
+unfoldable pub requiring : Setup
+unfolding counting
+requiring = setupOf (1 ∷ 3 ∷ 1 ∷ drop 3 (counting .bytes))
+
+-- a transaction that goes online, in which a script comes, and a Second
+unfoldable pub between : Message → Message → List Message
+between now command = start 1 ∷ first 1 0x0978 2 ∷ now ∷ command ∷ []

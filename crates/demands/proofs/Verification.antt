@@ -1,16 +1,21 @@
 -- The CVR's bits and the IAD's fields are those that document 01 names. Assumes nothing.
 use mathlib.Core.Path.{_≡_, refl, sym, ap, _∙_, subst}
 use mathlib.Core.Bool.{Bool, true, false, and-true, and-false, or-false}
-use Prim.Native.Nat.{ℕ, zero, suc, _+_, _*_, _≤_, _<_}
+use Prim.Native.Nat.{ℕ, zero, suc, _+_, _*_, _/_, _%_, _≤_, _<_}
 use native.Mathlib.Omega.{arith}
+use borrow.Author.Tests.{eqb-true, eqb-false}
 use lib.Dec.{eqb}
 use Rattle.money.specs.Money.{max}
 use Rattle.iad.specs.declared.Cvr.{Cvr}
 use Rattle.rules.specs.declared.Place.{Place}
+use Rattle.rules.specs.declared.Sent.{Sent as Sending}
 use Rattle.rules.specs.declared.Values.{Values}
-use Rattle.rules.specs.Rules.{Rules, Profile, indexOf}
+use Rattle.rules.specs.Rules.{Rules, indexOf}
 use Rattle.setup.specs.Setup.{profileIn, rulesIn}
 use Rattle.purchase.specs.declared.Purchase.{Purchase}
+use Rattle.script.specs.declared.Scripts.{Scripts}
+use Rattle.script.specs.Script.{marksOf}
+use Rattle.script.proofs.Marks.{marks-say, marks-low}
 use Rattle.state.specs.declared.History.{History}
 use Rattle.checks.specs.Checks.{bit, decisionBits, accumulatorsLowerGroup, accumulatorsUpperGroup, countersLowerGroup, countersUpperGroup}
 use Rattle.checks.specs.Checks.{dateError}
@@ -23,10 +28,13 @@ use Rattle.cryptogram.specs.Cryptogram.{sentOf as cardSent}
 use Rattle.demands.specs.Setup.{Setup, byteAt, AcceptedSetup}
 use Rattle.purchase.specs.Meter.{Meter, accumulator, counter, IsMeter, valueOf}
 use Rattle.demands.specs.Conversation.{rulesBy}
+use Rattle.demands.specs.Scripts.{Remembered}
 use Rattle.demands.specs.Decision.{aboveLower, aboveUpper, isError, flags, meets}
 use Rattle.demands.specs.Verification.{anyOf, Verifies, sentOf, Sends}
 use Rattle.demands.specs.Audit.{placeOf}
-use Rattle.demands.proofs.Bytes.{fits, Stands, profile-is, number-there}
+use Rattle.demands.proofs.Written.{given}
+use Rattle.demands.proofs.Bytes.{fits, Stands, key-is, pin-is, number-is, sent-is, number-there}
+use Rattle.demands.proofs.Scripts.{Keeps}
 use Rattle.demands.proofs.Decision.{met-is}
 
 bit-small : (b : Bool) → bit b < 2
@@ -86,22 +94,39 @@ module _ (setup : Setup) (good : AcceptedSetup setup) (place : Place) (at : ℕ)
         λ i. limitsOf ((is countersLowerGroup ∙ counters-lower) i) ((is countersUpperGroup ∙ counters-upper) i)
         ((is accumulatorsLowerGroup ∙ accumulators-lower) i) ((is accumulatorsUpperGroup ∙ accumulators-upper) i) ((is dateError ∙ error-met) i)
 
+-- a CVR shows of the rules the PIN's digit alone
+pub same-cvr : (a b : Rules) → a .pin ≡ b .pin → (history : History) (limits : ℕ) (scripts : Scripts) (first : Kind) (later : Later) (issuer : Issuer)
+    → verification a history limits scripts first later issuer ≡ verification b history limits scripts first later issuer
+unfolding verification
+same-cvr a b e history limits scripts first later issuer = rw e
+
+bit-is : (n : ℕ) (b : Bool) → n < 2 → eqb n 1 ≡ b → n ≡ bit b
+bit-is n true l e = eqb-true n 1 e
+bit-is n false l e = let d = eqb-false n 1 e in omega arith
+
 -- a CVR whose byte 3 has its five causes
-module _ (setup : Setup) (profile : ℕ) (purchase : Purchase) (value : Meter → ℕ) (history : History) where
+module _ (setup : Setup) (profile : ℕ) (purchase : Purchase) (value : Meter → ℕ) (history : History) (memory : Remembered) (scripts : Scripts)
+    (keeps : Keeps memory scripts) where
   abbrev below : Meter → Bool
   below = aboveLower setup profile purchase value
 
   abbrev over : Meter → Bool
   over = aboveUpper setup profile purchase value
 
-  pub verifies : (limits : ℕ)
+  verifies-given : (limits : ℕ)
       → limits ≡ limitsOf (anyOf counter below) (anyOf counter over) (anyOf accumulator below) (anyOf accumulator over) (isError (purchase .timing))
       → (first : Kind) (later : Later) (issuer : Issuer)
-      → Verifies setup profile purchase value history (laterCode later) (kindCode first)
+      → Verifies setup profile purchase value history memory (laterCode later) (kindCode first)
       (record { unperformed = issuer .unperformed; failed = issuer .failed; unable = issuer .unable })
-      (verification (rulesBy setup) history limits first later issuer)
+      (verification (given setup) history limits scripts first later issuer)
   unfolding verification rulesIn
-  verifies limits is first later issuer =
+  verifies-given limits is first later issuer =
+      let marks = marks-say scripts in
+      let low = marks-low scripts in
+      let count : marksOf scripts / 16 ≡ memory .count = marks .count ∙ keeps .says .count in
+      let failed : marksOf scripts / 8 % 2 ≡ bit (memory .failed) =
+      bit-is (marksOf scripts / 8 % 2) (memory .failed) (omega arith) (marks .failed ∙ keeps .says .failed) in
+      let l = bit-small (memory .failed) in
       let a = bit-small (issuer .unperformed) in
       let b = bit-small (issuer .failed) in
       let k = kind-small first in
@@ -131,17 +156,25 @@ module _ (setup : Setup) (profile : ℕ) (purchase : Purchase) (value : Meter �
         byte3-b43 = omega arith;
         byte3-b2 = omega arith;
         byte3-b1 = omega arith;
-        byte4-high = omega arith;
+        byte4-b85 = omega arith;
+        byte4-b4 = omega arith;
+        byte4-b3 = omega arith;
         byte4-b2 = omega arith;
         byte4-b1 = omega arith;
         byte5-all = refl;
       }
 
--- a CVR shows of the rules the PIN's digit alone
-pub same-cvr : (a b : Rules) → a .pin ≡ b .pin → (history : History) (limits : ℕ) (first : Kind) (later : Later) (issuer : Issuer)
-    → verification a history limits first later issuer ≡ verification b history limits first later issuer
-unfolding verification
-same-cvr a b e history limits first later issuer = rw e
+  pub verifies : (limits : ℕ)
+      → limits ≡ limitsOf (anyOf counter below) (anyOf counter over) (anyOf accumulator below) (anyOf accumulator over) (isError (purchase .timing))
+      → (first : Kind) (later : Later) (issuer : Issuer)
+      → Verifies setup profile purchase value history memory (laterCode later) (kindCode first)
+      (record { unperformed = issuer .unperformed; failed = issuer .failed; unable = issuer .unable })
+      (verification (rulesBy setup) history limits scripts first later issuer)
+  unfolding rulesIn
+  verifies limits is first later issuer =
+      subst (Verifies setup profile purchase value history memory (laterCode later) (kindCode first) _)
+      (same-cvr (given setup) (rulesBy setup) (sym (pin-is setup)) history limits scripts first later issuer)
+      (verifies-given limits is first later issuer)
 
 -- ---- what is sent
 
@@ -176,19 +209,19 @@ module _ (setup : Setup) (good : AcceptedSetup setup) (wanted : ℕ) (place : Pl
   unfolding sentIad rulesIn profileIn
   sends-audited values cvr value same =
       let ranges = fits good .profiles (indexOf place) (stands .there) in
-      let profile = profile-is setup place profile-at stands in
+      let these = sent-is setup place profile-at stands in
       let count : ℕ → ℕ = cardSent (values .counters) 0 in
       record {
-        key = refl;
-        profile-number = ap (λ (p : Profile). p .number) profile ∙ number-there setup good wanted place stands;
+        key = key-is setup;
+        profile-number = number-is setup place profile-at stands ∙ number-there setup good wanted place stands;
         accumulator-sent =
-            ap (λ (p : Profile). cardSent (values .accumulators) (record { 0 = 0 }) (p .sent .accumulator) .0) profile
+            ap (λ (s : Sending). cardSent (values .accumulators) (record { 0 = 0 }) (s .accumulator) .0) these
             ∙ sent-amount values value same (byteAt setup (profile-at + 104)) (few 104 (ranges .accumulator-sent));
         first-sent =
-            ap (λ (p : Profile). count (p .sent .first)) profile
+            ap (λ (s : Sending). count (s .first)) these
             ∙ sent-count values value same (byteAt setup (profile-at + 105)) (few 105 (ranges .first-sent));
         second-sent =
-            ap (λ (p : Profile). count (p .sent .second)) profile
+            ap (λ (s : Sending). count (s .second)) these
             ∙ sent-count values value same (byteAt setup (profile-at + 106)) (few 106 (ranges .second-sent));
       }
 

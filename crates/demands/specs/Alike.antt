@@ -9,8 +9,7 @@ use Rattle.rules.specs.declared.Place.{Place}
 use Rattle.selection.specs.declared.Selection.{Selection}
 use Rattle.command.specs.declared.First.{First}
 use Rattle.command.specs.declared.Second.{Second}
-use Rattle.command.specs.declared.Command.{Command}
-use Rattle.command.specs.declared.Command.the-variants.{Start as StartCommand, First as FirstCommand, Second as SecondCommand}
+use Rattle.card.specs.Message.{Message, StartCommand, FirstCommand, SecondCommand, ScriptCommand}
 use Rattle.purchase.specs.declared.Purchase.{Purchase}
 use Rattle.state.specs.declared.Answer.{Answer}
 use Rattle.state.specs.declared.Pending.{Pending}
@@ -27,6 +26,7 @@ pub record AlikeSetups (cpa cpace : Setup) : Type 0 where
   pub syllabus : cpa .syllabus ≡ cpace .syllabus
   pub none : IsCpa cpa
   pub zeros : (i : ℕ) → familyByte cpace (suc i) ≡ 0
+  pub written : cpa .written ≡ cpace .written
 
 -- the same with another CVM and another cashback
 abbrev pub firstWith : Cvm → (cashback : Bool) → First → First
@@ -52,18 +52,20 @@ pendingWith cvm cashback pending =
       limits = pending .limits;
       place = pending .place;
       history = pending .history;
+      scripts = pending .scripts;
     }
 
 -- commands alike but for a Start's interface, 0 or 1, and for a First's CVM and cashback, which may be any
-pub data AlikeCommands : Command → Command → Type 0 where
+pub data AlikeCommands : Message → Message → Type 0 where
   starts : (chosen : Selection) (i j : ℕ) → i ≤ 1 → j ≤ 1
       → AlikeCommands (StartCommand (record { interface = i; chosen = chosen })) (StartCommand (record { interface = j; chosen = chosen }))
   firsts : (first : First) (cvm : Cvm) (cashback : Bool) → AlikeCommands (FirstCommand first) (FirstCommand (firstWith cvm cashback first))
   seconds : (second : Second) → AlikeCommands (SecondCommand second) (SecondCommand second)
+  scripts : (result : ℕ) (template : List ℕ) → AlikeCommands (ScriptCommand result template) (ScriptCommand result template)
 
-pub data AllAlike : List Command → List Command → Type 0 where
+pub data AllAlike : List Message → List Message → Type 0 where
   nothing : AllAlike [] []
-  more : {a b : Command} {ms ns : List Command} → AlikeCommands a b → AllAlike ms ns → AllAlike (a ∷ ms) (b ∷ ns)
+  more : {a b : Message} {ms ns : List Message} → AlikeCommands a b → AllAlike ms ns → AllAlike (a ∷ ms) (b ∷ ns)
 
 -- states alike but for the CVM and the cashback of a purchase whose ARQC is open
 pub data AlikePhases : Phase → Phase → Type 0 where
@@ -77,6 +79,7 @@ pub record AlikeStates (a b : State) : Type 0 where
   pub atc : a .atc ≡ b .atc
   pub last : a .last ≡ b .last
   pub history : a .history ≡ b .history
+  pub scripts : a .scripts ≡ b .scripts
 
 -- the answers of a conversation, the newest first
 abbrev pub answersOf : List Exchange → List Answer

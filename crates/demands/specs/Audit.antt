@@ -1,8 +1,8 @@
 -- What an auditor reads off the conversation with the set-up in hand, and no card: the ledger of one accumulator, counter or cyclic
 -- accumulator. Each offset and each rule is spelled from document 01 ("The paper", "First: the answer", "Second: the answer", "Numbers")
--- and requests Five, dates by the almanac, and Thirteen; nothing here knows of a card's state, of its step or of the rules that it decoded.
+-- and requests Five, dates by the almanac, Twelve and Thirteen; nothing here knows of a card's state, of its step or of the rules that it decoded.
 use Prim.Native.Nat.{ℕ, zero, suc, _+_, _-_, _*_, _/_, _%_, _^_}
-use mathlib.Core.Bool.{Bool, true, false, cond, not, _&&_, _||_}
+use mathlib.Core.Bool.{Bool, true, false, cond, not, _&&_}
 use mathlib.Core.List.{List, [], _∷_, _++_}
 use lib.Dec.{ltb, eqb}
 use lib.ListN.{length}
@@ -16,10 +16,11 @@ use Rattle.selection.specs.Selection.{profileOf}
 use Rattle.command.specs.declared.When.{When}
 use Rattle.command.specs.declared.When.the-variants.{Undated as NoDate, On}
 use Rattle.command.specs.declared.First.{First}
-use Rattle.command.specs.declared.Command.{Command}
-use Rattle.command.specs.declared.Command.the-variants.{Start as StartCommand, First as FirstCommand, Second as SecondCommand}
+use Rattle.element.specs.declared.Write.{Write}
+use Rattle.element.specs.declared.Write.the-variants.{Value, AccumulatorLimits, CounterLimits}
+use Rattle.card.specs.Message.{Message, StartCommand, FirstCommand, SecondCommand, ScriptCommand}
 use Rattle.state.specs.declared.Answer.{Answer}
-use Rattle.state.specs.declared.Answer.the-variants.{Refused, Started, Given}
+use Rattle.state.specs.declared.Answer.the-variants.{Refused, Started, Given, Done}
 use Rattle.state.specs.declared.Kind.the-variants.{Aac, Tc, Arqc}
 use Rattle.purchase.specs.declared.Timing.{Timing}
 use Rattle.purchase.specs.declared.Timing.the-variants.{Undated, InOrder, DateError}
@@ -28,7 +29,8 @@ use Rattle.meters.specs.Meters.{Entry, put, add}
 use Rattle.demands.specs.Setup.{Setup, byteAt, numberAt, tailByte, tailNumber, familyByte}
 use Rattle.purchase.specs.Meter.{Meter, accumulator, counter, cyclic}
 use Rattle.demands.specs.Ledger.{owed}
-use Rattle.demands.specs.Conversation.{Exchange}
+use Rattle.demands.specs.Conversation.{Exchange, isAccepted, couldNotGoOnline}
+use Rattle.demands.specs.Scripts.{Remembered, remembered, wroteBy}
 
 -- ---- the bytes
 
@@ -72,11 +74,39 @@ countsDeclines setup profile (accumulator i) = false
 countsDeclines setup profile (counter i) = isOn (switchesOf setup profile (counter i)) 8
 countsDeclines setup profile (cyclic i) = false
 
--- a cyclic accumulator has one limit
+-- limits that scripts wrote, the newest first: the last to accumulator i + 1, to counter i + 1, in every profile, active or not; else those given
+pub record Limits : Type 0 where
+  pub lower : ℕ
+  pub upper : ℕ
+
+abbrev pub accumulatorLimits : (i : ℕ) → List Write → (given : Limits) → Limits
+accumulatorLimits i [] given = given
+accumulatorLimits i (Value slot amount ∷ older) given = accumulatorLimits i older given
+accumulatorLimits i (AccumulatorLimits slot lower upper ∷ older) given =
+    cond (eqb slot i) (record { lower = lower .0; upper = upper .0 }) (accumulatorLimits i older given)
+accumulatorLimits i (CounterLimits slot lower upper ∷ older) given = accumulatorLimits i older given
+
+abbrev pub counterLimits : (i : ℕ) → List Write → (given : Limits) → Limits
+counterLimits i [] given = given
+counterLimits i (Value slot amount ∷ older) given = counterLimits i older given
+counterLimits i (AccumulatorLimits slot lower upper ∷ older) given = counterLimits i older given
+counterLimits i (CounterLimits slot lower upper ∷ older) given =
+    cond (eqb slot i) (record { lower = lower; upper = upper }) (counterLimits i older given)
+
+-- those of a profile that stand in its bytes, lower before upper; a cyclic accumulator has one limit, which no script writes
+abbrev pub limitsOf : Setup → (profile : ℕ) → Meter → Limits
+limitsOf setup profile (accumulator i) =
+    let at = ruleAt profile (accumulator i) in
+    accumulatorLimits i (setup .written) (record { lower = numberAt setup (at + 1) 8; upper = numberAt setup (at + 9) 8 })
+limitsOf setup profile (counter i) =
+    let at = ruleAt profile (counter i) in
+    counterLimits i (setup .written) (record { lower = byteAt setup (at + 1); upper = byteAt setup (at + 2) })
+limitsOf setup profile (cyclic i) =
+    let limit = tailNumber setup (ruleAt profile (cyclic i) + 1) 8 in
+    record { lower = limit; upper = limit }
+
 abbrev pub upperOf : Setup → (profile : ℕ) → Meter → ℕ
-upperOf setup profile (accumulator i) = numberAt setup (ruleAt profile (accumulator i) + 9) 8
-upperOf setup profile (counter i) = byteAt setup (ruleAt profile (counter i) + 2)
-upperOf setup profile (cyclic i) = tailNumber setup (ruleAt profile (cyclic i) + 1) 8
+upperOf setup profile meter = limitsOf setup profile meter .upper
 
 -- 0 to 999,999,999,999 (called MAX)
 abbrev pub max : ℕ
@@ -133,16 +163,12 @@ adds none = []
 
 -- ---- the conversation
 
-abbrev pub isAccepted : Answer → Bool
-isAccepted (Refused refusal) = false
-isAccepted (Started atc visits) = true
-isAccepted (Given kind atc iad) = true
-
 -- the profile that the last accepted Start named, or that selection gave it
-abbrev pub namedBy : Command → Answer → ℕ → ℕ
+abbrev pub namedBy : Message → Answer → ℕ → ℕ
 namedBy (StartCommand start) answer before = cond (isAccepted answer) (profileOf (start .chosen)) before
 namedBy (FirstCommand first) answer before = before
 namedBy (SecondCommand second) answer before = before
+namedBy (ScriptCommand result template) answer before = before
 
 unfoldable pub named : List Exchange → ℕ
 named [] = 0
@@ -168,28 +194,37 @@ brought last first =
     }
 
 -- the purchase that the last accepted First brought
-abbrev pub boughtBy : Command → Answer → (last : Date) → Purchase → Purchase
+abbrev pub boughtBy : Message → Answer → (last : Date) → Purchase → Purchase
 boughtBy (StartCommand start) answer last before = before
 boughtBy (FirstCommand first) answer last before = cond (isAccepted answer) (brought last first) before
 boughtBy (SecondCommand second) answer last before = before
+boughtBy (ScriptCommand result template) answer last before = before
 
--- the set-up in force: no command writes it
-abbrev pub writtenBy : Command → Answer → Setup → Setup
-writtenBy (StartCommand start) answer before = before
-writtenBy (FirstCommand first) answer before = before
-writtenBy (SecondCommand second) answer before = before
+-- writes in their order, behind which stand older ones, the newest first
+abbrev pub newest : List Write → (older : List Write) → List Write
+newest [] older = older
+newest (write ∷ writes) older = newest writes (write ∷ older)
+
+-- the set-up in force: its bytes stay, and a script writes limits
+abbrev pub withWrites : Setup → List Write → Setup
+withWrites setup writes =
+    record {
+      bytes = setup .bytes;
+      tail = setup .tail;
+      family = setup .family;
+      syllabus = setup .syllabus;
+      unnamed = setup .unnamed;
+      written = newest writes (setup .written);
+    }
 
 unfoldable pub inForce : Setup → List Exchange → Setup
 inForce setup [] = setup
-inForce setup (exchange ∷ older) = writtenBy (exchange .command) (exchange .answer) (inForce setup older)
+inForce setup (exchange ∷ older) =
+    withWrites (inForce setup older) (wroteBy (exchange .command) (exchange .answer) (remembered setup older))
 
 -- where the profile of the last accepted Start stands in it
 abbrev pub placeBy : Setup → List Exchange → ℕ
 placeBy setup log = placeOf (inForce setup log) (named log)
-
--- Y3 (5933) or Z3 (5A33)
-abbrev pub couldNotGoOnline : ℕ → Bool
-couldNotGoOnline code = eqb code 0x5933 || eqb code 0x5A33
 
 abbrev pub isTc : Answer → Bool
 isTc (Refused refusal) = false
@@ -197,6 +232,7 @@ isTc (Started atc visits) = false
 isTc (Given Aac atc iad) = false
 isTc (Given Tc atc iad) = true
 isTc (Given Arqc atc iad) = false
+isTc Done = false
 
 abbrev pub isAac : Answer → Bool
 isAac (Refused refusal) = false
@@ -204,6 +240,7 @@ isAac (Started atc visits) = false
 isAac (Given Aac atc iad) = true
 isAac (Given Tc atc iad) = false
 isAac (Given Arqc atc iad) = false
+isAac Done = false
 
 -- the last date: that of an accepted First without a date error; and where there was one, that of its transaction, if a Second answers TC
 -- with another code than Y3 or Z3 (Annex I's recovery)
@@ -216,11 +253,12 @@ recovered Undated last = last
 recovered InOrder last = last
 recovered (DateError date) last = date
 
-abbrev pub lastBy : Command → Answer → Purchase → (last : Date) → Date
+abbrev pub lastBy : Message → Answer → Purchase → (last : Date) → Date
 lastBy (StartCommand start) answer purchase last = last
 lastBy (FirstCommand first) answer purchase last = cond (isAccepted answer) (latest last (first .when)) last
 lastBy (SecondCommand second) answer purchase last =
     cond (isTc answer && not (couldNotGoOnline (second .code))) (recovered (purchase .timing) last) last
+lastBy (ScriptCommand result template) answer purchase last = last
 
 -- both over the conversation; a fresh card's last date comes with the set-up, at 1 of the tail
 pub record Dealing : Type 0 where
@@ -247,10 +285,11 @@ abbrev pub lastDate : Setup → List Exchange → Date
 lastDate setup log = dealing setup log .last
 
 -- an offline approval is a TC at First, or at Second after Y3 or Z3, and nothing else
-abbrev pub approves : Command → Answer → Bool
+abbrev pub approves : Message → Answer → Bool
 approves (StartCommand start) answer = false
 approves (FirstCommand first) answer = isTc answer
 approves (SecondCommand second) answer = couldNotGoOnline (second .code) && isTc answer
+approves (ScriptCommand result template) answer = false
 
 -- a cyclic accumulator takes part only where the purchase's date is in order
 abbrev pub isTimely : Timing → Bool
@@ -311,19 +350,33 @@ begun setup last when (accumulator i) = []
 begun setup last when (counter i) = []
 begun setup last when (cyclic i) = cond (beginsOn setup i last when) (put 0 ∷ []) []
 
+-- a script puts the values that it writes, of an accumulator that is active or not, the newest first
+abbrev pub putBy : Write → Meter → List Entry
+putBy (Value slot amount) (accumulator i) = cond (eqb slot i) (put (amount .0) ∷ []) []
+putBy (Value slot amount) (counter i) = []
+putBy (Value slot amount) (cyclic i) = []
+putBy (AccumulatorLimits slot lower upper) meter = []
+putBy (CounterLimits slot lower upper) meter = []
+
+abbrev pub allPut : List Write → Meter → List Entry
+allPut [] meter = []
+allPut (write ∷ writes) meter = allPut writes meter ++ putBy write meter
+
 -- what a command and its answer enter, for the profile and the purchase of the transaction, the newest first: whatever First answers, a
 -- cycle begins before it counts
-abbrev pub entered : Setup → (profile : ℕ) → (last : Date) → Purchase → Meter → Command → Answer → List Entry
-entered setup profile last purchase meter (StartCommand start) answer = []
-entered setup profile last purchase meter (FirstCommand first) answer =
+abbrev pub entered : Setup → (profile : ℕ) → (last : Date) → Purchase → Remembered → Meter → Message → Answer → List Entry
+entered setup profile last purchase scripts meter (StartCommand start) answer = []
+entered setup profile last purchase scripts meter (FirstCommand first) answer =
     cond (isTc answer) (counted setup profile purchase meter) (cond (isAac answer) (declined setup profile meter) [])
     ++ cond (isAccepted answer) (begun setup last (first .when) meter) []
-entered setup profile last purchase meter (SecondCommand second) answer =
+entered setup profile last purchase scripts meter (SecondCommand second) answer =
     cond (isAccepted answer)
     (cond (couldNotGoOnline (second .code))
     (cond (isTc answer) (counted setup profile purchase meter) (declined setup profile meter))
     (cond (eqb (second .issuer) 1) (ordered setup profile purchase (second .csu) meter) []))
     []
+entered setup profile last purchase scripts meter (ScriptCommand result template) answer =
+    allPut (wroteBy (ScriptCommand result template) answer scripts) meter
 
 -- by the set-up in force when the command came
 unfoldable pub ledger : Setup → Meter → List Exchange → List Entry
@@ -332,8 +385,8 @@ ledger setup meter (exchange ∷ older) =
     let command = exchange .command in
     let answer = exchange .answer in
     let last = lastDate setup older in
-    entered (inForce setup older) (placeBy setup older) last (boughtBy command answer last (bought setup older)) meter command answer
-    ++ ledger setup meter older
+    let purchase = boughtBy command answer last (bought setup older) in
+    entered (inForce setup older) (placeBy setup older) last purchase (remembered setup older) meter command answer ++ ledger setup meter older
 
 -- what it then must hold
 abbrev pub audited : Setup → List Exchange → Meter → ℕ

@@ -14,13 +14,11 @@ use Rattle.state.specs.declared.Kind.{Kind}
 use Rattle.state.specs.declared.Kind.the-variants.{Aac, Tc, Arqc}
 use Rattle.demands.specs.Setup.{Setup, byteAt, numberAt, familyByte}
 use Rattle.purchase.specs.Meter.{Meter, accumulator, counter, cyclic}
-use Rattle.demands.specs.Audit.{isOn, ruleAt, isActive, isIncluded, takesPart, takesUp, upperOf, Conversion, comesTo, over, none, converted}
+use Rattle.demands.specs.Audit.{isOn, isActive, isIncluded, takesPart, takesUp, limitsOf, upperOf, Conversion, comesTo, over, none, converted}
 use Rattle.demands.specs.Audit.{worthTo}
 
 abbrev pub lowerOf : Setup → (profile : ℕ) → Meter → ℕ
-lowerOf setup profile (accumulator i) = numberAt setup (ruleAt profile (accumulator i) + 1) 8
-lowerOf setup profile (counter i) = byteAt setup (ruleAt profile (counter i) + 1)
-lowerOf setup profile (cyclic i) = upperOf setup profile (cyclic i)
+lowerOf setup profile meter = limitsOf setup profile meter .lower
 
 -- a value plus a converted amount exceeds a limit; this sum isn't stopped, and over exceeds every limit
 abbrev pub exceedsWith : (limit value : ℕ) → Conversion → Bool

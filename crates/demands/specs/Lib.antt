@@ -2,6 +2,7 @@ pub mod Setup
 pub mod Rows
 pub mod Ledger
 pub mod Conversation
+pub mod Scripts
 pub mod Audit
 pub mod Guards
 pub mod Printed

@@ -6,15 +6,14 @@ use mathlib.Core.Bool.{Bool, true, false, cond, _&&_}
 use mathlib.Core.List.{List, [], _∷_}
 use lib.Dec.{eqb}
 use Rattle.command.specs.declared.Second.{Second}
-use Rattle.command.specs.declared.Command.{Command}
-use Rattle.command.specs.declared.Command.the-variants.{Start as StartCommand, First as FirstCommand, Second as SecondCommand}
+use Rattle.card.specs.Message.{Message, StartCommand, FirstCommand, SecondCommand, ScriptCommand}
 use Rattle.state.specs.declared.History.{History}
 use Rattle.state.specs.declared.Answer.{Answer}
-use Rattle.state.specs.declared.Answer.the-variants.{Refused, Started, Given}
+use Rattle.state.specs.declared.Answer.the-variants.{Refused, Started, Given, Done}
 use Rattle.state.specs.declared.Kind.the-variants.{Aac, Tc, Arqc}
 use Rattle.demands.specs.Setup.{Setup, byteAt, numberAt}
-use Rattle.demands.specs.Conversation.{Exchange}
-use Rattle.demands.specs.Audit.{isOn, isAccepted, couldNotGoOnline, inForce}
+use Rattle.demands.specs.Conversation.{Exchange, isAccepted, byOutcome}
+use Rattle.demands.specs.Audit.{isOn, inForce}
 
 abbrev pub isArqc : Answer → Bool
 isArqc (Refused refusal) = false
@@ -22,39 +21,37 @@ isArqc (Started atc visits) = false
 isArqc (Given Aac atc iad) = false
 isArqc (Given Tc atc iad) = false
 isArqc (Given Arqc atc iad) = true
-
--- what a Second comes with: Y3 or Z3; or any other code and issuer data verified (1), failed (2) or absent
-abbrev pub byOutcome : {A : Type 0} → Second → (unable verified failed absent : A) → A
-byOutcome second unable verified failed absent =
-    cond (couldNotGoOnline (second .code)) unable (cond (eqb (second .issuer) 1) verified (cond (eqb (second .issuer) 2) failed absent))
+isArqc Done = false
 
 -- what an answered Second makes of a history bit
-abbrev pub bySecond : Command → Answer → (before : Bool) → (Second → Bool) → Bool
+abbrev pub bySecond : Message → Answer → (before : Bool) → (Second → Bool) → Bool
 bySecond (StartCommand start) answer before after = before
 bySecond (FirstCommand first) answer before after = before
 bySecond (SecondCommand second) answer before after = cond (isAccepted answer) (after second) before
+bySecond (ScriptCommand result template) answer before after = before
 
 -- bit 0, last online not completed: an ARQC sets it; verified clears it, and so does absent where authentication isn't required
-abbrev pub uncompletedBy : Setup → Command → Answer → Bool → Bool
+abbrev pub uncompletedBy : Setup → Message → Answer → Bool → Bool
 uncompletedBy setup (StartCommand start) answer before = before
 uncompletedBy setup (FirstCommand first) answer before = cond (isArqc answer) true before
 uncompletedBy setup (SecondCommand second) answer before =
     cond (isAccepted answer) (byOutcome second before false before (before && eqb (byteAt setup 2) 1)) before
+uncompletedBy setup (ScriptCommand result template) answer before = before
 
 -- bit 1, go online next: verified makes it CSU byte 2 b4
-abbrev pub onlineBy : Command → Answer → Bool → Bool
+abbrev pub onlineBy : Message → Answer → Bool → Bool
 onlineBy command answer before = bySecond command answer before (λ second. byOutcome second before (isOn (second .csu / 65536) 8) before before)
 
 -- bit 2, issuer authentication failed
-abbrev pub failedBy : Command → Answer → Bool → Bool
+abbrev pub failedBy : Message → Answer → Bool → Bool
 failedBy command answer before = bySecond command answer before (λ second. byOutcome second before false true before)
 
 -- bit 3, unable to go online
-abbrev pub unableBy : Command → Answer → Bool → Bool
+abbrev pub unableBy : Message → Answer → Bool → Bool
 unableBy command answer before = bySecond command answer before (λ second. byOutcome second true false before before)
 
 -- bit 4, issuer data not received
-abbrev pub missingBy : Command → Answer → Bool → Bool
+abbrev pub missingBy : Message → Answer → Bool → Bool
 missingBy command answer before = bySecond command answer before (λ second. byOutcome second before false before true)
 
 -- a fresh card's history is clear but for go online next
@@ -76,6 +73,7 @@ abbrev pub isStarted : Answer → Bool
 isStarted (Refused refusal) = false
 isStarted (Started atc visits) = true
 isStarted (Given kind atc iad) = false
+isStarted Done = false
 
 -- the set-up's ATC, and 1 for each accepted Start
 unfoldable pub atcBy : Setup → List Exchange → ℕ
@@ -87,12 +85,14 @@ abbrev pub Says : Answer → ℕ → Type 0
 Says (Refused refusal) n = Unit
 Says (Started atc visits) n = atc ≡ n
 Says (Given kind atc iad) n = atc ≡ n
+Says Done n = Unit
 
 -- the conversation before the last accepted First
-abbrev pub beforeBy : Command → Answer → (older before : List Exchange) → List Exchange
+abbrev pub beforeBy : Message → Answer → (older before : List Exchange) → List Exchange
 beforeBy (StartCommand start) answer older before = before
 beforeBy (FirstCommand first) answer older before = cond (isAccepted answer) older before
 beforeBy (SecondCommand second) answer older before = before
+beforeBy (ScriptCommand result template) answer older before = before
 
 unfoldable pub beforeFirst : List Exchange → List Exchange
 beforeFirst [] = []

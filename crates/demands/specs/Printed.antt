@@ -7,11 +7,10 @@ use Rattle.cpace.specs.declared.Cvm.the-variants.{NoCvm}
 use Rattle.refusal.specs.Refusal.{refusalNumber}
 use Rattle.iad.specs.Iad.{iadBytes}
 use Rattle.command.specs.declared.When.the-variants.{Undated}
-use Rattle.command.specs.declared.Command.{Command}
-use Rattle.command.specs.declared.Command.the-variants.{Start as StartCommand, First as FirstCommand, Second as SecondCommand}
+use Rattle.card.specs.Message.{Message, StartCommand, FirstCommand, SecondCommand}
 use Rattle.selection.specs.declared.Selection.the-variants.{Selected}
 use Rattle.state.specs.declared.Answer.{Answer}
-use Rattle.state.specs.declared.Answer.the-variants.{Refused, Started, Given}
+use Rattle.state.specs.declared.Answer.the-variants.{Refused, Started, Given, Done}
 use Rattle.state.specs.State.{cidOf}
 use Rattle.demands.specs.Conversation.{Exchange}
 
@@ -37,11 +36,11 @@ counters = 3 ∷ 255 ∷ 255 ∷ zeros 9 ++ 1 ∷ 1 ∷ 0 ∷ []
 unfoldable pub body : List ℕ
 body = head ++ profileHead ++ accumulators ++ counters
 
-abbrev pub start : Command
+abbrev pub start : Message
 start = StartCommand (record { interface = 0; chosen = Selected 1 0 })
 
 -- TC requested, in 0978, terminal 22 hex
-abbrev pub first : ℕ → Command
+abbrev pub first : ℕ → Message
 first amount =
     FirstCommand (record {
       amount = record { 0 = amount };
@@ -54,17 +53,18 @@ first amount =
     })
 
 -- TC requested after Y3, issuer data 0, CSU zeros
-abbrev pub second : Command
+abbrev pub second : Message
 second = SecondCommand (record { csu = 0; code = 0x5933; requested = 1; issuer = 0 })
 
-unfoldable pub commands : List Command
+unfoldable pub commands : List Message
 commands = start ∷ first 5000 ∷ start ∷ first 1 ∷ second ∷ start ∷ first 5000 ∷ second ∷ []
 
--- a line: the refusal; after Start the ATC; after First or Second the CID, the ATC and the IAD
+-- a line: the refusal; after Start the ATC; after First or Second the CID, the ATC and the IAD; after a script nothing more
 abbrev pub lineOf : Answer → List ℕ
 lineOf (Refused refusal) = refusalNumber refusal ∷ []
 lineOf (Started atc visits) = 0 ∷ atc ∷ []
 lineOf (Given kind atc iad) = 0 ∷ cidOf kind ∷ atc ∷ iadBytes iad
+lineOf Done = 0 ∷ []
 
 abbrev pub linesOf : List Exchange → List (List ℕ)
 linesOf [] = []

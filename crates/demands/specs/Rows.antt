@@ -1,7 +1,8 @@
--- Document 01's table of refusal numbers, with document 02's 12, 13 and a Start's 6, row by row, for the three commands: when a number applies, by which profiles
+-- Document 01's table of refusal numbers, with document 02's 12, 13, 18, 19 and 6 of a Start or a script, row by row, for the four commands: when a number applies, by which profiles
 -- are known, the ATC and what is due.
 use mathlib.Core.Path.{_≡_}
 use mathlib.Core.Bool.{cond}
+use mathlib.Core.List.{List}
 use Prim.Native.Nat.{ℕ, _+_, _*_, _≤_, _<_}
 use lib.Dec.{eqb}
 use lib.ListN.{getD}
@@ -16,8 +17,8 @@ use Rattle.command.specs.declared.When.the-variants.{Undated, On}
 use Rattle.command.specs.declared.Start.{Start}
 use Rattle.command.specs.declared.First.{First}
 use Rattle.command.specs.declared.Second.{Second}
-use Rattle.command.specs.declared.Command.{Command}
-use Rattle.command.specs.declared.Command.the-variants.{Start as StartCommand, First as FirstCommand, Second as SecondCommand}
+use Rattle.trees.specs.Tree.{TemplateFault}
+use Rattle.card.specs.Message.{Message, StartCommand, FirstCommand, SecondCommand, ScriptCommand}
 use Rattle.demands.specs.Setup.{Setup, byteAt}
 use Rattle.demands.specs.Due.{Due, nothing, aFirst, aSecond}
 
@@ -44,6 +45,12 @@ abbrev pub NoArqc : Due → Type 0
 NoArqc nothing = Unit
 NoArqc aFirst = Unit
 NoArqc aSecond = ⊥
+
+-- First is due
+abbrev pub IsFirst : Due → Type 0
+IsFirst nothing = ⊥
+IsFirst aFirst = Unit
+IsFirst aSecond = ⊥
 
 -- no profile was selected
 abbrev pub Unselected : Selection → Type 0
@@ -73,20 +80,29 @@ pub data SecondRow (due : Due) (second : Second) (n : ℕ) : Type 0 where
   type-two : n ≡ 5 → 2 ≤ second .requested → SecondRow due second n
   issuer-data : n ≡ 6 → 2 < second .issuer → SecondRow due second n
 
+-- a template's 18 and 19 are by its first fault in reading order
+pub data ScriptRow (due : Due) (result : ℕ) (template : List ℕ) (n : ℕ) : Type 0 where
+  first-due : n ≡ 2 → IsFirst due → ScriptRow due result template n
+  no-result : n ≡ 6 → 1 < result → ScriptRow due result template n
+  at-fault : TemplateFault n template → ScriptRow due result template n
+
 -- the row of number n applies to a command
-abbrev pub Applies : (ℕ → Type 0) → ℕ → Due → Command → ℕ → Type 0
+abbrev pub Applies : (ℕ → Type 0) → ℕ → Due → Message → ℕ → Type 0
 Applies Known atc due (StartCommand start) n = StartRow Known atc start n
 Applies Known atc due (FirstCommand first) n = FirstRow due first n
 Applies Known atc due (SecondCommand second) n = SecondRow due second n
+Applies Known atc due (ScriptCommand result template) n = ScriptRow due result template n
 
--- where several apply: Start 6, 12, 3, 4; First 2, 5, 6, 13; Second 2, 5, 6. So of Start 6 comes first, then 12, and otherwise the least
-abbrev pub rank : Command → ℕ → ℕ
+-- where several apply: Start 6, 12, 3, 4; First 2, 5, 6, 13; Second 2, 5, 6; a script 2, 6, and of 18 and 19 one at most. So of Start 6 comes first,
+-- then 12, and otherwise the least
+abbrev pub rank : Message → ℕ → ℕ
 rank (StartCommand start) n = cond (eqb n 6) 0 (cond (eqb n 12) 1 n)
 rank (FirstCommand first) n = n
 rank (SecondCommand second) n = n
+rank (ScriptCommand result template) n = n
 
 -- 0 where no row applies; where several apply, the first
-pub data Numbered (Known : ℕ → Type 0) (atc : ℕ) (due : Due) (command : Command) (n : ℕ) : Type 0 where
+pub data Numbered (Known : ℕ → Type 0) (atc : ℕ) (due : Due) (command : Message) (n : ℕ) : Type 0 where
   done : n ≡ 0 → ((m : ℕ) → Applies Known atc due command m → ⊥) → Numbered Known atc due command n
   refused : Applies Known atc due command n → ((m : ℕ) → rank command m < rank command n → Applies Known atc due command m → ⊥)
       → Numbered Known atc due command n

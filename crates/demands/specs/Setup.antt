@@ -5,6 +5,8 @@ use mathlib.Core.List.{List, []}
 use Prim.Native.Nat.{ℕ}
 use Rattle.wire.specs.Wire.{byte, number}
 use Rattle.ranges.specs.Ranges.{isSetup, areCycles, isFamily}
+use Rattle.element.specs.declared.Write.{Write}
+use Rattle.auditor.specs.Template.{InRange}
 use Rattle.setup.proofs.Faithful.{Bytes}
 
 pub record Setup : Type 0 where
@@ -16,6 +18,8 @@ pub record Setup : Type 0 where
   pub syllabus : ℕ
   -- masks stay below it: 2^22, 2^25 from version 04 on, 2^26 from version 05 on
   pub unnamed : ℕ
+  -- what scripts wrote, the newest first (request Twelve): limits, and values, which are not looked at here; nothing in a set-up that is handed in
+  pub written : List Write
 
 abbrev pub byteAt : Setup → ℕ → ℕ
 byteAt setup at = byte (setup .bytes) at
@@ -36,7 +40,7 @@ familyByte setup at = byte (setup .family) at
 abbrev pub IsCpa : Setup → Type 0
 IsCpa setup = setup .family ≡ []
 
--- one that is accepted: bytes, each field in its range
+-- one that is accepted: bytes, each field in its range, and so is what scripts wrote
 pub record AcceptedSetup (setup : Setup) : Type 0 where
   pub bytes : Bytes (setup .bytes)
   pub tail-bytes : Bytes (setup .tail)
@@ -44,3 +48,4 @@ pub record AcceptedSetup (setup : Setup) : Type 0 where
   pub taken : isSetup (setup .bytes) (setup .unnamed) ≡ true
   pub tail-taken : areCycles (setup .tail) ≡ true
   pub family-taken : isFamily (setup .family) ≡ true
+  pub written-taken : InRange (setup .written)

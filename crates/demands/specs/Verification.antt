@@ -11,8 +11,7 @@ use Rattle.selection.specs.Selection.{profileOf}
 use Rattle.command.specs.declared.Start.{Start}
 use Rattle.command.specs.declared.First.{First}
 use Rattle.command.specs.declared.Second.{Second}
-use Rattle.command.specs.declared.Command.{Command}
-use Rattle.command.specs.declared.Command.the-variants.{Start as StartCommand, First as FirstCommand, Second as SecondCommand}
+use Rattle.card.specs.Message.{Message, StartCommand, FirstCommand, SecondCommand, ScriptCommand}
 use Rattle.purchase.specs.declared.Purchase.{Purchase}
 use Rattle.state.specs.declared.History.{History}
 use Rattle.state.specs.declared.Answer.the-variants.{Started, Given}
@@ -21,9 +20,10 @@ use Rattle.state.specs.declared.Kind.{Kind}
 use Rattle.state.specs.declared.Kind.the-variants.{Aac, Tc, Arqc}
 use Rattle.demands.specs.Setup.{Setup, byteAt, numberAt}
 use Rattle.purchase.specs.Meter.{Meter, accumulator, counter}
-use Rattle.demands.specs.Conversation.{Exchange}
+use Rattle.demands.specs.Conversation.{Exchange, byOutcome}
+use Rattle.demands.specs.Scripts.{Remembered, remembered}
 use Rattle.demands.specs.Audit.{isOn, named, brought, bought, lastDate, inForce, placeBy, audited, tested}
-use Rattle.demands.specs.Past.{byOutcome, past, atcBy, beforeFirst}
+use Rattle.demands.specs.Past.{past, atcBy, beforeFirst}
 use Rattle.demands.specs.Rows.{InSetup}
 use Rattle.demands.specs.Decision.{aboveLower, aboveUpper, isError, flags, meets, FirstAnswers}
 
@@ -51,8 +51,8 @@ pub record Issuing : Type 0 where
   pub failed : Bool
   pub unable : Bool
 
--- the history and the limits are those at First: purchase and values
-pub record Verifies (setup : Setup) (profile : ℕ) (purchase : Purchase) (value : Meter → ℕ) (history : History)
+-- the history, the limits (by purchase and values) and what is remembered of scripts are those at First
+pub record Verifies (setup : Setup) (profile : ℕ) (purchase : Purchase) (value : Meter → ℕ) (history : History) (scripts : Remembered)
     (second first : ℕ) (issuing : Issuing) (cvr : Cvr) : Type 0 where
   pub byte1-b87 : cvr .byte1 / 64 ≡ second
   pub byte1-b65 : cvr .byte1 / 16 % 4 ≡ first
@@ -70,7 +70,9 @@ pub record Verifies (setup : Setup) (profile : ℕ) (purchase : Purchase) (value
   pub byte3-b43 : cvr .byte3 / 4 % 4 ≡ 0
   pub byte3-b2 : cvr .byte3 / 2 % 2 ≡ bit (isError (purchase .timing))
   pub byte3-b1 : cvr .byte3 % 2 ≡ 0
-  pub byte4-high : cvr .byte4 / 4 ≡ 0
+  pub byte4-b85 : cvr .byte4 / 16 ≡ scripts .count
+  pub byte4-b4 : cvr .byte4 / 8 % 2 ≡ bit (scripts .failed)
+  pub byte4-b3 : cvr .byte4 / 4 % 2 ≡ 0
   pub byte4-b2 : cvr .byte4 / 2 % 2 ≡ bit (history .online)
   pub byte4-b1 : cvr .byte4 % 2 ≡ bit (issuing .unable)
   pub byte5-all : cvr .byte5 ≡ 0
@@ -99,7 +101,7 @@ pub record FirstGives (setup : Setup) (before after : List Exchange) (first : Fi
       (flags (inForce setup before) (placeBy setup before) (brought (lastDate setup before) first) (tested setup before first) (past setup before))
       kind
   pub verifies : Verifies (inForce setup before) (placeBy setup before) (brought (lastDate setup before) first) (tested setup before first)
-      (past setup before) notRequested (typeOf kind) (issuingAtFirst (past setup before)) (iad .cvr)
+      (past setup before) (remembered setup before) notRequested (typeOf kind) (issuingAtFirst (past setup before)) (iad .cvr)
   pub sends : Sends (inForce setup before) (placeBy setup before) (named before) (audited setup after) iad
 
 -- Second keeps First's b2 and b1; Y3/Z3 and absent set b2; failed sets b1; verified clears both
@@ -132,7 +134,8 @@ pub record SecondGives (setup : Setup) (before after : List Exchange) (second : 
       (flags (inForce setup before) (placeBy setup before) (bought setup before) (audited setup before) (withUnable (past setup (beforeFirst before)))) second)
       Tc Aac
   pub verifies : Verifies (inForce setup (beforeFirst before)) (placeBy setup before) (bought setup before) (audited setup (beforeFirst before))
-      (past setup (beforeFirst before)) (typeOf kind) (typeOf Arqc) (issuingAtSecond second (past setup (beforeFirst before))) (iad .cvr)
+      (past setup (beforeFirst before)) (remembered setup (beforeFirst before)) (typeOf kind) (typeOf Arqc)
+      (issuingAtSecond second (past setup (beforeFirst before))) (iad .cvr)
   pub sends : Sends (inForce setup before) (placeBy setup before) (named before) (audited setup after) iad
 
 -- WHAT AN ACCEPTED START SAYS: the ATC, 1 more than before; the profile was named or selected, and is in the set-up; the entries visited
@@ -142,7 +145,7 @@ pub record StartGives (setup : Setup) (before : List Exchange) (start : Start) (
   pub known : InSetup (inForce setup before) (profileOf (start .chosen))
 
 -- WHAT AN OUTCOME GIVES
-abbrev pub Gives : Setup → List Exchange → Command → Outcome → Type 0
+abbrev pub Gives : Setup → List Exchange → Message → Outcome → Type 0
 Gives setup before (StartCommand start) outcome =
     (atc visits : ℕ) → outcome .answer ≡ Started atc visits → StartGives setup before start atc visits
 Gives setup before (FirstCommand first) outcome =
@@ -151,3 +154,4 @@ Gives setup before (FirstCommand first) outcome =
 Gives setup before (SecondCommand second) outcome =
     (kind : Kind) (atc : ℕ) (iad : Iad) → outcome .answer ≡ Given kind atc iad
     → SecondGives setup before (record { command = SecondCommand second; answer = outcome .answer } ∷ before) second kind iad
+Gives setup before (ScriptCommand result template) outcome = Unit

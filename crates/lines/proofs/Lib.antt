@@ -7,3 +7,4 @@ pub mod Hex
 pub mod Fields
 pub mod Laws
 pub mod Sitting
+pub mod Numbers

@@ -8,6 +8,7 @@ ghost use Rattle.iad.specs.Iad.{written};
 ghost use Rattle.lines.specs.Lines.{decimal, hexDigit, hexByte, hex};
 ghost use Rattle.lines.specs.Lines.{refusalLine, cryptogramLine, placed, placeBehind};
 ghost use Rattle.lines.specs.Sitting.{startedLine, answerLine};
+ghost use Rattle.card.specs.Card.{answerNumber};
 ghost use Rattle.lines.specs.Stored.{Stored};
 use iad::Iad;
 use state::Answer;
@@ -185,16 +186,25 @@ fn put_cryptogram(room: &mut [u8], at: usize, number: u16, cid: u8, atc: u16, ia
     put_hex(room, at, &bytes, b'\n')
 }
 
+// The refusal of an answer, 0 where there is none.
+fn number_of(answer: Answer) -> u8
+    ensures { λ r. ⌜ r ≡ answerNumber answer ⌝ }
+{
+    match answer {
+        Answer::Refused(refusal) => refusal.number(),
+        _ => 0,
+    }
+}
+
 // The line of an answer, where the longest fits.
 fn store_answer(room: &mut [u8], at: usize, number: u16, answer: Answer) -> usize
     requires { ⌜ at + 82 ≤ length (now room) ⌝ }
     ensures { λ r. ⌜ Stored (now (room .entry)) at (answerLine number answer) 82 r (now (room .exit)) ⌝ }
 {
     match answer {
-        Answer::Refused(refusal) => store_refusal(room, at, number, refusal.number()),
         Answer::Started { atc, visits } => put_started(room, at, number, atc, visits),
         Answer::Given { kind, atc, iad } => put_cryptogram(room, at, number, kind.cid(), atc, iad),
-        Answer::Done => store_refusal(room, at, number, 0),
+        _ => store_refusal(room, at, number, number_of(answer)),
     }
 }
 

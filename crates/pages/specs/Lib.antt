@@ -1,4 +1,2 @@
 pub mod Stack
 pub mod Turn
-pub mod Pieces
-pub mod Alone

@@ -30,11 +30,11 @@ use Rattle.spelling.proofs.Numbers.{byte-small}
 use Rattle.spelling.proofs.Opening.{opens, faults, Opening, opens-or-faults}
 use Rattle.spelling.proofs.Papers.{set-up-or-not, One, refused-shape, refused-base, taken-or-not}
 use Rattle.papers.specs.Papers.{setupOf, Accepted, walked, commandsOf, faulty}
-use Rattle.papers.specs.Talk.{allAnswered, talk, ending, eventsBy, Heard, unread, not-set-up, heard}
+use Rattle.papers.specs.Talk.{allAnswered, talk, ending, eventsBy, CutBehind, Plain, Heard, unread, not-set-up, heard}
 use Rattle.papers.specs.Lines.{answerLines, endingLines, linesBy}
 use Rattle.papers.proofs.Setups.{opened-bytes, shape, set-up, begins}
 use Rattle.papers.proofs.Walk.{walk-events}
-use Rattle.papers.proofs.Talk.{fresh, talk-is, talk-length}
+use Rattle.papers.proofs.Talk.{fresh, talk-is, talk-length, plain-said}
 
 module _ (words paper : List ℕ) (lent : length words ≡ wordCount) (bytes : Bytes paper) (a : Accepted paper) where
   -- THE EVENTS OF AN ACCEPTED PAPER ARE THOSE OF ITS COMMANDS OVER ITS SET-UP
@@ -43,11 +43,18 @@ module _ (words paper : List ℕ) (lent : length words ≡ wordCount) (bytes : B
   unfolding eventsOf walked run
   happened-there =
       let b = begins words paper lent bytes a in
-      let walks = walk-events (rulesBy (setupOf paper)) (b .shape) paper (b .lies) (length paper) (fresh (setupOf paper) .state) [] (b .at) in
+      let walks = walk-events (b .shape) paper (b .lies) (length paper) (fresh (setupOf paper)) (b .at) in
       rw (b .begun-is, b .rules) (ap (λ (l : List Event). SetUp ∷ l) (walks ∙ rw (b .manner, b .rest)))
 
   pub events-are : eventsOf words paper ≡ eventsBy paper
   events-are = happened-there ∙ ap (λ (l : List Event). SetUp ∷ (l ++ ending (faulty paper))) (sym (talk-is (setupOf paper) (commandsOf paper)))
+
+  -- AND WHERE NO SCRIPT IS AMONG THEM THEY ALONE SAY WHERE THEY ARE CUT, as of a command they tell all
+  pub cut-plain : (before : List Exchange) (more : List Event) → Plain before → eventsOf words paper ≡ SetUp ∷ (allAnswered before ++ more)
+      → CutBehind words paper before more
+  cut-plain before more plain e =
+      let (left, is) = plain-said (fresh (setupOf paper)) (commandsOf paper) (faulty paper) before more plain (cc (happened-there, e)) in
+      record { events = e; left = left; commands = is }
 
   lines-from : (fault : Bool) (said : List Exchange) (number : ℕ)
       → linesOf number (allAnswered said ++ ending fault) ≡ answerLines number said ++ endingLines (number + length said) fault

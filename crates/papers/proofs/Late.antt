@@ -1,13 +1,11 @@
 -- A date error over a paper's bytes: First leaves the last date, Y3 too, and the issuer's approval recovers it. Assumes nothing.
 use mathlib.Core.Path.{_≡_, refl}
-use mathlib.Core.Bool.{Bool, true, false, _&&_}
-use mathlib.Core.List.{List, [], _∷_}
+use mathlib.Core.Bool.{false}
+use mathlib.Core.List.{List}
 use Prim.Native.Nat.{ℕ}
-use borrow.Author.Tests.{ltb-true}
-use lib.Dec.{ltb, lit≤}
+use lib.Dec.{lit≤}
 use lib.ListN.{length, take}
 use Rattle.wire.specs.Wire.{number}
-use Rattle.wire.proofs.Pairs.{both}
 use Rattle.calendar.specs.declared.Date.{Date}
 use Rattle.purchase.specs.declared.Timing.the-variants.{InOrder, DateError}
 use Rattle.purchase.specs.Meter.{cyclic}
@@ -31,16 +29,7 @@ use Rattle.papers.specs.Papers.{entriesLong, setupOf, mannerOf, Accepted
 use Rattle.papers.specs.Talk.{talk, newest}
 use Rattle.papers.specs.Late.{late, lateBody, lateRest}
 use Rattle.papers.proofs.Events.{accepted-if-taken}
-use Rattle.papers.proofs.Witness.{saidIn}
-
-areBytes : List ℕ → Bool
-areBytes [] = true
-areBytes (b ∷ s) = ltb b 256 && areBytes s
-
-bytes-of : (s : List ℕ) → areBytes s ≡ true → Bytes s
-unfolding areBytes
-bytes-of [] e = tt
-bytes-of (b ∷ s) e = let t = both (ltb b 256) (areBytes s) e in (ltb-true b 256 (t .0), bytes-of s (t .1))
+use Rattle.papers.proofs.Witness.{saidIn, areBytes, bytes-of}
 
 bytes : Bytes late
 unfolding late areBytes

@@ -1,7 +1,7 @@
 -- The set-up of an accepted paper: what its bytes say is what was spelled, and the conversation begins by it. Assumes nothing.
 use mathlib.Core.Path.{_≡_, refl, sym, ap, ap₂, subst, _∙_}
 use mathlib.Core.Bool.{true}
-use mathlib.Core.List.{List, _++_}
+use mathlib.Core.List.{List, [], _++_}
 use Prim.Native.Nat.{ℕ, _+_, _-_}
 use native.Mathlib.Omega.{arith}
 use lib.ListN.{length, drop, length-append}
@@ -11,6 +11,7 @@ use Rattle.rules.specs.Word.{wordCount}
 use Rattle.rules.specs.Rules.{rulesOf}
 use Rattle.setup.specs.Setup.{isAccepted, rulesIn}
 use Rattle.setup.proofs.Faithful.{started}
+use Rattle.auditor.specs.Template.{InRange}
 use Rattle.shape.specs.declared.Shape.{Shape}
 use Rattle.shape.specs.Shape.{basePart, cyclesPart, familyPart, shapeAt}
 use Rattle.conversation.specs.declared.Event.the-variants.{SetUp}
@@ -20,14 +21,14 @@ use Rattle.demands.specs.Conversation.{rulesBy}
 use Rattle.rows.specs.Rows.{body as spelledBase, cyclesBytes, controlsBytes}
 use Rattle.rows.specs.Rows as R
 use Rattle.rows.specs.Tails as T
-use Rattle.rows.specs.Tails.{Choosing, off, on, Tail, tailBytes, choosingOf, syllabusOf, unnamedOf, Base}
+use Rattle.rows.specs.Tails.{Choosing, off, on, Tail, tailBytes, choosingOf, syllabusOf, scriptingOf, unnamedOf, Base}
 use Rattle.rows.specs.Tails.{selecting, fileOf, dating, familyFrom, Fine, shapeSaid, TailSays}
 use Rattle.rows.specs.Whole.{IsSetup}
 use Rattle.rows.proofs.Placed.{in-place}
 use Rattle.rows.proofs.Ranges.{three}
 use Rattle.rows.proofs.Behind.{byte-kept, length-kept}
 use Rattle.rows.proofs.Whole.{is-base, reads-whole, all-in-range}
-use Rattle.spelling.specs.Spelling.{Bytes, byFile, choiceIn, Dates, datesIn, familyIn, mannerIn}
+use Rattle.spelling.specs.Spelling.{Bytes, byFile, choiceIn, Dates, datesIn, familyIn, scriptsIn, mannerIn}
 use Rattle.spelling.specs.Faults.{Opens}
 use Rattle.spelling.specs.Sitting.{Lies}
 use Rattle.spelling.specs.Sitting as Sp
@@ -89,6 +90,7 @@ setupSaid base tail =
       family = controlsBytes (T.familiesOf tail);
       syllabus = syllabusOf tail;
       unnamed = unnamedOf tail;
+      written = [];
     }
 
 module _ (version : ℕ) (body : List ℕ) (i : IsSetup version body) where
@@ -145,7 +147,7 @@ module _ (version : ℕ) (body : List ℕ) (i : IsSetup version body) where
       let tail : P.cyclesIn p (tailsIn body) ≡ cycles = ap (P.cyclesIn p) there ∙ r .cycles-are in
       let family : P.familyIn p (tailsIn body) ≡ controls = ap (P.familyIn p) there ∙ r .family-is in
       let syllabus : P.syllabusIn (tailsIn body) ≡ syllabusOf (i .tail) = ap P.syllabusIn there ∙ r .syllabus-is in
-      λ j. record { bytes = from j; tail = tail j; family = family j; syllabus = syllabus j; unnamed = unnamed j }
+      λ j. record { bytes = from j; tail = tail j; family = family j; syllabus = syllabus j; unnamed = unnamed j; written = [] }
 
   manner-there : P.mannerIn body ≡ mannerSaid (i .tail)
   manner-there =
@@ -153,13 +155,15 @@ module _ (version : ℕ) (body : List ℕ) (i : IsSetup version body) where
       let choice : P.choiceIn (tailsIn body) ≡ choiceSaid (choosingOf (i .tail)) = ap P.choiceIn there ∙ r .choice-is in
       let dates : P.datesIn (tailsIn body) ≡ datesSaid (T.datesOf (i .tail)) = ap P.datesIn there ∙ r .dates-are in
       let card : P.cardIn (P.profilesIn body) (tailsIn body) ≡ cardSaid (T.familiesOf (i .tail)) = ap (P.cardIn (P.profilesIn body)) there ∙ r .card-is in
-      λ j. of (choice j) (dates j) (card j)
+      let scripts : P.scriptsIn (P.profilesIn body) (tailsIn body) ≡ scriptsIn (scriptingOf (i .tail)) =
+      ap (P.scriptsIn (P.profilesIn body)) there ∙ r .scripts-are in
+      λ j. of (choice j) (dates j) (card j) (scripts j)
 
   -- and what the readers make of it
   manner-read : mannerIn shape body ≡ mannerSaid (i .tail)
   manner-read =
       let choice : choiceIn (shape .selecting) body ≡ choiceSaid (choosingOf (i .tail)) = rw (← i .spelled) (by (choosingOf (i .tail)) (says .file)) in
-      λ j. of (choice j) (by-dates (T.datesOf (i .tail)) j) (by-family (T.familiesOf (i .tail)) j)
+      λ j. of (choice j) (by-dates (T.datesOf (i .tail)) j) (by-family (T.familiesOf (i .tail)) j) (scriptsIn (scriptingOf (i .tail)))
     where
       by : (c : Choosing) → T.fileIn (selecting c (length base)) (base ++ tailBytes (i .tail)) ≡ fileOf c
           → choiceIn (selecting c (length base)) (base ++ tailBytes (i .tail)) ≡ choiceSaid c
@@ -212,6 +216,7 @@ module _ (paper : List ℕ) (a : Accepted paper) where
         taken = base-taken;
         tail-taken = tail-taken;
         family-taken = family-taken;
+        written-taken = (unfold InRange in tt);
       })
 
 -- where the conversation begins: the card, the rules, the manner of its commands and the place behind the set-up

@@ -1,6 +1,6 @@
 -- The conversation takes each record of a paper once, in order: what the walk over its bytes meets. Assumes nothing.
 use mathlib.Core.Path.{_≡_, refl, sym, ap, _∙_}
-use mathlib.Core.Bool.{Bool, true, false, cond}
+use mathlib.Core.Bool.{Bool, true, false, cond, _&&_, and-true, and-false}
 use mathlib.Core.List.{List, [], _∷_, _++_}
 use Prim.Native.Nat.{ℕ, zero, suc, _+_, _-_, _*_, _≤_, _<_}
 use native.Mathlib.Omega.{arith}
@@ -22,26 +22,27 @@ use Rattle.paper.specs.declared.Next.{Next}
 use Rattle.paper.specs.declared.Next.the-variants.{Record, Fault, End as PaperEnd}
 use Rattle.paper.specs.Paper.{nextAt}
 use Rattle.paper.specs.Walk.{part}
-use Rattle.command.specs.declared.Command.{Command}
 use Rattle.command.specs.declared.ReadCommand.{ReadCommand}
-use Rattle.command.specs.declared.ReadCommand.the-variants.{Taken as CommandTaken, Refused as CommandRefused}
-use Rattle.command.specs.Command.{commandOf, selectingOf, startSelected, startOf, firstOf, secondOf, commandIn}
-use Rattle.state.specs.declared.State.{State}
-use Rattle.card.specs.Card.{stepOf}
+use Rattle.command.specs.declared.ReadCommand.the-variants.{Refused as CommandRefused}
+use Rattle.command.specs.Command.{commandOf, selectingOf, startSelected, startOf, firstOf, secondOf}
+use Rattle.script.specs.Script.{rulesAfter}
+use Rattle.card.specs.Message.{Message}
 use Rattle.conversation.specs.declared.Event.{Event}
 use Rattle.conversation.specs.declared.Taken.{Taken}
 use Rattle.conversation.specs.declared.Event.the-variants.{End, Refused, Answered}
-use Rattle.conversation.specs.Conversation.{answeredBy, takenOf}
+use Rattle.conversation.specs.Conversation.{takenOf, takenWrites}
 use Rattle.conversation.specs.Events.{eventsFrom}
-use Rattle.demands.specs.Conversation.{Exchange, Sitting, told as heard, run}
-use Rattle.spelling.specs.Spelling.{Choice, byName, byFile, Dates, undated, dated, CardFamily, cpa, cpace, Manner, mannerIn, cvmOf, cashbackOf}
+use Rattle.demands.specs.Conversation.{Sitting, outcomeOf, told as heard, run}
+use Rattle.spelling.specs.Spelling.{Choice, byName, byFile, Dates, undated, dated, CardFamily, cpa, cpace, Scripting, scriptsIn}
+use Rattle.spelling.specs.Spelling.{Manner, mannerIn, cvmOf, cashbackOf}
 use Rattle.spelling.specs.Faults.{cut-in-length, cut-short, no-kind}
-use Rattle.spelling.specs.Sitting.{Lies, happened}
+use Rattle.spelling.specs.Sitting.{Read, sends, refuses, commandRead, scriptRead, Lies, saidOf, happened}
 use Rattle.spelling.proofs.Shapes.{shift, next-drop, part-drop, next-broken}
 use Rattle.spelling.proofs.Commands.{of, datingOf, familyOf, readBy, not-start, Shows, cvm-read, cashback-read}
-use Rattle.spelling.proofs.Records.{commands-same}
-use Rattle.papers.specs.Papers.{Front, nothing, broken, one, frontBy, frontOf, Meaning, none, means, startMeant, shownAt, firstMeant, secondMeant, meant}
-use Rattle.papers.specs.Papers.{Walked, stopped, met, goingOn, slotsAt, walkBy, walk}
+use Rattle.spelling.proofs.Records.{commands-same, Stands}
+use Rattle.spelling.proofs.Lines.{takenAs, taken-as}
+use Rattle.papers.specs.Papers.{Front, nothing, broken, one, frontBy, frontOf, Meaning, none, means, startMeant, shownAt, firstMeant, secondMeant}
+use Rattle.papers.specs.Papers.{scriptMeant, meant, Walked, stopped, met, goingOn, slotsAt, walkBy, walk}
 use Rattle.papers.specs.Talk.{ending, turns}
 
 -- ---- the record at the front
@@ -101,26 +102,28 @@ front-is (high ∷ low ∷ kind ∷ more) = by-size high low kind more (high * 2
 
 -- ---- the command in a record
 
-abbrev asRead : Meaning → ReadCommand
-asRead none = CommandRefused Unreadable
-asRead (means command) = CommandTaken command
+abbrev asRead : Meaning → Read
+asRead none = refuses Unreadable
+asRead (means m) = sends m
 
-if-so : (b : Bool) (m : Meaning) → cond b (asRead m) (CommandRefused Unreadable) ≡ asRead (cond b m none)
-if-so true m = refl
-if-so false m = refl
+if-so : (b : Bool) (read : ReadCommand) (m : Meaning) → commandRead read ≡ asRead m
+    → commandRead (cond b read (CommandRefused Unreadable)) ≡ asRead (cond b m none)
+if-so true read m e = e
+if-so false read m e = refl
 
-unless : (b : Bool) (m : Meaning) → cond b (CommandRefused Unreadable) (asRead m) ≡ asRead (cond b none m)
-unless true m = refl
-unless false m = refl
+unless : (b : Bool) (read : ReadCommand) (m : Meaning) → commandRead read ≡ asRead m
+    → commandRead (cond b (CommandRefused Unreadable) read) ≡ asRead (cond b none m)
+unless true read m e = refl
+unless false read m e = e
 
 module _ (body : List ℕ) where
-  start-meant : (choice : Choice) (dates : Dates) (family : CardFamily) (slots : Slots)
-      → readBy (of choice dates family) slots 2 body ≡ asRead (startMeant choice family slots body)
+  start-meant : (choice : Choice) (dates : Dates) (family : CardFamily) (scripts : Scripting) (slots : Slots)
+      → commandRead (readBy (of choice dates family scripts) slots 2 body) ≡ asRead (startMeant choice family slots body)
   unfolding commandOf selectingOf startSelected startOf
-  start-meant byName dates cpa slots = if-so (eqb (length body) 1) _
-  start-meant byName dates cpace slots = if-so (eqb (length body) 2) _
-  start-meant (byFile file entries) dates cpa slots = refl
-  start-meant (byFile file entries) dates cpace slots = unless (eqb (length body) 0) _
+  start-meant byName dates cpa scripts slots = if-so (eqb (length body) 1) _ _ refl
+  start-meant byName dates cpace scripts slots = if-so (eqb (length body) 2) _ _ refl
+  start-meant (byFile file entries) dates cpa scripts slots = refl
+  start-meant (byFile file entries) dates cpace scripts slots = unless (eqb (length body) 0) _ _ refl
 
   shown-meant : (at : ℕ) → (cvmAt body at ≡ cvmOf (shownAt at body)) × (cashbackAt body (at + 3) ≡ cashbackOf (shownAt at body))
   shown-meant at =
@@ -129,53 +132,74 @@ module _ (body : List ℕ) where
       (cvm-read body at _ _ _ _ there, cashback-read body at _ _ _ _ there)
 
   first-meant : (dates : Dates) (family : CardFamily)
-      → commandOf (datingOf dates) (familyOf family) 3 body ≡ asRead (firstMeant dates family body)
+      → commandRead (commandOf (datingOf dates) (familyOf family) 3 body) ≡ asRead (firstMeant dates family body)
   unfolding commandOf firstOf dateAt
-  first-meant undated cpa = if-so (eqb (length body) 12) _
-  first-meant dated cpa = if-so (eqb (length body) 15) _
-  first-meant undated cpace = let (cvm, cashback) = shown-meant 12 in rw (cvm, cashback) (if-so (eqb (length body) 21) _)
-  first-meant dated cpace = let (cvm, cashback) = shown-meant 15 in rw (cvm, cashback) (if-so (eqb (length body) 24) _)
+  first-meant undated cpa = if-so (eqb (length body) 12) _ _ refl
+  first-meant dated cpa = if-so (eqb (length body) 15) _ _ refl
+  first-meant undated cpace = let (cvm, cashback) = shown-meant 12 in rw (cvm, cashback) (if-so (eqb (length body) 21) _ _ refl)
+  first-meant dated cpace = let (cvm, cashback) = shown-meant 15 in rw (cvm, cashback) (if-so (eqb (length body) 24) _ _ refl)
 
-meant-read : (manner : Manner) (slots : Slots) (kind : ℕ) (body : List ℕ) → readBy manner slots kind body ≡ asRead (meant manner slots kind body)
-unfolding meant commandOf secondOf
-meant-read manner slots kind body = by (eqb kind 2) (eqb kind 3) (eqb kind 4) refl refl refl where
-  other : eqb kind 2 ≡ false → readBy manner slots kind body ≡ commandOf (datingOf (manner .dates)) (familyOf (manner .family)) kind body
-  other e = not-start manner slots kind body (eqb-false kind 2 e)
+  second-meant : (dating : Dating) (family : Family) → commandRead (commandOf dating family 4 body) ≡ asRead (secondMeant body)
+  unfolding commandOf secondOf
+  second-meant dating family = if-so (eqb (length body) 8) _ _ refl
 
-  second-meant : (dating : Dating) (family : Family) → commandOf dating family 4 body ≡ asRead (secondMeant body)
-  second-meant dating family = if-so (eqb (length body) 8) _
+script-meant : (manner : Manner) (slots : Slots) (on : Bool) (body : List ℕ)
+    → cond on (scriptRead body) (commandRead (readBy manner slots 5 body)) ≡ asRead (scriptMeant (scriptsIn on) body)
+unfolding commandOf
+script-meant manner slots false body = ap commandRead (not-start manner slots 5 body (λ e. omega arith))
+script-meant manner slots true [] = refl
+script-meant manner slots true (result ∷ template) = refl
 
-  by : (two three four : Bool) → eqb kind 2 ≡ two → eqb kind 3 ≡ three → eqb kind 4 ≡ four
-      → readBy manner slots kind body ≡ asRead (meant manner slots kind body)
-  by true three four e f g = rw (eqb-true kind 2 e) (start-meant body (manner .choice) (manner .dates) (manner .family) slots)
-  by false true four e f g = other e ∙ rw (eqb-true kind 3 f) (first-meant body (manner .dates) (manner .family))
-  by false false true e f g = other e ∙ rw (eqb-true kind 4 g) (second-meant (datingOf (manner .dates)) (familyOf (manner .family)))
-  by false false false e f g = other e ∙ rw (e, f, g)
+-- what a record is read as, where scripts are on or not
+abbrev readAs : (on : Bool) → Manner → Slots → (kind : ℕ) (body : List ℕ) → Read
+readAs on manner slots kind body = cond (on && eqb kind 5) (scriptRead body) (commandRead (readBy manner slots kind body))
+
+meant-read : (on : Bool) (manner : Manner) → manner .scripts ≡ scriptsIn on → (slots : Slots) (kind : ℕ) (body : List ℕ)
+    → readAs on manner slots kind body ≡ asRead (meant manner slots kind body)
+unfolding meant commandOf
+meant-read on manner scripts slots kind body = by (eqb kind 2) (eqb kind 3) (eqb kind 4) (eqb kind 5) refl refl refl refl where
+  other : (k : ℕ) → (k ≡ 2 → ⊥)
+      → commandRead (readBy manner slots k body) ≡ commandRead (commandOf (datingOf (manner .dates)) (familyOf (manner .family)) k body)
+  other k n = ap commandRead (not-start manner slots k body n)
+
+  by : (two three four five : Bool) → eqb kind 2 ≡ two → eqb kind 3 ≡ three → eqb kind 4 ≡ four → eqb kind 5 ≡ five
+      → readAs on manner slots kind body ≡ asRead (meant manner slots kind body)
+  by true three four five e f g h =
+      rw (eqb-true kind 2 e, and-false on) (start-meant body (manner .choice) (manner .dates) (manner .family) (manner .scripts) slots)
+  by false true four five e f g h =
+      rw (eqb-true kind 3 f, and-false on) (other 3 (λ z. omega arith) ∙ first-meant body (manner .dates) (manner .family))
+  by false false true five e f g h =
+      rw (eqb-true kind 4 g, and-false on) (other 4 (λ z. omega arith) ∙ second-meant body (datingOf (manner .dates)) (familyOf (manner .family)))
+  by false false false true e f g h = rw (eqb-true kind 5 h, and-true on, scripts) (script-meant manner slots on body)
+  by false false false false e f g h = rw (e, f, g, h, and-false on) (other kind (eqb-false kind 2 e) ∙ rw (e, f, g))
 
 -- ---- one turn, and all of them
 
-module _ (rules : Rules) (form : Shape) (s : List ℕ) (lies : Lies (form .selecting) s) where
+module _ (form : Shape) (s : List ℕ) (lies : Lies (form .selecting) s) where
   abbrev manner : Manner
   manner = mannerIn form s
 
-  abbrev sitting : State → List Exchange → Sitting
-  sitting state log = record { rules = rules; state = state; log = log }
+  -- what is taken at a place in a sitting, and the rules that it leaves
+  abbrev taken : Sitting → (at : ℕ) → Taken
+  taken sitting at = takenOf (sitting .rules) form (sitting .state) s at
 
-  -- what the walk meets at a place in a sitting
-  abbrev Meets : State → List Exchange → (at : ℕ) → ((Sitting → List ℕ → Walked) → Walked) → Type 0
-  Meets state log at is = (more : Sitting → List ℕ → Walked) → walkBy manner (sitting state log) (frontOf (drop at s)) more ≡ is more
+  abbrev leaves : Sitting → (at : ℕ) → Rules
+  leaves sitting at = rulesAfter (sitting .rules) (takenWrites form (sitting .state) s at)
+
+  -- what the walk meets there
+  abbrev Meets : Sitting → (at : ℕ) → ((Sitting → List ℕ → Walked) → Walked) → Type 0
+  Meets sitting at is = (more : Sitting → List ℕ → Walked) → walkBy manner sitting (frontOf (drop at s)) more ≡ is more
 
   -- and what the conversation takes there
-  data Turn (state : State) (log : List Exchange) (at : ℕ) : Type 0 where
-    over : Meets state log at (λ more. stopped false) → takenOf rules form state s at .event ≡ End → Turn state log at
-    fault : Meets state log at (λ more. stopped true) → takenOf rules form state s at .event ≡ Refused Unreadable → Turn state log at
-    command : (c : Command) (end : ℕ) → Meets state log at (λ more. met c (more (heard (sitting state log) c) (drop end s)))
-        → takenOf rules form state s at ≡ record { state = stepOf rules state c .state; at = end; event = Answered c (stepOf rules state c .answer) }
-        → Turn state log at
+  data Turn (sitting : Sitting) (at : ℕ) : Type 0 where
+    over : Meets sitting at (λ more. stopped false) → taken sitting at .event ≡ End → Turn sitting at
+    fault : Meets sitting at (λ more. stopped true) → taken sitting at .event ≡ Refused Unreadable → Turn sitting at
+    command : (m : Message) (end : ℕ) → Meets sitting at (λ more. met m (more (heard sitting m) (drop end s)))
+        → taken sitting at ≡ takenAs (sitting .rules) (sitting .state) end (sends m) → leaves sitting at ≡ heard sitting m .rules → Turn sitting at
 
-  module _ (state : State) (log : List Exchange) (at : ℕ) where
+  module _ (sitting : Sitting) (at : ℕ) where
     abbrev slots : Slots
-    slots = slotsAt manner (sitting state log)
+    slots = slotsAt manner sitting
 
     abbrev rest : List ℕ
     rest = drop at s
@@ -186,86 +210,90 @@ module _ (rules : Rules) (form : Shape) (s : List ℕ) (lies : Lies (form .selec
     place : (next : Next) → nextAt rest 0 ≡ next → nextAt s at ≡ shift at next
     place next e = next-drop s at ∙ ap (shift at) e
 
-    -- what the reader makes of a record
-    read : (kind start end : ℕ) (m : Meaning) → meant manner slots kind (part rest start end) ≡ m
-        → commandIn form (state .values) s kind (part s (at + start) (at + end)) ≡ asRead m
-    read kind start end m f =
-        commands-same form (state .values) s lies kind (part s (at + start) (at + end))
-        ∙ ap (readBy manner slots kind) (part-drop s at start end) ∙ meant-read manner slots kind (part rest start end) ∙ ap asRead f
+    -- a record stands there, and is read as what it means
+    stands : (kind start end : ℕ) → nextAt rest 0 ≡ Record kind start end → (m : Meaning) → meant manner slots kind (part rest start end) ≡ m
+        → Stands form (sitting .state .values) s at (asRead m) (at + end)
+    stands kind start end e m f =
+        record {
+          kind = kind;
+          start = at + start;
+          next = place (Record kind start end) e;
+          is =
+              rw (commands-same form (sitting .state .values) s lies kind (part s (at + start) (at + end)))
+              (ap (readAs (form .scripting) manner slots kind) (part-drop s at start end)
+              ∙ meant-read (form .scripting) manner refl slots kind (part rest start end)
+              ∙ ap asRead f);
+        }
 
     by-meaning : (kind start end : ℕ) → nextAt rest 0 ≡ Record kind start end → (m : Meaning) → meant manner slots kind (part rest start end) ≡ m
-        → Turn state log at
-    unfolding takenOf answeredBy
+        → Turn sitting at
     by-meaning kind start end e none f =
-        fault (λ more. rw (front (Record kind start end) e, f)) (rw (place (Record kind start end) e, read kind start end none f))
-    by-meaning kind start end e (means c) f =
-        command c (at + end) (λ more. rw (front (Record kind start end) e, f, drop-drop end at s))
-        (rw (place (Record kind start end) e, read kind start end (means c) f))
+        let t = taken-as form s lies (sitting .rules) (sitting .state) at _ _ (stands kind start end e none f) in
+        fault (λ more. rw (front (Record kind start end) e, f)) (ap (λ (x : Taken). x .event) (t .0))
+    by-meaning kind start end e (means m) f =
+        let t = taken-as form s lies (sitting .rules) (sitting .state) at _ _ (stands kind start end e (means m) f) in
+        command m (at + end) (λ more. rw (front (Record kind start end) e, f, drop-drop end at s)) (t .0) (ap (rulesAfter (sitting .rules)) (t .1))
 
-    by-next : (next : Next) → nextAt rest 0 ≡ next → Turn state log at
+    by-next : (next : Next) → nextAt rest 0 ≡ next → Turn sitting at
     unfolding takenOf
     by-next PaperEnd e = over (λ more. rw (front PaperEnd e)) (rw (place PaperEnd e))
     by-next Fault e = fault (λ more. rw (front Fault e)) (rw (place Fault e))
     by-next (Record kind start end) e = by-meaning kind start end e (meant manner slots kind (part rest start end)) refl
 
-    turn : Turn state log at
+    turn : Turn sitting at
     turn = by-next (nextAt rest 0) refl
 
   -- THE EVENTS OF n TURNS ARE THOSE OF THE COMMANDS MET
-  abbrev said-to : State → Command → Exchange
-  said-to state c = record { command = c; answer = stepOf rules state c .answer }
-
-  abbrev told : Walked → State → List Event
-  told walked state = happened rules state (walked .commands) ++ ending (walked .fault)
+  abbrev told : Walked → Sitting → List Event
+  told walked sitting = happened (sitting .rules) (sitting .state) (walked .commands) ++ ending (walked .fault)
 
   abbrev Events : ℕ → Type 0
   Events n =
-      (state : State) (log : List Exchange) (at : ℕ) → eventsFrom n rules form state s at ≡ told (walk n manner (sitting state log) (drop at s)) state
+      (sitting : Sitting) (at : ℕ) → eventsFrom n (sitting .rules) form (sitting .state) s at ≡ told (walk n manner sitting (drop at s)) sitting
 
-  one-more : (n : ℕ) (state : State) (log : List Exchange) (at : ℕ) → Turn state log at → Events n
-      → eventsFrom (suc n) rules form state s at ≡ told (walk (suc n) manner (sitting state log) (drop at s)) state
+  one-more : (n : ℕ) (sitting : Sitting) (at : ℕ) → Turn sitting at → Events n
+      → eventsFrom (suc n) (sitting .rules) form (sitting .state) s at ≡ told (walk (suc n) manner sitting (drop at s)) sitting
   unfolding eventsFrom walk happened
-  one-more n state log at (over w t) then = rw (w (walk n manner), t)
-  one-more n state log at (fault w t) then = rw (w (walk n manner), t)
-  one-more n state log at (command c end w t) then =
-      rw (w (walk n manner), t)
-      (ap (λ (more : List Event). Answered c (stepOf rules state c .answer) ∷ more) (then (stepOf rules state c .state) (said-to state c ∷ log) end))
+  one-more n sitting at (over w t) then = rw (w (walk n manner), t)
+  one-more n sitting at (fault w t) then = rw (w (walk n manner), t)
+  one-more n sitting at (command m end w t l) then =
+      rw (w (walk n manner), t, l)
+      (ap (λ (more : List Event). Answered (saidOf m) (outcomeOf sitting m .answer) ∷ more) (then (heard sitting m) end))
 
   pub walk-events : (n : ℕ) → Events n
   unfolding eventsFrom walk happened
-  walk-events zero state log at = refl
-  walk-events (suc n) state log at = one-more n state log at (turn state log at) (walk-events n)
+  walk-events zero sitting at = refl
+  walk-events (suc n) sitting at = one-more n sitting at (turn sitting at) (walk-events n)
 
   -- AND THE CARD AFTER ANY OF THEM IS THE ONE THAT HEARD THOSE BEFORE
-  abbrev Card : ℕ → List Command → Type 0
+  abbrev Card : ℕ → List Message → Type 0
   Card n before =
-      (state : State) (log : List Exchange) (at : ℕ) (after : List Command) → walk n manner (sitting state log) (drop at s) .commands ≡ before ++ after
-      → turns (length before) rules form state s at ≡ run (sitting state log) before .state
+      (sitting : Sitting) (at : ℕ) (after : List Message) → walk n manner sitting (drop at s) .commands ≡ before ++ after
+      → turns (length before) (sitting .rules) form (sitting .state) s at ≡ run sitting before .state
 
-  not-met : {A : Type 0} (c : Command) (cs : List Command) → [] ≡ c ∷ cs → A
+  not-met : {A : Type 0} (c : Message) (cs : List Message) → [] ≡ c ∷ cs → A
   not-met c cs e = let z : _≡_ {A = ℕ} 0 1 = cc in absurd (omega arith)
 
-  card-on : (n : ℕ) (c : Command) (before : List Command) → Card n before
-      → (state : State) (log : List Exchange) (at : ℕ) (after : List Command)
-      → walk (suc n) manner (sitting state log) (drop at s) .commands ≡ c ∷ (before ++ after)
-      → Turn state log at → turns (suc (length before)) rules form state s at ≡ run (sitting state log) (c ∷ before) .state
+  card-on : (n : ℕ) (c : Message) (before : List Message) → Card n before
+      → (sitting : Sitting) (at : ℕ) (after : List Message) → walk (suc n) manner sitting (drop at s) .commands ≡ c ∷ (before ++ after)
+      → Turn sitting at → turns (suc (length before)) (sitting .rules) form (sitting .state) s at ≡ run sitting (c ∷ before) .state
   unfolding turns run walk
-  card-on n c before then state log at after e (over w t) = not-met c (before ++ after) (ap (λ (x : Walked). x .commands) (sym (w (walk n manner))) ∙ e)
-  card-on n c before then state log at after e (fault w t) = not-met c (before ++ after) (ap (λ (x : Walked). x .commands) (sym (w (walk n manner))) ∙ e)
-  card-on n c before then state log at after e (command d end w t) =
-      let on = walk n manner (heard (sitting state log) d) (drop end s) .commands in
+  card-on n c before then sitting at after e (over w t) = not-met c (before ++ after) (ap (λ (x : Walked). x .commands) (sym (w (walk n manner))) ∙ e)
+  card-on n c before then sitting at after e (fault w t) = not-met c (before ++ after) (ap (λ (x : Walked). x .commands) (sym (w (walk n manner))) ∙ e)
+  card-on n c before then sitting at after e (command d end w t l) =
+      let on = walk n manner (heard sitting d) (drop end s) .commands in
       let all : d ∷ on ≡ c ∷ (before ++ after) = ap (λ (x : Walked). x .commands) (sym (w (walk n manner))) ∙ e in
       let same : d ≡ c = cc in
       let behind : on ≡ before ++ after = cc in
-      ap (λ (taken : Taken). turns (length before) rules form (taken .state) s (taken .at)) t
-      ∙ then (stepOf rules state d .state) (said-to state d ∷ log) end after behind
-      ∙ ap (λ (x : Command). run (heard (sitting state log) x) before .state) same
+      (λ i. turns (length before) (l i) form (t i .state) s (t i .at))
+      ∙ then (heard sitting d) end after behind
+      ∙ ap (λ (x : Message). run (heard sitting x) before .state) same
 
-  pub walk-cards : (n : ℕ) (before : List Command) → Card n before
+  pub walk-cards : (n : ℕ) (before : List Message) → Card n before
   unfolding turns run walk
-  walk-cards n [] state log at after e = refl
-  walk-cards zero (c ∷ before) state log at after e = not-met c (before ++ after) e
-  walk-cards (suc n) (c ∷ before) state log at after e = card-on n c before (walk-cards n before) state log at after e (turn state log at)
+  walk-cards n [] sitting at after e = refl
+  walk-cards zero (c ∷ before) sitting at after e = not-met c (before ++ after) e
+  walk-cards (suc n) (c ∷ before) sitting at after e = card-on n c before (walk-cards n before) sitting at after e (turn sitting at)
 
 -- ---- the walk ends: each record goes further, and as many steps as there are bytes say all there is to say
 

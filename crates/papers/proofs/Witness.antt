@@ -1,12 +1,14 @@
 -- The premises are met: by the printed sitting, its 242 bytes and the 322 bytes of its lines; by a paper whose Starts bring the terminal's data; by
--- one of version 03; by one whose Firsts have their dates; and by a CPACE card's. Assumes nothing.
+-- one of version 03; by one whose Firsts have their dates; by a CPACE card's; and by one with a script. Assumes nothing.
 use mathlib.Core.Path.{_≡_, refl, sym, ap, _∙_}
-use mathlib.Core.Bool.{true, false}
+use mathlib.Core.Bool.{Bool, true, false, _&&_}
 use mathlib.Core.List.{List, [], _∷_, append-nil}
 use Prim.Native.Nat.{ℕ, _^_}
-use lib.Dec.{lit≤}
+use borrow.Author.Tests.{ltb-true}
+use lib.Dec.{lit≤, ltb}
 use lib.ListN.{length, take, drop, take-append-drop}
 use Rattle.wire.specs.Wire.{number}
+use Rattle.wire.proofs.Pairs.{both}
 use Rattle.refusal.specs.declared.Refusal.the-variants.{OutOfTurn}
 use Rattle.rules.specs.Word.{wordCount}
 use Rattle.cpace.specs.declared.Cvm.the-variants.{NoCvm}
@@ -15,34 +17,35 @@ use Rattle.shape.specs.declared.Dating.the-variants.{On as DatesOn}
 use Rattle.shape.specs.declared.Family.the-variants.{Cpace}
 use Rattle.shape.specs.Shape.{based, selects, dates, families}
 use Rattle.command.specs.declared.When.the-variants.{On}
-use Rattle.command.specs.declared.Command.{Command}
-use Rattle.command.specs.declared.Command.the-variants.{First as FirstCommand}
 use Rattle.state.specs.declared.Answer.{Answer}
 use Rattle.state.specs.declared.Answer.the-variants.{Refused}
+use Rattle.card.specs.Message.{Message, FirstCommand}
 use Rattle.conversation.specs.declared.Event.{Event}
-use Rattle.conversation.specs.declared.Event.the-variants.{SetUp, Answered}
+use Rattle.conversation.specs.declared.Event.the-variants.{SetUp}
 use Rattle.lines.specs.Sitting.{sittingLines}
 use Rattle.demands.specs.Conversation.{Exchange, run, rulesBy, sat}
-use Rattle.demands.specs.Audit.{inForce, placeBy, approves, bought, takesPart}
+use Rattle.demands.specs.Audit.{inForce, placeBy, upperOf, approves, bought, takesPart}
 use Rattle.demands.specs.Guards.{Guards}
 use Rattle.demands.specs.Printed.{first, second, commands}
 use Rattle.demands.specs.Printed as D
 use Rattle.demands.proofs.Computed.{computed}
+use Rattle.demands.proofs.Sittings.{templateOf, limit}
 use Rattle.rows.specs.Rows.{setupRow, headRow, profileRow, spelled, written}
-use Rattle.rows.specs.Tails.{off, third}
+use Rattle.rows.specs.Rows as Rows
+use Rattle.rows.specs.Tails.{off, Tail, third, sixth}
 use Rattle.rows.specs.Whole.{wholeBody}
 use Rattle.rows.proofs.Witness as R
-use Rattle.spelling.specs.Spelling.{Bytes, big, recordOf, spellAll, paperOf, byName, byFile, undated, dated, cpa, cpace, Manner}
-use Rattle.spelling.specs.Spelling.{Sent, standsFor}
+use Rattle.spelling.specs.Spelling.{Bytes, big, recordOf, spellAll, paperOf, byName, byFile, undated, dated, cpa, cpace, unscripted, scripted, Manner}
+use Rattle.spelling.specs.Spelling.{Sent, names, first as said-first, second as said-second, script, unsaid, unshown, kindOf, bodyOf, standsFor}
 use Rattle.spelling.specs.Sitting.{allStandFor}
 use Rattle.spelling.specs.Printed.{printed, body, sent, printedLines, selection, selectionBody, file, brought, calendar, calendarBody, datedSent}
 use Rattle.spelling.specs.Printed.{cpacePaper, cpaceBody, cpaceSent}
 use Rattle.spelling.proofs.Witness as W
 use Rattle.spelling.proofs.Text.{printed-text}
 use Rattle.papers.specs.Papers.{entriesLong, setupOf, mannerOf, choiceOf, Accepted, frontOf, meant, walk, walked, commandsOf, faulty}
-use Rattle.papers.specs.Talk.{allAnswered, talk, CutBehind, newest}
+use Rattle.papers.specs.Talk.{allAnswered, talk, commandsIn, CutBehind, CutBehindOne, newest}
 use Rattle.papers.specs.Lines.{text}
-use Rattle.papers.proofs.Talk.{answered-both}
+use Rattle.papers.proofs.Talk.{answered-both, said-both, talk-said}
 use Rattle.papers.proofs.Events.{accepted-if-taken, events-are}
 
 -- ---- the printed sitting
@@ -52,7 +55,7 @@ pub accepted : Accepted printed
 accepted = accepted-if-taken printed W.bytes 1 body (spellAll sent) W.opens (based 159) W.set-up
 
 -- ITS SET-UP AND ITS COMMANDS, from its bytes; it ends without a fault
-pub its-setup : setupOf printed ≡ record { bytes = D.body; tail = []; family = []; syllabus = 0; unnamed = 2 ^ 22 }
+pub its-setup : setupOf printed ≡ record { bytes = D.body; tail = []; family = []; syllabus = 0; unnamed = 2 ^ 22; written = [] }
 unfolding printed D.body setupOf entriesLong number
 its-setup = refl
 
@@ -85,18 +88,24 @@ cut-in : (words paper : List ℕ) → length words ≡ wordCount → Bytes paper
     → CutBehind words paper (take n (saidIn paper)) (allAnswered (drop n (saidIn paper)))
 cut-in words paper lent bytes a none n =
     let all = saidIn paper in
-    events-are words paper lent bytes a
-    ∙ ap (λ (l : List Event). SetUp ∷ l)
-    (rw none (append-nil (allAnswered all)) ∙ ap allAnswered (sym (take-append-drop n all)) ∙ answered-both (take n all) (drop n all))
+    let both = sym (take-append-drop n all) in
+    record {
+      events =
+          events-are words paper lent bytes a
+          ∙ ap (λ (l : List Event). SetUp ∷ l)
+          (rw none (append-nil (allAnswered all)) ∙ ap allAnswered both ∙ answered-both (take n all) (drop n all));
+      left = commandsIn (drop n all);
+      commands = sym (talk-said (setupOf paper) (commandsOf paper)) ∙ ap commandsIn both ∙ said-both (take n all) (drop n all);
+    }
 
 pub cut-behind : (words : List ℕ) → length words ≡ wordCount → (n : ℕ) → CutBehind words printed (take n said) (allAnswered (drop n said))
 cut-behind words lent n = cut-in words printed lent W.bytes accepted no-fault n
 
 -- an offline approval under a guarding profile stands behind so many answers
-pub record Approval (words paper : List ℕ) (meter : Meter) (n : ℕ) (command : Command) : Type 0 where
+pub record Approval (words paper : List ℕ) (meter : Meter) (n : ℕ) (command : Message) : Type 0 where
   pub answer : Answer
   pub more : List Event
-  pub cut : CutBehind words paper (take n (saidIn paper)) (Answered command answer ∷ more)
+  pub cut : CutBehindOne words paper (take n (saidIn paper)) command answer more
   pub guards : Guards (inForce (setupOf paper) (newest (take n (saidIn paper)))) (placeBy (setupOf paper) (newest (take n (saidIn paper)))) meter
   pub approves-it : approves command answer ≡ true
   pub takes-part : takesPart (bought (setupOf paper) (record { command = command; answer = answer } ∷ newest (take n (saidIn paper)))) meter ≡ true
@@ -112,7 +121,7 @@ at-first words lent =
     record {
       answer = answerOf (drop 1 said);
       more = allAnswered (drop 2 said);
-      cut = cut-behind words lent 1;
+      cut = cut-behind words lent 2;
       guards = record { active = refl; included = refl; decline = refl; default = refl };
       approves-it = refl;
       takes-part = refl;
@@ -124,21 +133,21 @@ at-second words lent =
     record {
       answer = answerOf (drop 4 said);
       more = allAnswered (drop 5 said);
-      cut = cut-behind words lent 4;
+      cut = cut-behind words lent 5;
       guards = record { active = refl; included = refl; decline = refl; default = refl };
       approves-it = refl;
       takes-part = refl;
     }
 
 -- AND THE LAST SECOND IS REFUSED
-pub refused-there : (words : List ℕ) → length words ≡ wordCount → CutBehind words printed (take 7 said) (Answered second (Refused OutOfTurn) ∷ [])
+pub refused-there : (words : List ℕ) → length words ≡ wordCount → CutBehindOne words printed (take 7 said) second (Refused OutOfTurn) []
 unfolding printed setupOf mannerOf entriesLong number frontOf meant walk walked talk computed
-refused-there words lent = cut-behind words lent 7
+refused-there words lent = cut-behind words lent 8
 
 -- ---- the paper whose Starts bring the terminal's data
 
 -- what is sent stands for these commands at a paper's card
-abbrev standIn : (paper : List ℕ) → Manner → List Sent → List Command
+abbrev standIn : (paper : List ℕ) → Manner → List Sent → List Message
 standIn paper manner xs = allStandFor (rulesBy (setupOf paper)) manner (sat (setupOf paper) [] .state) xs
 
 pub brought-accepted : Accepted selection
@@ -149,7 +158,7 @@ pub brought-choice : choiceOf selection ≡ byFile file 1
 unfolding selection mannerOf entriesLong number
 brought-choice = refl
 
-pub brought-commands : commandsOf selection ≡ standIn selection (record { choice = byFile file 1; dates = undated; family = cpa }) brought
+pub brought-commands : commandsOf selection ≡ standIn selection (record { choice = byFile file 1; dates = undated; family = cpa; scripts = unscripted }) brought
 unfolding selection brought mannerOf entriesLong number frontOf meant walk walked standsFor allStandFor run
 brought-commands = refl
 
@@ -180,7 +189,7 @@ latest-accepted =
           };
     }
 
-pub latest-setup : setupOf latest ≡ record { bytes = D.body; tail = []; family = []; syllabus = 1; unnamed = 2 ^ 22 }
+pub latest-setup : setupOf latest ≡ record { bytes = D.body; tail = []; family = []; syllabus = 1; unnamed = 2 ^ 22; written = [] }
 unfolding latest R.printed recordOf big setupRow headRow profileRow spelled written D.body setupOf entriesLong number
 latest-setup = refl
 
@@ -192,12 +201,12 @@ dated-accepted =
 
 -- its base has 159 bytes, and its tail of version 04, behind one byte for selection and one for the syllabus, 46
 pub dated-setup : setupOf calendar
-    ≡ record { bytes = take 159 (drop 4 calendar); tail = take 46 (drop 165 calendar); family = []; syllabus = 0; unnamed = 2 ^ 25 }
+    ≡ record { bytes = take 159 (drop 4 calendar); tail = take 46 (drop 165 calendar); family = []; syllabus = 0; unnamed = 2 ^ 25; written = [] }
 unfolding calendar setupOf entriesLong number
 dated-setup = refl
 
 abbrev onDays : Manner
-onDays = record { choice = byName; dates = dated; family = cpa }
+onDays = record { choice = byName; dates = dated; family = cpa; scripts = unscripted }
 
 pub dated-manner : mannerOf calendar ≡ onDays
 unfolding calendar mannerOf entriesLong number
@@ -212,7 +221,7 @@ unfolding calendar mannerOf entriesLong number frontOf meant walk walked
 dated-no-fault = refl
 
 -- an approval of the day and of the month, and the one that begins a month
-abbrev bought-on : (month day amount : ℕ) → Command
+abbrev bought-on : (month day amount : ℕ) → Message
 bought-on month day amount =
     FirstCommand (record {
       requested = 1;
@@ -230,7 +239,7 @@ in-a-day words lent =
     record {
       answer = answerOf (drop 1 (saidIn calendar));
       more = allAnswered (drop 2 (saidIn calendar));
-      cut = cut-in words calendar lent W.dated-bytes dated-accepted dated-no-fault 1;
+      cut = cut-in words calendar lent W.dated-bytes dated-accepted dated-no-fault 2;
       guards = record { active = refl; included = refl; decline = refl; default = refl };
       approves-it = refl;
       takes-part = refl;
@@ -242,7 +251,7 @@ in-a-month words lent =
     record {
       answer = answerOf (drop 11 (saidIn calendar));
       more = allAnswered (drop 12 (saidIn calendar));
-      cut = cut-in words calendar lent W.dated-bytes dated-accepted dated-no-fault 11;
+      cut = cut-in words calendar lent W.dated-bytes dated-accepted dated-no-fault 12;
       guards = record { active = refl; included = refl; decline = refl; default = refl };
       approves-it = refl;
       takes-part = refl;
@@ -256,12 +265,12 @@ cpace-accepted =
 
 -- its base has 159 bytes, and its tail of version 05, behind one byte each for selection, syllabus and dates, 10
 pub cpace-setup : setupOf cpacePaper
-    ≡ record { bytes = take 159 (drop 4 cpacePaper); tail = []; family = take 10 (drop 166 cpacePaper); syllabus = 0; unnamed = 2 ^ 26 }
+    ≡ record { bytes = take 159 (drop 4 cpacePaper); tail = []; family = take 10 (drop 166 cpacePaper); syllabus = 0; unnamed = 2 ^ 26; written = [] }
 unfolding cpacePaper setupOf entriesLong number
 cpace-setup = refl
 
 abbrev presenting : Manner
-presenting = record { choice = byName; dates = undated; family = cpace }
+presenting = record { choice = byName; dates = undated; family = cpace; scripts = unscripted }
 
 pub cpace-manner : mannerOf cpacePaper ≡ presenting
 unfolding cpacePaper mannerOf entriesLong number
@@ -274,3 +283,85 @@ cpace-commands = refl
 pub cpace-no-fault : faulty cpacePaper ≡ false
 unfolding cpacePaper mannerOf entriesLong number frontOf meant walk walked
 cpace-no-fault = refl
+
+-- ---- a paper of version 06: the printed set-up with scripts on, and between First and Second a script that sets accumulator 1's upper limit to 6,000
+
+abbrev scriptsTail : Tail
+scriptsTail = sixth off 0 Rows.undated Rows.cpa true
+
+abbrev limitedSent : List Sent
+limitedSent = names unsaid 1 ∷ said-first 1 5001 0x0978 0x22 unshown ∷ script 1 (templateOf (limit 1 0x50 0x00 0x60 0x00 ∷ [])) ∷ said-second 1 0x5933 0 0 ∷ []
+
+unfoldable pub limited : List ℕ
+unfolding R.printed recordOf big setupRow headRow profileRow spelled written spellAll kindOf bodyOf
+limited = paperOf 6 (wholeBody R.printed scriptsTail) (spellAll limitedSent)
+
+unfoldable pub areBytes : List ℕ → Bool
+areBytes [] = true
+areBytes (b ∷ s) = ltb b 256 && areBytes s
+
+pub bytes-of : (s : List ℕ) → areBytes s ≡ true → Bytes s
+unfolding areBytes
+bytes-of [] e = tt
+bytes-of (b ∷ s) e = let t = both (ltb b 256) (areBytes s) e in (ltb-true b 256 (t .0), bytes-of s (t .1))
+
+pub limited-bytes : Bytes limited
+unfolding limited areBytes
+limited-bytes = bytes-of limited refl
+
+pub limited-accepted : Accepted limited
+unfolding limited
+limited-accepted =
+    record {
+      version = 6;
+      body = wholeBody R.printed scriptsTail;
+      rest = spellAll limitedSent;
+      opens = record { is = refl; least = lit≤ tt; most = lit≤ tt; short = lit≤ tt };
+      set-up =
+          record {
+            setup = R.printed;
+            tail = scriptsTail;
+            version-is = refl;
+            fits = R.printed-fits;
+            in-range = R.printed-in-range-5;
+            fine = (tt, lit≤ tt, tt, tt);
+            dates-in-range = tt;
+            families-in-range = tt;
+            spelled = refl;
+          };
+    }
+
+abbrev issuing : Manner
+issuing = record { choice = byName; dates = undated; family = cpa; scripts = scripted }
+
+pub limited-manner : mannerOf limited ≡ issuing
+unfolding limited mannerOf entriesLong number
+limited-manner = refl
+
+pub limited-commands : commandsOf limited ≡ standIn limited issuing limitedSent
+unfolding limited mannerOf entriesLong number frontOf meant walk walked standsFor allStandFor
+limited-commands = refl
+
+pub limited-no-fault : faulty limited ≡ false
+unfolding limited mannerOf entriesLong number frontOf meant walk walked
+limited-no-fault = refl
+
+-- THE UPPER LIMIT IN FORCE AT THE APPROVAL IS THE ONE THAT THE SCRIPT WROTE
+pub at-written-limit : (words : List ℕ) → length words ≡ wordCount → Approval words limited (accumulator 0) 3 second
+unfolding limited setupOf mannerOf entriesLong number frontOf meant walk walked talk computed
+at-written-limit words lent =
+    record {
+      answer = answerOf (drop 3 (saidIn limited));
+      more = allAnswered (drop 4 (saidIn limited));
+      cut = cut-in words limited lent limited-bytes limited-accepted limited-no-fault 4;
+      guards = record { active = refl; included = refl; decline = refl; default = refl };
+      approves-it = refl;
+      takes-part = refl;
+    }
+
+abbrev soFar : List Exchange
+soFar = newest (take 3 (saidIn limited))
+
+pub written-limit : upperOf (inForce (setupOf limited) soFar) (placeBy (setupOf limited) soFar) (accumulator 0) ≡ 6000
+unfolding limited setupOf mannerOf entriesLong number frontOf meant walk walked talk computed
+written-limit = refl

@@ -14,13 +14,12 @@ use Rattle.command.specs.declared.When.{When}
 use Rattle.command.specs.declared.When.the-variants.{Undated, On}
 use Rattle.command.specs.declared.Start.{Start}
 use Rattle.command.specs.declared.First.{First}
-use Rattle.command.specs.declared.Command.{Command}
-use Rattle.command.specs.declared.Command.the-variants.{Second as SecondCommand}
+use Rattle.card.specs.Message.{Message, SecondCommand, ScriptCommand}
 use Rattle.demands.specs.Setup.{Setup}
 use Rattle.demands.specs.Conversation.{Sitting, told, sat}
 use Rattle.rows.specs.Tails.{baseLength}
-use Rattle.spelling.specs.Spelling.{unsaid, on, Presented, unshown, shown, Choice, byName, byFile, Dates, undated, dated, CardFamily, cpa, cpace, Manner}
-use Rattle.spelling.specs.Spelling.{slotsIn, selects, startSent, firstSent}
+use Rattle.spelling.specs.Spelling.{unsaid, on, Presented, unshown, shown, Choice, byName, byFile, Dates, undated, dated, CardFamily, cpa, cpace}
+use Rattle.spelling.specs.Spelling.{Scripting, unscripted, scripted, Manner, slotsIn, selects, startSent, firstSent}
 use Rattle.spelling.specs.Faults.{firstLength, Opens}
 use Rattle.rows.specs.Whole.{IsSetup}
 
@@ -84,6 +83,13 @@ cardIn p tails = cond (eqb (byte (behindDating p tails) 0) 0) cpa cpace
 abbrev pub familyIn : (p : ℕ) (tails : List ℕ) → List ℕ
 familyIn p tails = cond (eqb (byte (behindDating p tails) 0) 0) [] (take (9 + p) (behindDating p tails))
 
+-- VERSION 06, scripts, behind that: 0 off; 1 on
+abbrev pub behindFamily : (p : ℕ) (tails : List ℕ) → List ℕ
+behindFamily p tails = drop (cond (eqb (byte (behindDating p tails) 0) 0) 1 (9 + p)) (behindDating p tails)
+
+abbrev pub scriptsIn : (p : ℕ) (tails : List ℕ) → Scripting
+scriptsIn p tails = cond (eqb (byte (behindFamily p tails) 0) 0) unscripted scripted
+
 -- mask bits 0 to 21 are named, in version 04 0 to 24, from version 05 on 0 to 25
 abbrev pub unnamedIn : (version : ℕ) → ℕ
 unnamedIn version = cond (ltb version 4) (2 ^ 22) (cond (ltb version 5) (2 ^ 25) (2 ^ 26))
@@ -100,13 +106,19 @@ setupIn version body =
       family = familyIn (profilesIn body) (tailsIn body);
       syllabus = syllabusIn (tailsIn body);
       unnamed = unnamedIn version;
+      written = [];
     }
 
 abbrev pub mannerIn : (body : List ℕ) → Manner
 mannerIn body =
-    record { choice = choiceIn (tailsIn body); dates = datesIn (tailsIn body); family = cardIn (profilesIn body) (tailsIn body) }
+    record {
+      choice = choiceIn (tailsIn body);
+      dates = datesIn (tailsIn body);
+      family = cardIn (profilesIn body) (tailsIn body);
+      scripts = scriptsIn (profilesIn body) (tailsIn body);
+    }
 
--- THE SET-UP OF A PAPER; how its Starts choose a profile, whether its Firsts have dates, and whose card it is
+-- THE SET-UP OF A PAPER; how its Starts choose a profile, whether its Firsts have dates, whose card it is, and whether scripts are on
 unfoldable pub setupOf : (paper : List ℕ) → Setup
 setupOf paper = setupIn (versionIn paper) (bodyIn paper)
 
@@ -121,6 +133,9 @@ datesOf paper = mannerOf paper .dates
 
 abbrev pub cardOf : (paper : List ℕ) → CardFamily
 cardOf paper = mannerOf paper .family
+
+abbrev pub scriptsOf : (paper : List ℕ) → Scripting
+scriptsOf paper = mannerOf paper .scripts
 
 -- it is accepted: the paper opens, and its set-up is spelled from fields in their ranges and the tails of its version
 pub record Accepted (paper : List ℕ) : Type 0 where
@@ -150,7 +165,7 @@ frontOf (high ∷ low ∷ kind ∷ more) = frontBy (high * 256 + low) kind more
 -- a record means a command, or it is none
 pub data Meaning : Type 0 where
   none : Meaning
-  means : Command → Meaning
+  means : Message → Meaning
 
 -- Start: profile (1), or where profiles are selected the terminal's data; to a CPACE card interface (1) before it, which the file reads too, and
 -- besides what its entries may test
@@ -188,25 +203,32 @@ secondMeant body =
     (means (SecondCommand (record { requested = byte body 0; code = number body 1 2; issuer = byte body 3; csu = number body 4 4 })))
     none
 
--- kind 2 is a Start, 3 a First, 4 a Second
+-- a script, where scripts are on: secure messaging result (1), and the template to the end
+abbrev pub scriptMeant : Scripting → (body : List ℕ) → Meaning
+scriptMeant unscripted body = none
+scriptMeant scripted [] = none
+scriptMeant scripted (result ∷ template) = means (ScriptCommand result template)
+
+-- kind 2 is a Start, 3 a First, 4 a Second, 5 a script
 unfoldable pub meant : Manner → Slots → (kind : ℕ) (body : List ℕ) → Meaning
 meant manner slots kind body =
     cond (eqb kind 2) (startMeant (manner .choice) (manner .family) slots body)
-    (cond (eqb kind 3) (firstMeant (manner .dates) (manner .family) body) (cond (eqb kind 4) (secondMeant body) none))
+    (cond (eqb kind 3) (firstMeant (manner .dates) (manner .family) body)
+    (cond (eqb kind 4) (secondMeant body) (cond (eqb kind 5) (scriptMeant (manner .scripts) body) none)))
 
 -- ---- all of them, one behind the other, each at the card that heard those before it: the commands, up to the end or to a fault, which is a
 -- record that is none
 pub record Walked : Type 0 where
-  pub commands : List Command
+  pub commands : List Message
   pub fault : Bool
 
 abbrev pub stopped : (fault : Bool) → Walked
 stopped fault = record { commands = []; fault = fault }
 
-abbrev pub met : Command → Walked → Walked
+abbrev pub met : Message → Walked → Walked
 met command more = record { commands = command ∷ more .commands; fault = more .fault }
 
-abbrev pub goingOn : Meaning → (Command → Walked) → Walked
+abbrev pub goingOn : Meaning → (Message → Walked) → Walked
 goingOn none more = stopped true
 goingOn (means command) more = met command (more command)
 
@@ -228,7 +250,7 @@ unfoldable pub walked : (paper : List ℕ) → Walked
 walked paper = walk (length paper) (mannerOf paper) (sat (setupOf paper) []) (restIn paper)
 
 -- THE COMMANDS OF A PAPER, and whether it ends by a fault
-abbrev pub commandsOf : (paper : List ℕ) → List Command
+abbrev pub commandsOf : (paper : List ℕ) → List Message
 commandsOf paper = walked paper .commands
 
 abbrev pub faulty : (paper : List ℕ) → Bool

@@ -8,21 +8,26 @@ use Rattle.refusal.specs.declared.Refusal.the-variants.{Unreadable}
 use Rattle.refusal.specs.Refusal.{refusalNumber}
 use Rattle.rules.specs.Rules.{Rules, rulesOf}
 use Rattle.shape.specs.declared.Shape.{Shape}
-use Rattle.command.specs.declared.Command.{Command}
+use Rattle.state.specs.declared.Answer.{Answer}
 use Rattle.state.specs.declared.State.{State}
+use Rattle.script.specs.Script.{rulesAfter}
+use Rattle.card.specs.Message.{Message}
 use Rattle.conversation.specs.declared.Event.{Event}
 use Rattle.conversation.specs.declared.Event.the-variants.{SetUp, Refused, Answered}
-use Rattle.conversation.specs.Conversation.{takenOf, begunOf, wordsBegun}
+use Rattle.conversation.specs.declared.Said.{Said}
+use Rattle.conversation.specs.declared.Said.the-variants.{Command, Script}
+use Rattle.conversation.specs.Conversation.{takenOf, takenWrites, begunOf, wordsBegun}
 use Rattle.conversation.specs.Events.{eventsOf}
 use Rattle.demands.specs.Setup.{Setup}
 use Rattle.demands.specs.Conversation.{Exchange, sat}
 use Rattle.spelling.specs.Faults.{OpenFault, Opens}
+use Rattle.spelling.specs.Sitting.{saidOf}
 use Rattle.rows.specs.Whole.{IsSetup}
 use Rattle.papers.specs.Papers.{setupOf, Accepted, commandsOf, faulty}
 
 -- a command and its answer as an event
 abbrev pub answered : Exchange → Event
-answered exchange = Answered (exchange .command) (exchange .answer)
+answered exchange = Answered (saidOf (exchange .command)) (exchange .answer)
 
 abbrev pub allAnswered : List Exchange → List Event
 allAnswered [] = []
@@ -34,7 +39,7 @@ turned [] others = others
 turned (exchange ∷ more) others = turned more (exchange ∷ others)
 
 -- all that is said in a sitting over these commands, the oldest first
-unfoldable pub talk : Setup → List Command → List Exchange
+unfoldable pub talk : Setup → List Message → List Exchange
 talk setup commands = turned (sat setup commands .log) []
 
 -- behind them nothing, or refusal 9
@@ -45,20 +50,40 @@ ending fault = cond fault (Refused Unreadable ∷ []) []
 abbrev pub eventsBy : (paper : List ℕ) → List Event
 eventsBy paper = SetUp ∷ (allAnswered (talk (setupOf paper) (commandsOf paper)) ++ ending (faulty paper))
 
--- a paper's events, cut behind some answers, the oldest first
-abbrev pub CutBehind : (words paper : List ℕ) (before : List Exchange) (more : List Event) → Type 0
-CutBehind words paper before more = eventsOf words paper ≡ SetUp ∷ (allAnswered before ++ more)
+-- what was said to the card
+abbrev pub commandsIn : List Exchange → List Message
+commandsIn [] = []
+commandsIn (exchange ∷ more) = exchange .command ∷ commandsIn more
+
+-- a paper's events, cut behind some answers, the oldest first, with the paper's own commands: of a script an event tells no byte
+pub record CutBehind (words paper : List ℕ) (before : List Exchange) (more : List Event) : Type 0 where
+  pub events : eventsOf words paper ≡ SetUp ∷ (allAnswered before ++ more)
+  pub left : List Message
+  pub commands : commandsOf paper ≡ commandsIn before ++ left
+
+-- and behind one more, a command and its answer
+abbrev pub CutBehindOne : (words paper : List ℕ) (before : List Exchange) (command : Message) (answer : Answer) (more : List Event) → Type 0
+CutBehindOne words paper before command answer more = CutBehind words paper (before ++ record { command = command; answer = answer } ∷ []) more
+
+-- no script is among them: then the events alone say where they are cut
+abbrev pub IsCommand : Said → Type 0
+IsCommand (Command command) = Unit
+IsCommand Script = ⊥
+
+abbrev pub Plain : List Exchange → Type 0
+Plain [] = Unit
+Plain (exchange ∷ more) = IsCommand (saidOf (exchange .command)) × Plain more
 
 -- the conversation so far, the newest first, as the demands read it
 abbrev pub newest : List Exchange → List Exchange
 newest before = turned before []
 
--- THE CARD AFTER n COMMANDS: the conversation's own, n turns from the set-up on
+-- THE CARD AFTER n COMMANDS: the conversation's own, n turns from the set-up on, each by the rules that the one before left
 unfoldable pub turns : ℕ → Rules → Shape → State → (paper : List ℕ) (at : ℕ) → State
 turns zero rules shape state paper at = state
 turns (suc n) rules shape state paper at =
     let taken = takenOf rules shape state paper at in
-    turns n rules shape (taken .state) paper (taken .at)
+    turns n (rulesAfter rules (takenWrites shape state paper at)) shape (taken .state) paper (taken .at)
 
 unfoldable pub cardAfter : (words paper : List ℕ) (n : ℕ) → State
 cardAfter words paper n =

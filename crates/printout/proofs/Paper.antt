@@ -12,15 +12,16 @@ use Rattle.refusal.specs.Refusal.{refusalNumber}
 use Rattle.rules.specs.Rules.{Rules, rulesOf}
 use Rattle.rules.specs.Word.{wordCount}
 use Rattle.shape.specs.declared.Shape.{Shape}
-use Rattle.command.specs.declared.Command.{Command}
 use Rattle.state.specs.declared.Answer.{Answer}
-use Rattle.state.specs.declared.Answer.the-variants.{Refused as AnswerRefused, Started, Given}
+use Rattle.state.specs.declared.Answer.the-variants.{Refused as AnswerRefused, Started, Given, Done}
 use Rattle.state.specs.declared.State.{State}
 use Rattle.state.specs.State.{cidOf}
+use Rattle.script.specs.Script.{rulesAfter}
+use Rattle.card.specs.Message.{Message}
 use Rattle.conversation.specs.declared.Event.{Event}
 use Rattle.conversation.specs.declared.Event.the-variants.{SetUp, End, Refused, Answered}
-use Rattle.conversation.specs.Conversation.{takenOf, begunOf, wordsBegun}
-use Rattle.conversation.specs.Events.{following, eventsFrom, eventsOf}
+use Rattle.conversation.specs.Conversation.{takenOf, takenWrites, begunOf, wordsBegun}
+use Rattle.conversation.specs.Events.{following, eventsFrom, eventsOf, wordsLeft}
 use Rattle.lines.specs.Lines.{refusalLine, startLine, selectedLine}
 use Rattle.lines.specs.Sitting.{answerLine, eventLine, linesOf, sittingLines}
 use Rattle.lines.proofs.Each.{Each, none, more}
@@ -37,7 +38,7 @@ use Rattle.spelling.specs.Printed.{printed, printedLines}
 use Rattle.spelling.proofs.Shown.{answer-shown}
 use Rattle.spelling.proofs.Text.{printed-text}
 use Rattle.papers.specs.Papers.{Accepted}
-use Rattle.papers.specs.Talk.{Heard, CutBehind}
+use Rattle.papers.specs.Talk.{Heard, CutBehindOne}
 use Rattle.papers.specs.Talk as Talk
 use Rattle.papers.specs.Lines.{linesBy}
 use Rattle.papers.proofs.Events.{lines-are, every-paper}
@@ -55,32 +56,33 @@ answer-line number (Started atc visits) = by (eqb visits 0) where
   by true = start-line number atc
   by false = selected-line number atc visits
 answer-line number (Given kind atc iad) = cryptogram-line number (cidOf kind) atc iad
+answer-line number Done = refusal-line number 0
 
 -- an event that has a line
 abbrev Said : Event → Type 0
 Said SetUp = Unit
 Said End = ⊥
 Said (Refused refusal) = Unit
-Said (Answered command answer) = Unit
+Said (Answered said answer) = Unit
 
 event-line : (number : ℕ) (event : Event) → Said event → OneLine (eventLine number event)
 event-line number SetUp s = refusal-line number 0
 event-line number End s = absurd s
 event-line number (Refused refusal) s = refusal-line number (refusalNumber refusal)
-event-line number (Answered command answer) s = answer-line number answer
+event-line number (Answered said answer) s = answer-line number answer
 
 followed : (event : Event) (behind : List Event) → Each Said behind → Each Said (following event behind)
 followed SetUp behind r = more {a = SetUp} tt r
 followed End behind r = none
 followed (Refused refusal) behind r = more {a = Refused refusal} tt none
-followed (Answered command answer) behind r = more {a = Answered command answer} tt r
+followed (Answered said answer) behind r = more {a = Answered said answer} tt r
 
 records-said : (n : ℕ) (rules : Rules) (shape : Shape) (state : State) (paper : List ℕ) (at : ℕ) → Each Said (eventsFrom n rules shape state paper at)
 unfolding eventsFrom
 records-said zero rules shape state paper at = none
 records-said (suc n) rules shape state paper at =
     let taken = takenOf rules shape state paper at in
-    followed (taken .event) _ (records-said n rules shape (taken .state) paper (taken .at))
+    followed (taken .event) _ (records-said n (rulesAfter rules (takenWrites shape state paper at)) shape (taken .state) paper (taken .at))
 
 paper-said : (words paper : List ℕ) → Each Said (eventsOf words paper)
 unfolding eventsOf
@@ -133,7 +135,7 @@ module _ (words paper : List ℕ) where
   room-kept room at = by (hasRoom (length room) at (length paper)) refl where
     by : (b : Bool) → hasRoom (length room) at (length paper) ≡ b → cond b (Whole (at + length (transcriptOf words paper))) NoRoom ≡ NoRoom
         → (length room < at + (8 * length paper + 82)) × (cond b (sets room at (transcriptOf words paper)) room ≡ room)
-        × (cond b (wordsBegun words paper) words ≡ words)
+        × (cond b (wordsLeft words paper) words ≡ words)
     by true e w = absurd (let z : _≡_ {A = ℕ} 0 1 = cc in omega arith)
     by false e w = (leb-false (at + (8 * length paper + 82)) (length room) e, refl, refl)
 
@@ -153,8 +155,8 @@ accepted-text words paper lent bytes a = printed-lines words paper ∙ lines-are
 
 -- a command's line says its place and the fields of its answer
 pub line-says : (words paper : List ℕ) → length words ≡ wordCount → Bytes paper → Accepted paper
-    → (before : List Exchange) (command : Command) (answer : Answer) (behind : List Event)
-    → CutBehind words paper before (Answered command answer ∷ behind) → suc (length before) < 100_000 → Sized answer
+    → (before : List Exchange) (command : Message) (answer : Answer) (behind : List Event)
+    → CutBehindOne words paper before command answer behind → suc (length before) < 100_000 → Sized answer
     → fieldsIn (getD (linesRead (transcriptOf words paper)) (suc (length before)) []) ≡ shown (suc (length before)) answer
 line-says words paper lent bytes a before command answer behind e few sized =
     let n = suc (length before) in

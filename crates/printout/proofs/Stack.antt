@@ -10,14 +10,14 @@ use lib.ListN.{length, take, drop, replicate, length-append, length-drop, length
 use lib.Seq.{length-take-le, take-at, drop-at, take-append-seam, take-take, take-add, drop-drop}
 use Rattle.wire.specs.Wire.{byte, number}
 use Rattle.rules.specs.Word.{wordCount}
-use Rattle.conversation.specs.Conversation.{wordsBegun}
+use Rattle.conversation.specs.Events.{wordsLeft}
 use Rattle.lines.specs.Lines.{digit, decimal, refusalLine}
 use Rattle.lines.specs.Sitting.{sittingLines}
 use Rattle.lines.proofs.Each.{Each, none, more}
 use Rattle.transcript.specs.Transcript.{transcriptOf}
 use Rattle.pages.specs.Stack.{pageOf, sizeOf, paperOf, behind, stackOf}
-use Rattle.pages.proofs.Stack as Front
-use Rattle.pages.proofs.Alone.{words-length, apart}
+use Rattle.stacks.proofs.Stack as Front
+use Rattle.stacks.proofs.Alone.{words-length, apart}
 use Rattle.spelling.specs.Spelling.{Bytes, big}
 use Rattle.spelling.specs.Faults.{over}
 use Rattle.spelling.proofs.Numbers.{big-length, big-read, big-back, number-small, bytes-drop, peel}
@@ -64,7 +64,7 @@ module _ (words : List ℕ) (lent : length words ≡ wordCount) where
   page-first paper rest fits =
       Front.front words (blockOf paper ++ rest) (long-enough paper rest fits)
       ∙ rw (paper-is paper rest fits, behind-is paper rest fits)
-      (ap (λ (t : List ℕ). pageOf words paper ++ t) (any-words (wordsBegun words paper) rest (words-length words paper ∙ lent)))
+      (ap (λ (t : List ℕ). pageOf words paper ++ t) (any-words (wordsLeft words paper) rest (words-length words paper ∙ lent)))
 
   page-lines : (paper rest : List ℕ) → linesRead (pageOf words paper ++ rest) ≡ sittingLines words paper ++ ((10 ∷ []) ∷ linesRead rest)
   unfolding transcriptOf

@@ -5,24 +5,16 @@ use mathlib.Core.Option.{Option, none, some}
 use mathlib.Core.Bool.{Bool, true, false, _&&_, cond}
 use Prim.Native.Nat.{ℕ, zero, suc, _+_, _-_, _≤_, _<_}
 use native.Mathlib.Omega.{arith}
-use lib.ListN.{length, take, drop, length-drop}
+use lib.ListN.{length, drop, length-drop}
 use lib.Seq.{drop-drop}
-use lib.Dec.{leb, eqb}
-use Rattle.wire.specs.Wire.{byte, number}
-use Rattle.put_data.specs.declared.Write.{Write}
+use lib.Dec.{eqb}
+use Rattle.element.specs.declared.Write.{Write}
+use Rattle.element.specs.Element.{elementSize, elementMeaning}
+use Rattle.element.proofs.Laws.{element-some, element-fits}
 use Rattle.put_data.specs.declared.Next.{Next}
 use Rattle.put_data.specs.declared.Next.the-variants.{Element, End, Fault}
-use Rattle.put_data.specs.PutData.{isLength, lengthAt, headSize, elementSize, meaningOf, elementMeaning}
 use Rattle.put_data.specs.PutData.{before, writesBy, writesIn, isSome, told, nextBy, nextIn}
 use Rattle.put_data.specs.PutData.{objectOf, isPutData, isSecured, elementsOf, writesOf, isValid, nextWrite}
-use Rattle.put_data.proofs.Laws.{tested, and-fits, element-some}
-
--- ---- an element that writes lies within the list
-pub element-fits : (o : ℕ) (s : List ℕ) (w : Write) → elementMeaning o s ≡ some w → elementSize s ≤ length s
-unfolding elementMeaning
-element-fits o s w e =
-    let m = meaningOf o (number s 0 2) (take (lengthAt s 2) (drop (headSize s) s)) in
-    and-fits (isLength (byte s 2)) (elementSize s) (length s) (tested (isLength (byte s 2) && leb (elementSize s) (length s)) m w e .0)
 
 -- ---- the writes behind an element
 pub skip : (o n : ℕ) (s : List ℕ) → writesBy o n s ≡ writesIn o (drop n s)

@@ -4,69 +4,12 @@ use mathlib.Core.List.{List, [], _∷_}
 use mathlib.Core.Option.{Option, none, some}
 use Prim.Native.Nat.{ℕ, zero, suc, _+_, _-_}
 use lib.ListN.{length, take, drop}
-use lib.Dec.{ltb, leb, eqb}
+use lib.Dec.{leb, eqb}
 use Rattle.wire.specs.Wire.{byte, number}
-use Rattle.money.specs.declared.AccumulatorAmount.{AccumulatorAmount}
-use Rattle.digits.specs.Digits.{arePairs, pairsValue}
-use Rattle.put_data.specs.declared.Write.{Write}
-use Rattle.put_data.specs.declared.Write.the-variants.{Value, AccumulatorLimits, CounterLimits}
-use Rattle.put_data.specs.declared.Meaning.{Meaning}
-use Rattle.put_data.specs.declared.Meaning.the-variants.{Writes, Fails}
+use Rattle.element.specs.declared.Write.{Write}
+use Rattle.element.specs.Element.{isLength, lengthSize, lengthAt, elementSize, elementMeaning}
 use Rattle.put_data.specs.declared.Next.{Next}
 use Rattle.put_data.specs.declared.Next.the-variants.{Element, End, Fault}
-
--- A LENGTH: one byte, 00 to 7F, or 81 and one byte
-abbrev pub isLength : (lead : ℕ) → Bool
-isLength lead = ltb lead 0x80 || eqb lead 0x81
-
--- how many bytes write the one at a place, and the length
-unfoldable pub lengthSize : List ℕ → (at : ℕ) → ℕ
-lengthSize s at = cond (eqb (byte s at) 0x81) 2 1
-
-unfoldable pub lengthAt : List ℕ → (at : ℕ) → ℕ
-lengthAt s at = cond (eqb (byte s at) 0x81) (byte s (at + 1)) (byte s at)
-
--- THE TABLE: what a value writes to a slot, by P1 P2 and tag, and none where it fails. Slots count from 0
-abbrev pub amountAt : List ℕ → (at : ℕ) → AccumulatorAmount
-amountAt v at = record { 0 = pairsValue v at 6 }
-
--- 6 bytes, 12 digits: the value of an accumulator
-unfoldable pub valueWritten : (slot : ℕ) → List ℕ → Option Write
-valueWritten slot v = cond (eqb (length v) 6 && arePairs v 0 6) (some (Value slot (amountAt v 0))) none
-
--- 12 bytes, lower, upper, 12 digits each: the limits of an accumulator
-unfoldable pub limitsWritten : (slot : ℕ) → List ℕ → Option Write
-limitsWritten slot v =
-    cond (eqb (length v) 12 && arePairs v 0 6 && arePairs v 6 6) (some (AccumulatorLimits slot (amountAt v 0) (amountAt v 6))) none
-
--- 2 bytes, lower, upper: the limits of a counter
-unfoldable pub countsWritten : (slot : ℕ) → List ℕ → Option Write
-countsWritten slot v = cond (eqb (length v) 2) (some (CounterLimits slot (byte v 0) (byte v 1))) none
-
--- one of the four tags from the first on
-abbrev pub isOneOf : (first tag : ℕ) → Bool
-isOneOf first tag = leb first tag && leb tag (first + 3)
-
-unfoldable pub meaningOf : (object tag : ℕ) → List ℕ → Option Write
-meaningOf object tag v =
-    cond (eqb object 0xBF30 && isOneOf 0xDF01 tag) (valueWritten (tag - 0xDF01) v)
-    (cond (eqb object 0xBF30 && isOneOf 0xDF11 tag) (limitsWritten (tag - 0xDF11) v)
-    (cond (eqb object 0xBF35 && isOneOf 0xDF11 tag) (countsWritten (tag - 0xDF11) v)
-    none))
-
--- AN ELEMENT, with which a list begins: a tag of two bytes, a length, a value that ends within the list. A byte that is missing reads as 0, and
--- then the element does not end within the list
-unfoldable pub headSize : List ℕ → ℕ
-headSize s = 2 + lengthSize s 2
-
-unfoldable pub elementSize : List ℕ → ℕ
-elementSize s = headSize s + lengthAt s 2
-
-unfoldable pub elementMeaning : (object : ℕ) → List ℕ → Option Write
-elementMeaning object s =
-    cond (isLength (byte s 2) && leb (elementSize s) (length s))
-    (meaningOf object (number s 0 2) (take (lengthAt s 2) (drop (headSize s) s)))
-    none
 
 -- THE WRITES of a list of elements, to its end and in their order: none where an element fails
 abbrev pub before : Option Write → Option (List Write) → Option (List Write)
@@ -121,12 +64,7 @@ isSome (some ws) = true
 unfoldable pub isValid : List ℕ → Bool
 isValid c = isSome (writesOf c)
 
--- AS THE CODE ANSWERS IT: what an element comes to
-abbrev pub asMeaning : Option Write → Meaning
-asMeaning (some w) = Writes w
-asMeaning none = Fails
-
--- from element to element: the first behind fillers, and where it ends; s lies at a place
+-- AS THE CODE ANSWERS IT, from element to element: the first behind fillers, and where it ends; s lies at a place
 abbrev pub told : Option Write → (end : ℕ) → Next
 told (some w) end = Element w end
 told none end = Fault

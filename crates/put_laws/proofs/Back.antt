@@ -13,11 +13,11 @@ use borrow.Author.Tests.{le-leb}
 use borrow.Author.Tests.{eqb-true}
 use Rattle.wire.specs.Wire.{byte}
 use Rattle.wire.proofs.Pairs.{both}
-use Rattle.put_data.specs.declared.Write.{Write}
-use Rattle.put_data.specs.PutData.{isLength, lengthSize, lengthAt}
+use Rattle.element.specs.declared.Write.{Write}
+use Rattle.element.specs.Element.{isLength, lengthSize, lengthAt}
+use Rattle.element.proofs.Laws.{tested}
 use Rattle.put_data.specs.PutData.{writesIn, objectOf, isPutData}
 use Rattle.put_data.specs.PutData.{listPlace, macPlace, isSecured, elementsOf, writesOf, isSome, isValid}
-use Rattle.put_data.proofs.Laws.{tested}
 use Rattle.put_data.proofs.Cursor.{behind, left, at-start}
 use Rattle.put_laws.specs.Written.{long, lengthBytes, Object}
 use Rattle.put_laws.specs.Written.{accumulators, counters, secondByte}

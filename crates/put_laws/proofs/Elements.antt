@@ -10,10 +10,10 @@ use lib.Seq.{take-append-seam, drop-append-seam, drop-append-add}
 use borrow.Author.Tests.{lt-ltb, le-leb, ne-eqb}
 use Rattle.wire.specs.Wire.{byte, number}
 use Rattle.iad.specs.Iad.{pairsOf}
-use Rattle.put_data.specs.declared.Write.{Write}
-use Rattle.put_data.specs.declared.Write.the-variants.{Value, AccumulatorLimits, CounterLimits}
-use Rattle.put_data.specs.PutData.{isLength, lengthSize, lengthAt, meaningOf}
-use Rattle.put_data.specs.PutData.{headSize, elementSize, elementMeaning, before, writesBy, writesIn}
+use Rattle.element.specs.declared.Write.{Write}
+use Rattle.element.specs.declared.Write.the-variants.{Value, AccumulatorLimits, CounterLimits}
+use Rattle.element.specs.Element.{isLength, lengthSize, lengthAt, meaningOf, headSize, elementSize, elementMeaning}
+use Rattle.put_data.specs.PutData.{before, writesBy, writesIn}
 use Rattle.put_data.proofs.Cursor.{behind}
 use Rattle.put_laws.specs.Written.{Form, short, long, lengthBytes, limit, tagByte, valueBytes, Object}
 use Rattle.put_laws.specs.Written.{Item, filler, element}

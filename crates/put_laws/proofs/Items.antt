@@ -11,10 +11,10 @@ use lib.Dec.{leb, eqb}
 use borrow.Author.Tests.{leb-true, eqb-true, eqb-false}
 use Rattle.wire.specs.Wire.{byte, number}
 use Rattle.wire.proofs.Pairs.{both}
-use Rattle.put_data.specs.declared.Write.{Write}
-use Rattle.put_data.specs.PutData.{isLength, lengthSize, lengthAt, meaningOf}
-use Rattle.put_data.specs.PutData.{headSize, elementSize, elementMeaning, before, writesBy, writesIn}
-use Rattle.put_data.proofs.Laws.{tested, element-some}
+use Rattle.element.specs.declared.Write.{Write}
+use Rattle.element.specs.Element.{isLength, lengthSize, lengthAt, meaningOf, headSize, elementSize, elementMeaning}
+use Rattle.element.proofs.Laws.{tested, element-some}
+use Rattle.put_data.specs.PutData.{before, writesBy, writesIn}
 use Rattle.put_laws.specs.Written.{Form, lengthBytes, tagByte, valueBytes, Object}
 use Rattle.put_laws.specs.Written.{IsOf, Item, filler, element, itemBytes}
 use Rattle.put_laws.specs.Written.{listBytes, AreOf, Bytes}

@@ -10,8 +10,8 @@ use lib.Dec.{ltb}
 use borrow.Author.Tests.{ltb-true, ltb-false}
 use Rattle.wire.specs.Wire.{pairOf}
 use Rattle.iad.specs.Iad.{pairsOf}
-use Rattle.put_data.specs.declared.Write.{Write}
-use Rattle.put_data.specs.declared.Write.the-variants.{Value, AccumulatorLimits, CounterLimits}
+use Rattle.element.specs.declared.Write.{Write}
+use Rattle.element.specs.declared.Write.the-variants.{Value, AccumulatorLimits, CounterLimits}
 use Rattle.put_laws.specs.Written.{Form, short, long, lengthBytes, limit, tagByte, valueBytes, Object}
 use Rattle.put_laws.specs.Written.{accumulators, counters, secondByte, IsOf, Item, filler, element, itemBytes}
 use Rattle.put_laws.specs.Written.{listBytes, AreOf, Command, written, Bytes, Proper}

@@ -10,7 +10,7 @@ use lib.Seq.{drop-cons, drop-drop}
 use lib.Dec.{ltb, eqb}
 use borrow.Author.Tests.{ltb-true, eqb-true}
 use Rattle.wire.specs.Wire.{byte, number}
-use Rattle.put_data.specs.PutData.{isLength, lengthSize, lengthAt}
+use Rattle.element.specs.Element.{isLength, lengthSize, lengthAt}
 use Rattle.put_laws.specs.Written.{Form, short, long, lengthBytes, limit}
 use Rattle.put_laws.specs.Written.{Bytes}
 

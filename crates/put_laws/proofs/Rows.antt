@@ -16,11 +16,10 @@ use Rattle.money.specs.declared.AccumulatorAmount.{AccumulatorAmount}
 use Rattle.digits.specs.Digits.{arePairs}
 use Rattle.iad.specs.Iad.{pairsOf}
 use Rattle.iad.proofs.Runs.{run, run-take}
-use Rattle.put_data.specs.declared.Write.{Write}
-use Rattle.put_data.specs.declared.Write.the-variants.{Value, AccumulatorLimits, CounterLimits}
-use Rattle.put_data.specs.PutData.{valueWritten, limitsWritten, countsWritten, isOneOf, meaningOf}
-use Rattle.put_data.specs.PutData.{amountAt}
-use Rattle.put_data.proofs.Laws.{tested}
+use Rattle.element.specs.declared.Write.{Write}
+use Rattle.element.specs.declared.Write.the-variants.{Value, AccumulatorLimits, CounterLimits}
+use Rattle.element.specs.Element.{valueWritten, limitsWritten, countsWritten, isOneOf, meaningOf, amountAt}
+use Rattle.element.proofs.Laws.{tested}
 use Rattle.put_laws.specs.Written.{tagByte, valueBytes, Object}
 use Rattle.put_laws.specs.Written.{accumulators, counters, IsOf}
 use Rattle.put_laws.specs.Written.{Bytes}

@@ -11,11 +11,11 @@ use lib.Dec.{T, eqb}
 use Rattle.wire.specs.Wire.{number}
 use Rattle.digits.specs.Digits.{arePairs, pairsValue}
 use Rattle.iad.specs.Iad.{pairsOf}
-use Rattle.put_data.specs.declared.Write.{Write}
-use Rattle.put_data.specs.declared.Write.the-variants.{Value, AccumulatorLimits, CounterLimits}
+use Rattle.element.specs.declared.Write.{Write}
+use Rattle.element.specs.declared.Write.the-variants.{Value, AccumulatorLimits, CounterLimits}
 use Rattle.put_data.specs.declared.Next.{Next}
 use Rattle.put_data.specs.declared.Next.the-variants.{Element, End, Fault}
-use Rattle.put_data.specs.PutData.{lengthSize, lengthAt, valueWritten, limitsWritten, countsWritten, meaningOf, headSize, elementSize, elementMeaning}
+use Rattle.element.specs.Element.{lengthSize, lengthAt, valueWritten, limitsWritten, countsWritten, meaningOf, headSize, elementSize, elementMeaning}
 use Rattle.put_data.specs.PutData.{writesBy, isPutData, listPlace, macPlace, isSecured, elementsOf, writesOf, isValid, nextBy, nextIn, nextWrite}
 use Rattle.put_laws.specs.Written.{short, long, accumulators, counters, filler, element, listBytes, listWrites, AreOf, Command, written, Proper}
 use Rattle.put_laws.proofs.Octets.{four-bytes}

@@ -10,7 +10,7 @@ use lib.Seq.{take-append-seam, drop-append-seam, getD-append-seam, getD-append-a
 use lib.Dec.{eqb}
 use borrow.Author.Tests.{lt-ltb, le-leb, eq-eqb, ne-eqb}
 use Rattle.wire.specs.Wire.{byte, number}
-use Rattle.put_data.specs.PutData.{isLength, lengthSize, lengthAt}
+use Rattle.element.specs.Element.{isLength, lengthSize, lengthAt}
 use Rattle.put_data.specs.PutData.{writesIn, objectOf, isPutData}
 use Rattle.put_data.specs.PutData.{listPlace, macPlace, isSecured, elementsOf, writesOf}
 use Rattle.put_laws.specs.Written.{Form, short, long, lengthBytes, limit, Object}

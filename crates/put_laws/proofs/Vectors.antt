@@ -6,9 +6,9 @@ use Prim.Native.Nat.{ℕ, zero, suc, _/_, _%_}
 use Rattle.wire.specs.Wire.{number}
 use Rattle.money.specs.declared.AccumulatorAmount.{AccumulatorAmount}
 use Rattle.digits.specs.Digits.{arePairs, pairsValue}
-use Rattle.put_data.specs.declared.Write.{Write}
-use Rattle.put_data.specs.declared.Write.the-variants.{Value, AccumulatorLimits, CounterLimits}
-use Rattle.put_data.specs.PutData.{lengthSize, lengthAt, valueWritten, limitsWritten, countsWritten, meaningOf, headSize, elementSize, elementMeaning}
+use Rattle.element.specs.declared.Write.{Write}
+use Rattle.element.specs.declared.Write.the-variants.{Value, AccumulatorLimits, CounterLimits}
+use Rattle.element.specs.Element.{lengthSize, lengthAt, valueWritten, limitsWritten, countsWritten, meaningOf, headSize, elementSize, elementMeaning}
 use Rattle.put_data.specs.PutData.{writesBy, isPutData, listPlace, macPlace, isSecured, elementsOf, writesOf}
 
 -- n bytes, written as one number in hex

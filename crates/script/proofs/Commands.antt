@@ -10,7 +10,7 @@ use Rattle.rules.specs.declared.Values.{Values}
 use Rattle.rules.specs.Rules.{rulesOf}
 use Rattle.object.specs.Object.{placesFrom, cut, commandsOf}
 use Rattle.object.proofs.Cursor.{Step}
-use Rattle.put_data.specs.declared.Write.{Write}
+use Rattle.element.specs.declared.Write.{Write}
 use Rattle.put_data.specs.PutData.{writesOf, isSome, isValid}
 use Rattle.script.specs.declared.Scripts.{Scripts}
 use Rattle.script.specs.Script.{hasFailedHere, done, given, oneDone, oneFailed, Tried, behind, triedNext, tried, templateTried, ranOf, rulesRun, wordsRun}

@@ -8,7 +8,7 @@ use native.Mathlib.Nat.{mod-eq-of-lt, mod-add-mod, mod-lt, add-zero}
 use native.Mathlib.Omega.{arith}
 use lib.Dec.{lit<}
 use lib.ListN.{length}
-use Rattle.put_data.specs.declared.Write.{Write}
+use Rattle.element.specs.declared.Write.{Write}
 use Rattle.put_data.specs.PutData.{writesOf}
 use Rattle.script.specs.declared.Scripts.{Scripts}
 use Rattle.script.specs.Script.{countOf, hasFailed, hasFailedHere, restOf, kept, done, oneDone, oneFailed, Tried, behind, triedNext, tried}

@@ -17,8 +17,8 @@ use Rattle.rules.specs.declared.Values.{Values}
 use Rattle.rules.specs.Rules.{Rules, accumulatorRule, counterRule}
 use Rattle.rules.specs.Limits.{accumulatorWithin, counterWithin, withAccumulatorLimits, withCounterLimits}
 use Rattle.rules.proofs.Limits.{Whole, Stays, accumulator-limited, counter-limited}
-use Rattle.put_data.specs.declared.Write.{Write}
-use Rattle.put_data.specs.declared.Write.the-variants.{Value, AccumulatorLimits, CounterLimits}
+use Rattle.element.specs.declared.Write.{Write}
+use Rattle.element.specs.declared.Write.the-variants.{Value, AccumulatorLimits, CounterLimits}
 use Rattle.object.specs.Object.{commandsOf}
 use Rattle.script.specs.declared.Scripts.{Scripts}
 use Rattle.script.specs.Script.{valueIn, valuesWith, rulesWith, valuesAfter, rulesAfter, countOf, templateTried, ranOf, rulesRun}
@@ -96,7 +96,7 @@ module _ (v : Values) (ws : List Write) where
       ∙ getD-set-same (x .accumulators) i amount d (omega (arith, as-many))
 
 -- ---- RULES: only limits are written
-stays-refl : (r : Rules) → Stays r r
+pub stays-refl : (r : Rules) → Stays r r
 stays-refl r =
     record {
       key = refl;
@@ -115,7 +115,7 @@ stays-refl r =
       cashback = λ p. refl;
     }
 
-stays-trans : (q r s : Rules) → Stays q r → Stays r s → Stays q s
+pub stays-trans : (q r s : Rules) → Stays q r → Stays r s → Stays q s
 stays-trans q r s a b =
     record {
       key = b .key ∙ a .key;

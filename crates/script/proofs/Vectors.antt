@@ -13,7 +13,7 @@ use Rattle.rules.specs.Limits.{withAccumulatorLimits, withCounterLimits}
 use Rattle.digits.specs.Digits.{arePairs, pairsValue}
 use Rattle.object.specs.Object as object
 use Rattle.object.specs.Object.{valueSize, headFormed, headRight, placesBehind, placesFrom, cut, commandsOf}
-use Rattle.put_data.specs.PutData.{lengthSize, lengthAt, valueWritten, limitsWritten, countsWritten, meaningOf, headSize, elementSize, elementMeaning}
+use Rattle.element.specs.Element.{lengthSize, lengthAt, valueWritten, limitsWritten, countsWritten, meaningOf, headSize, elementSize, elementMeaning}
 use Rattle.put_data.specs.PutData.{writesBy, isPutData, listPlace, macPlace, isSecured, elementsOf, writesOf}
 use Rattle.script.specs.declared.Scripts.{Scripts}
 use Rattle.script.specs.Script.{valueIn, kept, freshScripts, oneDone, oneFailed, started, heard, marksOf, done, tried, templateTried, ranOf, rulesRun}

@@ -5,7 +5,7 @@ use mathlib.Core.Bool.{true}
 use Prim.Native.Nat.{ℕ}
 use Rattle.rules.specs.declared.Values.{Values}
 use Rattle.rules.specs.Rules.{rulesOf}
-use Rattle.put_data.specs.declared.Write.{Write}
+use Rattle.element.specs.declared.Write.{Write}
 use Rattle.put_data.specs.PutData.{writesOf, isValid}
 use Rattle.put_data.proofs.Cursor.{left, at-start}
 use Rattle.script.specs.Script.{valuesWith, rulesWith, wordsWith, valuesAfter, rulesAfter, wordsAfter, given}

@@ -10,8 +10,8 @@ use Rattle.rules.specs.declared.Values.{Values}
 use Rattle.rules.specs.Rules.{Rules}
 use Rattle.rules.specs.Limits.{withAccumulatorLimits, withCounterLimits, accumulatorLimitsPut, counterLimitsPut}
 use Rattle.object.specs.Object.{commandsOf}
-use Rattle.put_data.specs.declared.Write.{Write}
-use Rattle.put_data.specs.declared.Write.the-variants.{Value, AccumulatorLimits, CounterLimits}
+use Rattle.element.specs.declared.Write.{Write}
+use Rattle.element.specs.declared.Write.the-variants.{Value, AccumulatorLimits, CounterLimits}
 use Rattle.put_data.specs.PutData.{writesOf}
 use Rattle.script.specs.declared.Scripts.{Scripts}
 use Rattle.script.specs.declared.Ran.{Ran}

@@ -2,7 +2,7 @@
 use mathlib.Core.Path.{_≡_, refl, sym, ap, _∙_}
 use mathlib.Core.Bool.{Bool, true, false, cond, not, _&&_}
 use mathlib.Core.Logic.{_⊎_, inl, inr}
-use mathlib.Core.List.{List, [], _++_, append-nil}
+use mathlib.Core.List.{List, [], _∷_, _++_, append-nil}
 use Prim.Native.Nat.{ℕ, zero, suc, _+_, _-_, _%_, _^_, _<_, _≤_}
 use native.Mathlib.Omega.{arith}
 use borrow.Author.Tests.{eq-eqb, ne-eqb, eqb-true, eqb-false}
@@ -26,20 +26,22 @@ use Rattle.command.specs.declared.When.{When}
 use Rattle.command.specs.declared.When.the-variants.{Undated, On as DatedOn}
 use Rattle.command.specs.declared.First.{First}
 use Rattle.command.specs.declared.Second.{Second}
-use Rattle.command.specs.declared.Command.the-variants.{First as FirstCommand, Second as SecondCommand}
 use Rattle.command.specs.declared.ReadCommand.{ReadCommand}
-use Rattle.command.specs.declared.ReadCommand.the-variants.{Taken, Refused}
+use Rattle.command.specs.declared.ReadCommand.the-variants.{Refused}
 use Rattle.command.specs.Command.{plainLength, whenOf, startOf, firstOf, secondOf, commandOf, startSelected, selectingOf}
 use Rattle.command.specs.Command as C
+use Rattle.card.specs.Message.{FirstCommand, SecondCommand}
 use Rattle.spelling.specs.Spelling.{Bytes, big, Interface, unsaid, on, Presented, unshown, shown, Sent, names, brings, first, firstOn, second}
-use Rattle.spelling.specs.Spelling.{kindOf, startBytes, presentedBytes, firstBytes, dateBytes, bodyOf, Choice, byName, byFile}
-use Rattle.spelling.specs.Spelling.{Dates, undated, dated, CardFamily, cpa, cpace, Manner, FitFirst, FitDate, FitInterface, FitPresented, Fits}
+use Rattle.spelling.specs.Spelling.{script, kindOf, startBytes, presentedBytes, firstBytes, dateBytes, bodyOf, Choice, byName, byFile}
+use Rattle.spelling.specs.Spelling.{Dates, undated, dated, CardFamily, cpa, cpace, Scripting, unscripted, scripted, Manner}
+use Rattle.spelling.specs.Spelling.{FitFirst, FitDate, FitInterface, FitPresented, Fits}
 use Rattle.spelling.specs.Spelling.{cvmOf, cashbackOf, firstSent, standsFor}
-use Rattle.spelling.specs.Faults.{startLength, firstLength}
+use Rattle.spelling.specs.Faults.{startLength, firstLength, lastKind}
+use Rattle.spelling.specs.Sitting.{Read, sends, refuses, commandRead, scriptRead}
 use Rattle.spelling.proofs.Numbers.{no-bytes, number-small, bytes-drop, big-at, peel}
 
-abbrev pub of : Choice → Dates → CardFamily → Manner
-of choice dates family = record { choice = choice; dates = dates; family = family }
+abbrev pub of : Choice → Dates → CardFamily → Scripting → Manner
+of choice dates family scripts = record { choice = choice; dates = dates; family = family; scripts = scripts }
 
 -- what reads a record where profiles are chosen so, dates given so, and the card is of that family; where the tails stand is nothing to it
 abbrev pub datingOf : Dates → Dating
@@ -56,6 +58,15 @@ readAs (byFile file entries) dates family slots kind body = selectingOf (datingO
 
 abbrev pub readBy : Manner → Slots → ℕ → List ℕ → ReadCommand
 readBy manner slots kind body = readAs (manner .choice) (manner .dates) (manner .family) slots kind body
+
+-- and what it is read as: where scripts are on, one of kind 5 is a script
+abbrev pub isScripted : Scripting → Bool
+isScripted unscripted = false
+isScripted scripted = true
+
+abbrev pub hears : Manner → Slots → ℕ → List ℕ → Read
+hears manner slots kind body =
+    cond (eqb kind 5 && isScripted (manner .scripts)) (scriptRead body) (commandRead (readBy manner slots kind body))
 
 -- a Start aside, a record is read alike however profiles are chosen
 pub not-start : (manner : Manner) (slots : Slots) (kind : ℕ) (body : List ℕ) → (kind ≡ 2 → ⊥)
@@ -168,58 +179,60 @@ module _ (dates : Dates) (s : List ℕ) where
       (l, cvm-read s place r1 r2 r3 cashback r, cashback-read s place r1 r2 r3 cashback r)
 
   first-taken : (family : CardFamily) (when : When) (a b c d : ℕ) (p : Presented) → FirstIn a b c d s → whenOf (datingOf dates) s ≡ when
-      → Presents family p → commandOf (datingOf dates) (familyOf family) 3 s ≡ Taken (firstSent when a b c d p)
+      → Presents family p → commandRead (commandOf (datingOf dates) (familyOf family) 3 s) ≡ sends (firstSent when a b c d p)
   unfolding commandOf firstOf
   first-taken family when a b c d p r w q =
       rw (eq-eqb (length s) (C.firstLength (datingOf dates) (familyOf family)) (q .0))
-      (ap (λ (f : First). Taken (FirstCommand f)) (first-is (as-byte s 0 a (r .0)) (r .1) (r .2) (as-byte s 11 d (r .3)) w (q .1) (q .2)))
+      (ap (λ (f : First). sends (FirstCommand f)) (first-is (as-byte s 0 a (r .0)) (r .1) (r .2) (as-byte s 11 d (r .3)) w (q .1) (q .2)))
 
 second-taken : (dating : Dating) (family : Family) (a b c d : ℕ) → a < 256 → b < 256 ^ 2 → c < 256 → d < 256 ^ 4
-    → commandOf dating family 4 (secondBody a b c d) ≡ Taken (SecondCommand (record { requested = a; code = b; issuer = c; csu = d }))
+    → commandRead (commandOf dating family 4 (secondBody a b c d)) ≡ sends (SecondCommand (record { requested = a; code = b; issuer = c; csu = d }))
 unfolding commandOf secondOf big
 second-taken dating family a b c d ha hb hc hd =
     let r = second-read a b c d ha hb hc hd in
-    ap (λ (f : Second). Taken (SecondCommand f))
+    ap (λ (f : Second). sends (SecondCommand f))
     (second-is (as-byte (secondBody a b c d) 0 a (r .0)) (r .1) (as-byte (secondBody a b c d) 3 c (r .2)) (r .3))
 
-pub taken : (manner : Manner) (slots : Slots) (x : Sent) → Fits manner x → readBy manner slots (kindOf x) (bodyOf x) ≡ Taken (standsFor manner slots x)
+pub taken : (manner : Manner) (slots : Slots) (x : Sent) → Fits manner x → hears manner slots (kindOf x) (bodyOf x) ≡ sends (standsFor manner slots x)
 unfolding Fits kindOf bodyOf standsFor commandOf selectingOf startSelected startOf dateAt big
-taken manner slots x h = by (manner .choice) (manner .dates) (manner .family) x h where
-  by : (choice : Choice) (dates : Dates) (family : CardFamily) (x : Sent) → Fits (of choice dates family) x
-      → readAs choice dates family slots (kindOf x) (bodyOf x) ≡ Taken (standsFor (of choice dates family) slots x)
-  by byName dates cpa (names unsaid profile) h = let small : profile % 256 ≡ profile = omega arith in rw small
-  by byName dates cpa (names (on interface) profile) h = absurd (h .0)
-  by byName dates cpace (names unsaid profile) h = absurd (h .0)
-  by byName dates cpace (names (on interface) profile) h =
+taken manner slots x h = by (manner .choice) (manner .dates) (manner .family) (manner .scripts) x h where
+  by : (choice : Choice) (dates : Dates) (family : CardFamily) (scripts : Scripting) (x : Sent) → Fits (of choice dates family scripts) x
+      → hears (of choice dates family scripts) slots (kindOf x) (bodyOf x) ≡ sends (standsFor (of choice dates family scripts) slots x)
+  by byName dates cpa scripts (names unsaid profile) h = let small : profile % 256 ≡ profile = omega arith in rw small
+  by byName dates cpa scripts (names (on interface) profile) h = absurd (h .0)
+  by byName dates cpace scripts (names unsaid profile) h = absurd (h .0)
+  by byName dates cpace scripts (names (on interface) profile) h =
       let small : profile % 256 ≡ profile = omega arith in
       let little : interface % 256 ≡ interface = omega arith in
       rw (small, little)
-  by byName dates family (brings interface terminal) h = absurd h
-  by (byFile file entries) dates family (names interface profile) h = absurd h
-  by (byFile file entries) dates cpa (brings unsaid terminal) h = refl
-  by (byFile file entries) dates cpa (brings (on interface) terminal) h = absurd (h .0)
-  by (byFile file entries) dates cpace (brings unsaid terminal) h = absurd (h .0)
-  by (byFile file entries) dates cpace (brings (on interface) terminal) h =
+  by byName dates family scripts (brings interface terminal) h = absurd h
+  by (byFile file entries) dates family scripts (names interface profile) h = absurd h
+  by (byFile file entries) dates cpa scripts (brings unsaid terminal) h = refl
+  by (byFile file entries) dates cpa scripts (brings (on interface) terminal) h = absurd (h .0)
+  by (byFile file entries) dates cpace scripts (brings unsaid terminal) h = absurd (h .0)
+  by (byFile file entries) dates cpace scripts (brings (on interface) terminal) h =
       let little : interface % 256 ≡ interface = omega arith in
       rw (little, ne-eqb (suc (length terminal)) 0 (λ e. omega arith))
-  by choice dated family (first a b c d p) h = absurd h
-  by choice undated family (firstOn date a b c d p) h = absurd h
-  by choice undated family (first a b c d p) h =
+  by choice dated family scripts (first a b c d p) h = absurd h
+  by choice undated family scripts (firstOn date a b c d p) h = absurd h
+  by choice undated family scripts (first a b c d p) h =
       let s = firstBytes a b c d (presentedBytes p) in
-      not-start (of choice undated family) slots 3 s (λ e. omega arith)
+      ap commandRead (not-start (of choice undated family scripts) slots 3 s (λ e. omega arith))
       ∙ first-taken undated s family Undated a b c d p (first-read a b c d (presentedBytes p) (h .0)) refl
       (presented-read undated s family p refl (omega arith) (h .1))
-  by choice dated family (firstOn date a b c d p) h =
+  by choice dated family scripts (firstOn date a b c d p) h =
       let behind = dateBytes date ++ presentedBytes p in
       let s = firstBytes a b c d behind in
       let t = date-read a b c d date (presentedBytes p) (h .1) in
-      not-start (of choice dated family) slots 3 s (λ e. omega arith)
+      ap commandRead (not-start (of choice dated family scripts) slots 3 s (λ e. omega arith))
       ∙ first-taken dated s family (DatedOn date) a b c d p (first-read a b c d behind (h .0))
       (ap DatedOn (date-is (as-byte s 12 (date .year) (t .0)) (as-byte s 13 (date .month) (t .1)) (as-byte s 14 (date .day) (t .2))))
       (presented-read dated s family p refl (omega arith) (h .2))
-  by choice dates family (second a b c d) h =
-      not-start (of choice dates family) slots 4 (secondBody a b c d) (λ e. omega arith)
+  by choice dates family scripts (second a b c d) h =
+      ap commandRead (not-start (of choice dates family scripts) slots 4 (secondBody a b c d) (λ e. omega arith))
       ∙ second-taken (datingOf dates) (familyOf family) a b c d (h .0) (h .1) (h .2) (h .3)
+  by choice dates family unscripted (script result template) h = absurd h
+  by choice dates family scripted (script result template) h = let small : result % 256 ≡ result = omega arith in rw small
 
 -- ---- in one way
 
@@ -250,11 +263,14 @@ first-from dated family body =
 abbrev second-from : List ℕ → Sent
 second-from body = second (number body 0 1) (number body 1 2) (number body 3 1) (number body 4 4)
 
+abbrev script-from : List ℕ → Sent
+script-from body = script (number body 0 1) (drop 1 body)
+
 -- what kind and body are the spelling of
 sent-from : Manner → ℕ → List ℕ → Sent
 sent-from manner kind body =
     cond (eqb kind 3) (first-from (manner .dates) (manner .family) body)
-    (cond (eqb kind 4) (second-from body) (start-from (manner .choice) (manner .family) body))
+    (cond (eqb kind 4) (second-from body) (cond (eqb kind 5) (script-from body) (start-from (manner .choice) (manner .family) body)))
 
 start-back : (family : CardFamily) (interface : Interface) (behind : List ℕ) → FitInterface family interface
     → (interface-from family (startBytes interface behind) ≡ interface) × (behind-from family (startBytes interface behind) ≡ behind)
@@ -277,30 +293,33 @@ name-read profile h = big-at (big 1 profile) 0 1 profile [] refl h
 
 back : (manner : Manner) (x : Sent) → Fits manner x → sent-from manner (kindOf x) (bodyOf x) ≡ x
 unfolding Fits kindOf bodyOf sent-from big
-back manner x h = by (manner .choice) (manner .dates) x h where
-  by : (choice : Choice) (dates : Dates) (x : Sent) → Fits (of choice dates (manner .family)) x
-      → sent-from (of choice dates (manner .family)) (kindOf x) (bodyOf x) ≡ x
-  by byName dates (names interface profile) h =
+back manner x h = by (manner .choice) (manner .dates) (manner .scripts) x h where
+  by : (choice : Choice) (dates : Dates) (scripts : Scripting) (x : Sent) → Fits (of choice dates (manner .family) scripts) x
+      → sent-from (of choice dates (manner .family) scripts) (kindOf x) (bodyOf x) ≡ x
+  by byName dates scripts (names interface profile) h =
       let r = start-back (manner .family) interface (big 1 profile) (h .0) in
       let name = name-read profile (h .1) in
       cc
-  by byName dates (brings interface terminal) h = absurd h
-  by (byFile file entries) dates (names interface profile) h = absurd h
-  by (byFile file entries) dates (brings interface terminal) h = let r = start-back (manner .family) interface terminal (h .0) in cc
-  by choice undated (first a b c d p) h =
+  by byName dates scripts (brings interface terminal) h = absurd h
+  by (byFile file entries) dates scripts (names interface profile) h = absurd h
+  by (byFile file entries) dates scripts (brings interface terminal) h = let r = start-back (manner .family) interface terminal (h .0) in cc
+  by choice undated scripts (first a b c d p) h =
       let r = first-read a b c d (presentedBytes p) (h .0) in
       let q = presented-back (manner .family) (firstBytes a b c d (presentedBytes p)) 12 p refl (h .1) in
       cc
-  by choice dated (first a b c d p) h = absurd h
-  by choice undated (firstOn date a b c d p) h = absurd h
-  by choice dated (firstOn date a b c d p) h =
+  by choice dated scripts (first a b c d p) h = absurd h
+  by choice undated scripts (firstOn date a b c d p) h = absurd h
+  by choice dated scripts (firstOn date a b c d p) h =
       let behind = dateBytes date ++ presentedBytes p in
       let r = first-read a b c d behind (h .0) in
       let t = date-read a b c d date (presentedBytes p) (h .1) in
       let same = date-is (t .0) (t .1) (t .2) in
       let q = presented-back (manner .family) (firstBytes a b c d behind) 15 p refl (h .2) in
       cc
-  by choice dates (second a b c d) h = let r = second-read a b c d (h .0) (h .1) (h .2) (h .3) in cc
+  by choice dates scripts (second a b c d) h = let r = second-read a b c d (h .0) (h .1) (h .2) (h .3) in cc
+  by choice dates unscripted (script result template) h = absurd h
+  by choice dates scripted (script result template) h =
+      ap (λ (n : ℕ). script n template) (big-at (big 1 result ++ template) 0 1 result template refl (h .0))
 
 pub one-sent : (manner : Manner) (x y : Sent) → Fits manner x → Fits manner y → kindOf x ≡ kindOf y → bodyOf x ≡ bodyOf y → x ≡ y
 one-sent manner x y h k p q = sym (back manner x h) ∙ rw (p, q) (back manner y k)
@@ -310,15 +329,21 @@ one-sent manner x y h k p q = sym (back manner x h) ∙ rw (p, q) (back manner y
 -- why kind and body are no command
 pub data Wrong (manner : Manner) (kind : ℕ) (body : List ℕ) : Type 0 where
   a-setup : kind ≡ 1 → Wrong manner kind body
-  no-command : (kind ≡ 0) ⊎ (4 < kind) → Wrong manner kind body
+  no-command : (kind ≡ 0) ⊎ (lastKind (manner .scripts) < kind) → Wrong manner kind body
   bad-start : kind ≡ 2 → manner .choice ≡ byName → (length body ≡ startLength (manner .family) → ⊥) → Wrong manner kind body
   bad-empty : kind ≡ 2 → body ≡ [] → manner .family ≡ cpace → Wrong manner kind body
   bad-first : kind ≡ 3 → (length body ≡ firstLength (manner .dates) (manner .family) → ⊥) → Wrong manner kind body
   bad-second : kind ≡ 4 → (length body ≡ 8 → ⊥) → Wrong manner kind body
+  bad-script : kind ≡ 5 → body ≡ [] → manner .scripts ≡ scripted → Wrong manner kind body
 
 pub data Meaning (manner : Manner) (kind : ℕ) (body : List ℕ) : Type 0 where
   sent : (x : Sent) → Fits manner x → kind ≡ kindOf x → body ≡ bodyOf x → Meaning manner kind body
   wrong : Wrong manner kind body → Meaning manner kind body
+
+-- the last kind that is known is 4 or 5
+last-kind : (scripts : Scripting) → (4 ≤ lastKind scripts) × (lastKind scripts ≤ 5)
+last-kind unscripted = (omega arith, omega arith)
+last-kind scripted = (omega arith, omega arith)
 
 -- how many bytes only a CPACE card is sent
 abbrev interfaceLength : CardFamily → ℕ
@@ -422,7 +447,8 @@ module _ (body : List ℕ) (bytes : Bytes body) where
   start-means : (manner : Manner) → length body < 65535 → Meaning manner 2 body
   unfolding Fits kindOf bodyOf
   start-means manner sized = by (manner .choice) where
-    by-length : (b : Bool) → eqb (length body) (startLength (manner .family)) ≡ b → Meaning (of byName (manner .dates) (manner .family)) 2 body
+    by-length : (b : Bool) → eqb (length body) (startLength (manner .family)) ≡ b
+        → Meaning (of byName (manner .dates) (manner .family) (manner .scripts)) 2 body
     by-length true e =
         let family = manner .family in
         let behind = behind-from family body in
@@ -433,18 +459,18 @@ module _ (body : List ℕ) (bytes : Bytes body) where
     by-length false e = wrong (bad-start refl refl (eqb-false (length body) (startLength (manner .family)) e))
 
     brought : (file : List ℕ) (entries : ℕ) (family : CardFamily) → interfaceLength family ≤ length body
-        → Meaning (of (byFile file entries) (manner .dates) family) 2 body
+        → Meaning (of (byFile file entries) (manner .dates) family (manner .scripts)) 2 body
     brought file entries family h =
         let is = start-there family h in
         sent (start-from (byFile file entries) family body) (interface-fits family, rw (← is) sized, behind-bytes family) refl is
 
     by-file : (file : List ℕ) (entries : ℕ) (family : CardFamily) (b : Bool) → eqb (length body) 0 ≡ b
-        → Meaning (of (byFile file entries) (manner .dates) family) 2 body
+        → Meaning (of (byFile file entries) (manner .dates) family (manner .scripts)) 2 body
     by-file file entries cpa b e = brought file entries cpa (omega arith)
     by-file file entries cpace true e = wrong (bad-empty refl (no-bytes body (omega (arith, eqb-true (length body) 0 e))) refl)
     by-file file entries cpace false e = brought file entries cpace (omega (arith, eqb-false (length body) 0 e))
 
-    by : (choice : Choice) → Meaning (of choice (manner .dates) (manner .family)) 2 body
+    by : (choice : Choice) → Meaning (of choice (manner .dates) (manner .family) (manner .scripts)) 2 body
     by byName = by-length (eqb (length body) (startLength (manner .family))) refl
     by (byFile file entries) = by-file file entries (manner .family) (eqb (length body) 0) refl
 
@@ -452,7 +478,7 @@ module _ (body : List ℕ) (bytes : Bytes body) where
   unfolding Fits kindOf bodyOf
   first-means manner = by (manner .dates) (manner .family) (eqb (length body) (firstLength (manner .dates) (manner .family))) refl where
     by : (dates : Dates) (family : CardFamily) (b : Bool) → eqb (length body) (firstLength dates family) ≡ b
-        → Meaning (of (manner .choice) dates family) 3 body
+        → Meaning (of (manner .choice) dates family (manner .scripts)) 3 body
     by undated family true e =
         let size : length body ≡ 12 + presentedLength family = eqb-true (length body) (firstLength undated family) e ∙ first-length-is undated family in
         sent (first-from undated family body) (fields-small, presented-fits family 12) refl
@@ -471,13 +497,25 @@ module _ (body : List ℕ) (bytes : Bytes body) where
     by true e = sent (second-from body) (small 0 1, small 1 2, small 3 1, small 4 4) refl (second-there (eqb-true (length body) 8 e))
     by false e = wrong (bad-second refl (eqb-false (length body) 8 e))
 
+  script-means : (manner : Manner) → length body < 65535 → Meaning manner 5 body
+  unfolding Fits kindOf bodyOf big
+  script-means manner sized = by body bytes sized (manner .scripts) where
+    by : (s : List ℕ) → Bytes s → length s < 65535 → (scripts : Scripting)
+        → Meaning (of (manner .choice) (manner .dates) (manner .family) scripts) 5 s
+    by s h l unscripted = wrong (no-command (inr (omega arith)))
+    by [] h l scripted = wrong (bad-script refl refl refl)
+    by (result ∷ template) h l scripted =
+        let small : result ≡ result % 256 = omega arith in
+        sent (script result template) (h .0, omega arith, h .1) refl (ap (λ (b : ℕ). b ∷ template) small)
+
   pub meaning : (manner : Manner) (kind : ℕ) → length body < 65535 → Meaning manner kind body
   meaning manner zero sized = wrong (no-command (inl refl))
   meaning manner (suc zero) sized = wrong (a-setup refl)
   meaning manner (suc (suc zero)) sized = start-means manner sized
   meaning manner (suc (suc (suc zero))) sized = first-means manner
   meaning manner (suc (suc (suc (suc zero)))) sized = second-means manner
-  meaning manner (suc (suc (suc (suc (suc n))))) sized = wrong (no-command (inr (omega arith)))
+  meaning manner (suc (suc (suc (suc (suc zero))))) sized = script-means manner sized
+  meaning manner (suc (suc (suc (suc (suc (suc n)))))) sized = wrong (no-command (inr (omega (arith, last-kind (manner .scripts) .1))))
 
 -- ---- and what is wrong is refused
 
@@ -502,15 +540,40 @@ unfolding commandOf selectingOf startSelected
 empty-refused byName dates slots = refl
 empty-refused (byFile file entries) dates slots = refl
 
-pub refused-wrong : (manner : Manner) (slots : Slots) (kind : ℕ) (body : List ℕ) → Wrong manner kind body → readBy manner slots kind body ≡ Refused Unreadable
-unfolding commandOf
-refused-wrong manner slots kind body (a-setup e) = other manner slots kind body (λ h. omega arith) (λ h. omega arith) (λ h. omega arith)
-refused-wrong manner slots kind body (no-command (inl e)) = other manner slots kind body (λ h. omega arith) (λ h. omega arith) (λ h. omega arith)
-refused-wrong manner slots kind body (no-command (inr l)) = other manner slots kind body (λ h. omega arith) (λ h. omega arith) (λ h. omega arith)
-refused-wrong manner slots kind body (bad-start e c n) =
-    rw (c, e, start-asked (manner .family), ne-eqb (length body) (startLength (manner .family)) n)
-refused-wrong manner slots kind body (bad-empty e z f) = rw (e, z, f) (empty-refused (manner .choice) (manner .dates) slots)
-refused-wrong manner slots kind body (bad-first e n) =
-    not-start manner slots kind body (λ h. omega arith)
-    ∙ rw (e, first-asked (manner .dates) (manner .family), ne-eqb (length body) (firstLength (manner .dates) (manner .family)) n)
-refused-wrong manner slots kind body (bad-second e n) = not-start manner slots kind body (λ h. omega arith) ∙ rw (e, ne-eqb (length body) 8 n)
+module _ (manner : Manner) (slots : Slots) (kind : ℕ) (body : List ℕ) where
+  -- no script: above the last kind that is known there is none
+  not-five : (kind ≡ 5 → ⊥) → (eqb kind 5 && isScripted (manner .scripts)) ≡ false
+  not-five n = rw (ne-eqb kind 5 n)
+
+  beyond : (scripts : Scripting) → lastKind scripts < kind → (eqb kind 5 && isScripted scripts) ≡ false
+  beyond unscripted l = by (eqb kind 5) where
+    by : (b : Bool) → (b && false) ≡ false
+    by true = refl
+    by false = refl
+  beyond scripted l = rw (ne-eqb kind 5 (λ e. omega arith))
+
+  -- and no command
+  unheard : (eqb kind 5 && isScripted (manner .scripts)) ≡ false → readBy manner slots kind body ≡ Refused Unreadable
+      → hears manner slots kind body ≡ refuses Unreadable
+  unheard n e = rw (n, e)
+
+  pub refused-wrong : Wrong manner kind body → hears manner slots kind body ≡ refuses Unreadable
+  unfolding commandOf
+  refused-wrong (a-setup e) =
+      unheard (not-five (λ h. omega arith)) (other manner slots kind body (λ h. omega arith) (λ h. omega arith) (λ h. omega arith))
+  refused-wrong (no-command (inl e)) =
+      unheard (not-five (λ h. omega arith)) (other manner slots kind body (λ h. omega arith) (λ h. omega arith) (λ h. omega arith))
+  refused-wrong (no-command (inr l)) =
+      let above : 4 < kind = omega (arith, last-kind (manner .scripts) .0) in
+      unheard (beyond (manner .scripts) l) (other manner slots kind body (λ h. omega arith) (λ h. omega arith) (λ h. omega arith))
+  refused-wrong (bad-start e c n) =
+      unheard (not-five (λ h. omega arith)) (rw (c, e, start-asked (manner .family), ne-eqb (length body) (startLength (manner .family)) n))
+  refused-wrong (bad-empty e z f) =
+      unheard (not-five (λ h. omega arith)) (rw (e, z, f) (empty-refused (manner .choice) (manner .dates) slots))
+  refused-wrong (bad-first e n) =
+      unheard (not-five (λ h. omega arith))
+      (not-start manner slots kind body (λ h. omega arith)
+      ∙ rw (e, first-asked (manner .dates) (manner .family), ne-eqb (length body) (firstLength (manner .dates) (manner .family)) n))
+  refused-wrong (bad-second e n) =
+      unheard (not-five (λ h. omega arith)) (not-start manner slots kind body (λ h. omega arith) ∙ rw (e, ne-eqb (length body) 8 n))
+  refused-wrong (bad-script e z f) = rw (e, z, f)

@@ -41,7 +41,7 @@ use Rattle.conversation.specs.declared.Event.the-variants.{Refused}
 use Rattle.conversation.specs.Conversation.{setUpEvent, begunOf, baseBegun, setupBegun, shapedBegun, setupWords, wordsBegun}
 use Rattle.conversation.specs.Events.{eventsOf}
 use Rattle.lines.specs.Sitting.{linesOf, sittingLines}
-use Rattle.spelling.specs.Spelling.{Bytes, Sent, spellAll, choiceIn, datesIn, familyIn, Manner, mannerIn, AllFit}
+use Rattle.spelling.specs.Spelling.{Bytes, Sent, spellAll, choiceIn, datesIn, familyIn, scriptsIn, Manner, mannerIn, AllFit}
 use Rattle.spelling.specs.Faults.{OpenFault, Opens}
 use Rattle.spelling.specs.Sitting.{Lies, setupFrom, SetUp, NotSetUp, no-shape, no-base, Ends, rulesFrom, cardFrom, sittingOf}
 use Rattle.spelling.specs.Sitting.{Sat, unread, not-set-up, sat}
@@ -151,7 +151,13 @@ module _ (words s : List ℕ) (version : ℕ) (body rest : List ℕ) (o : Opens 
     -- a paper's commands are in the manner that its set-up's body says
     pub chooses : mannerIn (shapeAt 4 shape) s ≡ mannerIn shape body
     chooses =
-        λ i. record { choice = same-choice i; dates = same-dates (shape .dating) i; family = same-family (shape .family) i }
+        λ i.
+        record {
+          choice = same-choice i;
+          dates = same-dates (shape .dating) i;
+          family = same-family (shape .family) i;
+          scripts = scriptsIn (shape .scripting);
+        }
 
     module _ (bytes : Bytes s) (lent : length words ≡ wordCount) where
       pub rules-are : rulesOf (wordsAfter words base tail controls (shape .syllabus) (shape .unnamed)) ≡ rulesFrom shape body
@@ -172,9 +178,9 @@ module _ (words s : List ℕ) (version : ℕ) (body rest : List ℕ) (o : Opens 
           let manner = mannerIn shape body in
           rw (r .0, r .1, t .shape-is, F.started base tail controls (shape .unnamed) good, rules-are)
           (ap (λ (l : List (List ℕ)). refusalLine 0 0 ∷ l)
-          (ap (linesOf 1) (events-by rules (shapeAt 4 shape) s lies-there manner chooses xs (length s) (cardFrom shape body) (4 + length body) fit end ends
+          (ap (linesOf 1) (events-by (shapeAt 4 shape) s lies-there manner chooses xs (length s) rules (cardFrom shape body) (4 + length body) fit end ends
           (r .2 ∙ e) (omega (arith, length-drop (4 + length body) s)))
-          ∙ lines-happened rules manner end ends xs (cardFrom shape body) 1))
+          ∙ lines-happened manner end ends xs rules (cardFrom shape body) 1))
 
 -- ---- every other paper
 

@@ -9,14 +9,14 @@ use Rattle.slot.specs.declared.Slots.{Slots}
 use Rattle.paper.specs.declared.Next.the-variants.{Record}
 use Rattle.paper.specs.Paper.{nextAt}
 use Rattle.paper.specs.Walk.{part}
-use Rattle.command.specs.declared.ReadCommand.the-variants.{Taken}
 use Rattle.spelling.specs.Spelling.{Bytes, Sent, kindOf, bodyOf, spell, spellAll, Manner, Fits, AllFit, standsFor}
 use Rattle.spelling.specs.Faults.{Whole, RestFault, broken, repeated, unknown, start-length, start-empty, first-length, second-length}
-use Rattle.spelling.specs.Sitting.{Ends, ended, faulty}
+use Rattle.spelling.specs.Faults.{script-empty}
+use Rattle.spelling.specs.Sitting.{sends, Ends, ended, faulty}
 use Rattle.spelling.proofs.Numbers.{bytes-behind}
 use Rattle.spelling.proofs.Shapes.{record-length, next-broken, next-whole, body-there, rest-there}
-use Rattle.spelling.proofs.Commands.{readBy, taken, one-sent, refused-wrong}
-use Rattle.spelling.proofs.Commands.{Wrong, a-setup, no-command, bad-start, bad-empty, bad-first, bad-second}
+use Rattle.spelling.proofs.Commands.{hears, taken, one-sent, refused-wrong}
+use Rattle.spelling.proofs.Commands.{Wrong, a-setup, no-command, bad-start, bad-empty, bad-first, bad-second, bad-script}
 use Rattle.spelling.proofs.Records.{View, none, fault, spelled, view, whole-spelled}
 
 -- ---- in a way
@@ -96,7 +96,7 @@ module _ (manner : Manner) where
       → (kind : ℕ) (body : List ℕ) → Whole s kind body → Wrong manner kind body → ⊥
   not-wrong s x more h e kind body w cause =
       let same = one-whole s (kindOf x) kind (bodyOf x) body (whole-spelled manner x h s more e) w in
-      let read : readBy manner none-tested kind body ≡ Taken (standsFor manner none-tested x) =
+      let read : hears manner none-tested kind body ≡ sends (standsFor manner none-tested x) =
       rw (← same .kinds, ← same .bodies) (taken manner none-tested x h) in
       let z : _≡_ {A = ℕ} 0 1 = cc (refused-wrong manner none-tested kind body cause) in
       omega arith
@@ -113,6 +113,7 @@ module _ (manner : Manner) where
   not-both s x more h e (start-empty w f) = not-wrong s x more h e 2 [] w (bad-empty refl refl f)
   not-both s x more h e (first-length body w n) = not-wrong s x more h e 3 body w (bad-first refl n)
   not-both s x more h e (second-length body w n) = not-wrong s x more h e 4 body w (bad-second refl n)
+  not-both s x more h e (script-empty w f) = not-wrong s x more h e 5 [] w (bad-script refl refl f)
 
   not-ended : (s : List ℕ) (x : Sent) (more : List ℕ) → Fits manner x → s ≡ spell x ++ more → Ends manner s → ⊥
   not-ended s x more h e (ended z) =

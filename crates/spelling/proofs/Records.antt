@@ -1,5 +1,7 @@
 -- One record: what is sent is read as that, whatever is read was sent, and refusal 9 has one of its causes. Assumes nothing.
 use mathlib.Core.Path.{_≡_, refl, sym, ap, subst, _∙_}
+use mathlib.Core.Bool.{Bool, true, false, _&&_}
+use lib.Dec.{eqb}
 use mathlib.Core.Logic.{_↔_}
 use mathlib.Core.List.{List, [], _++_}
 use Prim.Native.Nat.{ℕ, _+_, _-_, _<_, _≤_}
@@ -20,22 +22,22 @@ use Rattle.shape.specs.declared.Shape.{Shape as PaperShape}
 use Rattle.paper.specs.declared.Next.the-variants.{Record, Fault}
 use Rattle.paper.specs.Paper.{nextAt, nextNumber}
 use Rattle.paper.specs.Walk.{part}
-use Rattle.command.specs.declared.Command.{Command}
-use Rattle.command.specs.declared.ReadCommand.{ReadCommand}
-use Rattle.command.specs.declared.ReadCommand.the-variants.{Taken, Refused}
 use Rattle.command.specs.Command.{startOf, firstOf, commandOf, startSelected, selectingOf, slotsOf, commandIn}
 use Rattle.command.specs.Command as C
+use Rattle.card.specs.Message.{Message}
 use Rattle.spelling.specs.Spelling.{Bytes, big, recordOf, Interface, unsaid, on, Presented, unshown, shown, Sent, names, brings, first, firstOn}
-use Rattle.spelling.specs.Spelling.{second, kindOf, interfaceBytes, presentedBytes, bodyOf, spell}
-use Rattle.spelling.specs.Spelling.{Choice, byName, byFile, choiceIn, Dates, datesIn, familyIn, Manner, mannerIn, Fits, slotsIn, standsFor}
+use Rattle.spelling.specs.Spelling.{second, script, kindOf, interfaceBytes, presentedBytes, bodyOf, spell}
+use Rattle.spelling.specs.Spelling.{Choice, byName, byFile, choiceIn, Dates, datesIn, familyIn, Scripting, unscripted, scripted, scriptsIn}
+use Rattle.spelling.specs.Spelling.{Manner, mannerIn, Fits, slotsIn, standsFor}
 use Rattle.spelling.specs.Faults.{Broken, Whole, RestFault, broken, repeated, unknown, start-length, start-empty, first-length, second-length}
-use Rattle.spelling.specs.Sitting.{over, refused, command, readingIn, readingOf, reading, Lies, Spelled}
+use Rattle.spelling.specs.Faults.{script-empty}
+use Rattle.spelling.specs.Sitting.{Read, sends, refuses, recordRead, over, refused, message, readingIn, readingOf, reading, Lies, Spelled}
 use Rattle.spelling.proofs.Numbers.{bytes-drop, bytes-front}
 use Rattle.spelling.proofs.Shapes as S
 use Rattle.spelling.proofs.Shapes.{Shape, nothing, whole, shape, record-is, record-length, shift, next-drop, part-drop}
 use Rattle.spelling.proofs.Shapes.{next-nothing, next-broken, next-whole, body-there}
-use Rattle.spelling.proofs.Commands.{of, datingOf, familyOf, readBy, taken, Wrong, a-setup, no-command, bad-start, bad-empty, bad-first, bad-second}
-use Rattle.spelling.proofs.Commands.{refused-wrong, Meaning, sent, wrong, meaning}
+use Rattle.spelling.proofs.Commands.{of, datingOf, familyOf, readBy, isScripted, hears, taken}
+use Rattle.spelling.proofs.Commands.{Wrong, a-setup, no-command, bad-start, bad-empty, bad-first, bad-second, bad-script, refused-wrong, Meaning, sent, wrong, meaning}
 
 -- ---- what can stand at the front
 
@@ -51,6 +53,7 @@ as-fault manner s kind body w (bad-start e c n) = start-length body (subst (λ (
 as-fault manner s kind body w (bad-empty e z f) = start-empty (subst (λ (k : ℕ). Whole s k []) e (subst (Whole s kind) z w)) f
 as-fault manner s kind body w (bad-first e n) = first-length body (subst (λ (k : ℕ). Whole s k body) e w) n
 as-fault manner s kind body w (bad-second e n) = second-length body (subst (λ (k : ℕ). Whole s k body) e w) n
+as-fault manner s kind body w (bad-script e z f) = script-empty (subst (λ (k : ℕ). Whole s k []) e (subst (Whole s kind) z w)) f
 
 body-bytes : (s : List ℕ) (kind : ℕ) (body : List ℕ) → Bytes s → Whole s kind body → Bytes body
 body-bytes s kind body h w =
@@ -71,7 +74,7 @@ view manner s h = by-shape (shape s h) where
 -- a record of what fits has a length of 2 bytes
 pub body-short : (manner : Manner) (x : Sent) → Fits manner x → length (bodyOf x) < 65535
 unfolding Fits bodyOf big
-body-short manner x h = by (manner .choice) (manner .dates) x h where
+body-short manner x h = by (manner .choice) (manner .dates) (manner .scripts) x h where
   interface-short : (i : Interface) → length (interfaceBytes i) ≤ 1
   interface-short unsaid = omega arith
   interface-short (on interface) = omega arith
@@ -80,15 +83,17 @@ body-short manner x h = by (manner .choice) (manner .dates) x h where
   presented-short unshown = omega arith
   presented-short (shown r1 r2 r3 cashback) = omega arith
 
-  by : (choice : Choice) (dates : Dates) (x : Sent) → Fits (of choice dates (manner .family)) x → length (bodyOf x) < 65535
-  by byName dates (names interface profile) h =
+  by : (choice : Choice) (dates : Dates) (scripts : Scripting) (x : Sent) → Fits (of choice dates (manner .family) scripts) x → length (bodyOf x) < 65535
+  by byName dates scripts (names interface profile) h =
       omega (arith, length-append (interfaceBytes interface) (big 1 profile), interface-short interface)
-  by byName dates (brings interface terminal) h = absurd h
-  by (byFile file entries) dates (names interface profile) h = absurd h
-  by (byFile file entries) dates (brings interface terminal) h = h .1
-  by choice dates (first a b c d p) h = omega (arith, presented-short p)
-  by choice dates (firstOn date a b c d p) h = omega (arith, presented-short p)
-  by choice dates (second a b c d) h = omega arith
+  by byName dates scripts (brings interface terminal) h = absurd h
+  by (byFile file entries) dates scripts (names interface profile) h = absurd h
+  by (byFile file entries) dates scripts (brings interface terminal) h = h .1
+  by choice dates scripts (first a b c d p) h = omega (arith, presented-short p)
+  by choice dates scripts (firstOn date a b c d p) h = omega (arith, presented-short p)
+  by choice dates scripts (second a b c d) h = omega arith
+  by choice dates unscripted (script result template) h = absurd h
+  by choice dates scripted (script result template) h = omega arith
 
 abbrev pub whole-spelled : (manner : Manner) (x : Sent) → Fits manner x → (s more : List ℕ) → s ≡ spell x ++ more → Whole s (kindOf x) (bodyOf x)
 whole-spelled manner x h s more e = record { more = more; is = e; sized = body-short manner x h }
@@ -118,18 +123,33 @@ unfolding commandIn
 commands-same form values s h kind body = rw (slots-same (form .family) values) (by (slotsIn (familyIn (form .family)) values) (form .selecting) h) where
   by : (slots : Slots) (selecting : Selecting) → Lies selecting s
       → C.readBy selecting (form .dating) (form .family) slots s kind body
-      ≡ readBy (of (choiceIn selecting s) (datesIn (form .dating)) (familyIn (form .family))) slots kind body
+      ≡ readBy (of (choiceIn selecting s) (datesIn (form .dating)) (familyIn (form .family)) (scriptsIn (form .scripting))) slots kind body
   by slots Off h = tails-aside slots [] 0 kind body (form .dating) (form .family) .0
   by slots (On start end entries) h =
       rw (le-leb start end (h .0), le-leb end (length s) (h .1))
       (tails-aside slots (take (end - start) (drop start s)) entries kind body (form .dating) (form .family) .1)
 
+scripts-same : (b : Bool) → isScripted (scriptsIn b) ≡ b
+scripts-same true = refl
+scripts-same false = refl
+
+either-first : (a b : Bool) → (a && b) ≡ (b && a)
+either-first true true = refl
+either-first true false = refl
+either-first false true = refl
+either-first false false = refl
+
+records-same : (form : PaperShape) (values : Values) (s : List ℕ) → Lies (form .selecting) s → (kind : ℕ) (body : List ℕ)
+    → recordRead form values s kind body ≡ hears (mannerIn form s) (slotsIn (familyIn (form .family)) values) kind body
+records-same form values s h kind body =
+    rw (commands-same form values s h kind body, either-first (form .scripting) (eqb kind 5), scripts-same (form .scripting))
+
 -- a record stands at a place, is read as that by the card's values, and the next place is its end
-pub record Stands (form : PaperShape) (values : Values) (s : List ℕ) (at : ℕ) (read : ReadCommand) (end : ℕ) : Type 0 where
+pub record Stands (form : PaperShape) (values : Values) (s : List ℕ) (at : ℕ) (read : Read) (end : ℕ) : Type 0 where
   pub kind : ℕ
   pub start : ℕ
   pub next : nextAt s at ≡ Record kind start end
-  pub is : commandIn form values s kind (part s start end) ≡ read
+  pub is : recordRead form values s kind (part s start end) ≡ read
 
 module _ (form : PaperShape) (values : Values) (s : List ℕ) (lies : Lies (form .selecting) s) (at : ℕ) where
   abbrev manner : Manner
@@ -139,7 +159,7 @@ module _ (form : PaperShape) (values : Values) (s : List ℕ) (lies : Lies (form
   slots = slotsIn (manner .family) values
 
   stands : (kind : ℕ) (body : List ℕ) → Whole (drop at s) kind body
-      → Stands form values s at (readBy manner slots kind body) (at + (3 + length body))
+      → Stands form values s at (hears manner slots kind body) (at + (3 + length body))
   stands kind body w =
       let there : nextAt (drop at s) 0 ≡ Record kind 3 (3 + length body) = rw (w .is) (next-whole kind body (w .more) (w .sized)) in
       let inside : part (drop at s) 3 (3 + length body) ≡ body = rw (w .is) (body-there kind body (w .more)) in
@@ -147,11 +167,11 @@ module _ (form : PaperShape) (values : Values) (s : List ℕ) (lies : Lies (form
         kind = kind;
         start = at + 3;
         next = next-drop s at ∙ ap (shift at) there;
-        is = ap (commandIn form values s kind) (part-drop s at 3 (3 + length body) ∙ inside) ∙ commands-same form values s lies kind body;
+        is = ap (recordRead form values s kind) (part-drop s at 3 (3 + length body) ∙ inside) ∙ records-same form values s lies kind body;
       }
 
   pub sent-stands : (x : Sent) → Fits manner x → (rest : List ℕ) → drop at s ≡ spell x ++ rest
-      → Stands form values s at (Taken (standsFor manner slots x)) (at + length (spell x))
+      → Stands form values s at (sends (standsFor manner slots x)) (at + length (spell x))
   sent-stands x h rest e =
       let st = stands (kindOf x) (bodyOf x) (whole-spelled manner x h (drop at s) rest e) in
       rw (record-length (kindOf x) (bodyOf x), ← taken manner slots x h) st
@@ -159,7 +179,7 @@ module _ (form : PaperShape) (values : Values) (s : List ℕ) (lies : Lies (form
   -- no whole record stands there, or one that is refused
   pub data Faulty : Type 0 where
     at-next : nextAt s at ≡ Fault → Faulty
-    at-record : (end : ℕ) → Stands form values s at (Refused Unreadable) end → Faulty
+    at-record : (end : ℕ) → Stands form values s at (refuses Unreadable) end → Faulty
 
   wrongly : (kind : ℕ) (body : List ℕ) → Whole (drop at s) kind body → Wrong manner kind body → Faulty
   wrongly kind body w cause =
@@ -173,15 +193,16 @@ module _ (form : PaperShape) (values : Values) (s : List ℕ) (lies : Lies (form
   faulty (start-empty w f) = wrongly 2 [] w (bad-empty refl refl f)
   faulty (first-length body w n) = wrongly 3 body w (bad-first refl n)
   faulty (second-length body w n) = wrongly 4 body w (bad-second refl n)
+  faulty (script-empty w f) = wrongly 5 [] w (bad-script refl refl f)
 
   -- what is read there
-  reads-stood : (read : ReadCommand) (end : ℕ) → Stands form values s at read end → reading form values s at ≡ readingOf end read
+  reads-stood : (read : Read) (end : ℕ) → Stands form values s at read end → reading form values s at ≡ readingOf end read
   unfolding reading
   reads-stood read end st = ap (readingIn form values s) (st .next) ∙ ap (readingOf end) (st .is)
 
-  -- WHAT IS SPELLED AT A PLACE IS READ AS THAT COMMAND, AND THE READER GOES ON BEHIND IT
+  -- WHAT IS SPELLED AT A PLACE IS READ AS THAT MESSAGE, AND THE READER GOES ON BEHIND IT
   pub reads-spelled : (x : Sent) → Fits manner x → (rest : List ℕ) → drop at s ≡ spell x ++ rest
-      → (reading form values s at ≡ command (standsFor manner slots x) (at + length (spell x))) × (drop (at + length (spell x)) s ≡ rest)
+      → (reading form values s at ≡ message (standsFor manner slots x) (at + length (spell x))) × (drop (at + length (spell x)) s ≡ rest)
   reads-spelled x h rest e =
       (reads-stood _ _ (sent-stands x h rest e), sym (drop-drop (length (spell x)) at s) ∙ rw (e, drop-append-seam (spell x) rest))
 
@@ -193,7 +214,7 @@ module _ (form : PaperShape) (values : Values) (s : List ℕ) (lies : Lies (form
   refused-there : Faulty → reading form values s at ≡ refused 9
   unfolding reading
   refused-there (at-next e) = rw e
-  refused-there (at-record end st) = reads-stood (Refused Unreadable) end st
+  refused-there (at-record end st) = reads-stood (refuses Unreadable) end st
 
   pub reads-fault : RestFault manner (drop at s) → reading form values s at ≡ refused 9
   reads-fault f = refused-there (faulty f)
@@ -213,15 +234,15 @@ module _ (form : PaperShape) (values : Values) (s : List ℕ) (lies : Lies (form
             let zero : nextNumber (nextAt s at) ≡ 0 = ap nextNumber (stands kind body w .next) in
             absurd (omega arith)
 
-    -- WHATEVER IS READ AS A COMMAND IS THE SPELLING OF WHAT FITS AND STANDS FOR IT
-    pub spelled-if-read : (c : Command) (end : ℕ) → reading form values s at ≡ command c end → Spelled manner slots s at c end
-    spelled-if-read c end e = by (view manner (drop at s) (bytes-drop at s bytes)) where
-      by : View manner (drop at s) → Spelled manner slots s at c end
+    -- WHATEVER IS READ AS A MESSAGE IS THE SPELLING OF WHAT FITS AND STANDS FOR IT
+    pub spelled-if-read : (m : Message) (end : ℕ) → reading form values s at ≡ message m end → Spelled manner slots s at m end
+    spelled-if-read m end e = by (view manner (drop at s) (bytes-drop at s bytes)) where
+      by : View manner (drop at s) → Spelled manner slots s at m end
       by (none n) = let z : _≡_ {A = ℕ} 0 1 = cc (reads-end n) in absurd (omega arith)
       by (fault f) = let z : _≡_ {A = ℕ} 0 1 = cc (reads-fault f) in absurd (omega arith)
       by (spelled x more fits is) =
           let r = reads-spelled x fits more is in
-          let same : standsFor manner slots x ≡ c = cc in
+          let same : standsFor manner slots x ≡ m = cc in
           let to : end ≡ at + length (spell x) = cc in
           record { sent = x; fits = fits; stands = same; is = is ∙ rw (to, r .1); ends = to }
 

@@ -1,6 +1,6 @@
 -- What the statements say at chosen inputs, worked out. Assumes nothing.
 use mathlib.Core.Path.{_≡_}
-use mathlib.Core.Bool.{Bool, false, not, _&&_}
+use mathlib.Core.Bool.{Bool, true, false, not, _&&_}
 use mathlib.Core.List.{List, [], _∷_, _++_}
 use Prim.Native.Nat.{ℕ}
 use lib.Dec.{T, eqb}
@@ -22,25 +22,26 @@ use Rattle.selection.specs.Selection.{entriesOf, follow, selectFrom, selectionO
 use Rattle.shape.specs.declared.Dating.the-variants.{On as DatesOn}
 use Rattle.shape.specs.declared.Family.the-variants.{Cpace}
 use Rattle.shape.specs.declared.Shape.{Shape}
-use Rattle.shape.specs.Shape.{based, selects, dates, families}
+use Rattle.shape.specs.Shape.{based, selects, dates, families, scripts}
 use Rattle.paper.specs.Paper.{nextAt, openPaper, openedNumber}
 use Rattle.command.specs.declared.Start.{Start}
 use Rattle.command.specs.declared.First.{First}
 use Rattle.command.specs.declared.When.{When}
 use Rattle.command.specs.declared.When.the-variants.{Undated, On as DatedOn}
-use Rattle.command.specs.declared.Command.the-variants.{Start as StartCommand, First as FirstCommand, Second as SecondCommand}
 use Rattle.command.specs.Command.{startOf, firstOf, secondOf, commandOf, startSelected, selectingOf, slotsOf, commandIn}
-use Rattle.state.specs.declared.Answer.the-variants.{Started}
+use Rattle.state.specs.declared.Answer.the-variants.{Started, Done}
 use Rattle.card.specs.Card.{freshState}
+use Rattle.card.specs.Message.{StartCommand, FirstCommand, SecondCommand, ScriptCommand}
 use Rattle.lines.specs.Lines.{digit, decimal, refusalLine, startLine, selectedLine}
-use Rattle.conversation.specs.Conversation.{answeredBy, takenOf}
+use Rattle.conversation.specs.Conversation.{answeredBy, takenOf, takenWrites}
 use Rattle.conversation.specs.Events.{eventsFrom}
 use Rattle.lines.specs.Sitting.{answerLine, linesOf, sittingLines}
 use Rattle.readback.specs.Fields.{wordsIn, areDigits, valueIn, isHex, bytesIn, Fields, Two, Three, Four, Five, Other, fieldsIn}
-use Rattle.spelling.specs.Spelling.{big, recordOf, unsaid, on, Presented, unshown, shown, names, brings, first, firstOn, second, kindOf, bodyOf, spell, paperOf}
+use Rattle.spelling.specs.Spelling.{big, recordOf, unsaid, on, Presented, unshown, shown, names, brings, first, firstOn, second, script}
+use Rattle.spelling.specs.Spelling.{kindOf, bodyOf, spell, paperOf}
 use Rattle.spelling.specs.Printed.{printed, body}
-use Rattle.spelling.specs.Sitting.{Reading, over, refused, command, reading}
-use Rattle.spelling.proofs.Computed.{answered}
+use Rattle.spelling.specs.Sitting.{Reading, over, refused, message, reading}
+use Rattle.spelling.proofs.Computed.{answered, heard}
 
 -- `nine-exactly`: a paper ends with 9 before its first command
 abbrev isUnread : List ℕ → Bool
@@ -57,25 +58,27 @@ readingWith shape s at = reading shape values s at
 abbrev isNine : Reading → Bool
 isNine over = false
 isNine (refused n) = eqb n 9
-isNine (command c end) = false
+isNine (message m end) = false
 
 abbrev faults : List ℕ → Bool
 faults s = isNine (readingWith (based 0) s 0)
 
--- `reads-spelled`: the fields read of a Start, a First and a Second, and where the next record stands
+-- `reads-spelled`: the fields read of a Start, a First, a Second and a script, and where the next record stands
 abbrev ofStart : (Start → (end : ℕ) → Bool) → Reading → Bool
 ofStart test over = false
 ofStart test (refused n) = false
-ofStart test (command (StartCommand s) end) = test s end
-ofStart test (command (FirstCommand f) end) = false
-ofStart test (command (SecondCommand s) end) = false
+ofStart test (message (StartCommand s) end) = test s end
+ofStart test (message (FirstCommand f) end) = false
+ofStart test (message (SecondCommand s) end) = false
+ofStart test (message (ScriptCommand r t) end) = false
 
 abbrev ofFirst : (First → (end : ℕ) → Bool) → Reading → Bool
 ofFirst test over = false
 ofFirst test (refused n) = false
-ofFirst test (command (StartCommand s) end) = false
-ofFirst test (command (FirstCommand f) end) = test f end
-ofFirst test (command (SecondCommand s) end) = false
+ofFirst test (message (StartCommand s) end) = false
+ofFirst test (message (FirstCommand f) end) = test f end
+ofFirst test (message (SecondCommand s) end) = false
+ofFirst test (message (ScriptCommand r t) end) = false
 
 abbrev isFirst : Reading → (type amount currency terminal end : ℕ) → Bool
 isFirst reading type amount currency terminal end =
@@ -85,10 +88,24 @@ isFirst reading type amount currency terminal end =
 abbrev isSecond : Reading → (type code issuer csu end : ℕ) → Bool
 isSecond over type code issuer csu end = false
 isSecond (refused n) type code issuer csu end = false
-isSecond (command (StartCommand s) at) type code issuer csu end = false
-isSecond (command (FirstCommand f) at) type code issuer csu end = false
-isSecond (command (SecondCommand s) at) type code issuer csu end =
+isSecond (message (StartCommand s) at) type code issuer csu end = false
+isSecond (message (FirstCommand f) at) type code issuer csu end = false
+isSecond (message (SecondCommand s) at) type code issuer csu end =
     eqb (s .requested) type && eqb (s .code) code && eqb (s .issuer) issuer && eqb (s .csu) csu && eqb at end
+isSecond (message (ScriptCommand r t) at) type code issuer csu end = false
+
+-- a script's template by its size and the number of its bytes
+abbrev isScriptOf : Reading → (result size template end : ℕ) → Bool
+isScriptOf over result size template end = false
+isScriptOf (refused n) result size template end = false
+isScriptOf (message (StartCommand s) at) result size template end = false
+isScriptOf (message (FirstCommand f) at) result size template end = false
+isScriptOf (message (SecondCommand s) at) result size template end = false
+isScriptOf (message (ScriptCommand r t) at) result size template end =
+    eqb r result && eqb (length t) size && eqb (number t 0 size) template && eqb at end
+
+abbrev withScripts : Shape
+withScripts = scripts (based 0) true
 
 -- and of a First with its date, in a paper with dates
 abbrev withDates : Shape
@@ -149,7 +166,20 @@ testing = 7 ∷ 0 ∷ 1 ∷ 1 ∷ 4 ∷ 0x91 ∷ 2 ∷ 1 ∷ []
 abbrev lineCount : List ℕ → ℕ
 lineCount s = length (linesOf 1 (eventsFrom 9 (rulesIn [] [] [] 0) (based 0) (freshState (freshIn [] [])) s 0))
 
--- `answer-shown`: the fields of a Start's line that shows the visits
+-- the lines of a script, a Start and a First at the printed set-up's card
+abbrev behindScript : (size template : ℕ) → List (List ℕ)
+behindScript size template =
+    let sent = spell (script 1 (big size template)) ++ spell (names unsaid 1) ++ spell (first 1 5000 0x0978 0x22 unshown) in
+    linesOf 1 (eventsFrom 3 (rulesIn body [] [] 0) withScripts (freshState (freshIn body [])) sent 0)
+
+-- `answer-shown`: the fields of a script's line, and of a Start's line that shows the visits
+abbrev isTwo : Fields → (number refusal : ℕ) → Bool
+isTwo (Two n r) number refusal = eqb n number && eqb r refusal
+isTwo (Three n r a) number refusal = false
+isTwo (Four n r a v) number refusal = false
+isTwo (Five n r c a i) number refusal = false
+isTwo Other number refusal = false
+
 abbrev isFour : Fields → (number refusal atc visits : ℕ) → Bool
 isFour (Two n r) number refusal atc visits = false
 isFour (Three n r a) number refusal atc visits = false
@@ -175,11 +205,14 @@ pub record Samples : Type 0 where
   -- 4 bytes and any 65,533 more
   pub over-long : (more : List ℕ) → length more ≡ 65533 → T (isUnread (1 ∷ 0 ∷ 1 ∷ 1 ∷ more))
   pub version-0 : T (isUnread (0 ∷ 0 ∷ 1 ∷ 1 ∷ []))
-  pub version-6 : T (isUnread (6 ∷ 0 ∷ 1 ∷ 1 ∷ []))
+  pub version-7 : T (isUnread (7 ∷ 0 ∷ 1 ∷ 1 ∷ []))
   pub first-fields : T (isFirst (readingWith (based 0) (spell (first 1 5000 0x0978 0x22 unshown)) 0) 1 5000 0x0978 0x22 15)
   pub dated-fields : T (isFirst (readingWith withDates onDay 0) 1 5000 0x0978 0x22 18)
   pub date-field : T (isFirstOn (readingWith withDates onDay 0) 0x05 0x07 0x15)
   pub second-fields : T (isSecond (readingWith (based 0) (spell (second 1 0x5933 2 0x01020304)) 0) 1 0x5933 2 0x01020304 11)
+  -- a script's result and template; one without a template is read
+  pub script-fields : T (isScriptOf (readingWith withScripts (spell (script 1 (0x71 ∷ 0x00 ∷ []))) 0) 1 2 0x7100 6)
+  pub script-bare : T (isScriptOf (readingWith withScripts (spell (script 1 [])) 0) 1 0 0 4)
   -- a CPACE Start names its interface and then its profile; where it brings the terminal's data, the file reads the interface first
   pub interface-field : T (isStart (readingWith withCpace (spell (names (on 0) 1)) 0) 0 1 0 5)
   pub interface-read : T (isStart (behindFile (spell (brings (on 1) []))) 1 2 1 13)
@@ -207,6 +240,10 @@ pub record Samples : Type 0 where
   pub first-unpresented : T (isNine (readingWith withCpace onDay 0))
   pub start-too-short : T (isNine (readingWith withCpace (spell (names unsaid 1)) 0))
   pub start-empty : T (isNine (behindFile (recordOf 2 [])))
+  -- a script where scripts are off; and where they are on, kind 6, and a script without a byte
+  pub script-off : T (faults (spell (script 1 (0x71 ∷ 0x00 ∷ []))))
+  pub kind-6 : T (isNine (readingWith withScripts (recordOf 6 (1 ∷ 0x71 ∷ 0x00 ∷ [])) 0))
+  pub script-empty : T (isNine (readingWith withScripts (recordOf 5 []) 0))
   -- what stands behind a fault is no longer a command
   pub ends-at-nine : T (eqb (lineCount (recordOf 1 (1 ∷ []) ++ spell (names unsaid 1))) 1)
   -- the set-up's line has number 0, the first command's is the next, by the paper's own rules and its syllabus
@@ -214,7 +251,12 @@ pub record Samples : Type 0 where
   pub first-command : T (eqb (length started) 2)
   pub own-rules : T (eqb (length (getD started 1 [])) 6)
   pub rounded-up : T (eqb (byte (getD roundedUp 2 []) 36) 0x31)
-  -- one visit shows
+  -- a script's line; the CID of a First behind it, TC, and AAC where the script has written 5 into accumulator 1 and 0 into its limits
+  pub script-first : T (isTwo (fieldsIn (getD (behindScript 2 0x7100) 0 [])) 1 0)
+  pub nothing-written : T (eqb (byte (getD (behindScript 2 0x7100) 2 []) 4) 0x34)
+  pub limits-written : T (eqb (byte (getD (behindScript 41 0x712786250CDABF30208118DF0106000000000005DF110C0000000000000000000000008E0411223344) 2 []) 4) 0x30)
+  -- the line of a script that is done; one visit shows
+  pub script-line : T (isTwo (fieldsIn (answerLine 3 Done)) 3 0)
   pub visit-shown : T (isFour (fieldsIn (answerLine 3 (Started 2 1))) 3 0 2 1)
 
 pub samples : Samples
@@ -222,17 +264,19 @@ unfolding openPaper nextAt number dateAt cvmAt cashbackAt reading commandIn comm
     selectionOf selectFrom entriesOf follow actionTaken dataAction actionOf passes isAnyOf masked block reachesPast isWellFormed
     slotsOf testsSlot slotAction isSlotSound slotOf lacksAmount slotPasses slotValue
     kindOf bodyOf recordOf big
-    eventsFrom takenOf answeredBy linesOf refusalLine decimal digit answerLine startLine selectedLine
-    fieldsIn wordsIn areDigits valueIn isHex bytesIn printed answered
+    eventsFrom takenOf takenWrites answeredBy linesOf refusalLine decimal digit answerLine startLine selectedLine
+    fieldsIn wordsIn areDigits valueIn isHex bytesIn printed answered heard
 samples =
     record {
       over-long = λ more e. rw e tt;
       version-0 = tt;
-      version-6 = tt;
+      version-7 = tt;
       first-fields = tt;
       dated-fields = tt;
       date-field = tt;
       second-fields = tt;
+      script-fields = tt;
+      script-bare = tt;
       interface-field = tt;
       interface-read = tt;
       slot-tested = tt;
@@ -252,10 +296,17 @@ samples =
       first-unpresented = tt;
       start-too-short = tt;
       start-empty = tt;
+      script-off = tt;
+      kind-6 = tt;
+      script-empty = tt;
       ends-at-nine = tt;
       numbered-from-0 = tt;
       first-command = tt;
       own-rules = tt;
       rounded-up = tt;
+      script-first = tt;
+      nothing-written = tt;
+      limits-written = tt;
+      script-line = tt;
       visit-shown = tt;
     }

@@ -7,12 +7,12 @@ use borrow.Author.Tests.{ne-eqb}
 use lib.ListN.{replicate}
 use Rattle.refusal.specs.declared.Refusal.{Refusal}
 use Rattle.refusal.specs.declared.Refusal.the-variants.{BadSetup, OutOfTurn, UnknownProfile, AtcUsedUp, BadType, OutOfRange}
-use Rattle.refusal.specs.declared.Refusal.the-variants.{RoomTooSmall, NotAnIad, Unreadable, BadRate, BadMta, NotSelected, NotADay}
+use Rattle.refusal.specs.declared.Refusal.the-variants.{RoomTooSmall, NotAnIad, Unreadable, BadRate, BadMta, NotSelected, NotADay, Malformed, TooDeep}
 use Rattle.refusal.specs.Refusal.{refusalNumber}
 use Rattle.iad.specs.declared.Iad.{Iad}
 use Rattle.iad.specs.Iad.{written}
 use Rattle.state.specs.declared.Answer.{Answer}
-use Rattle.state.specs.declared.Answer.the-variants.{Refused, Started, Given}
+use Rattle.state.specs.declared.Answer.the-variants.{Refused, Started, Given, Done}
 use Rattle.state.specs.declared.Kind.the-variants.{Aac, Tc, Arqc}
 use Rattle.readback.specs.WellFormed.{Writable, LaidOut}
 use Rattle.readback.specs.Fields.{fieldsIn}
@@ -35,6 +35,8 @@ small BadRate = omega arith
 small BadMta = omega arith
 small NotSelected = omega arith
 small NotADay = omega arith
+small Malformed = omega arith
+small TooDeep = omega arith
 
 lies : (iad : Iad) → Writable iad → LaidOut iad (written iad (replicate 32 0))
 lies iad can =
@@ -51,3 +53,4 @@ answer-shown number n (Started atc (suc visits)) h =
 answer-shown number n (Given Aac atc iad) h = cryptogram-told number n 0x00 atc iad _ (omega arith) (h .0) (h .1) (h .2) (lies iad (h .1))
 answer-shown number n (Given Tc atc iad) h = cryptogram-told number n 0x40 atc iad _ (omega arith) (h .0) (h .1) (h .2) (lies iad (h .1))
 answer-shown number n (Given Arqc atc iad) h = cryptogram-told number n 0x80 atc iad _ (omega arith) (h .0) (h .1) (h .2) (lies iad (h .1))
+answer-shown number n Done h = refusal-told number n 0 (omega arith)

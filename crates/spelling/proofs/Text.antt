@@ -10,6 +10,7 @@ use Rattle.setup.specs.Setup.{rateIn, accumulatorIn, counterIn, profileIn, cycl
 use Rattle.shape.specs.Shape.{based}
 use Rattle.money.specs.Money.{rateFor, scaled, convertOf}
 use Rattle.iad.specs.Iad.{isCvr, isWritable, pairsOf, iadBytes, writeIad, written}
+use Rattle.script.specs.Script.{kept, freshScripts, started, marksOf}
 use Rattle.purchase.specs.Meter.{worth, cyclicWorth, isOpen}
 use Rattle.meters.specs.Meters.{applied}
 use Rattle.checks.specs.Checks.{accumulatorsLower, accumulatorsUpper, countersLower, countersUpper, datingFlags, maximumExceeded, decisionBits}
@@ -17,7 +18,8 @@ use Rattle.cryptogram.specs.Cryptogram.{limitsByte, verification, sentIad}
 use Rattle.cycles.specs.Cycles.{timingOf, dated}
 use Rattle.first.specs.First.{decision, settled, asked, concluded, firstAnswered, firstPerformed}
 use Rattle.second.specs.Second.{closed, unablePerformed, secondPerformed}
-use Rattle.card.specs.Card.{freshState, startStep, firstStep, secondStep, stepOf}
+use Rattle.card.specs.Card.{freshState, startStep, firstStep, secondStep}
+use Rattle.card.specs.Message.{messageStep, messageWrites}
 use Rattle.lines.specs.Lines.{digit, decimal, hex, refusalLine, startLine, cryptogramLine}
 use Rattle.lines.specs.Sitting.{answerLine, sittingLines}
 use Rattle.spelling.specs.Spelling.{standsFor}
@@ -27,7 +29,8 @@ use Rattle.spelling.proofs.Witness.{named, printed-lines}
 
 worked : sittingOf (based 159) body {manner = named} sent {rest = []} (ended refl) ≡ printedLines
 unfolding printed sent printedLines standsFor allStandFor answers answerLine digit decimal hex refusalLine startLine cryptogramLine
-    freshState freshIn number rulesIn rateIn profileIn accumulatorIn counterIn cycleIn cyclicIn stepOf startStep firstStep secondStep findProfile
+    freshState freshScripts kept started marksOf freshIn number rulesIn rateIn profileIn accumulatorIn counterIn cycleIn cyclicIn
+    messageStep messageWrites startStep firstStep secondStep findProfile
     firstPerformed firstAnswered timingOf dated decision limitsByte settled asked concluded decisionBits accumulatorsLower accumulatorsUpper countersLower countersUpper
     datingFlags maximumExceeded worth cyclicWorth isOpen convertOf rateFor scaled applied verification sentIad pairsOf iadBytes isCvr isWritable writeIad written
     secondPerformed unablePerformed closed

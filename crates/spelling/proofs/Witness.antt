@@ -1,14 +1,16 @@
 -- The premises are met: by the paper of the printed sitting, by one whose Starts bring the terminal's data, by one whose Firsts have
--- their dates, and by a CPACE card's. Assumes nothing.
+-- their dates, by a CPACE card's, and by records with a script. Assumes nothing.
 use mathlib.Core.Path.{_≡_, refl, sym}
 use mathlib.Core.Bool.{Bool, true, _&&_}
-use mathlib.Core.List.{List, [], _∷_, append-nil}
+use mathlib.Core.List.{List, [], _∷_, _++_, append-nil}
 use Prim.Native.Nat.{ℕ, _^_, _<_}
+use native.Mathlib.Omega.{arith}
 use borrow.Author.Tests.{ltb-true}
 use lib.Dec.{T, ltb, lit<, lit≤}
 use lib.ListN.{length, drop}
 use Rattle.wire.specs.Wire.{number}
 use Rattle.wire.proofs.Pairs.{both}
+use Rattle.rules.specs.Rules.{Rules}
 use Rattle.rules.specs.Word.{wordCount}
 use Rattle.ranges.specs.Ranges.{isSetup, hasLength, isHead, areAccumulators, isAccumulator}
 use Rattle.ranges.specs.Ranges.{areProfiles, isProfileOrAbsent, isProfile, areMasks, isMaximumAmount, areAccumulatorRules, isAccumulatorRule}
@@ -20,13 +22,17 @@ use Rattle.setup.specs.Setup.{readSetup}
 use Rattle.shape.specs.declared.Dating.the-variants.{On as DatesOn}
 use Rattle.shape.specs.declared.Family.the-variants.{Cpace}
 use Rattle.shape.specs.declared.Shape.{Shape}
-use Rattle.shape.specs.Shape.{based, baseTail, entriesEnd, selects, selectionTail, syllabusTail, dates, datingTail, families, familyTail, tailsOf, shapeOf}
+use Rattle.shape.specs.Shape.{based, baseTail, entriesEnd, selects, selectionTail, syllabusTail, dates, datingTail, families, familyTail, scripts, tailsOf, shapeOf}
+use Rattle.state.specs.declared.State.{State}
+use Rattle.conversation.specs.Events.{eventsFrom}
 use Rattle.lines.specs.Sitting.{sittingLines}
-use Rattle.spelling.specs.Spelling.{Bytes, big, recordOf, unsaid, on, unshown, shown, names, brings, first, firstOn, second, kindOf, bodyOf, spellAll, paperOf}
-use Rattle.spelling.specs.Spelling.{byName, byFile, undated, dated, cpa, cpace, Manner, mannerIn, Fits, AllFit}
+use Rattle.spelling.specs.Spelling.{Bytes, big, recordOf, unsaid, on, unshown, shown, Sent, names, brings, first, firstOn, second, script}
+use Rattle.spelling.specs.Spelling.{kindOf, bodyOf, spellAll, paperOf}
+use Rattle.spelling.specs.Spelling.{byName, byFile, undated, dated, cpa, cpace, unscripted, scripted, Manner, mannerIn, Fits, AllFit}
 use Rattle.spelling.specs.Faults.{Opens}
-use Rattle.spelling.specs.Sitting.{SetUp, ended, sittingOf}
+use Rattle.spelling.specs.Sitting.{SetUp, allStandFor, happened, ended, sittingOf}
 use Rattle.spelling.specs.Printed.{printed, body, sent, selection, selectionBody, file, brought, calendar, calendarBody, datedSent, cpacePaper, cpaceBody, cpaceSent}
+use Rattle.spelling.proofs.Lines.{events-spelled}
 use Rattle.spelling.proofs.Papers.{lines-of}
 
 areBytes : List ℕ → Bool
@@ -62,7 +68,7 @@ unfolding printed shapeOf tailsOf baseTail readSetup isSetup hasLength isHead ar
 set-up = record { shape-is = refl; base = refl }
 
 abbrev pub named : Manner
-named = record { choice = byName; dates = undated; family = cpa }
+named = record { choice = byName; dates = undated; family = cpa; scripts = unscripted }
 
 pub fit : AllFit named sent
 unfolding sent Fits
@@ -88,7 +94,7 @@ abbrev selective : Shape
 selective = selects (based 266) 268 279 1
 
 abbrev chosen : Manner
-chosen = record { choice = byFile file 1; dates = undated; family = cpa }
+chosen = record { choice = byFile file 1; dates = undated; family = cpa; scripts = unscripted }
 
 pub brought-spelled : paperOf 2 selectionBody (spellAll brought) ≡ selection
 unfolding selection brought spellAll kindOf bodyOf recordOf big
@@ -138,7 +144,7 @@ abbrev calendarly : Shape
 calendarly = dates (based 159) (DatesOn 161 207)
 
 abbrev onDays : Manner
-onDays = record { choice = byName; dates = dated; family = cpa }
+onDays = record { choice = byName; dates = dated; family = cpa; scripts = unscripted }
 
 pub dated-spelled : paperOf 4 calendarBody (spellAll datedSent) ≡ calendar
 unfolding calendar datedSent spellAll kindOf bodyOf recordOf big
@@ -208,7 +214,7 @@ abbrev cpacely : Shape
 cpacely = families (based 159) (Cpace 162 172)
 
 abbrev presenting : Manner
-presenting = record { choice = byName; dates = undated; family = cpace }
+presenting = record { choice = byName; dates = undated; family = cpace; scripts = unscripted }
 
 pub cpace-spelled : paperOf 5 cpaceBody (spellAll cpaceSent) ≡ cpacePaper
 unfolding cpacePaper cpaceSent spellAll kindOf bodyOf recordOf big
@@ -269,3 +275,28 @@ unfolding cpacePaper
 cpace-lines words lent =
     lines-of words cpacePaper 5 cpaceBody (spellAll cpaceSent) cpace-opens cpacely cpace-set-up cpace-bytes lent cpaceSent []
     cpace-fit (ended refl) (sym (append-nil (spellAll cpaceSent)))
+
+-- ---- records with a script, where scripts are on
+
+abbrev scriptly : Shape
+scriptly = scripts (based 0) true
+
+abbrev issuing : Manner
+issuing = record { choice = byName; dates = undated; family = cpa; scripts = scripted }
+
+abbrev issued : List Sent
+issued = names unsaid 1 ∷ script 1 (0x71 ∷ 0x00 ∷ []) ∷ []
+
+pub script-spelled : spellAll issued ≡ 0 ∷ 2 ∷ 2 ∷ 1 ∷ 0 ∷ 4 ∷ 5 ∷ 1 ∷ 0x71 ∷ 0x00 ∷ []
+unfolding spellAll kindOf bodyOf recordOf big
+script-spelled = refl
+
+pub script-fit : AllFit issuing issued
+unfolding Fits
+script-fit = ((tt, lit< tt), ((lit< tt, lit< tt, (lit< tt, (lit< tt, tt))), tt))
+
+pub script-events : (rules : Rules) (state : State)
+    → eventsFrom 10 rules scriptly state (spellAll issued) 0 ≡ happened rules state (allStandFor rules issuing state issued) ++ []
+script-events rules state =
+    events-spelled scriptly (spellAll issued) tt issued 10 rules state 0 script-fit [] (ended refl) (sym (append-nil (spellAll issued)))
+    (rw script-spelled (omega arith))

@@ -1,5 +1,6 @@
 -- What the readers make of a place in a paper, and the lines of a conversation.
 use mathlib.Core.Path.{_≡_}
+use mathlib.Core.Bool.{cond}
 use mathlib.Core.List.{List, [], _∷_, _++_}
 use Prim.Native.Nat.{ℕ, _+_, _≤_}
 use lib.ListN.{length, drop}
@@ -9,7 +10,9 @@ use Rattle.slot.specs.declared.Slots.{Slots}
 use Rattle.setup.specs.declared.SetupAnswer.the-variants.{Done}
 use Rattle.setup.specs.declared.ReadSetup.{ReadSetup}
 use Rattle.setup.specs.Setup.{readSetup, setupNumber, rulesIn, freshIn}
+use Rattle.refusal.specs.declared.Refusal.{Refusal}
 use Rattle.refusal.specs.declared.Refusal.the-variants.{Unreadable}
+use Rattle.refusal.specs.Refusal.{refusalNumber}
 use Rattle.shape.specs.declared.Selecting.{Selecting}
 use Rattle.shape.specs.declared.Selecting.the-variants.{Off, On}
 use Rattle.shape.specs.declared.Shape.{Shape}
@@ -19,33 +22,57 @@ use Rattle.paper.specs.declared.Next.{Next}
 use Rattle.paper.specs.declared.Next.the-variants.{Record, Fault, End}
 use Rattle.paper.specs.Paper.{nextAt, nextNumber}
 use Rattle.paper.specs.Walk.{part}
-use Rattle.command.specs.declared.Command.{Command}
+use Rattle.command.specs.declared.Command.the-variants.{Start, First, Second}
 use Rattle.command.specs.declared.ReadCommand.{ReadCommand}
 use Rattle.command.specs.declared.ReadCommand.the-variants.{Taken, Refused}
-use Rattle.command.specs.Command.{commandIn, readNumber}
+use Rattle.command.specs.Command.{commandIn}
 use Rattle.state.specs.declared.State.{State}
-use Rattle.card.specs.Card.{stepOf, freshState}
+use Rattle.script.specs.Script.{rulesAfter}
+use Rattle.card.specs.Card.{freshState}
+use Rattle.card.specs.Message.{Message, StartCommand, FirstCommand, SecondCommand, ScriptCommand, messageStep, messageWrites}
 use Rattle.lines.specs.Lines.{refusalLine}
 use Rattle.conversation.specs.declared.Event.{Event}
 use Rattle.conversation.specs.declared.Event.the-variants.{Refused as EndRefused, Answered}
+use Rattle.conversation.specs.declared.Said.{Said}
+use Rattle.conversation.specs.declared.Said.the-variants.{Command, Script}
+use Rattle.conversation.specs.Conversation.{isScript}
 use Rattle.lines.specs.Sitting.{answerLine, sittingLines}
 use Rattle.spelling.specs.Spelling.{Sent, spell, spellAll, Manner, mannerIn, Fits, AllFit, slotsIn, standsFor}
 use Rattle.spelling.specs.Faults.{OpenFault, Opens, RestFault}
 
--- what is read at a place, by the card's values: the paper's end, a refusal, or a command and the place behind it
+-- what a record is read as: a message, or it is refused
+pub data Read : Type 0 where
+  sends : Message → Read
+  refuses : Refusal → Read
+
+abbrev pub commandRead : ReadCommand → Read
+commandRead (Taken (Start start)) = sends (StartCommand start)
+commandRead (Taken (First first)) = sends (FirstCommand first)
+commandRead (Taken (Second second)) = sends (SecondCommand second)
+commandRead (Refused refusal) = refuses refusal
+
+-- a script's body is its result and its template
+abbrev pub scriptRead : (body : List ℕ) → Read
+scriptRead [] = refuses Unreadable
+scriptRead (result ∷ template) = sends (ScriptCommand result template)
+
+abbrev pub recordRead : Shape → Values → List ℕ → (kind : ℕ) (body : List ℕ) → Read
+recordRead shape values s kind body = cond (isScript shape kind) (scriptRead body) (commandRead (commandIn shape values s kind body))
+
+-- what is read at a place, by the card's values: the paper's end, a refusal, or a message and the place behind it
 pub data Reading : Type 0 where
   over : Reading
   refused : (number : ℕ) → Reading
-  command : Command → (end : ℕ) → Reading
+  message : Message → (end : ℕ) → Reading
 
-abbrev pub readingOf : (end : ℕ) → ReadCommand → Reading
-readingOf end (Taken c) = command c end
-readingOf end (Refused refusal) = refused (readNumber (Refused refusal))
+abbrev pub readingOf : (end : ℕ) → Read → Reading
+readingOf end (sends m) = message m end
+readingOf end (refuses refusal) = refused (refusalNumber refusal)
 
 abbrev pub readingIn : Shape → Values → List ℕ → Next → Reading
 readingIn shape values s End = over
 readingIn shape values s Fault = refused (nextNumber Fault)
-readingIn shape values s (Record kind start end) = readingOf end (commandIn shape values s kind (part s start end))
+readingIn shape values s (Record kind start end) = readingOf end (recordRead shape values s kind (part s start end))
 
 unfoldable pub reading : Shape → Values → (paper : List ℕ) (at : ℕ) → Reading
 reading shape values s at = readingIn shape values s (nextAt s at)
@@ -55,11 +82,11 @@ abbrev pub Lies : Selecting → List ℕ → Type 0
 Lies Off s = Unit
 Lies (On start end entries) s = (start ≤ end) × (end ≤ length s)
 
--- from a place to an end stands, spelled, what was sent, and it stands for a command
-pub record Spelled (manner : Manner) (slots : Slots) (s : List ℕ) (at : ℕ) (c : Command) (end : ℕ) : Type 0 where
+-- from a place to an end stands, spelled, what was sent, and it stands for a message
+pub record Spelled (manner : Manner) (slots : Slots) (s : List ℕ) (at : ℕ) (m : Message) (end : ℕ) : Type 0 where
   pub sent : Sent
   pub fits : Fits manner sent
-  pub stands : standsFor manner slots sent ≡ c
+  pub stands : standsFor manner slots sent ≡ m
   pub is : drop at s ≡ spell sent ++ drop end s
   pub ends : end ≡ at + length (spell sent)
 
@@ -78,27 +105,42 @@ pub data NotSetUp (version : ℕ) (body : List ℕ) : Type 0 where
   no-base : (shape : Shape) → shapeOf version body ≡ ShapeTaken shape → setupNumber (setupFrom shape body .answer) ≡ 1
       → NotSetUp version body
 
--- the command that what is sent stands for at a card, and those of a list, one after the other from a state on
-abbrev pub standsAt : Manner → State → Sent → Command
+-- the rules that a message leaves
+abbrev pub rulesLeft : Rules → State → Message → Rules
+rulesLeft rules state m = rulesAfter rules (messageWrites state m)
+
+-- the message that what is sent stands for at a card, and those of a list, one after the other from a state on
+abbrev pub standsAt : Manner → State → Sent → Message
 standsAt manner state x = standsFor manner (slotsIn (manner .family) (state .values)) x
 
-unfoldable pub allStandFor : Rules → Manner → State → List Sent → List Command
+unfoldable pub allStandFor : Rules → Manner → State → List Sent → List Message
 allStandFor rules manner state [] = []
 allStandFor rules manner state (x ∷ xs) =
-    standsAt manner state x ∷ allStandFor rules manner (stepOf rules state (standsAt manner state x) .state) xs
+    let m = standsAt manner state x in
+    m ∷ allStandFor (rulesLeft rules state m) manner (messageStep rules state m .state) xs
 
--- the events of a list of commands, one after the other from a state on
-unfoldable pub happened : Rules → State → List Command → List Event
+-- what an event says of a message
+abbrev pub saidOf : Message → Said
+saidOf (StartCommand start) = Command (Start start)
+saidOf (FirstCommand first) = Command (First first)
+saidOf (SecondCommand second) = Command (Second second)
+saidOf (ScriptCommand result template) = Script
+
+-- the events of a list of messages, one after the other from a state on
+unfoldable pub happened : Rules → State → List Message → List Event
 happened rules state [] = []
-happened rules state (c ∷ cs) = Answered c (stepOf rules state c .answer) ∷ happened rules (stepOf rules state c .state) cs
+happened rules state (m ∷ ms) =
+    let outcome = messageStep rules state m in
+    Answered (saidOf m) (outcome .answer) ∷ happened (rulesLeft rules state m) (outcome .state) ms
 
--- the lines of the answers to a list of commands, one after the other from a state on, with their numbers
-unfoldable pub answers : Rules → State → (number : ℕ) → List Command → List (List ℕ)
+-- the lines of the answers to a list of messages, one after the other from a state on, with their numbers
+unfoldable pub answers : Rules → State → (number : ℕ) → List Message → List (List ℕ)
 answers rules state number [] = []
-answers rules state number (c ∷ cs) =
-    answerLine number (stepOf rules state c .answer) ∷ answers rules (stepOf rules state c .state) (number + 1) cs
+answers rules state number (m ∷ ms) =
+    let outcome = messageStep rules state m in
+    answerLine number (outcome .answer) ∷ answers (rulesLeft rules state m) (outcome .state) (number + 1) ms
 
--- behind the last command a paper ends, or a fault stands
+-- behind the last message a paper ends, or a fault stands
 pub data Ends (manner : Manner) (s : List ℕ) : Type 0 where
   ended : s ≡ [] → Ends manner s
   faulty : RestFault manner s → Ends manner s

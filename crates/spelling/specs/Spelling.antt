@@ -21,8 +21,7 @@ use Rattle.shape.specs.declared.Family.the-variants.{Cpa, Cpace}
 use Rattle.shape.specs.declared.Shape.{Shape}
 use Rattle.command.specs.declared.When.{When}
 use Rattle.command.specs.declared.When.the-variants.{Undated, On as DatedOn}
-use Rattle.command.specs.declared.Command.{Command}
-use Rattle.command.specs.declared.Command.the-variants.{Start as StartCommand, First as FirstCommand, Second as SecondCommand}
+use Rattle.card.specs.Message.{Message, StartCommand, FirstCommand, SecondCommand, ScriptCommand}
 
 -- each is a byte
 abbrev pub Bytes : List ℕ → Type 0
@@ -47,21 +46,24 @@ pub data Presented : Type 0 where
   unshown : Presented
   shown : (r1 r2 r3 cashback : ℕ) → Presented
 
--- what a terminal sends: a Start that names a profile, or one that brings the terminal's data; a First, or one with its date; a Second
+-- what a terminal sends: a Start that names a profile, or one that brings the terminal's data; a First, or one with its date; a Second; an issuer's
+-- script, with the secure messaging result and its template
 pub data Sent : Type 0 where
   names : Interface → (profile : ℕ) → Sent
   brings : Interface → (terminal : List ℕ) → Sent
   first : (type amount currency terminal : ℕ) → Presented → Sent
   firstOn : (date : Date) (type amount currency terminal : ℕ) → Presented → Sent
   second : (type code issuer csu : ℕ) → Sent
+  script : (result : ℕ) (template : List ℕ) → Sent
 
--- Start is kind 2, First 3, Second 4
+-- Start is kind 2, First 3, Second 4, a script 5
 unfoldable pub kindOf : Sent → ℕ
 kindOf (names interface profile) = 2
 kindOf (brings interface terminal) = 2
 kindOf (first type amount currency terminal presented) = 3
 kindOf (firstOn date type amount currency terminal presented) = 3
 kindOf (second type code issuer csu) = 4
+kindOf (script result template) = 5
 
 -- interface (1)
 abbrev pub interfaceBytes : Interface → List ℕ
@@ -85,7 +87,7 @@ abbrev pub dateBytes : Date → List ℕ
 dateBytes date = big 1 (date .year) ++ big 1 (date .month) ++ big 1 (date .day)
 
 -- Start: the interface, and behind it profile (1), or the terminal's data; First: its fields, behind them the date (3), and behind that what is
--- presented; Second: type (1), response code (2), issuer data (1), CSU (4)
+-- presented; Second: type (1), response code (2), issuer data (1), CSU (4); a script: the secure messaging result (1), and the template to its end
 unfoldable pub bodyOf : Sent → List ℕ
 bodyOf (names interface profile) = startBytes interface (big 1 profile)
 bodyOf (brings interface terminal) = startBytes interface terminal
@@ -93,6 +95,7 @@ bodyOf (first type amount currency terminal presented) = firstBytes type amount 
 bodyOf (firstOn date type amount currency terminal presented) =
     firstBytes type amount currency terminal (dateBytes date ++ presentedBytes presented)
 bodyOf (second type code issuer csu) = big 1 type ++ big 2 code ++ big 1 issuer ++ big 4 csu
+bodyOf (script result template) = big 1 result ++ template
 
 abbrev pub spell : Sent → List ℕ
 spell x = recordOf (kindOf x) (bodyOf x)
@@ -133,17 +136,33 @@ abbrev pub familyIn : Family → CardFamily
 familyIn Cpa = cpa
 familyIn (Cpace start end) = cpace
 
--- what a paper's shape makes of its commands
+-- and whether scripts are on
+pub data Scripting : Type 0 where
+  unscripted : Scripting
+  scripted : Scripting
+
+abbrev pub scriptsIn : Bool → Scripting
+scriptsIn false = unscripted
+scriptsIn true = scripted
+
+-- what a paper's shape makes of its records
 pub record Manner : Type 0 where
   pub choice : Choice
   pub dates : Dates
   pub family : CardFamily
+  pub scripts : Scripting
 
 abbrev pub mannerIn : Shape → List ℕ → Manner
 mannerIn shape s =
-    record { choice = choiceIn (shape .selecting) s; dates = datesIn (shape .dating); family = familyIn (shape .family) }
+    record {
+      choice = choiceIn (shape .selecting) s;
+      dates = datesIn (shape .dating);
+      family = familyIn (shape .family);
+      scripts = scriptsIn (shape .scripting);
+    }
 
--- each field fits its width, the terminal's data its record; and a Start and a First are of their paper's sort
+-- each field fits its width, the terminal's data and a template their record; a Start and a First are of their paper's sort, and a script is sent
+-- only where scripts are on
 abbrev pub FitFirst : (type amount currency terminal : ℕ) → Type 0
 FitFirst type amount currency terminal = (type < 256) × (amount < 256 ^ 8) × (currency < 256 ^ 2) × (terminal < 256)
 
@@ -162,22 +181,25 @@ FitPresented cpa (shown r1 r2 r3 cashback) = ⊥
 FitPresented cpace unshown = ⊥
 FitPresented cpace (shown r1 r2 r3 cashback) = (r1 < 256) × (r2 < 256) × (r3 < 256) × (cashback < 256 ^ 6)
 
-abbrev pub FitsBy : Choice → Dates → CardFamily → Sent → Type 0
-FitsBy byName dates family (names interface profile) = FitInterface family interface × (profile < 256)
-FitsBy byName dates family (brings interface terminal) = ⊥
-FitsBy (byFile file entries) dates family (names interface profile) = ⊥
-FitsBy (byFile file entries) dates family (brings interface terminal) =
+abbrev pub FitsBy : Choice → Dates → CardFamily → Scripting → Sent → Type 0
+FitsBy byName dates family scripts (names interface profile) = FitInterface family interface × (profile < 256)
+FitsBy byName dates family scripts (brings interface terminal) = ⊥
+FitsBy (byFile file entries) dates family scripts (names interface profile) = ⊥
+FitsBy (byFile file entries) dates family scripts (brings interface terminal) =
     FitInterface family interface × (length (startBytes interface terminal) < 65535) × Bytes terminal
-FitsBy choice undated family (first type amount currency terminal presented) =
+FitsBy choice undated family scripts (first type amount currency terminal presented) =
     FitFirst type amount currency terminal × FitPresented family presented
-FitsBy choice undated family (firstOn date type amount currency terminal presented) = ⊥
-FitsBy choice dated family (first type amount currency terminal presented) = ⊥
-FitsBy choice dated family (firstOn date type amount currency terminal presented) =
+FitsBy choice undated family scripts (firstOn date type amount currency terminal presented) = ⊥
+FitsBy choice dated family scripts (first type amount currency terminal presented) = ⊥
+FitsBy choice dated family scripts (firstOn date type amount currency terminal presented) =
     FitFirst type amount currency terminal × FitDate date × FitPresented family presented
-FitsBy choice dates family (second type code issuer csu) = (type < 256) × (code < 256 ^ 2) × (issuer < 256) × (csu < 256 ^ 4)
+FitsBy choice dates family scripts (second type code issuer csu) =
+    (type < 256) × (code < 256 ^ 2) × (issuer < 256) × (csu < 256 ^ 4)
+FitsBy choice dates family unscripted (script result template) = ⊥
+FitsBy choice dates family scripted (script result template) = (result < 256) × (1 + length template < 65535) × Bytes template
 
 unfoldable pub Fits : Manner → Sent → Type 0
-Fits manner x = FitsBy (manner .choice) (manner .dates) (manner .family) x
+Fits manner x = FitsBy (manner .choice) (manner .dates) (manner .family) (manner .scripts) x
 
 abbrev pub AllFit : Manner → List Sent → Type 0
 AllFit manner [] = Unit
@@ -215,11 +237,11 @@ cashbackOf unshown = false
 cashbackOf (shown r1 r2 r3 zero) = false
 cashbackOf (shown r1 r2 r3 (suc cashback)) = true
 
--- the command that it stands for, by what the file's entries may test; a profile that is named is found without a visit
-abbrev pub startSent : Interface → Selection → Command
+-- the message that it stands for, by what the file's entries may test; a profile that is named is found without a visit
+abbrev pub startSent : Interface → Selection → Message
 startSent interface chosen = StartCommand (record { interface = interfaceOf interface; chosen = chosen })
 
-abbrev pub firstSent : When → (type amount currency terminal : ℕ) → Presented → Command
+abbrev pub firstSent : When → (type amount currency terminal : ℕ) → Presented → Message
 firstSent when type amount currency terminal presented =
     FirstCommand (record {
       requested = type;
@@ -231,9 +253,10 @@ firstSent when type amount currency terminal presented =
       cashback = cashbackOf presented;
     })
 
-unfoldable pub standsFor : Manner → Slots → Sent → Command
+unfoldable pub standsFor : Manner → Slots → Sent → Message
 standsFor manner slots (names interface profile) = startSent interface (Selected profile 0)
 standsFor manner slots (brings interface terminal) = startSent interface (selects (manner .choice) slots (startBytes interface terminal))
 standsFor manner slots (first type amount currency terminal presented) = firstSent Undated type amount currency terminal presented
 standsFor manner slots (firstOn date type amount currency terminal presented) = firstSent (DatedOn date) type amount currency terminal presented
 standsFor manner slots (second type code issuer csu) = SecondCommand (record { requested = type; code = code; issuer = issuer; csu = csu })
+standsFor manner slots (script result template) = ScriptCommand result template

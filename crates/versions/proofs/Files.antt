@@ -39,14 +39,14 @@ pub data Switched (size : ℕ) : (on : Bool) → List ℕ → Type 0 where
   switched-on : (more : List ℕ) → length (1 ∷ more) ≡ size → Switched size true (1 ∷ more)
 
 -- what stands behind the file, with p profiles: nothing in version 02; the syllabus in version 03; behind it dates in version 04; behind them
--- in version 05 the family, which is on where it is CPACE; behind it in version 06, where that is known, whether scripts are on
+-- in version 05 the family, which is on where it is CPACE; behind it in version 06 whether scripts are on
 pub data Behind (p : ℕ) : (version : ℕ) → (cpace : Bool) → List ℕ → Type 0 where
   nothing : Behind p 2 false []
   syllabus-alone : (syllabus : ℕ) → syllabus ≤ 1 → Behind p 3 false (syllabus ∷ [])
   with-dates : (syllabus : ℕ) → syllabus ≤ 1 → {dated : Bool} {dates : List ℕ} → Switched (28 + 18 * p) dated dates → Behind p 4 false (syllabus ∷ dates)
   with-family : (syllabus : ℕ) → syllabus ≤ 1 → {dated : Bool} {dates : List ℕ} → Switched (28 + 18 * p) dated dates
       → {cpace : Bool} {family : List ℕ} → Switched (9 + p) cpace family → Behind p 5 cpace (syllabus ∷ dates ++ family)
-  with-scripts : Known 6 → (syllabus : ℕ) → syllabus ≤ 1 → {dated : Bool} {dates : List ℕ} → Switched (28 + 18 * p) dated dates
+  with-scripts : (syllabus : ℕ) → syllabus ≤ 1 → {dated : Bool} {dates : List ℕ} → Switched (28 + 18 * p) dated dates
       → {cpace : Bool} {family : List ℕ} → Switched (9 + p) cpace family → (scripting : ℕ) → scripting ≤ 1
       → Behind p 6 cpace (syllabus ∷ dates ++ (family ++ scripting ∷ []))
 
@@ -55,7 +55,7 @@ known-behind nothing = (lit≤ tt, lit≤ tt)
 known-behind (syllabus-alone syllabus h) = (lit≤ tt, lit≤ tt)
 known-behind (with-dates syllabus h dates) = (lit≤ tt, lit≤ tt)
 known-behind (with-family syllabus h dates family) = (lit≤ tt, lit≤ tt)
-known-behind (with-scripts known syllabus h dates family scripting l) = known
+known-behind (with-scripts syllabus h dates family scripting l) = (lit≤ tt, lit≤ tt)
 
 -- a CPACE Start begins with its interface
 abbrev pub Asks : (cpace : Bool) (terminal : List ℕ) → Type 0
@@ -315,7 +315,7 @@ module _ (s : List ℕ) (sized : length s ≡ 52 + 107 * byte s 3 + 7 * byte s 4
         family = refl;
       }
   takes version cpace behind (with-family syllabus h d {family} f) = family-takes syllabus h d f family refl (omega arith) refl
-  takes version cpace behind (with-scripts known syllabus h d {family} f scripting l) =
+  takes version cpace behind (with-scripts syllabus h d {family} f scripting l) =
       let one = length-append family (scripting ∷ []) in
       scripts-take syllabus h d f (family ++ scripting ∷ []) (starts f (scripting ∷ [])) (omega arith) scripting l (getD-append-seam family scripting [] 0) one
 

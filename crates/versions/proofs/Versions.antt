@@ -1,8 +1,8 @@
 -- An older paper reads as the newer one with the addition off: the lines of a version 01 paper are those of the version 02 paper with
 -- selection off; those of a version 02 paper, whether or not it selects, those of the version 03 paper with syllabus 0; those of a version
 -- 03 paper whose masks have no bit from 22 on, as one that is accepted, those of the version 04 paper with dates off; those of a version 04
--- paper whose masks have no bit from 25 on, as one that is accepted, those of the version 05 paper of a CPA card; and those of a version 05 paper,
--- where version 06 is known, those of the version 06 paper with scripts off. Assumes nothing.
+-- paper whose masks have no bit from 25 on, as one that is accepted, those of the version 05 paper of a CPA card; and those of a version 05 paper
+-- those of the version 06 paper with scripts off. Assumes nothing.
 use mathlib.Core.Path.{_≡_, refl, sym, ap, _∙_}
 use mathlib.Core.Bool.{Bool, true, false, _&&_}
 use mathlib.Core.List.{List, [], _∷_, _++_, append-assoc}
@@ -252,14 +252,14 @@ module _ (b : List ℕ) (words rest : List ℕ) where
   scripts-alike : Alike b (shapeOf 6 (newer b)) (shapeOf 5 b)
   scripts-alike = the-same b (shapeOf 6 (newer b)) (shapeOf 5 b) (scripts-off b)
 
-  -- WHAT A VERSION 05 SET-UP SAYS, THE VERSION 06 SET-UP WITH SCRIPTS OFF SAYS, whichever versions are known
+  -- WHAT A VERSION 05 SET-UP SAYS, THE VERSION 06 SET-UP WITH SCRIPTS OFF SAYS
   pub scripts-off-says-as-older : eventsShaped words rest (newer b) (shapeOf 6 (newer b)) ≡ eventsShaped words rest b (shapeOf 5 b)
   scripts-off-says-as-older = events-as-older b 5 6 words rest scripts-alike
 
-  -- A VERSION 05 PAPER'S LINES ARE THOSE OF THE VERSION 06 PAPER WITH SCRIPTS OFF, where version 06 is known
-  pub scripts-off-reads-as-older : Known 6 → length (paperOf 6 (newer b) rest) ≤ 65536
+  -- A VERSION 05 PAPER'S LINES ARE THOSE OF THE VERSION 06 PAPER WITH SCRIPTS OFF
+  pub scripts-off-reads-as-older : length (paperOf 6 (newer b) rest) ≤ 65536
       → sittingLines words (paperOf 6 (newer b) rest) ≡ sittingLines words (paperOf 5 b rest)
-  scripts-off-reads-as-older = lines-as-older b 5 6 words rest scripts-alike (lit≤ tt, lit≤ tt)
+  scripts-off-reads-as-older = lines-as-older b 5 6 words rest scripts-alike (lit≤ tt, lit≤ tt) (lit≤ tt, lit≤ tt)
 
 -- ---- the same set-up in all versions
 
@@ -344,13 +344,13 @@ module _ (words rest : List ℕ) where
 
 -- ---- and in version 06
 
-module _ (known : Known 6) (words rest : List ℕ) where
+module _ (words rest : List ℕ) where
   -- what reads as a version 05 paper with tails behind its set-up reads as the version 06 paper with scripts off behind them
   to-six : (older : ℕ) (b tails : List ℕ)
       → (length (paperOf 5 (b ++ tails) rest) ≤ 65536 → sittingLines words (paperOf 5 (b ++ tails) rest) ≡ sittingLines words (paperOf older b rest))
       → length (paperOf 6 (b ++ (tails ++ 0 ∷ [])) rest) ≤ 65536
       → sittingLines words (paperOf 6 (b ++ (tails ++ 0 ∷ [])) rest) ≡ sittingLines words (paperOf older b rest)
-  to-six older b tails one = chain words rest older 5 6 known b tails (0 ∷ []) one (scripts-off-reads-as-older (b ++ tails) words rest known)
+  to-six older b tails one = chain words rest older 5 6 (lit≤ tt, lit≤ tt) b tails (0 ∷ []) one (scripts-off-reads-as-older (b ++ tails) words rest)
 
   module _ (b : List ℕ) where
     -- A VERSION 04 PAPER'S LINES ARE THOSE OF THE VERSION 06 PAPER OF A CPA CARD WITH SCRIPTS OFF

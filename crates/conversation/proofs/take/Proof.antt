@@ -1,8 +1,11 @@
 use borrow.Author.Needs.{needs}
-use mathlib.Core.Path.{sym, _∙_}
+use borrow.Author.Tests.{eq-eqb}
+use mathlib.Core.Path.{sym, ap, _∙_}
 use denote.Ref.{now}
-use Rattle.conversation.specs.Conversation.{takenOf, takenWrites}
+use Rattle.conversation.specs.Conversation.{answeredBy, takenOf, takenWrites}
+use Rattle.script.specs.Script.{rulesAfter, wordsAfter}
 use Rattle.conversation.proofs.Parts.{record-inside}
+use Rattle.conversation.proofs.Scripts.{not-script, by-command}
 use Rattle.conversation.proofs.take.Statement.{statement}
 use Rattle.conversation.proofs.take.Tie as tie
 
@@ -25,8 +28,10 @@ returns c =
     let told = asked .before .before .before in
     let met = told .before in
     let next = sym (met .before .before .record-at .ensures) ∙ met .kind .given .1 in
+    let on = asked .before .if1 .taken in
+    let five = eq-eqb _ _ (asked .if2 .taken) in
     let taken = c .take-script .ensures in
-    (simp (next, asked .if1 .taken, taken .0), simp (next, asked .if1 .taken) (taken .1), simp (next, asked .if1 .taken) (taken .2))
+    (simp (next, on, five, taken .0), simp (next, on, five) (taken .1), simp (next, on, five) (taken .2))
 
 returns-2 : tie.Need-returns-2
 unfolding takenOf takenWrites
@@ -37,15 +42,18 @@ unfolding takenOf takenWrites
 returns-3 c = let next = sym (c .before .before .record-at .ensures) ∙ c .enum-told2 .given .1 in (simp (next), simp (next), simp (next))
 
 returns-4 : tie.Need-returns-4
-unfolding takenOf takenWrites
 returns-4 c =
     let read = c .before .before in
     let asked = read .before .before in
-    let told = asked .before .before .before in
+    let told = asked .before .before in
     let met = told .before in
     let next = sym (met .before .before .record-at .ensures) ∙ met .kind .given .1 in
-    let no = asked .if1 .left in
-    (simp (next, no, c .answer .ensures, read .read-record .ensures), simp (next, no), simp (next, no))
+    let no = not-script _ _ (λ five. five .1 .left) (λ off. off .left) (asked .if1 .came) in
+    let command = by-command _ _ _ _ _ _ _ _ next no in (
+      c .answer .ensures ∙ ap (answeredBy _ _ _) (read .read-record .ensures) ∙ command .0,
+      ap (wordsAfter _) (command .1),
+      ap (rulesAfter _) (command .1),
+    )
 
 pub take-spec : {M : Type 1} → statement M
 take-spec =

@@ -1,5 +1,6 @@
 use borrow.Author.Needs.{needs}
 use lib.Dec.{lit≤}
+use Rattle.lines.proofs.Numbers.{line-is}
 use Rattle.lines.proofs.Stores.{within}
 use Rattle.lines.specs.Sitting.{answerLine}
 use Rattle.lines.proofs.store_answer.Statement.{statement}
@@ -9,34 +10,28 @@ returns : tie.Need-returns
 unfolding answerLine
 returns c =
     let put = c .before .before in
-    let number = put .before in
-    let told = number .before .before .before in
-    simp (told .answer .given .1) (within (simp (number .number .ensures) at (put .store-refusal .ensures)) (lit≤ tt))
+    let told = put .before .before .before in
+    simp (told .answer .given .1) (within (put .put-started .ensures) (lit≤ tt))
 
 returns-2 : tie.Need-returns-2
 unfolding answerLine
 returns-2 c =
     let put = c .before .before in
-    let told = put .before .before .before in
-    simp (told .answer2 .given .1) (within (put .put-started .ensures) (lit≤ tt))
-
-returns-3 : tie.Need-returns-3
-unfolding answerLine
-returns-3 c =
-    let put = c .before .before in
     let cid = put .before in
     let told = cid .before .before .before in
-    simp (told .answer3 .given .1, ← cid .cid .ensures) (put .put-cryptogram .ensures)
+    simp (told .answer2 .given .1, ← cid .cid .ensures) (put .put-cryptogram .ensures)
 
-returns-4 : tie.Need-returns-4
-unfolding answerLine
-returns-4 c =
+returns-3 : tie.Need-returns-3
+returns-3 c =
     let put = c .before .before in
-    let told = put .before .before in
-    simp (told .enum-told .given .1) (within (put .store-refusal2 .ensures) (lit≤ tt))
+    let number = put .before in
+    let other = number .before .before in
+    let a = other .before .before .args in
+    let is = line-is (a .number) (a .answer) (other .match .keys3) in
+    rw is (within (simp (number .number-of .ensures) at (put .store-refusal .ensures)) (lit≤ tt))
 
 pub store-answer-spec : {M : Type 1} → statement M
 store-answer-spec =
     tie.close
-    (tie.spec (search needs) (search needs) (search needs) (search needs) (search needs) (search needs) (search needs) (search needs)
-    (search needs) (search needs) (search needs) returns (search needs) returns-2 (search needs) returns-3 (search needs) returns-4)
+    (tie.spec (search needs) (search needs) (search needs) (search needs) (search needs) (search needs) (search needs) (search needs) returns
+    (search needs) returns-2 (search needs) returns-3)

@@ -1,8 +1,9 @@
 use denote.Ref.{now}
 use mathlib.Core.Path.{sym, _∙_}
 use borrow.Author.Needs.{needs}
-use Rattle.put_data.specs.PutData.{elementMeaning}
-use Rattle.put_data.proofs.Laws.{rest-all, meant, fails}
+use Rattle.element.specs.Element.{elementMeaning}
+use Rattle.element.proofs.Laws.{meant, fails}
+use Rattle.put_data.proofs.Laws.{rest-all}
 use Rattle.put_data.proofs.element_at.Statement.{statement}
 use Rattle.put_data.proofs.element_at.Tie as tie
 

@@ -1,8 +1,8 @@
 use native.Mathlib.Omega.{arith}
 use borrow.Author.Tests.{lt-leb, le-leb}
 use borrow.Author.Needs.{needs}
+use Rattle.element.proofs.Laws.{part}
 use Rattle.put_data.specs.PutData.{macPlace, elementsOf}
-use Rattle.put_data.proofs.Laws.{part}
 use Rattle.put_data.proofs.elements.Statement.{statement}
 use Rattle.put_data.proofs.elements.Tie as tie
 

@@ -6,7 +6,7 @@ use mathlib.Core.List.{List}
 use mathlib.Core.Path.{_≡_, sym, _∙_}
 use Prim.Native.Nat.{ℕ, _-_, _<_, _≤_}
 use lib.ListN.{length}
-use Rattle.put_data.specs.declared.Write.{Write}
+use Rattle.element.specs.declared.Write.{Write}
 use Rattle.put_data.specs.declared.Next.the-variants.{Element}
 use Rattle.put_data.specs.PutData.{objectOf, elementsOf, nextWrite}
 use Rattle.put_data.proofs.Cursor.{left-by}

@@ -1,0 +1,4 @@
+pub mod Stack
+pub mod Pieces
+pub mod Many
+pub mod Alone
