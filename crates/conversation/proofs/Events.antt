@@ -20,11 +20,12 @@ use Rattle.command.specs.Command.{commandIn}
 use Rattle.shape.specs.declared.Shape.{Shape}
 use Rattle.state.specs.declared.Answer.{Answer}
 use Rattle.state.specs.declared.State.{State}
-use Rattle.conversation.specs.declared.Taken.{Taken}
-use Rattle.conversation.specs.declared.Event.{Event}
-use Rattle.conversation.specs.declared.Event.the-variants.{SetUp, End, Refused, Answered}
+use Rattle.records.specs.declared.Taken.{Taken}
+use Rattle.records.specs.declared.Event.{Event}
+use Rattle.records.specs.declared.Event.the-variants.{SetUp, End, Refused, Answered}
 use Rattle.script.specs.Script.{rulesAfter, wordsAfter}
-use Rattle.conversation.specs.Conversation.{answeredBy, scriptedBy, isScript, nextTaken, takenOf, takenWrites}
+use Rattle.records.specs.Records.{answeredBy, scriptedBy, isScript}
+use Rattle.conversation.specs.Conversation.{nextTaken, takenOf, takenWrites}
 use Rattle.conversation.specs.Events.{following, eventsFrom, ending, wordsFrom}
 
 -- the conversation goes on behind an event

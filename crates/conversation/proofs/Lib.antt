@@ -1,3 +1,1 @@
-pub mod Parts
 pub mod Events
-pub mod Scripts

@@ -5,10 +5,11 @@ use lib.ListN.{length}
 use Rattle.rules.specs.Rules.{Rules, rulesOf}
 use Rattle.shape.specs.declared.Shape.{Shape}
 use Rattle.state.specs.declared.State.{State}
-use Rattle.conversation.specs.declared.Event.{Event}
-use Rattle.conversation.specs.declared.Event.the-variants.{SetUp, End, Refused, Answered}
+use Rattle.records.specs.declared.Event.{Event}
+use Rattle.records.specs.declared.Event.the-variants.{SetUp, End, Refused, Answered}
 use Rattle.script.specs.Script.{rulesAfter, wordsAfter}
-use Rattle.conversation.specs.Conversation.{takenOf, takenWrites, begunOf, wordsBegun}
+use Rattle.opening.specs.Opening.{begunOf, wordsBegun}
+use Rattle.conversation.specs.Conversation.{takenOf, takenWrites}
 
 -- an event, and those behind it where the conversation goes on
 abbrev pub following : Event → List Event → List Event

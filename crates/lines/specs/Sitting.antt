@@ -7,8 +7,8 @@ use Rattle.refusal.specs.Refusal.{refusalNumber}
 use Rattle.state.specs.declared.Answer.{Answer}
 use Rattle.state.specs.declared.Answer.the-variants.{Refused, Started, Given, Done}
 use Rattle.state.specs.State.{cidOf}
-use Rattle.conversation.specs.declared.Event.{Event}
-use Rattle.conversation.specs.declared.Event.the-variants.{SetUp, End, Refused as EndRefused, Answered}
+use Rattle.records.specs.declared.Event.{Event}
+use Rattle.records.specs.declared.Event.the-variants.{SetUp, End, Refused as EndRefused, Answered}
 use Rattle.conversation.specs.Events.{eventsOf}
 use Rattle.lines.specs.Lines.{refusalLine, startLine, selectedLine, cryptogramLine}
 

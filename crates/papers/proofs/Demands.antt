@@ -22,9 +22,9 @@ use Rattle.state.specs.declared.Outcome.{Outcome}
 use Rattle.card.specs.Card.{answerNumber}
 use Rattle.card.specs.Message.{Message, StartCommand, FirstCommand, ScriptCommand}
 use Rattle.readback.specs.WellFormed.{Writable, OfBytes, LaidOut, WellFormed}
-use Rattle.conversation.specs.declared.Event.{Event}
-use Rattle.conversation.specs.declared.Event.the-variants.{SetUp, Answered}
-use Rattle.conversation.specs.declared.Said.{Said}
+use Rattle.records.specs.declared.Event.{Event}
+use Rattle.records.specs.declared.Event.the-variants.{SetUp, Answered}
+use Rattle.records.specs.declared.Said.{Said}
 use Rattle.conversation.specs.Events.{eventsOf}
 use Rattle.lines.specs.Sitting.{answerLine, linesOf, sittingLines}
 use Rattle.demands.specs.Setup.{Setup, IsCpa, AcceptedSetup}

@@ -12,10 +12,10 @@ use Rattle.rules.specs.Word.{wordCount}
 use Rattle.setup.specs.Setup.{setupNumber}
 use Rattle.shape.specs.declared.Shape.{Shape}
 use Rattle.shape.specs.Shape.{basePart, cyclesPart, familyPart, shapeOf, shapeAt}
-use Rattle.conversation.specs.declared.Begun.{Begun}
-use Rattle.conversation.specs.declared.Event.{Event}
-use Rattle.conversation.specs.declared.Event.the-variants.{SetUp, Refused}
-use Rattle.conversation.specs.Conversation.{begunOf, setupBegun, shapedBegun}
+use Rattle.opening.specs.declared.Begun.{Begun}
+use Rattle.records.specs.declared.Event.{Event}
+use Rattle.records.specs.declared.Event.the-variants.{SetUp, Refused}
+use Rattle.opening.specs.Opening.{begunOf, setupBegun, shapedBegun}
 use Rattle.conversation.specs.Events.{eventsOf}
 use Rattle.lines.specs.Lines.{refusalLine}
 use Rattle.lines.specs.Sitting.{answerLine, linesOf, sittingLines}

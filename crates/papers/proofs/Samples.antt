@@ -28,10 +28,12 @@ use Rattle.command.specs.Command.{startOf, firstOf, commandOf, commandIn}
 use Rattle.state.specs.declared.Answer.the-variants.{Refused as AnswerRefused, Started, Given, Done}
 use Rattle.card.specs.Card.{freshState, stepOf}
 use Rattle.card.specs.Message.{Message, StartCommand, FirstCommand, SecondCommand, ScriptCommand}
-use Rattle.conversation.specs.declared.Event.{Event}
-use Rattle.conversation.specs.declared.Event.the-variants.{SetUp, End, Refused, Answered}
-use Rattle.conversation.specs.declared.Said.the-variants.{Command, Script}
-use Rattle.conversation.specs.Conversation.{answeredBy, scriptedBy, takenOf, bodyWrites, takenWrites, begunOf}
+use Rattle.records.specs.declared.Event.{Event}
+use Rattle.records.specs.declared.Event.the-variants.{SetUp, End, Refused, Answered}
+use Rattle.records.specs.declared.Said.the-variants.{Command, Script}
+use Rattle.records.specs.Records.{answeredBy, scriptedBy, bodyWrites}
+use Rattle.opening.specs.Opening.{begunOf}
+use Rattle.conversation.specs.Conversation.{takenOf, takenWrites}
 use Rattle.conversation.specs.Events.{eventsFrom, eventsOf}
 use Rattle.lines.specs.Lines.{digit, decimal, refusalLine}
 use Rattle.lines.specs.Sitting.{linesOf, sittingLines}

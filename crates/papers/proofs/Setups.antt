@@ -14,8 +14,8 @@ use Rattle.setup.proofs.Faithful.{started}
 use Rattle.auditor.specs.Template.{InRange}
 use Rattle.shape.specs.declared.Shape.{Shape}
 use Rattle.shape.specs.Shape.{basePart, cyclesPart, familyPart, shapeAt}
-use Rattle.conversation.specs.declared.Event.the-variants.{SetUp}
-use Rattle.conversation.specs.Conversation.{begunOf, baseBegun, setupBegun, setupWords, wordsBegun}
+use Rattle.records.specs.declared.Event.the-variants.{SetUp}
+use Rattle.opening.specs.Opening.{begunOf, baseBegun, setupBegun, setupWords, wordsBegun}
 use Rattle.demands.specs.Setup.{Setup, AcceptedSetup}
 use Rattle.demands.specs.Conversation.{rulesBy}
 use Rattle.rows.specs.Rows.{body as spelledBase, cyclesBytes, controlsBytes}

@@ -10,10 +10,10 @@ use Rattle.state.specs.declared.Answer.{Answer}
 use Rattle.setup.specs.Setup.{readSetup}
 use Rattle.card.specs.Card.{freshState}
 use Rattle.card.specs.Message.{Message, StartCommand, FirstCommand, SecondCommand, ScriptCommand}
-use Rattle.conversation.specs.declared.Event.{Event}
-use Rattle.conversation.specs.declared.Event.the-variants.{Answered}
-use Rattle.conversation.specs.declared.Said.{Said}
-use Rattle.conversation.specs.declared.Said.the-variants.{Command, Script}
+use Rattle.records.specs.declared.Event.{Event}
+use Rattle.records.specs.declared.Event.the-variants.{Answered}
+use Rattle.records.specs.declared.Said.{Said}
+use Rattle.records.specs.declared.Said.the-variants.{Command, Script}
 use Rattle.demands.specs.Setup.{Setup}
 use Rattle.demands.specs.Conversation.{Exchange, Sitting, outcomeOf, told, run, rulesBy}
 use Rattle.spelling.specs.Sitting.{saidOf, happened}

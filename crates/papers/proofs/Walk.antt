@@ -27,9 +27,9 @@ use Rattle.command.specs.declared.ReadCommand.the-variants.{Refused as CommandR
 use Rattle.command.specs.Command.{commandOf, selectingOf, startSelected, startOf, firstOf, secondOf}
 use Rattle.script.specs.Script.{rulesAfter}
 use Rattle.card.specs.Message.{Message}
-use Rattle.conversation.specs.declared.Event.{Event}
-use Rattle.conversation.specs.declared.Taken.{Taken}
-use Rattle.conversation.specs.declared.Event.the-variants.{End, Refused, Answered}
+use Rattle.records.specs.declared.Event.{Event}
+use Rattle.records.specs.declared.Taken.{Taken}
+use Rattle.records.specs.declared.Event.the-variants.{End, Refused, Answered}
 use Rattle.conversation.specs.Conversation.{takenOf, takenWrites}
 use Rattle.conversation.specs.Events.{eventsFrom}
 use Rattle.demands.specs.Conversation.{Sitting, outcomeOf, told as heard, run}

@@ -20,8 +20,8 @@ use Rattle.command.specs.declared.When.the-variants.{On}
 use Rattle.state.specs.declared.Answer.{Answer}
 use Rattle.state.specs.declared.Answer.the-variants.{Refused}
 use Rattle.card.specs.Message.{Message, FirstCommand}
-use Rattle.conversation.specs.declared.Event.{Event}
-use Rattle.conversation.specs.declared.Event.the-variants.{SetUp}
+use Rattle.records.specs.declared.Event.{Event}
+use Rattle.records.specs.declared.Event.the-variants.{SetUp}
 use Rattle.lines.specs.Sitting.{sittingLines}
 use Rattle.demands.specs.Conversation.{Exchange, run, rulesBy, sat}
 use Rattle.demands.specs.Audit.{inForce, placeBy, upperOf, approves, bought, takesPart}

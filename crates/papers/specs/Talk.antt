@@ -12,11 +12,12 @@ use Rattle.state.specs.declared.Answer.{Answer}
 use Rattle.state.specs.declared.State.{State}
 use Rattle.script.specs.Script.{rulesAfter}
 use Rattle.card.specs.Message.{Message}
-use Rattle.conversation.specs.declared.Event.{Event}
-use Rattle.conversation.specs.declared.Event.the-variants.{SetUp, Refused, Answered}
-use Rattle.conversation.specs.declared.Said.{Said}
-use Rattle.conversation.specs.declared.Said.the-variants.{Command, Script}
-use Rattle.conversation.specs.Conversation.{takenOf, takenWrites, begunOf, wordsBegun}
+use Rattle.records.specs.declared.Event.{Event}
+use Rattle.records.specs.declared.Event.the-variants.{SetUp, Refused, Answered}
+use Rattle.records.specs.declared.Said.{Said}
+use Rattle.records.specs.declared.Said.the-variants.{Command, Script}
+use Rattle.opening.specs.Opening.{begunOf, wordsBegun}
+use Rattle.conversation.specs.Conversation.{takenOf, takenWrites}
 use Rattle.conversation.specs.Events.{eventsOf}
 use Rattle.demands.specs.Setup.{Setup}
 use Rattle.demands.specs.Conversation.{Exchange, sat}

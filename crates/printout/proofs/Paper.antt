@@ -18,9 +18,10 @@ use Rattle.state.specs.declared.State.{State}
 use Rattle.state.specs.State.{cidOf}
 use Rattle.script.specs.Script.{rulesAfter}
 use Rattle.card.specs.Message.{Message}
-use Rattle.conversation.specs.declared.Event.{Event}
-use Rattle.conversation.specs.declared.Event.the-variants.{SetUp, End, Refused, Answered}
-use Rattle.conversation.specs.Conversation.{takenOf, takenWrites, begunOf, wordsBegun}
+use Rattle.records.specs.declared.Event.{Event}
+use Rattle.records.specs.declared.Event.the-variants.{SetUp, End, Refused, Answered}
+use Rattle.opening.specs.Opening.{begunOf, wordsBegun}
+use Rattle.conversation.specs.Conversation.{takenOf, takenWrites}
 use Rattle.conversation.specs.Events.{following, eventsFrom, eventsOf, wordsLeft}
 use Rattle.lines.specs.Lines.{refusalLine, startLine, selectedLine}
 use Rattle.lines.specs.Sitting.{answerLine, eventLine, linesOf, sittingLines}

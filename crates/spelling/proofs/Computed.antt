@@ -38,9 +38,11 @@ use Rattle.cryptogram.specs.Cryptogram.{limitsByte, verification, sentIad}
 use Rattle.cycles.specs.Cycles.{timingOf, dated}
 use Rattle.first.specs.First.{decision, settled, asked, concluded, firstAnswered, firstPerformed}
 use Rattle.card.specs.Card.{freshState, startStep, firstStep, stepOf, scriptPerformed, scriptStep, scriptWrites}
-use Rattle.conversation.specs.declared.Begun.{Begun}
-use Rattle.conversation.specs.declared.Event.{Event}
-use Rattle.conversation.specs.Conversation.{answeredBy, scriptedBy, takenOf, bodyWrites, takenWrites, baseBegun, setupBegun, begunOf, setupWords, wordsBegun}
+use Rattle.opening.specs.declared.Begun.{Begun}
+use Rattle.records.specs.declared.Event.{Event}
+use Rattle.records.specs.Records.{answeredBy, scriptedBy, bodyWrites}
+use Rattle.opening.specs.Opening.{baseBegun, setupBegun, begunOf, setupWords, wordsBegun}
+use Rattle.conversation.specs.Conversation.{takenOf, takenWrites}
 use Rattle.conversation.specs.Events.{eventsFrom, eventsOf}
 use Rattle.lines.specs.Lines.{digit, decimal, hex, refusalLine, startLine, selectedLine, cryptogramLine}
 use Rattle.lines.specs.Sitting.{answerLine, linesOf, sittingLines}

@@ -18,10 +18,11 @@ use Rattle.element.specs.declared.Write.{Write}
 use Rattle.state.specs.declared.State.{State}
 use Rattle.card.specs.Card.{stepOf}
 use Rattle.card.specs.Message.{messageStep, messageWrites}
-use Rattle.conversation.specs.declared.Event.{Event}
-use Rattle.conversation.specs.declared.Event.the-variants.{End, Refused, Answered}
-use Rattle.conversation.specs.declared.Taken.{Taken}
-use Rattle.conversation.specs.Conversation.{answeredBy, scriptedBy, isScript, nextTaken, takenOf, bodyWrites, nextWrites, takenWrites}
+use Rattle.records.specs.declared.Event.{Event}
+use Rattle.records.specs.declared.Event.the-variants.{End, Refused, Answered}
+use Rattle.records.specs.declared.Taken.{Taken}
+use Rattle.records.specs.Records.{answeredBy, scriptedBy, isScript, bodyWrites}
+use Rattle.conversation.specs.Conversation.{nextTaken, takenOf, nextWrites, takenWrites}
 use Rattle.conversation.specs.Events.{eventsFrom}
 use Rattle.lines.specs.Sitting.{answerLine, linesOf}
 use Rattle.spelling.specs.Spelling.{Sent, kindOf, bodyOf, spell, spellAll, Manner, mannerIn, Fits, AllFit}

@@ -36,9 +36,9 @@ use Rattle.paper.specs.declared.Opened.the-variants.{Setup}
 use Rattle.paper.specs.Paper.{openPaper}
 use Rattle.paper.specs.Walk.{part}
 use Rattle.lines.specs.Lines.{refusalLine}
-use Rattle.conversation.specs.declared.Event.{Event}
-use Rattle.conversation.specs.declared.Event.the-variants.{Refused}
-use Rattle.conversation.specs.Conversation.{setUpEvent, begunOf, baseBegun, setupBegun, shapedBegun, setupWords, wordsBegun}
+use Rattle.records.specs.declared.Event.{Event}
+use Rattle.records.specs.declared.Event.the-variants.{Refused}
+use Rattle.opening.specs.Opening.{setUpEvent, begunOf, baseBegun, setupBegun, shapedBegun, setupWords, wordsBegun}
 use Rattle.conversation.specs.Events.{eventsOf}
 use Rattle.lines.specs.Sitting.{linesOf, sittingLines}
 use Rattle.spelling.specs.Spelling.{Bytes, Sent, spellAll, choiceIn, datesIn, familyIn, scriptsIn, Manner, mannerIn, AllFit}

@@ -33,7 +33,8 @@ use Rattle.state.specs.declared.Answer.the-variants.{Started, Done}
 use Rattle.card.specs.Card.{freshState}
 use Rattle.card.specs.Message.{StartCommand, FirstCommand, SecondCommand, ScriptCommand}
 use Rattle.lines.specs.Lines.{digit, decimal, refusalLine, startLine, selectedLine}
-use Rattle.conversation.specs.Conversation.{answeredBy, takenOf, takenWrites}
+use Rattle.records.specs.Records.{answeredBy}
+use Rattle.conversation.specs.Conversation.{takenOf, takenWrites}
 use Rattle.conversation.specs.Events.{eventsFrom}
 use Rattle.lines.specs.Sitting.{answerLine, linesOf, sittingLines}
 use Rattle.readback.specs.Fields.{wordsIn, areDigits, valueIn, isHex, bytesIn, Fields, Two, Three, Four, Five, Other, fieldsIn}

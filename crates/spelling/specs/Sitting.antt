@@ -31,11 +31,11 @@ use Rattle.script.specs.Script.{rulesAfter}
 use Rattle.card.specs.Card.{freshState}
 use Rattle.card.specs.Message.{Message, StartCommand, FirstCommand, SecondCommand, ScriptCommand, messageStep, messageWrites}
 use Rattle.lines.specs.Lines.{refusalLine}
-use Rattle.conversation.specs.declared.Event.{Event}
-use Rattle.conversation.specs.declared.Event.the-variants.{Refused as EndRefused, Answered}
-use Rattle.conversation.specs.declared.Said.{Said}
-use Rattle.conversation.specs.declared.Said.the-variants.{Command, Script}
-use Rattle.conversation.specs.Conversation.{isScript}
+use Rattle.records.specs.declared.Event.{Event}
+use Rattle.records.specs.declared.Event.the-variants.{Refused as EndRefused, Answered}
+use Rattle.records.specs.declared.Said.{Said}
+use Rattle.records.specs.declared.Said.the-variants.{Command, Script}
+use Rattle.records.specs.Records.{isScript}
 use Rattle.lines.specs.Sitting.{answerLine, sittingLines}
 use Rattle.spelling.specs.Spelling.{Sent, spell, spellAll, Manner, mannerIn, Fits, AllFit, slotsIn, standsFor}
 use Rattle.spelling.specs.Faults.{OpenFault, Opens, RestFault}

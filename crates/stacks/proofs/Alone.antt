@@ -24,10 +24,11 @@ use Rattle.paper.specs.Paper.{openPaper}
 use Rattle.paper.specs.Walk.{part}
 use Rattle.state.specs.declared.State.{State}
 use Rattle.script.specs.Script as script
-use Rattle.conversation.specs.declared.Event.{Event}
-use Rattle.conversation.specs.declared.Event.the-variants.{SetUp, End, Refused, Answered}
-use Rattle.conversation.specs.Conversation.{setUpEvent, baseBegun, shapedBegun, setupBegun, openedBegun, begunOf}
-use Rattle.conversation.specs.Conversation.{shapedWords, setupWords, openedWords, wordsBegun, takenOf, takenWrites}
+use Rattle.records.specs.declared.Event.{Event}
+use Rattle.records.specs.declared.Event.the-variants.{SetUp, End, Refused, Answered}
+use Rattle.opening.specs.Opening.{setUpEvent, baseBegun, shapedBegun, setupBegun, openedBegun, begunOf}
+use Rattle.opening.specs.Opening.{shapedWords, setupWords, openedWords, wordsBegun}
+use Rattle.conversation.specs.Conversation.{takenOf, takenWrites}
 use Rattle.conversation.specs.Events.{ending, wordsFrom, wordsLeft}
 use Rattle.lines.specs.Lines.{refusalLine}
 use Rattle.transcript.specs.Transcript.{transcriptOf, restOf}

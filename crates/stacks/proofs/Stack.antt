@@ -12,7 +12,7 @@ use Rattle.wire.specs.Wire.{byte, number}
 use Rattle.refusal.specs.declared.Refusal.the-variants.{Unreadable}
 use Rattle.paper.specs.declared.Opened.the-variants.{Refused as OpenRefused}
 use Rattle.paper.specs.Paper.{openPaper}
-use Rattle.conversation.specs.Conversation.{begunOf, openedBegun, wordsBegun, openedWords}
+use Rattle.opening.specs.Opening.{begunOf, openedBegun, wordsBegun, openedWords}
 use Rattle.conversation.specs.Events.{wordsLeft}
 use Rattle.lines.specs.Lines.{digit, decimal, refusalLine}
 use Rattle.transcript.proofs.Steps.{not-set-up, words-not-set-up}

@@ -15,12 +15,13 @@ use Rattle.shape.specs.declared.Shape.{Shape}
 use Rattle.script.specs.Script.{rulesAfter, wordsAfter}
 use Rattle.state.specs.declared.Answer.{Answer}
 use Rattle.state.specs.declared.State.{State}
-use Rattle.conversation.specs.declared.Begun.{Begun}
-use Rattle.conversation.specs.declared.Taken.{Taken}
-use Rattle.conversation.specs.declared.Event.{Event}
-use Rattle.conversation.specs.declared.Event.the-variants.{SetUp, End, Refused, Answered}
-use Rattle.conversation.specs.declared.Said.{Said}
-use Rattle.conversation.specs.Conversation.{takenOf, takenWrites, begunOf, wordsBegun}
+use Rattle.opening.specs.declared.Begun.{Begun}
+use Rattle.records.specs.declared.Taken.{Taken}
+use Rattle.records.specs.declared.Event.{Event}
+use Rattle.records.specs.declared.Event.the-variants.{SetUp, End, Refused, Answered}
+use Rattle.records.specs.declared.Said.{Said}
+use Rattle.opening.specs.Opening.{begunOf, wordsBegun}
+use Rattle.conversation.specs.Conversation.{takenOf, takenWrites}
 use Rattle.conversation.specs.Events.{wordsFrom, wordsLeft}
 use Rattle.conversation.proofs.Events.{GoesOn, further}
 use Rattle.conversation.proofs.Event as E

@@ -8,10 +8,11 @@ use Rattle.refusal.specs.Refusal.{refusalNumber}
 use Rattle.rules.specs.Rules.{Rules, rulesOf}
 use Rattle.shape.specs.declared.Shape.{Shape}
 use Rattle.state.specs.declared.State.{State}
-use Rattle.conversation.specs.declared.Event.{Event}
-use Rattle.conversation.specs.declared.Event.the-variants.{SetUp, End, Refused, Answered}
+use Rattle.records.specs.declared.Event.{Event}
+use Rattle.records.specs.declared.Event.the-variants.{SetUp, End, Refused, Answered}
 use Rattle.script.specs.Script.{rulesAfter}
-use Rattle.conversation.specs.Conversation.{takenOf, takenWrites, begunOf, wordsBegun}
+use Rattle.opening.specs.Opening.{begunOf, wordsBegun}
+use Rattle.conversation.specs.Conversation.{takenOf, takenWrites}
 use Rattle.conversation.specs.Events.{following, eventsFrom}
 use Rattle.conversation.proofs.Events.{GoesOn, further}
 use Rattle.lines.specs.Lines.{refusalLine}

@@ -36,11 +36,12 @@ use Rattle.state.specs.declared.Answer.the-variants.{Refused as AnswerRefused, 
 use Rattle.state.specs.declared.State.{State}
 use Rattle.state.specs.State.{cidOf}
 use Rattle.card.specs.Card.{Ruling, take as rule, refuse, ruleStart, ruleScript, startPerformed, scriptPerformed, carried, startStep, scriptStep, stepOf}
-use Rattle.conversation.specs.declared.Event.{Event}
-use Rattle.conversation.specs.declared.Event.the-variants.{SetUp, End, Refused, Answered}
-use Rattle.conversation.specs.declared.Taken.{Taken as TakenRecord}
-use Rattle.conversation.specs.Conversation.{answeredBy, scriptedBy, isScript, nextTaken, takenOf}
-use Rattle.conversation.proofs.Parts.{part-length}
+use Rattle.records.specs.declared.Event.{Event}
+use Rattle.records.specs.declared.Event.the-variants.{SetUp, End, Refused, Answered}
+use Rattle.records.specs.declared.Taken.{Taken as TakenRecord}
+use Rattle.records.specs.Records.{answeredBy, scriptedBy, isScript}
+use Rattle.conversation.specs.Conversation.{nextTaken, takenOf}
+use Rattle.opening.proofs.Parts.{part-length}
 use Rattle.lines.specs.Lines.{refusalLine, startLine, selectedLine, longest}
 use Rattle.lines.specs.Sitting.{answerLine}
 use Rattle.lines.proofs.Decimal as Decimal

@@ -29,18 +29,21 @@ use Rattle.paper.specs.declared.Opened.the-variants.{Setup, Refused as OpenRefu
 use Rattle.paper.specs.Paper.{latest, nextAt, setupIn, isUnreadable, openPaper}
 use Rattle.paper.specs.Walk.{part}
 use Rattle.paper.proofs.Walk.{inside}
-use Rattle.conversation.specs.declared.Said.{Said}
+use Rattle.records.specs.declared.Said.{Said}
 use Rattle.command.specs.declared.ReadCommand.{ReadCommand}
 use Rattle.command.specs.declared.ReadCommand.the-variants.{Taken as CommandTaken, Refused as NotTaken}
 use Rattle.command.specs.Command.{commandIn}
 use Rattle.state.specs.declared.Answer.{Answer}
 use Rattle.state.specs.declared.State.{State}
-use Rattle.conversation.specs.declared.Begun.{Begun}
-use Rattle.conversation.specs.declared.Taken.{Taken}
-use Rattle.conversation.specs.declared.Event.{Event}
-use Rattle.conversation.specs.declared.Event.the-variants.{SetUp, End, Refused, Answered}
-use Rattle.conversation.specs.Conversation.{setUpEvent, baseBegun, shapedBegun, setupBegun, openedBegun, begunOf, answeredBy, scriptedBy}
-use Rattle.conversation.specs.Conversation.{isScript, nextTaken, takenOf, takenWrites, wordsBegun}
+use Rattle.opening.specs.declared.Begun.{Begun}
+use Rattle.records.specs.declared.Taken.{Taken}
+use Rattle.records.specs.declared.Event.{Event}
+use Rattle.records.specs.declared.Event.the-variants.{SetUp, End, Refused, Answered}
+use Rattle.records.specs.Records.{answeredBy, scriptedBy}
+use Rattle.opening.specs.Opening.{setUpEvent, baseBegun, shapedBegun, setupBegun, openedBegun, begunOf}
+use Rattle.records.specs.Records.{isScript}
+use Rattle.opening.specs.Opening.{wordsBegun}
+use Rattle.conversation.specs.Conversation.{nextTaken, takenOf, takenWrites}
 use Rattle.conversation.specs.Events.{following, eventsFrom, eventsOf, ending, wordsFrom, wordsLeft}
 use Rattle.conversation.proofs.Events.{GoesOn, further, settled, words-settled}
 use Rattle.script.specs.Script.{rulesAfter, wordsAfter}

@@ -9,8 +9,8 @@ use Rattle.refusal.specs.Refusal.{refusalNumber}
 use Rattle.rules.specs.Rules.{Rules}
 use Rattle.shape.specs.declared.Shape.{Shape}
 use Rattle.state.specs.declared.State.{State}
-use Rattle.conversation.specs.declared.Event.{Event}
-use Rattle.conversation.specs.declared.Event.the-variants.{SetUp, End, Refused, Answered}
+use Rattle.records.specs.declared.Event.{Event}
+use Rattle.records.specs.declared.Event.the-variants.{SetUp, End, Refused, Answered}
 use Rattle.conversation.specs.Events.{eventsFrom, wordsLeft}
 use Rattle.lines.specs.Lines.{refusalLine, longest}
 use Rattle.lines.specs.Sitting.{linesOf, sittingLines}

@@ -6,7 +6,7 @@ ghost use lib.Seq.{sets};
 ghost use Rattle.rules.specs.Rules.{rulesOf};
 ghost use Rattle.conversation.specs.Events.{wordsFrom, wordsLeft};
 ghost use Rattle.transcript.specs.Transcript.{lastLine, restOf, transcriptOf, roomFor, hasRoom, transcribed, roomAfter, wordsAfter};
-use conversation::Event;
+use records::Event;
 use rules::Words;
 use shape::Shape;
 use state::State;
@@ -80,7 +80,7 @@ fn put_paper(paper: &[u8], words: &mut Words, room: &mut [u8], at: usize) -> usi
     requires { ⌜ at + roomFor (length (now paper)) ≤ length (now room) ⌝ }
     ensures { λ r. ⌜ (r ≡ at + length (transcriptOf (now (words .entry)) (now (paper .entry)))) × (now (room .exit) ≡ sets (now (room .entry)) at (transcriptOf (now (words .entry)) (now (paper .entry)))) × (now (words .exit) ≡ wordsLeft (now (words .entry)) (now (paper .entry))) ⌝ }
 {
-    let begun = conversation::begin(paper, words);
+    let begun = opening::begin(paper, words);
     let event = begun.event;
     if let Event::Refused(refusal) = event {
         return lines::put_refusal(room, at, 0, refusal.number());

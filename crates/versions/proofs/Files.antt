@@ -29,8 +29,8 @@ use Rattle.paper.specs.Walk.{part}
 use Rattle.command.specs.Command.{isCpace, startSelected, selectingOf, slotsOf, commandIn}
 use Rattle.command.specs.declared.Command.the-variants.{Start as StartCommand}
 use Rattle.command.specs.declared.ReadCommand.the-variants.{Taken as CommandTaken}
-use Rattle.conversation.specs.declared.Begun.{Begun}
-use Rattle.conversation.specs.Conversation.{baseBegun, setupBegun, begunOf}
+use Rattle.opening.specs.declared.Begun.{Begun}
+use Rattle.opening.specs.Opening.{baseBegun, setupBegun, begunOf}
 use Rattle.versions.proofs.Papers.{Known, Reads, readsOf, paperOf, file-there, by-body, begun-is}
 
 -- a tail that is off, or on with so many bytes in all

@@ -35,12 +35,13 @@ use Rattle.command.specs.declared.ReadCommand.{ReadCommand}
 use Rattle.command.specs.declared.ReadCommand.the-variants.{Taken as CommandTaken, Refused as CommandRefused}
 use Rattle.state.specs.declared.State.{State}
 use Rattle.card.specs.Card.{freshState}
-use Rattle.conversation.specs.declared.Event.{Event}
-use Rattle.conversation.specs.declared.Event.the-variants.{End as EndEvent, Refused}
-use Rattle.conversation.specs.declared.Taken.{Taken}
+use Rattle.records.specs.declared.Event.{Event}
+use Rattle.records.specs.declared.Event.the-variants.{End as EndEvent, Refused}
+use Rattle.records.specs.declared.Taken.{Taken}
 use Rattle.script.specs.Script.{rulesAfter}
-use Rattle.conversation.specs.Conversation.{answeredBy, scriptedBy, isScript, nextTaken, takenOf, nextWrites, takenWrites}
-use Rattle.conversation.specs.Conversation.{setUpEvent, baseBegun, setupBegun, begunOf, setupWords, wordsBegun}
+use Rattle.records.specs.Records.{answeredBy, scriptedBy, isScript}
+use Rattle.conversation.specs.Conversation.{nextTaken, takenOf, nextWrites, takenWrites}
+use Rattle.opening.specs.Opening.{setUpEvent, baseBegun, setupBegun, begunOf, setupWords, wordsBegun}
 use Rattle.conversation.specs.Events.{following, eventsFrom, eventsOf}
 use Rattle.conversation.proofs.Events.{settled}
 

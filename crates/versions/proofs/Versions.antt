@@ -33,9 +33,9 @@ use Rattle.shape.proofs.Inside.{Inside, inside}
 use Rattle.shape.proofs.Older.{selection-off, syllabus-off, dates-off, family-off, scripts-off}
 use Rattle.slot.specs.declared.Slots.{Slots}
 use Rattle.command.specs.Command.{selectingOf, fileIn, readBy, slotsOf, commandIn}
-use Rattle.conversation.specs.declared.Begun.{Begun}
-use Rattle.conversation.specs.declared.Event.the-variants.{SetUp, Refused as EndRefused}
-use Rattle.conversation.specs.Conversation.{setUpEvent, baseBegun, shapedBegun, setupBegun, begunOf}
+use Rattle.opening.specs.declared.Begun.{Begun}
+use Rattle.records.specs.declared.Event.the-variants.{SetUp, Refused as EndRefused}
+use Rattle.opening.specs.Opening.{setUpEvent, baseBegun, shapedBegun, setupBegun, begunOf}
 use Rattle.lines.specs.Sitting.{linesOf, sittingLines}
 use Rattle.versions.proofs.Papers.{Known, readsOf, paperOf, Parts, partsOf, eventsWith, eventsShaped}
 use Rattle.versions.proofs.Papers.{part-before, file-there, whole-length, events-are, begun-is}

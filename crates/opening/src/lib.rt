@@ -1,0 +1,216 @@
+// The set-up of a paper, read into lent words: a fresh card, or a refusal.
+ghost use mathlib.Core.Path.{_≡_};
+ghost use Prim.Native.Nat.{_+_, _<_, _^_};
+ghost use lib.ListN.{length};
+ghost use Rattle.setup.specs.Setup.{wordsAfter};
+ghost use Rattle.shape.specs.Shape.{cyclesPart, familyPart, Lies, Spans, Holds, selectingAt, datingAt, familyAt, shapeAt};
+ghost use Rattle.shape.specs.declared.ReadShape.the-variants.{Taken as ShapeTaken};
+ghost use Rattle.shape.proofs.Inside.{Inside};
+ghost use Rattle.opening.specs.Opening.{setUpEvent, refusedAt, baseBegun, shapedBegun, shapedWords};
+ghost use Rattle.opening.specs.Opening.{setupBegun, setupWords, begunOf, wordsBegun};
+use paper::Opened;
+use records::Event;
+use refusal::Refusal;
+use rules::Words;
+use setup::SetupAnswer;
+use shape::Dating;
+use shape::Family;
+use shape::ReadShape;
+use shape::Selecting;
+use shape::Shape;
+use state::State;
+
+// After the set-up: the paper's shape, the card, the place of the first record, and what happened.
+pub struct Begun {
+    pub shape: Shape,
+    pub state: State,
+    pub at: usize,
+    pub event: Event,
+}
+
+fn event_of(answer: SetupAnswer) -> Event
+    ensures { λ r. ⌜ r ≡ setUpEvent answer ⌝ }
+{
+    match answer {
+        SetupAnswer::Done => Event::SetUp,
+        SetupAnswer::Refused(refusal) => Event::Refused(refusal),
+    }
+}
+
+// A paper that ends with its set-up: no card.
+fn refuse(refusal: Refusal, at: usize) -> Begun
+    ensures { λ r. ⌜ r ≡ refusedAt refusal at ⌝ }
+{
+    let none = setup::no_card();
+    Begun {
+        shape: Shape {
+            base: 0,
+            selecting: Selecting::Off,
+            syllabus: 0,
+            dating: Dating::Off,
+            family: Family::Cpa,
+            scripting: false,
+            unnamed: 4_194_304,
+        },
+        state: card::fresh_card(none),
+        at,
+        event: Event::Refused(refusal),
+    }
+}
+
+// The set-up's base, the tail with its cyclic accumulators and that with a CPACE card's controls, read
+// into lent words.
+fn take_base(
+    shape: Shape,
+    base: &[u8],
+    cycles: &[u8],
+    family: &[u8],
+    end: usize,
+    words: &mut Words,
+) -> Begun
+    ensures { λ r. ⌜ (r ≡ baseBegun shape (now (base .entry)) (now (cycles .entry)) (now (family .entry)) end)
+        × (now (words .exit) ≡ wordsAfter (now (words .entry)) (now (base .entry)) (now (cycles .entry)) (now (family .entry))
+        (shape .syllabus) (shape .unnamed)) ⌝ }
+{
+    let read = setup::read_setup(base, cycles, family, shape.syllabus, shape.unnamed, words);
+    let fresh = read.fresh;
+    let answer = read.answer;
+    Begun {
+        shape,
+        state: card::fresh_card(fresh),
+        at: end,
+        event: event_of(answer),
+    }
+}
+
+// The file's places in the paper, where its body of so many bytes stands at a place of it.
+fn select_in(selecting: Selecting, place: usize, bytes: usize) -> Selecting
+    requires { ⌜ Lies selecting bytes × (place + bytes < 2 ^ 63) ⌝ }
+    ensures { λ r. ⌜ r ≡ selectingAt place selecting ⌝ }
+{
+    match selecting {
+        Selecting::Off => Selecting::Off,
+        Selecting::On {
+            start,
+            end,
+            entries,
+        } => Selecting::On {
+            start: place + start,
+            end: place + end,
+            entries,
+        },
+    }
+}
+
+// The places of the tail with dates likewise.
+fn date_in(dating: Dating, place: usize, bytes: usize) -> Dating
+    requires { ⌜ Spans dating bytes × (place + bytes < 2 ^ 63) ⌝ }
+    ensures { λ r. ⌜ r ≡ datingAt place dating ⌝ }
+{
+    match dating {
+        Dating::Off => Dating::Off,
+        Dating::On { start, end } => Dating::On {
+            start: place + start,
+            end: place + end,
+        },
+    }
+}
+
+// And those of a CPACE card's tail.
+fn family_in(family: Family, place: usize, bytes: usize) -> Family
+    requires { ⌜ Holds family bytes × (place + bytes < 2 ^ 63) ⌝ }
+    ensures { λ r. ⌜ r ≡ familyAt place family ⌝ }
+{
+    match family {
+        Family::Cpa => Family::Cpa,
+        Family::Cpace { start, end } => Family::Cpace {
+            start: place + start,
+            end: place + end,
+        },
+    }
+}
+
+// A shape with its places in the paper.
+fn place_in(shape: Shape, place: usize, bytes: usize) -> Shape
+    requires { ⌜ Inside shape bytes × (place + bytes < 2 ^ 63) ⌝ }
+    ensures { λ r. ⌜ r ≡ shapeAt place shape ⌝ }
+{
+    let read = shape.selecting;
+    let selecting = select_in(read, place, bytes);
+    let dates = shape.dating;
+    let dating = date_in(dates, place, bytes);
+    let kind = shape.family;
+    let family = family_in(kind, place, bytes);
+    Shape {
+        base: shape.base,
+        selecting,
+        syllabus: shape.syllabus,
+        dating,
+        family,
+        scripting: shape.scripting,
+        unnamed: shape.unnamed,
+    }
+}
+
+// The tail with dates, no byte where they are off.
+fn cycles_in(dating: Dating, body: &[u8]) -> &[u8]
+    requires { ⌜ Spans dating (length (now body)) ⌝ }
+    ensures { λ r. ⌜ now r ≡ cyclesPart dating (now (body .entry)) ⌝ }
+{
+    match dating {
+        Dating::Off => &body[..0],
+        Dating::On { start, end } => &body[start..end],
+    }
+}
+
+// A CPACE card's tail, no byte of a CPA one.
+fn controls_in(family: Family, body: &[u8]) -> &[u8]
+    requires { ⌜ Holds family (length (now body)) ⌝ }
+    ensures { λ r. ⌜ now r ≡ familyPart family (now (body .entry)) ⌝ }
+{
+    match family {
+        Family::Cpa => &body[..0],
+        Family::Cpace { start, end } => &body[start..end],
+    }
+}
+
+// A set-up of this shape: its base, its tail with dates where there is one, and a CPACE card's.
+fn take_shaped(shape: Shape, body: &[u8], place: usize, end: usize, words: &mut Words) -> Begun
+    requires { ⌜ Inside shape (length (now body)) × (place + length (now body) < 2 ^ 63) ⌝ }
+    ensures { λ r. ⌜ (r ≡ shapedBegun (now (body .entry)) place end (ShapeTaken shape))
+        × (now (words .exit) ≡ shapedWords (now (words .entry)) (now (body .entry)) (ShapeTaken shape)) ⌝ }
+{
+    let placed = place_in(shape, place, body.len());
+    let base = shape.base;
+    let dating = shape.dating;
+    let cycles = cycles_in(dating, body);
+    let family = shape.family;
+    let controls = controls_in(family, body);
+    take_base(placed, &body[..base], cycles, controls, end, words)
+}
+
+// The set-up: its shape is read, and then what it says, or refused.
+fn take_setup(version: u8, body: &[u8], place: usize, end: usize, words: &mut Words) -> Begun
+    requires { ⌜ place + length (now body) < 2 ^ 63 ⌝ }
+    ensures { λ r. ⌜ (r ≡ setupBegun version (now (body .entry)) place end)
+        × (now (words .exit) ≡ setupWords (now (words .entry)) version (now (body .entry))) ⌝ }
+{
+    match shape::read_shape(version, body) {
+        ReadShape::Refused(refusal) => refuse(refusal, end),
+        ReadShape::Taken(shape) => take_shaped(shape, body, place, end, words),
+    }
+}
+
+// The paper is opened and its set-up read into lent words, or refused.
+pub fn begin(paper: &[u8], words: &mut Words) -> Begun
+    ensures { λ r. ⌜ (r ≡ begunOf (now (paper .entry))) × (now (words .exit) ≡ wordsBegun (now (words .entry)) (now (paper .entry))) ⌝ }
+{
+    match paper::open_paper(paper) {
+        Opened::Refused(refusal) => refuse(refusal, 0),
+        Opened::Setup {
+            version,
+            start,
+            end,
+        } => take_setup(version, &paper[start..end], start, end, words),
+    }
+}
