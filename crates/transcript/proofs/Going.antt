@@ -24,7 +24,7 @@ use Rattle.opening.specs.Opening.{begunOf, wordsBegun}
 use Rattle.conversation.specs.Conversation.{takenOf, takenWrites}
 use Rattle.conversation.specs.Events.{wordsFrom, wordsLeft}
 use Rattle.conversation.proofs.Events.{GoesOn, further}
-use Rattle.conversation.proofs.Event as E
+use Rattle.records.proofs.Event as E
 use Rattle.lines.specs.Lines.{longest, refusalLine, placed, placeBehind}
 use Rattle.lines.specs.Sitting.{answerLine}
 use Rattle.transcript.specs.Transcript.{transcriptOf, restOf, lastLine, roomFor}

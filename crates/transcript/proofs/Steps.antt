@@ -47,7 +47,7 @@ use Rattle.conversation.specs.Conversation.{nextTaken, takenOf, takenWrites}
 use Rattle.conversation.specs.Events.{following, eventsFrom, eventsOf, ending, wordsFrom, wordsLeft}
 use Rattle.conversation.proofs.Events.{GoesOn, further, settled, words-settled}
 use Rattle.script.specs.Script.{rulesAfter, wordsAfter}
-use Rattle.conversation.proofs.Event as E
+use Rattle.records.proofs.Event as E
 use Rattle.lines.specs.Lines.{refusalLine}
 use Rattle.lines.specs.Sitting.{answerLine, linesOf, sittingLines}
 use Rattle.transcript.specs.Transcript.{joined, transcriptOf, restOf}

@@ -8,7 +8,7 @@ use Prim.Native.Nat.{ℕ}
 use types.Run.{OneOf}
 use Rattle.records.specs.declared.Event.{Event}
 use Rattle.records.specs.declared.Event.the-variants.{SetUp, End, Refused, Answered}
-use Rattle.conversation.proofs.Event as E
+use Rattle.records.proofs.Event as E
 use Rattle.transcript.specs.Transcript.{lastLine}
 use Rattle.transcript.proofs.Going.{behind-is, placed-is}
 use Rattle.transcript.proofs.Short.{refusal-short}
