@@ -24,7 +24,8 @@ use Rattle.command.specs.declared.ReadCommand.the-variants.{Taken as CommandTak
 use Rattle.command.specs.Command.{commandIn}
 use Rattle.state.specs.declared.State.{State}
 use Rattle.element.specs.declared.Write.{Write}
-use Rattle.card.specs.Card.{stepOf, scriptStep, scriptWrites, freshState}
+use Rattle.scripting.specs.Scripting.{scriptStep, scriptWrites}
+use Rattle.card.specs.Card.{stepOf, freshState}
 use Rattle.conversation.specs.declared.Event.{Event}
 use Rattle.conversation.specs.declared.Event.the-variants.{SetUp, End, Refused, Answered}
 use Rattle.conversation.specs.declared.Said.the-variants.{Command as SaidCommand, Script}

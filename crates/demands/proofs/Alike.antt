@@ -49,8 +49,9 @@ use Rattle.first.specs.First.{decision, settled, concluded, purchaseOf, firstBi
 use Rattle.first.specs.First as issuing
 use Rattle.second.specs.Second.{closed, recovered, isUnable, unableBits, issuerUnable, unablePerformed, updateByte, ordered}
 use Rattle.second.specs.Second.{verifiedPerformed, failedPerformed, absentPerformed, secondPerformed}
-use Rattle.card.specs.Card.{freshState, Ruling, refuse, take, ruleChosen, ruleFirstFields, refused, carried, startPerformed, startStep}
-use Rattle.card.specs.Card.{firstStep, secondStep, ruleScriptFields, scriptPerformed, scriptStep, scriptWrites}
+use Rattle.state.specs.Ruling.{Ruling, refuse, take, refused, carried}
+use Rattle.card.specs.Card.{freshState, ruleChosen, ruleFirstFields, startPerformed, startStep, firstStep, secondStep}
+use Rattle.scripting.specs.Scripting.{ruleScriptFields, scriptPerformed, scriptStep, scriptWrites}
 use Rattle.demands.specs.Setup.{Setup, AcceptedSetup}
 use Rattle.demands.specs.Conversation.{Exchange, Sitting, run, rulesWritten, rulesBy, sat}
 use Rattle.demands.specs.Alike.{AlikeSetups, firstWith, purchaseWith, pendingWith, AlikeCommands, starts, firsts, seconds, scripts, AllAlike}

@@ -46,7 +46,8 @@ use Rattle.cryptogram.specs.Cryptogram.{limitsByte, verification, sentIad}
 use Rattle.cycles.specs.Cycles.{timingOf, advanced, dated}
 use Rattle.first.specs.First.{decision, settled, asked, concluded, firstAnswered, firstPerformed}
 use Rattle.second.specs.Second.{closed, ordered, unablePerformed, verifiedPerformed, failedPerformed, absentPerformed, secondPerformed}
-use Rattle.card.specs.Card.{freshState, startStep, firstStep, secondStep, scriptPerformed, scriptStep, scriptWrites}
+use Rattle.scripting.specs.Scripting.{scriptPerformed, scriptStep, scriptWrites}
+use Rattle.card.specs.Card.{freshState, startStep, firstStep, secondStep}
 use Rattle.demands.specs.Setup.{Setup}
 use Rattle.demands.specs.Ledger.{owed}
 use Rattle.demands.specs.Conversation.{Exchange, Sitting, run, rulesBy, sat}

@@ -37,7 +37,8 @@ use Rattle.state.specs.declared.Outcome.{Outcome}
 use Rattle.cryptogram.specs.Cryptogram.{limitsByte, verification, sentIad}
 use Rattle.cycles.specs.Cycles.{timingOf, dated}
 use Rattle.first.specs.First.{decision, settled, asked, concluded, firstAnswered, firstPerformed}
-use Rattle.card.specs.Card.{freshState, startStep, firstStep, stepOf, scriptPerformed, scriptStep, scriptWrites}
+use Rattle.scripting.specs.Scripting.{scriptPerformed, scriptStep, scriptWrites}
+use Rattle.card.specs.Card.{freshState, startStep, firstStep, stepOf}
 use Rattle.conversation.specs.declared.Begun.{Begun}
 use Rattle.conversation.specs.declared.Event.{Event}
 use Rattle.conversation.specs.Conversation.{answeredBy, scriptedBy, takenOf, bodyWrites, takenWrites, baseBegun, setupBegun, begunOf, setupWords, wordsBegun}

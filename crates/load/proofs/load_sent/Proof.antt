@@ -11,9 +11,10 @@ use Rattle.load.proofs.load_sent.Tie as tie
 returns : tie.Need-returns
 unfolding sentWords
 returns c =
-    let a = c .before .before .before .before .args in
+    let start = c .before .before in
+    let a = start .before .before .args in
     let to = a .to in
-    let word1 = first (now (a .words)) (to + word.accumulatorSent) (c .before .before .byte-at .ensures) in
+    let word1 = first (now (a .words)) (to + word.accumulatorSent) (start .byte-at .ensures) in
     let word2 = next-word (to + word.firstSent) word1 (c .before .byte-at2 .ensures) (omega arith) in
     next-word (to + word.secondSent) word2 (c .byte-at3 .ensures) (omega arith) .is
 

@@ -1,7 +1,7 @@
 use borrow.Author.Needs.{needs}
-use Rattle.card.specs.Card.{scriptPerformed}
-use Rattle.card.proofs.run_script.Statement.{statement}
-use Rattle.card.proofs.run_script.Tie as tie
+use Rattle.scripting.specs.Scripting.{scriptPerformed}
+use Rattle.scripting.proofs.run_script.Statement.{statement}
+use Rattle.scripting.proofs.run_script.Tie as tie
 
 returns : tie.Need-returns
 unfolding scriptPerformed

@@ -2,9 +2,9 @@ use borrow.Author.Needs.{needs}
 use borrow.Author.Tests.{lt-ltb, le-ltb}
 use mathlib.Core.Path.{sym, _∙_}
 use Rattle.script.specs.Script.{wordsRun, rulesRun}
-use Rattle.card.specs.Card.{scriptTaken, templateWrites}
-use Rattle.card.proofs.take_script.Statement.{statement}
-use Rattle.card.proofs.take_script.Tie as tie
+use Rattle.scripting.specs.Scripting.{scriptTaken, templateWrites}
+use Rattle.scripting.proofs.take_script.Statement.{statement}
+use Rattle.scripting.proofs.take_script.Tie as tie
 
 returns : tie.Need-returns
 unfolding scriptTaken templateWrites

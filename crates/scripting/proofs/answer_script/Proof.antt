@@ -1,7 +1,7 @@
 use borrow.Author.Needs.{needs}
-use Rattle.card.specs.Card.{scriptStep, scriptTaken, scriptWrites, templateWrites}
-use Rattle.card.proofs.answer_script.Statement.{statement}
-use Rattle.card.proofs.answer_script.Tie as tie
+use Rattle.scripting.specs.Scripting.{scriptStep, scriptTaken, scriptWrites, templateWrites}
+use Rattle.scripting.proofs.answer_script.Statement.{statement}
+use Rattle.scripting.proofs.answer_script.Tie as tie
 
 returns : tie.Need-returns
 unfolding scriptStep scriptTaken scriptWrites templateWrites
