@@ -30,8 +30,10 @@ use Rattle.purchase.specs.declared.Purchase.{Purchase}
 use Rattle.purchase.specs.Meter.{Meter, accumulator, counter, cyclic, amountAt, countAt, cyclicAt, counterCap, worth, cyclicWorth, isDateError, isOpen}
 use Rattle.meters.specs.declared.Change.the-variants.{Approve, SetToLimits, Clear}
 use Rattle.meters.specs.Meters.{moved, offline, entered, amountMoved, applied}
-use Rattle.checks.specs.Checks.{exceedsLower, exceedsUpper, accumulatorsLower, accumulatorsUpper, countersLower, countersUpper, datingFlags, maximumExceeded, cashbackFound}
-use Rattle.checks.specs.Checks.{historyFlags, packed, decisionBits, meetsMask}
+use Rattle.limits.specs.Limits.{exceedsLower, exceedsUpper, accumulatorsLower, accumulatorsUpper, countersLower, countersUpper, datingFlags}
+use Rattle.checks.specs.Checks.{maximumExceeded, cashbackFound}
+use Rattle.limits.specs.Limits.{packed}
+use Rattle.checks.specs.Checks.{historyFlags, decisionBits, meetsMask}
 use Rattle.state.specs.declared.History.{History}
 use Rattle.state.specs.declared.Answer.the-variants.{Given}
 use Rattle.state.specs.declared.Kind.{Kind}

@@ -39,7 +39,8 @@ use Rattle.purchase.specs.declared.Purchase.{Purchase}
 use Rattle.purchase.specs.Meter.{worth, cyclicWorth, isOpen, Meter}
 use Rattle.meters.specs.Meters.{applied}
 use Rattle.state.specs.declared.History.{History}
-use Rattle.checks.specs.Checks.{accumulatorsLower, accumulatorsUpper, countersLower, countersUpper, datingFlags, maximumExceeded, decisionBits}
+use Rattle.limits.specs.Limits.{accumulatorsLower, accumulatorsUpper, countersLower, countersUpper, datingFlags}
+use Rattle.checks.specs.Checks.{maximumExceeded, decisionBits}
 use Rattle.state.specs.declared.State.{State}
 use Rattle.state.specs.declared.Outcome.{Outcome}
 use Rattle.cryptogram.specs.Cryptogram.{limitsByte, verification, sentIad}

@@ -1,9 +1,9 @@
 -- The timing is told by its name.
 use borrow.Author.Needs.{needs}
 use native.Mathlib.Omega.{arith}
-use Rattle.checks.specs.Checks.{datingFlags}
-use Rattle.checks.proofs.test_dating.Statement.{statement}
-use Rattle.checks.proofs.test_dating.Tie as tie
+use Rattle.limits.specs.Limits.{datingFlags}
+use Rattle.limits.proofs.test_dating.Statement.{statement}
+use Rattle.limits.proofs.test_dating.Tie as tie
 
 returns : tie.Need-returns
 unfolding datingFlags

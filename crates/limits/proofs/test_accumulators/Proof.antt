@@ -1,8 +1,8 @@
 use borrow.Author.Needs.{needs}
 use native.Mathlib.Omega.{arith}
-use Rattle.checks.specs.Checks.{accumulatorsLower, accumulatorsUpper}
-use Rattle.checks.proofs.test_accumulators.Statement.{statement}
-use Rattle.checks.proofs.test_accumulators.Tie as tie
+use Rattle.limits.specs.Limits.{accumulatorsLower, accumulatorsUpper}
+use Rattle.limits.proofs.test_accumulators.Statement.{statement}
+use Rattle.limits.proofs.test_accumulators.Tie as tie
 
 returns : tie.Need-returns
 unfolding accumulatorsLower accumulatorsUpper

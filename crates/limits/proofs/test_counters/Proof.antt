@@ -1,8 +1,8 @@
 use borrow.Author.Needs.{needs}
 use native.Mathlib.Omega.{arith}
-use Rattle.checks.specs.Checks.{countersLower, countersUpper}
-use Rattle.checks.proofs.test_counters.Statement.{statement}
-use Rattle.checks.proofs.test_counters.Tie as tie
+use Rattle.limits.specs.Limits.{countersLower, countersUpper}
+use Rattle.limits.proofs.test_counters.Statement.{statement}
+use Rattle.limits.proofs.test_counters.Tie as tie
 
 returns : tie.Need-returns
 unfolding countersLower countersUpper

@@ -9,7 +9,7 @@ use Rattle.money.specs.declared.AccumulatorAmount.{AccumulatorAmount}
 use Rattle.money.specs.declared.Converted.{Converted}
 use Rattle.money.specs.declared.Converted.the-variants.{Amount, Over, NoEntry}
 use Rattle.purchase.specs.Meter.{MeterRule, once}
-use Rattle.checks.specs.Checks.{bit, sumExceeds, valueExceeds, exceeds}
+use Rattle.limits.specs.Limits.{bit, sumExceeds, valueExceeds, exceeds}
 
 -- a sum against a limit is the summand against what is left to it
 pub left-to : (limit value more : ℕ) → value ≤ limit → ltb (limit - value) more ≡ ltb limit (value + more)
