@@ -1,13 +1,11 @@
--- The card: a ruling, then a performance (document 01, "Refusal numbers", "Start and the checks"; document 02, Three, Five, Twelve and Thirteen).
+-- The card: a ruling, then a performance (document 01, "Refusal numbers", "Start and the checks"; document 02, Three, Five and Thirteen).
 use Prim.Native.Nat.{ℕ, _+_}
 use mathlib.Core.Bool.{Bool, true, false, cond, _&&_}
-use mathlib.Core.List.{List, []}
 use lib.Dec.{eqb, ltb, leb}
 use Rattle.wire.specs.Wire.{isCurrency}
 use Rattle.money.specs.Money.{max}
 use Rattle.calendar.specs.Calendar.{isDay}
-use Rattle.refusal.specs.declared.Refusal.{Refusal}
-use Rattle.refusal.specs.declared.Refusal.the-variants.{OutOfTurn, UnknownProfile, AtcUsedUp, BadType, OutOfRange, NotSelected, NotADay, Malformed, TooDeep}
+use Rattle.refusal.specs.declared.Refusal.the-variants.{OutOfTurn, UnknownProfile, AtcUsedUp, BadType, OutOfRange, NotSelected, NotADay}
 use Rattle.refusal.specs.Refusal.{refusalNumber}
 use Rattle.rules.specs.declared.Place.{Place}
 use Rattle.rules.specs.declared.Found.{Found}
@@ -31,12 +29,8 @@ use Rattle.state.specs.declared.Phase.{Phase}
 use Rattle.state.specs.declared.Phase.the-variants.{Idle, Opened, Asked}
 use Rattle.state.specs.declared.State.{State}
 use Rattle.state.specs.declared.Outcome.{Outcome}
-use Rattle.object.specs.declared.Reading.{Reading}
-use Rattle.object.specs.declared.Reading.the-variants.{Sound, Malformed as NoTemplate, TooDeep as DeepTemplate}
-use Rattle.object.specs.Object.{readTemplate}
-use Rattle.element.specs.declared.Write.{Write}
-use Rattle.script.specs.declared.Scripts.{Scripts}
-use Rattle.script.specs.Script.{freshScripts, started, templateTried, ranOf}
+use Rattle.state.specs.Ruling.{Ruling, refuse, take, carried}
+use Rattle.script.specs.Script.{freshScripts, started}
 use Rattle.first.specs.First.{firstPerformed}
 use Rattle.second.specs.Second.{secondPerformed}
 
@@ -51,11 +45,6 @@ freshState fresh =
       history = record { uncompleted = false; online = fresh .online; failed = false; unable = false; missing = false };
       scripts = freshScripts;
     }
-
--- a command is refused, or taken with what it goes on with
-pub data Ruling (A : Type 0) : Type 0 where
-  refuse : Refusal → Ruling A
-  take : A → Ruling A
 
 -- Start: 6 for an interface above 1, then 12, then 3, then 4
 abbrev pub ruleOpening : ℕ → Found → Ruling Place
@@ -95,29 +84,6 @@ abbrev pub ruleSecond : Phase → Second → Ruling Pending
 ruleSecond Idle second = refuse OutOfTurn
 ruleSecond (Opened place) second = refuse OutOfTurn
 ruleSecond (Asked pending) second = ruleSecondFields second pending
-
--- Script: 2 where First is due, 6 for a secure messaging result above 1, then 18 or 19 by its template. It goes on with whether the result is
--- "verified"
-abbrev pub ruleReading : (verified : Bool) → Reading → Ruling Bool
-ruleReading verified Sound = take verified
-ruleReading verified NoTemplate = refuse Malformed
-ruleReading verified DeepTemplate = refuse TooDeep
-
-abbrev pub ruleScriptFields : (result : ℕ) → (template : List ℕ) → Ruling Bool
-ruleScriptFields result template = cond (ltb 1 result) (refuse OutOfRange) (ruleReading (eqb result 1) (readTemplate template))
-
-abbrev pub ruleScript : Phase → (result : ℕ) → (template : List ℕ) → Ruling Bool
-ruleScript Idle result template = ruleScriptFields result template
-ruleScript (Opened place) result template = refuse OutOfTurn
-ruleScript (Asked pending) result template = ruleScriptFields result template
-
--- a refusal returns its number only and changes no state
-abbrev pub refused : State → Refusal → Outcome
-refused state refusal = record { state = state; answer = Refused refusal }
-
-abbrev pub carried : {A : Type 0} → State → (A → Outcome) → Ruling A → Outcome
-carried state perform (refuse refusal) = refused state refusal
-carried state perform (take what) = perform what
 
 -- Start drops an unfinished transaction, adds 1 to ATC and opens the profile; the answer also says how many entries were visited
 abbrev pub startPerformed : State → (visits : ℕ) → Place → Outcome
@@ -159,40 +125,6 @@ unfoldable pub stepOf : Rules → State → Command → Outcome
 stepOf rules state (StartCommand start) = startStep rules state start
 stepOf rules state (FirstCommand first) = firstStep rules state first
 stepOf rules state (SecondCommand second) = secondStep rules state second
-
--- a script that is taken leaves all but values and what is kept of scripts; limits it writes into the rules
-unfoldable pub scriptPerformed : State → (template : List ℕ) → (verified : Bool) → Outcome
-scriptPerformed state template verified =
-    let ran = ranOf (state .values) (state .scripts) verified template in
-    record {
-      state =
-          record {
-            values = ran .values;
-            phase = state .phase;
-            atc = state .atc;
-            last = state .last;
-            history = state .history;
-            scripts = ran .scripts;
-          };
-      answer = Done;
-    }
-
-unfoldable pub scriptTaken : State → (result : ℕ) → (template : List ℕ) → Outcome
-scriptTaken state result template = carried state (scriptPerformed state template) (ruleScriptFields result template)
-
-unfoldable pub scriptStep : State → (result : ℕ) → (template : List ℕ) → Outcome
-scriptStep state result template = carried state (scriptPerformed state template) (ruleScript (state .phase) result template)
-
--- what it writes; nothing where it is refused
-abbrev pub writesRuled : Scripts → (template : List ℕ) → Ruling Bool → List Write
-writesRuled scripts template (refuse refusal) = []
-writesRuled scripts template (take verified) = templateTried verified scripts template .writes
-
-unfoldable pub templateWrites : State → (result : ℕ) → (template : List ℕ) → List Write
-templateWrites state result template = writesRuled (state .scripts) template (ruleScriptFields result template)
-
-unfoldable pub scriptWrites : State → (result : ℕ) → (template : List ℕ) → List Write
-scriptWrites state result template = writesRuled (state .scripts) template (ruleScript (state .phase) result template)
 
 -- the number of each answer
 abbrev pub answerNumber : Answer → ℕ

@@ -8,7 +8,8 @@ use Rattle.command.specs.declared.First.{First}
 use Rattle.command.specs.declared.Second.{Second}
 use Rattle.state.specs.declared.State.{State}
 use Rattle.state.specs.declared.Outcome.{Outcome}
-use Rattle.card.specs.Card.{startStep, firstStep, secondStep, scriptStep, scriptWrites}
+use Rattle.scripting.specs.Scripting.{scriptStep, scriptWrites}
+use Rattle.card.specs.Card.{startStep, firstStep, secondStep}
 
 -- a script comes with its secure messaging result and its template
 pub data Message : Type 0 where

@@ -1,15 +1,12 @@
 // The card: which commands it takes, and what each comes to.
 ghost use mathlib.Core.Path.{_≡_};
 ghost use Rattle.rules.specs.Rules.{rulesOf};
-ghost use Rattle.script.specs.Script.{rulesAfter, wordsAfter, rulesRun, wordsRun};
-ghost use Rattle.card.specs.Card.{scriptPerformed, scriptTaken, templateWrites, scriptStep, scriptWrites};
-ghost use Rattle.card.specs.Card.{freshState, refused, openingStep, startStep, isDated, firstTaken, firstStep, secondTaken, secondStep, stepOf};
+ghost use Rattle.card.specs.Card.{freshState, openingStep, startStep, isDated, firstTaken, firstStep, secondTaken, secondStep, stepOf};
 use command::Command;
 use command::First;
 use command::Second;
 use command::Start;
 use command::When;
-use object::Reading;
 use refusal::Refusal;
 use rules::Found;
 use rules::Place;
@@ -23,6 +20,7 @@ use state::Outcome;
 use state::Pending;
 use state::Phase;
 use state::State;
+use state::refuse;
 
 // A fresh card's history is clear but for "go online next", and no transaction is open.
 pub fn fresh_card(fresh: Fresh) -> State
@@ -43,15 +41,6 @@ pub fn fresh_card(fresh: Fresh) -> State
             missing: false,
         },
         scripts: Scripts::fresh(),
-    }
-}
-
-fn refuse(state: State, refusal: Refusal) -> Outcome
-    ensures { λ r. ⌜ r ≡ refused state refusal ⌝ }
-{
-    Outcome {
-        state,
-        answer: Answer::Refused(refusal),
     }
 }
 
@@ -156,63 +145,6 @@ fn answer_second(words: &Words, state: State, second: Second) -> Outcome
         Phase::Idle => refuse(state, Refusal::OutOfTurn),
         Phase::Opened(_) => refuse(state, Refusal::OutOfTurn),
         Phase::Asked(pending) => take_second(words, state, pending, second),
-    }
-}
-
-// The commands of a template that was read without a fault.
-fn run_script(words: &mut Words, state: State, verified: bool, template: &[u8]) -> Outcome
-    ensures { λ r. ⌜ (r ≡ scriptPerformed state (now (template .entry)) verified)
-        × (now (words .exit) ≡ wordsRun (now (words .entry)) (state .scripts) verified (now (template .entry)))
-        × (rulesOf (now (words .exit)) ≡ rulesRun (rulesOf (now (words .entry))) (state .scripts) verified (now (template .entry))) ⌝ }
-{
-    let values = state.values;
-    let scripts = state.scripts;
-    let phase = state.phase;
-    let last = state.last;
-    let history = state.history;
-    let ran = script::run(words, values, scripts, verified, template);
-    let values = ran.values;
-    let scripts = ran.scripts;
-    Outcome {
-        state: State {
-            values,
-            phase,
-            atc: state.atc,
-            last,
-            history,
-            scripts,
-        },
-        answer: Answer::Done,
-    }
-}
-
-// A script in turn: its template is read whole before any of its commands is tried.
-fn take_script(words: &mut Words, state: State, result: u8, template: &[u8]) -> Outcome
-    ensures { λ r. ⌜ (r ≡ scriptTaken state result (now (template .entry)))
-        × (now (words .exit) ≡ wordsAfter (now (words .entry)) (templateWrites state result (now (template .entry))))
-        × (rulesOf (now (words .exit)) ≡ rulesAfter (rulesOf (now (words .entry))) (templateWrites state result (now (template .entry)))) ⌝ }
-{
-    if 1 < result {
-        return refuse(state, Refusal::OutOfRange);
-    }
-    match object::read_template(template) {
-        Reading::Sound => run_script(words, state, result == 1, template),
-        Reading::Malformed => refuse(state, Refusal::Malformed),
-        Reading::TooDeep => refuse(state, Refusal::TooDeep),
-    }
-}
-
-// A script is out of turn where First is due. Limits are written into the lent words.
-pub fn answer_script(words: &mut Words, state: State, result: u8, template: &[u8]) -> Outcome
-    ensures { λ r. ⌜ (r ≡ scriptStep state result (now (template .entry)))
-        × (now (words .exit) ≡ wordsAfter (now (words .entry)) (scriptWrites state result (now (template .entry))))
-        × (rulesOf (now (words .exit)) ≡ rulesAfter (rulesOf (now (words .entry))) (scriptWrites state result (now (template .entry)))) ⌝ }
-{
-    let phase = state.phase;
-    match phase {
-        Phase::Idle => take_script(words, state, result, template),
-        Phase::Opened(_) => refuse(state, Refusal::OutOfTurn),
-        Phase::Asked(_) => take_script(words, state, result, template),
     }
 }
 

@@ -15,8 +15,10 @@ use Rattle.rules.proofs.Places.{each, both}
 use Rattle.purchase.specs.declared.Purchase.{Purchase}
 use Rattle.purchase.specs.Meter.{Meter, accumulator, counter, cyclic, IsMeter, isDateError}
 use Rattle.state.specs.declared.History.{History}
-use Rattle.checks.specs.Checks.{bit, packed, meetsMask, lowerBit, upperBit, exceedsLower, exceedsUpper, maximumExceeded, cashbackFound}
-use Rattle.checks.specs.Checks.{accumulatorsLower, accumulatorsUpper, countersLower, countersUpper, datingFlags, historyFlags, decisionFlags, testBits, decisionBits}
+use Rattle.limits.specs.Limits.{bit, packed, exceedsLower, exceedsUpper}
+use Rattle.checks.specs.Checks.{meetsMask, lowerBit, upperBit, maximumExceeded, cashbackFound}
+use Rattle.limits.specs.Limits.{accumulatorsLower, accumulatorsUpper, countersLower, countersUpper, datingFlags}
+use Rattle.checks.specs.Checks.{historyFlags, decisionFlags, testBits, decisionBits}
 
 -- bit k of a number
 abbrev pub bitOf : ℕ → ℕ → ℕ

@@ -10,7 +10,8 @@ use Rattle.iad.specs.declared.Iad.{Iad}
 use Rattle.rules.specs.declared.Place.{Place}
 use Rattle.rules.specs.declared.Values.{Values}
 use Rattle.rules.specs.Rules.{Rules, profileAt}
-use Rattle.checks.specs.Checks.{bit, meetsMask, accumulatorsLowerGroup, accumulatorsUpperGroup, dateError, countersLowerGroup, countersUpperGroup}
+use Rattle.limits.specs.Limits.{bit}
+use Rattle.checks.specs.Checks.{meetsMask, accumulatorsLowerGroup, accumulatorsUpperGroup, dateError, countersLowerGroup, countersUpperGroup}
 use Rattle.script.specs.declared.Scripts.{Scripts}
 use Rattle.script.specs.Script.{marksOf}
 use Rattle.state.specs.declared.History.{History}

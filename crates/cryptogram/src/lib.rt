@@ -5,6 +5,7 @@ ghost use Rattle.rules.specs.Rules.{rulesOf};
 ghost use Rattle.cryptogram.specs.Cryptogram.{kindCode, laterCode, limitsByte, verification, sentAmount, sentCount, sentIad};
 use iad::Cvr;
 use iad::Iad;
+use limits::bit;
 use money::AccumulatorAmount;
 use rules::Place;
 use rules::Values;
@@ -51,11 +52,11 @@ fn later_code(later: Later) -> u8
 pub fn limits_of(adr: u32) -> u8
     ensures { λ r. ⌜ r ≡ limitsByte adr ⌝ }
 {
-    checks::bit(checks::meets(adr, checks::COUNTERS_LOWER)) * 128
-        + checks::bit(checks::meets(adr, checks::COUNTERS_UPPER)) * 64
-        + checks::bit(checks::meets(adr, checks::ACCUMULATORS_LOWER)) * 32
-        + checks::bit(checks::meets(adr, checks::ACCUMULATORS_UPPER)) * 16
-        + checks::bit(checks::meets(adr, checks::DATE_ERROR)) * 2
+    bit(checks::meets(adr, checks::COUNTERS_LOWER)) * 128
+        + bit(checks::meets(adr, checks::COUNTERS_UPPER)) * 64
+        + bit(checks::meets(adr, checks::ACCUMULATORS_LOWER)) * 32
+        + bit(checks::meets(adr, checks::ACCUMULATORS_UPPER)) * 16
+        + bit(checks::meets(adr, checks::DATE_ERROR)) * 2
 }
 
 // The Card Verification Results. History, limits and what is kept of scripts are those of the First.
@@ -74,11 +75,11 @@ pub fn verify(
     Cvr {
         byte1: later_code(later) * 64
             + kind_code(first) * 16
-            + checks::bit(issuer.unperformed) * 2
-            + checks::bit(issuer.failed),
-        byte2: tries * 16 + checks::bit(tries == 0) * 2 + checks::bit(history.uncompleted),
+            + bit(issuer.unperformed) * 2
+            + bit(issuer.failed),
+        byte2: tries * 16 + bit(tries == 0) * 2 + bit(history.uncompleted),
         byte3: limits,
-        byte4: scripts.marks() + checks::bit(history.online) * 2 + checks::bit(issuer.unable),
+        byte4: scripts.marks() + bit(history.online) * 2 + bit(issuer.unable),
         byte5: 0,
     }
 }

@@ -30,8 +30,10 @@ use Rattle.purchase.specs.declared.Purchase.{Purchase}
 use Rattle.purchase.specs.Meter.{Meter, accumulator, counter, cyclic, amountAt, countAt, cyclicAt, counterCap, worth, cyclicWorth, isDateError, isOpen}
 use Rattle.meters.specs.declared.Change.the-variants.{Approve, SetToLimits, Clear}
 use Rattle.meters.specs.Meters.{moved, offline, entered, amountMoved, applied}
-use Rattle.checks.specs.Checks.{exceedsLower, exceedsUpper, accumulatorsLower, accumulatorsUpper, countersLower, countersUpper, datingFlags, maximumExceeded, cashbackFound}
-use Rattle.checks.specs.Checks.{historyFlags, packed, decisionBits, meetsMask}
+use Rattle.limits.specs.Limits.{exceedsLower, exceedsUpper, accumulatorsLower, accumulatorsUpper, countersLower, countersUpper, datingFlags}
+use Rattle.checks.specs.Checks.{maximumExceeded, cashbackFound}
+use Rattle.limits.specs.Limits.{packed}
+use Rattle.checks.specs.Checks.{historyFlags, decisionBits, meetsMask}
 use Rattle.state.specs.declared.History.{History}
 use Rattle.state.specs.declared.Answer.the-variants.{Given}
 use Rattle.state.specs.declared.Kind.{Kind}
@@ -49,8 +51,9 @@ use Rattle.first.specs.First.{decision, settled, concluded, purchaseOf, firstBi
 use Rattle.first.specs.First as issuing
 use Rattle.second.specs.Second.{closed, recovered, isUnable, unableBits, issuerUnable, unablePerformed, updateByte, ordered}
 use Rattle.second.specs.Second.{verifiedPerformed, failedPerformed, absentPerformed, secondPerformed}
-use Rattle.card.specs.Card.{freshState, Ruling, refuse, take, ruleChosen, ruleFirstFields, refused, carried, startPerformed, startStep}
-use Rattle.card.specs.Card.{firstStep, secondStep, ruleScriptFields, scriptPerformed, scriptStep, scriptWrites}
+use Rattle.state.specs.Ruling.{Ruling, refuse, take, refused, carried}
+use Rattle.card.specs.Card.{freshState, ruleChosen, ruleFirstFields, startPerformed, startStep, firstStep, secondStep}
+use Rattle.scripting.specs.Scripting.{ruleScriptFields, scriptPerformed, scriptStep, scriptWrites}
 use Rattle.demands.specs.Setup.{Setup, AcceptedSetup}
 use Rattle.demands.specs.Conversation.{Exchange, Sitting, run, rulesWritten, rulesBy, sat}
 use Rattle.demands.specs.Alike.{AlikeSetups, firstWith, purchaseWith, pendingWith, AlikeCommands, starts, firsts, seconds, scripts, AllAlike}

@@ -44,7 +44,9 @@ use Rattle.first.specs.First.{purchaseOf, firstBits, firstKind, firstPerformed,
 use Rattle.state.specs.State.{unableIn}
 use Rattle.second.specs.Second.{isUnable, unableBits, issuerUnable, closingKind, laterKind, unablePerformed, verifiedPerformed}
 use Rattle.second.specs.Second.{failedPerformed, absentPerformed, secondPerformed, closed, updateByte}
-use Rattle.card.specs.Card.{refused, isDated, freshState, scriptPerformed}
+use Rattle.state.specs.Ruling.{refused}
+use Rattle.scripting.specs.Scripting.{scriptPerformed}
+use Rattle.card.specs.Card.{isDated, freshState}
 use Rattle.demands.specs.Setup.{Setup, byteAt, numberAt, AcceptedSetup}
 use Rattle.purchase.specs.Meter.{Meter, valueOf}
 use Rattle.demands.specs.Conversation.{Exchange, Sitting, after, told, run, rulesBy, sat, next, IsSpoken, Spoken}

@@ -39,14 +39,16 @@ use Rattle.purchase.specs.declared.Purchase.{Purchase}
 use Rattle.purchase.specs.Meter.{worth, cyclicWorth, isOpen, Meter}
 use Rattle.meters.specs.Meters.{applied}
 use Rattle.state.specs.declared.History.{History}
-use Rattle.checks.specs.Checks.{accumulatorsLower, accumulatorsUpper, countersLower, countersUpper, datingFlags, maximumExceeded, decisionBits}
+use Rattle.limits.specs.Limits.{accumulatorsLower, accumulatorsUpper, countersLower, countersUpper, datingFlags}
+use Rattle.checks.specs.Checks.{maximumExceeded, decisionBits}
 use Rattle.state.specs.declared.State.{State}
 use Rattle.state.specs.declared.Outcome.{Outcome}
 use Rattle.cryptogram.specs.Cryptogram.{limitsByte, verification, sentIad}
 use Rattle.cycles.specs.Cycles.{timingOf, advanced, dated}
 use Rattle.first.specs.First.{decision, settled, asked, concluded, firstAnswered, firstPerformed}
 use Rattle.second.specs.Second.{closed, ordered, unablePerformed, verifiedPerformed, failedPerformed, absentPerformed, secondPerformed}
-use Rattle.card.specs.Card.{freshState, startStep, firstStep, secondStep, scriptPerformed, scriptStep, scriptWrites}
+use Rattle.scripting.specs.Scripting.{scriptPerformed, scriptStep, scriptWrites}
+use Rattle.card.specs.Card.{freshState, startStep, firstStep, secondStep}
 use Rattle.demands.specs.Setup.{Setup}
 use Rattle.demands.specs.Ledger.{owed}
 use Rattle.demands.specs.Conversation.{Exchange, Sitting, run, rulesBy, sat}

@@ -43,7 +43,9 @@ use Rattle.cycles.specs.Cycles.{timingOf, dated}
 use Rattle.first.specs.First.{purchaseOf, firstKind, firstPerformed, firstAnswered, settled, asked, concluded}
 use Rattle.second.specs.Second.{isUnable, unablePerformed, verifiedPerformed, failedPerformed, absentPerformed, secondPerformed, closed}
 use Rattle.second.specs.Second.{recovered as cardRecovered}
-use Rattle.card.specs.Card.{refused, isDated, freshState, scriptPerformed}
+use Rattle.state.specs.Ruling.{refused}
+use Rattle.scripting.specs.Scripting.{scriptPerformed}
+use Rattle.card.specs.Card.{isDated, freshState}
 use Rattle.demands.specs.Setup.{Setup, AcceptedSetup}
 use Rattle.demands.specs.Conversation.{Exchange, Sitting, after, run, rulesBy, sat, Spoken}
 use Rattle.demands.specs.Scripts.{remembered, trialOf}

@@ -23,8 +23,10 @@ use Rattle.purchase.specs.declared.Purchase.{Purchase}
 use Rattle.purchase.specs.Meter.{Meter, accumulator, counter, cyclic, IsMeter, MeterRule, ruleOf, valueOf, isTested, isDateError}
 use Rattle.purchase.specs.Meter.{takesUp as cardTakesUp, worthTo as cardWorth}
 use Rattle.state.specs.declared.History.{History}
-use Rattle.checks.specs.Checks.{bit, packed, sumExceeds, spentExceeds, exceedsLower, exceedsUpper, exceeds as cardExceeds, maximumExceeded}
-use Rattle.checks.specs.Checks.{accumulatorsLower, accumulatorsUpper, countersLower, countersUpper, datingFlags, cashbackFound, decisionBits}
+use Rattle.limits.specs.Limits.{bit, packed, sumExceeds, exceedsLower, exceedsUpper, exceeds as cardExceeds}
+use Rattle.checks.specs.Checks.{spentExceeds, maximumExceeded}
+use Rattle.limits.specs.Limits.{accumulatorsLower, accumulatorsUpper, countersLower, countersUpper, datingFlags}
+use Rattle.checks.specs.Checks.{cashbackFound, decisionBits}
 use Rattle.checks.specs.Checks.{decisionFlags, meetsMask}
 use Rattle.state.specs.declared.Kind.{Kind}
 use Rattle.state.specs.declared.Kind.the-variants.{Aac, Tc, Arqc}

@@ -28,7 +28,8 @@ use Rattle.cycles.specs.Cycles.{timingOf, dated}
 use Rattle.first.specs.First.{firstPerformed, firstAnswered, firstKind, settled, asked, concluded}
 use Rattle.script.specs.declared.Scripts.{Scripts}
 use Rattle.second.specs.Second.{secondPerformed, isUnable, unablePerformed, verifiedPerformed, failedPerformed, absentPerformed, closed}
-use Rattle.card.specs.Card.{freshState, scriptPerformed}
+use Rattle.scripting.specs.Scripting.{scriptPerformed}
+use Rattle.card.specs.Card.{freshState}
 use Rattle.demands.specs.Setup.{Setup}
 use Rattle.demands.specs.Conversation.{Sitting, told, satBy, isAccepted}
 use Rattle.demands.specs.Due.{Due, nothing, dueBy, due, dueIn, InKind}

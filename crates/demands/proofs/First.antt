@@ -25,7 +25,8 @@ use Rattle.state.specs.declared.State.{State}
 use Rattle.state.specs.declared.Outcome.{Outcome}
 use Rattle.cycles.specs.Cycles.{timingOf, dated}
 use Rattle.first.specs.First.{purchaseOf, firstBits, firstKind, firstPerformed, firstAnswered, settled, asked, concluded}
-use Rattle.card.specs.Card.{refused, isDated}
+use Rattle.state.specs.Ruling.{refused}
+use Rattle.card.specs.Card.{isDated}
 use Rattle.refusal.specs.declared.Refusal.{Refusal}
 use Rattle.demands.specs.Setup.{Setup, AcceptedSetup}
 use Rattle.purchase.specs.Meter.{Meter, accumulator, counter, cyclic, IsMeter, valueOf}

@@ -30,9 +30,10 @@ use Rattle.meters.specs.Meters.{add, moved, addition, offline, applied, entered
 use Rattle.meters.proofs.Ledger.{applied-moves}
 use Rattle.script.specs.declared.Scripts.{Scripts}
 use Rattle.state.specs.declared.History.{History}
-use Rattle.checks.specs.Checks.{bit, exceedsUpper, decisionBits, meetsMask, upperBit as upperFlag}
+use Rattle.limits.specs.Limits.{bit, exceedsUpper}
+use Rattle.checks.specs.Checks.{decisionBits, meetsMask, upperBit as upperFlag}
 use Rattle.checks.proofs.Bits.{bitOf, meets-at, house-order}
-use Rattle.checks.proofs.Exceeds.{active-within}
+use Rattle.limits.proofs.Exceeds.{active-within}
 use Rattle.state.specs.declared.Answer.the-variants.{Refused}
 use Rattle.cryptogram.specs.declared.Issuer.{Issuer}
 use Rattle.state.specs.declared.Kind.{Kind}

@@ -29,7 +29,9 @@ use Rattle.first.specs.First.{firstKind, firstPerformed, firstAnswered, settled
 use Rattle.state.specs.State.{uncompletedIn, unableIn}
 use Rattle.second.specs.Second.{isUnable, unablePerformed, verifiedPerformed, failedPerformed, absentPerformed, secondPerformed}
 use Rattle.second.specs.Second.{closed, updateByte}
-use Rattle.card.specs.Card.{freshState, refused, scriptPerformed}
+use Rattle.state.specs.Ruling.{refused}
+use Rattle.scripting.specs.Scripting.{scriptPerformed}
+use Rattle.card.specs.Card.{freshState}
 use Rattle.demands.specs.Setup.{Setup, AcceptedSetup}
 use Rattle.demands.specs.Conversation.{Sitting, after, told, run, rulesBy, sat, next, Spoken}
 use Rattle.demands.specs.Audit.{inForce}

@@ -34,7 +34,7 @@ use Rattle.cycles.specs.Cycles.{dated}
 use Rattle.first.specs.First.{firstPerformed, firstAnswered, settled, asked, concluded}
 use Rattle.second.specs.Second.{isUnable, unablePerformed, verifiedPerformed, failedPerformed, absentPerformed, secondPerformed, closed, ordered}
 use Rattle.second.specs.Second.{updateByte, orderedChange}
-use Rattle.card.specs.Card.{scriptPerformed}
+use Rattle.scripting.specs.Scripting.{scriptPerformed}
 use Rattle.card.specs.Message.{Message}
 use Rattle.demands.specs.Ledger.{owed}
 use Rattle.demands.specs.Audit.{capOf, putBy, allPut}

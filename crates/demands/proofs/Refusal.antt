@@ -44,8 +44,10 @@ use Rattle.state.specs.declared.State.{State}
 use Rattle.state.specs.declared.Outcome.{Outcome}
 use Rattle.first.specs.First.{firstPerformed}
 use Rattle.second.specs.Second.{secondPerformed}
-use Rattle.card.specs.Card.{Ruling, refuse, take, ruleStart, ruleChosen, ruleOpening, isDated, ruleFirst, ruleSecond, carried, startPerformed, startStep}
-use Rattle.card.specs.Card.{firstStep, secondStep, ruleReading, ruleScriptFields, ruleScript, scriptPerformed, scriptStep, answerNumber}
+use Rattle.state.specs.Ruling.{Ruling, refuse, take, carried}
+use Rattle.card.specs.Card.{ruleStart, ruleChosen, ruleOpening, isDated, ruleFirst, ruleSecond, startPerformed, startStep}
+use Rattle.scripting.specs.Scripting.{ruleReading, ruleScriptFields, ruleScript, scriptPerformed, scriptStep}
+use Rattle.card.specs.Card.{firstStep, secondStep, answerNumber}
 use Rattle.demands.proofs.Found.{Holds, Known, known, below-four}
 use Rattle.demands.specs.Setup.{Setup, AcceptedSetup}
 use Rattle.demands.specs.Conversation.{rulesBy, sat, next, IsSpoken, Spoken, isAccepted}

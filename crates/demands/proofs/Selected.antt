@@ -28,7 +28,8 @@ use Rattle.state.specs.declared.Answer.the-variants.{Refused, Started, Given, D
 use Rattle.state.specs.declared.Kind.{Kind}
 use Rattle.state.specs.declared.State.{State}
 use Rattle.iad.specs.declared.Iad.{Iad}
-use Rattle.card.specs.Card.{refuse, ruleChosen, ruleOpening, carried, startPerformed, startStep}
+use Rattle.state.specs.Ruling.{refuse, carried}
+use Rattle.card.specs.Card.{ruleChosen, ruleOpening, startPerformed, startStep}
 use Rattle.state.specs.declared.Outcome.{Outcome}
 use Rattle.demands.specs.Setup.{Setup, IsCpa, AcceptedSetup}
 use Rattle.purchase.specs.Meter.{Meter, IsMeter, valueOf}

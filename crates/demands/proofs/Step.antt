@@ -31,8 +31,9 @@ use Rattle.state.specs.declared.State.{State}
 use Rattle.state.specs.declared.Outcome.{Outcome}
 use Rattle.first.specs.First.{firstPerformed}
 use Rattle.second.specs.Second.{secondPerformed}
-use Rattle.card.specs.Card.{refuse, take, ruleChosen, ruleOpening, isDated, ruleFirst, ruleSecond, carried, refused, startPerformed, startStep}
-use Rattle.card.specs.Card.{firstStep, secondStep, ruleScript, ruleScriptFields, ruleReading, scriptPerformed, scriptStep, writesRuled, scriptWrites}
+use Rattle.state.specs.Ruling.{refuse, take, carried, refused}
+use Rattle.card.specs.Card.{ruleChosen, ruleOpening, isDated, ruleFirst, ruleSecond, startPerformed, startStep, firstStep, secondStep}
+use Rattle.scripting.specs.Scripting.{ruleScript, ruleScriptFields, ruleReading, scriptPerformed, scriptStep, writesRuled, scriptWrites}
 use Rattle.demands.proofs.Found.{Holds, Known, known}
 
 pub data Did (rules : Rules) (state : State) : Message → Outcome → Type 0 where

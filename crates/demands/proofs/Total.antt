@@ -47,8 +47,9 @@ use Rattle.cycles.specs.Cycles.{timingOf, dated}
 use Rattle.first.specs.First.{purchaseOf, firstKind, firstPerformed, firstAnswered, settled, asked, concluded}
 use Rattle.second.specs.Second.{isUnable, unableBits, unablePerformed, verifiedPerformed, failedPerformed, absentPerformed, secondPerformed, closed}
 use Rattle.second.specs.Second.{ordered as orderedValues, updateByte}
-use Rattle.card.specs.Card.{startPerformed, isDated, freshState, scriptPerformed}
-use Rattle.card.specs.Card.{refused as refusal}
+use Rattle.scripting.specs.Scripting.{scriptPerformed}
+use Rattle.card.specs.Card.{startPerformed, isDated, freshState}
+use Rattle.state.specs.Ruling.{refused as refusal}
 use Rattle.purchase.specs.declared.Timing.{Timing}
 use Rattle.purchase.specs.declared.Purchase.{Purchase}
 use Rattle.demands.specs.Setup.{Setup, byteAt, numberAt, tailNumber, AcceptedSetup}

@@ -17,7 +17,8 @@ use Rattle.script.specs.declared.Scripts.{Scripts}
 use Rattle.script.specs.Script.{marksOf}
 use Rattle.script.proofs.Marks.{marks-say, marks-low}
 use Rattle.state.specs.declared.History.{History}
-use Rattle.checks.specs.Checks.{bit, decisionBits, accumulatorsLowerGroup, accumulatorsUpperGroup, countersLowerGroup, countersUpperGroup}
+use Rattle.limits.specs.Limits.{bit}
+use Rattle.checks.specs.Checks.{decisionBits, accumulatorsLowerGroup, accumulatorsUpperGroup, countersLowerGroup, countersUpperGroup}
 use Rattle.checks.specs.Checks.{dateError}
 use Rattle.cryptogram.specs.declared.Issuer.{Issuer}
 use Rattle.state.specs.declared.Kind.{Kind}

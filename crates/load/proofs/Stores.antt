@@ -4,7 +4,7 @@ use mathlib.Core.List.{List, [], _∷_, _++_, append-nil}
 use Prim.Native.Nat.{ℕ, zero, suc, _+_, _*_}
 use native.Mathlib.Nat.{add-zero, add-suc, suc-add, zero-add}
 use native.Mathlib.Omega.{arith}
-use lib.ListN.{length, drop, drop-of-length-le, length-append}
+use lib.ListN.{length, set, drop, drop-of-length-le, length-append}
 use lib.Seq.{sets, sets-eq}
 use Rattle.load.specs.Load.{rows}
 
@@ -25,6 +25,13 @@ behind l a b {w} {v} i j m n r e s p =
       is = e ∙ ap (λ (x : List ℕ). sets x j b) (r .is) ∙ joined l a b i j (omega arith);
       size = length-append a b ∙ omega arith;
     }
+
+-- one word, and one word behind a run
+pub first : (l : List ℕ) (i : ℕ) {v x : ℕ} → v ≡ x → Run l i (x ∷ []) 1 (set l i v)
+first l i e = record { is = ap (set l i) e; size = refl }
+
+pub next-word : {l a w : List ℕ} {i m v x : ℕ} (j : ℕ) → Run l i a m w → v ≡ x → j ≡ i + m → Run l i (a ++ x ∷ []) (m + 1) (set w j v)
+next-word {l} {a} {w} {i} {m} {v} {x} j r e p = behind l a (x ∷ []) i j m 1 r (ap (set w j) e) refl p
 
 -- n rows of m words each, one behind the other from place i on, row by row
 module _ (l : List ℕ) (i m : ℕ) (row : ℕ → List ℕ) (size : (k : ℕ) → length (row k) ≡ m) where

@@ -11,7 +11,7 @@ use lib.ListN.{length, getD, take, drop}
 use lib.Seq.{take-all}
 use Rattle.refusal.specs.declared.Refusal.the-variants.{Unreadable}
 use Rattle.state.specs.declared.State.{State}
-use Rattle.card.specs.Card.{scriptStep, scriptWrites}
+use Rattle.scripting.specs.Scripting.{scriptStep, scriptWrites}
 use Rattle.records.specs.declared.Event.the-variants.{Refused, Answered}
 use Rattle.records.specs.declared.Said.the-variants.{Script}
 use Rattle.records.specs.Records.{scriptedBy, bodyWrites}

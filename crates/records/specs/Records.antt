@@ -11,7 +11,8 @@ use Rattle.command.specs.declared.ReadCommand.the-variants.{Taken as CommandTak
 use Rattle.command.specs.Command.{commandIn}
 use Rattle.state.specs.declared.State.{State}
 use Rattle.element.specs.declared.Write.{Write}
-use Rattle.card.specs.Card.{stepOf, scriptStep, scriptWrites}
+use Rattle.card.specs.Card.{stepOf}
+use Rattle.scripting.specs.Scripting.{scriptStep, scriptWrites}
 use Rattle.records.specs.declared.Event.the-variants.{Refused, Answered}
 use Rattle.records.specs.declared.Said.the-variants.{Command as SaidCommand, Script}
 use Rattle.records.specs.declared.Taken.{Taken}

@@ -76,7 +76,7 @@ fn take_script(words: &mut Words, state: State, body: &[u8], end: usize) -> Take
         };
     }
     let result = body[0];
-    let outcome = card::answer_script(words, state, result, &body[1..]);
+    let outcome = scripting::answer_script(words, state, result, &body[1..]);
     let after = outcome.state;
     let answer = outcome.answer;
     Taken {

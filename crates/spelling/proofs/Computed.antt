@@ -31,13 +31,15 @@ use Rattle.put_data.specs.PutData.{writesBy, isPutData, listPlace, macPlace, is
 use Rattle.script.specs.Script.{kept, freshScripts, started, oneDone, marksOf, valueIn, done, tried, templateTried, ranOf}
 use Rattle.purchase.specs.Meter.{worth, cyclicWorth, isOpen}
 use Rattle.meters.specs.Meters.{applied}
-use Rattle.checks.specs.Checks.{accumulatorsLower, accumulatorsUpper, countersLower, countersUpper, datingFlags, maximumExceeded, decisionBits}
+use Rattle.limits.specs.Limits.{accumulatorsLower, accumulatorsUpper, countersLower, countersUpper, datingFlags}
+use Rattle.checks.specs.Checks.{maximumExceeded, decisionBits}
 use Rattle.state.specs.declared.State.{State}
 use Rattle.state.specs.declared.Outcome.{Outcome}
 use Rattle.cryptogram.specs.Cryptogram.{limitsByte, verification, sentIad}
 use Rattle.cycles.specs.Cycles.{timingOf, dated}
 use Rattle.first.specs.First.{decision, settled, asked, concluded, firstAnswered, firstPerformed}
-use Rattle.card.specs.Card.{freshState, startStep, firstStep, stepOf, scriptPerformed, scriptStep, scriptWrites}
+use Rattle.card.specs.Card.{freshState, startStep, firstStep, stepOf}
+use Rattle.scripting.specs.Scripting.{scriptPerformed, scriptStep, scriptWrites}
 use Rattle.opening.specs.declared.Begun.{Begun}
 use Rattle.records.specs.declared.Event.{Event}
 use Rattle.records.specs.Records.{answeredBy, scriptedBy, bodyWrites}

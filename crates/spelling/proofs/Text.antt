@@ -13,7 +13,8 @@ use Rattle.iad.specs.Iad.{isCvr, isWritable, pairsOf, iadBytes, writeIad, writt
 use Rattle.script.specs.Script.{kept, freshScripts, started, marksOf}
 use Rattle.purchase.specs.Meter.{worth, cyclicWorth, isOpen}
 use Rattle.meters.specs.Meters.{applied}
-use Rattle.checks.specs.Checks.{accumulatorsLower, accumulatorsUpper, countersLower, countersUpper, datingFlags, maximumExceeded, decisionBits}
+use Rattle.limits.specs.Limits.{accumulatorsLower, accumulatorsUpper, countersLower, countersUpper, datingFlags}
+use Rattle.checks.specs.Checks.{maximumExceeded, decisionBits}
 use Rattle.cryptogram.specs.Cryptogram.{limitsByte, verification, sentIad}
 use Rattle.cycles.specs.Cycles.{timingOf, dated}
 use Rattle.first.specs.First.{decision, settled, asked, concluded, firstAnswered, firstPerformed}

@@ -1,6 +1,7 @@
 // The card's state, and what a command comes to.
 ghost use mathlib.Core.Path.{_≡_};
 ghost use Rattle.state.specs.State.{cidOf, uncompletedIn, failedIn, unableIn, missingIn};
+ghost use Rattle.state.specs.Ruling.{refused};
 use calendar::Date;
 use iad::Iad;
 use purchase::Purchase;
@@ -108,4 +109,14 @@ pub enum Answer {
 pub struct Outcome {
     pub state: State,
     pub answer: Answer,
+}
+
+// A refusal leaves the card as it was.
+pub fn refuse(state: State, refusal: Refusal) -> Outcome
+    ensures { λ r. ⌜ r ≡ refused state refusal ⌝ }
+{
+    Outcome {
+        state,
+        answer: Answer::Refused(refusal),
+    }
 }

@@ -35,7 +35,9 @@ use Rattle.state.specs.declared.Answer.{Answer}
 use Rattle.state.specs.declared.Answer.the-variants.{Refused as AnswerRefused, Started, Given, Done}
 use Rattle.state.specs.declared.State.{State}
 use Rattle.state.specs.State.{cidOf}
-use Rattle.card.specs.Card.{Ruling, take as rule, refuse, ruleStart, ruleScript, startPerformed, scriptPerformed, carried, startStep, scriptStep, stepOf}
+use Rattle.state.specs.Ruling.{Ruling, take as rule, refuse, carried}
+use Rattle.card.specs.Card.{ruleStart, startPerformed, startStep, stepOf}
+use Rattle.scripting.specs.Scripting.{ruleScript, scriptPerformed, scriptStep}
 use Rattle.records.specs.declared.Event.{Event}
 use Rattle.records.specs.declared.Event.the-variants.{SetUp, End, Refused, Answered}
 use Rattle.records.specs.declared.Taken.{Taken as TakenRecord}

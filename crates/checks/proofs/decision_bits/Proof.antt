@@ -1,6 +1,7 @@
 use borrow.Author.Needs.{needs}
 use native.Mathlib.Omega.{arith}
-use Rattle.checks.specs.Checks.{accumulatorsLower, accumulatorsUpper, countersLower, countersUpper, datingFlags, testBits}
+use Rattle.limits.specs.Limits.{accumulatorsLower, accumulatorsUpper, countersLower, countersUpper, datingFlags}
+use Rattle.checks.specs.Checks.{testBits}
 use Rattle.checks.proofs.decision_bits.Statement.{statement}
 use Rattle.checks.proofs.decision_bits.Tie as tie
 

@@ -1,9 +1,11 @@
-use mathlib.Core.Path.{_≡_}
-use Prim.Native.Nat.{suc, _+_}
 use native.Mathlib.Omega.{arith}
+use denote.Ref.{now}
+use mathlib.Core.Path.{refl}
+use Prim.Native.Nat.{_+_}
 use Rattle.load.specs.Load.{cyclicRuleWords}
 use Rattle.rules.specs.Word as word
 use borrow.Author.Needs.{needs}
+use Rattle.load.proofs.Stores.{first, next-word}
 use Rattle.load.proofs.load_cyclic_rule.Statement.{statement}
 use Rattle.load.proofs.load_cyclic_rule.Tie as tie
 
@@ -12,12 +14,12 @@ unfolding cyclicRuleWords
 returns c =
     let a = c .before .before .before .args in
     let to = word.cyclicRuleFrom (a .j) (a .i) in
-    let at1 : to + 1 ≡ suc to = omega arith in
-    simp (at1, c .u64-at .ensures, c .before .byte-at .ensures)
+    let word1 = first (now (a .words)) to (c .before .byte-at .ensures) in
+    next-word (to + 1) word1 (c .u64-at .ensures) refl .is
 
 pub load-cyclic-rule-spec : {M : Type 1} → statement M
 load-cyclic-rule-spec =
     tie.close
     (tie.spec (search needs) (search needs) (search needs) (search needs) (search needs) (search needs) (search needs) (search needs)
-    (search needs) (search needs) (search needs) (search needs) (search needs) (search needs) (search needs) (search needs) (search needs)
+    (search needs) (search needs) (search needs) (λ c. omega arith) (search needs) (search needs) (search needs) (search needs) (λ c. omega arith)
     returns)

@@ -1,9 +1,12 @@
-use borrow.Author.Needs.{needs}
-use mathlib.Core.Path.{_≡_}
-use Prim.Native.Nat.{suc, _+_}
 use native.Mathlib.Omega.{arith}
+use borrow.Author.Needs.{needs}
+use denote.Ref.{now}
+use mathlib.Core.Path.{refl, ap, _∙_}
+use Prim.Native.Nat.{_+_}
+use lib.Seq.{sets}
 use Rattle.load.specs.Load.{rateWords}
 use Rattle.rules.specs.Word as word
+use Rattle.load.proofs.Stores.{first, next-word}
 use Rattle.load.proofs.load_rate.Statement.{statement}
 use Rattle.load.proofs.load_rate.Tie as tie
 
@@ -12,24 +15,17 @@ unfolding rateWords
 returns c =
     let from = c .before .before .before in
     let placed = from .before in
-    let to = word.rateFrom (placed .before .before .args .i) in
-    let at1 : to + 1 ≡ suc to = omega arith in
-    let at2 : to + 2 ≡ suc (suc to) = omega arith in
-    let at3 : to + 3 ≡ suc (suc (suc to)) = omega arith in
-    simp (
-      at1,
-      at2,
-      at3,
-      c .byte-at .ensures,
-      c .before .u16-at3 .ensures,
-      c .before .before .u16-at2 .ensures,
-      from .u16-at .ensures,
-      placed .conversion-place .ensures .0,
-    )
+    let a = placed .before .before .args in
+    let to = word.rateFrom (a .i) in
+    let word1 = first (now (a .words)) to (from .u16-at .ensures) in
+    let word2 = next-word (to + 1) word1 (c .before .before .u16-at2 .ensures) refl in
+    let word3 = next-word (to + 2) word2 (c .before .u16-at3 .ensures) refl in
+    let word4 = next-word (to + 3) word3 (c .byte-at .ensures) refl in
+    word4 .is ∙ ap (λ at. sets (now (a .words)) to (rateWords (now (a .s)) at)) (placed .conversion-place .ensures .0)
 
 pub load-rate-spec : {M : Type 1} → statement M
 load-rate-spec =
     tie.close
-    (tie.spec (search needs) (search needs) (search needs) (search needs) (search needs) (search needs) (search needs) (search needs)
-    (search needs) (search needs) (search needs) (search needs) (search needs) (search needs) (search needs) (search needs) (search needs)
-    (search needs) (search needs) (search needs) (search needs) (search needs) (search needs) (search needs) (search needs) returns)
+    (tie.spec (search needs) (search needs) (search needs) (search needs) (search needs) (search needs) (λ c. omega arith) (search needs)
+    (search needs) (search needs) (search needs) (search needs) (λ c. omega arith) (search needs) (search needs) (search needs) (search needs)
+    (search needs) (λ c. omega arith) (search needs) (search needs) (search needs) (search needs) (search needs) (λ c. omega arith) returns)
