@@ -133,7 +133,7 @@ fn put_hex(room: &mut [u8], at: usize, bytes: &[u8], mark: u8) -> usize
 }
 
 // The bytes that an IAD is written as; zeros for one that is out of range.
-fn iad_bytes(iad: Iad) -> [u8; 32]
+pub fn iad_bytes(iad: Iad) -> [u8; 32]
     ensures { λ r. ⌜ (r ≡ written iad (replicate 32 0)) × (length r ≡ 32) ⌝ }
 {
     let mut bytes = [0u8; 32];

@@ -1,0 +1,19 @@
+-- A text put into a room from a place on.
+use Prim.Native.Nat.{ℕ, _+_}
+use mathlib.Core.Bool.{Bool, cond}
+use mathlib.Core.List.{List}
+use lib.Dec.{leb}
+use lib.ListN.{length}
+use lib.Seq.{sets}
+
+-- the room has so many bytes from the place on
+abbrev pub fits : (room at bytes : ℕ) → Bool
+fits room at bytes = leb (at + bytes) room
+
+-- the text stands there, and all else stays; where there is no room for all of it all stays
+unfoldable pub placed : (room : List ℕ) (at : ℕ) (text : List ℕ) → List ℕ
+placed room at text = cond (fits (length room) at (length text)) (sets room at text) room
+
+-- the place behind it
+unfoldable pub placeBehind : (room at : ℕ) (text : List ℕ) → ℕ
+placeBehind room at text = cond (fits room at (length text)) (at + length text) at
