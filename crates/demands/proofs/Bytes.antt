@@ -21,7 +21,8 @@ use Rattle.rules.specs.Rules.{Profile, two, blankProfile, blankAccumulator, bla
 use Rattle.rules.specs.Rules.{currencyAt, accumulatorRule, counterRule, cycleOf, cyclicRule, controlAt, checksCashback}
 use Rattle.rules.proofs.Limits.{Stays}
 use Rattle.rules.proofs.Places.{four-at, two-at, eight-at}
-use Rattle.ranges.proofs.Accepted.{Accepted, accepted, CyclesAccepted, cycles-accepted}
+use Rattle.ranges.proofs.Accepted.{Accepted, accepted}
+use Rattle.tails.proofs.Accepted.{CyclesAccepted, cycles-accepted}
 use Rattle.setup.specs.Setup.{rateIn, accumulatorIn, counterIn, profileIn, cycleIn, cyclicIn, rulesIn, isAccepted}
 use Rattle.purchase.specs.declared.Purchase.{Purchase}
 use Rattle.purchase.specs.Meter.{Meter, accumulator, counter, cyclic, IsMeter, MeterRule, accumulating, counting, cycling, ruleOf, worth, cyclicWorth}

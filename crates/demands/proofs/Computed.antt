@@ -13,7 +13,8 @@ use Rattle.money.specs.Money.{rateFor, rounded, scaled, convertOf}
 use Rattle.iad.specs.Iad.{pairsOf, iadBytes}
 use Rattle.ranges.specs.Ranges.{isSetup, hasLength, isHead, areAccumulators, isAccumulator, areProfiles, isProfileOrAbsent, isProfile}
 use Rattle.ranges.specs.Ranges.{areMasks, isMaximumAmount, areAccumulatorRules, isAccumulatorRule, areCounterRules, areSent}
-use Rattle.ranges.specs.Ranges.{isCycle, isCyclicRule, areCyclicRules, areCycles, isFamily, areNumbersApart, profileNumber, areConversions}
+use Rattle.ranges.specs.Ranges.{areNumbersApart, profileNumber, areConversions}
+use Rattle.tails.specs.Tails.{isCycle, isCyclicRule, areCyclicRules, areCycles, isFamily}
 use Rattle.ranges.specs.Ranges.{isConversionOrAbsent, isConversion, conversionPair, arePairsApart}
 use Rattle.rules.specs.declared.Place.{Place}
 use Rattle.rules.specs.declared.Values.{Values}

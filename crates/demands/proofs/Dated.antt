@@ -33,7 +33,7 @@ use Rattle.card.specs.Card.{isDated}
 use Rattle.demands.specs.Setup.{Setup, tailByte, AcceptedSetup}
 use Rattle.demands.specs.Conversation.{rulesBy}
 use Rattle.demands.specs.Audit.{capOf, isLate, timed, latest, beginsOn, begun}
-use Rattle.ranges.proofs.Accepted.{CyclesAccepted}
+use Rattle.tails.proofs.Accepted.{CyclesAccepted}
 use Rattle.demands.proofs.Owed.{Fair, nothing, putting, fair-or}
 use Rattle.demands.proofs.Bytes.{fits-tail, cycle-is}
 

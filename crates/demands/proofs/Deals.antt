@@ -18,7 +18,7 @@ use Rattle.iad.specs.declared.Cvr.{Cvr}
 use Rattle.rules.specs.declared.Place.{Place}
 use Rattle.rules.specs.declared.Values.{Values}
 use Rattle.rules.specs.Rules.{Rules}
-use Rattle.ranges.proofs.Accepted.{CyclesAccepted}
+use Rattle.tails.proofs.Accepted.{CyclesAccepted}
 use Rattle.setup.specs.Setup.{freshIn, readSetup}
 use Rattle.command.specs.declared.First.{First}
 use Rattle.command.specs.declared.Second.{Second}

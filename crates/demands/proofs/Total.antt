@@ -17,7 +17,7 @@ use Rattle.rules.specs.declared.Place.{Place}
 use Rattle.rules.specs.declared.Values.{Values}
 use Rattle.rules.specs.Rules.{Rules, indexOf, profileAt}
 use Rattle.rules.proofs.Places.{four-at, two-at}
-use Rattle.ranges.proofs.Accepted.{CyclesRanges, CyclesAccepted}
+use Rattle.tails.proofs.Accepted.{CyclesRanges, CyclesAccepted}
 use Rattle.setup.specs.Setup.{valueIn, amountIn, freshIn, readSetup}
 use Rattle.selection.specs.Selection.{profileOf, visitsOf}
 use Rattle.command.specs.declared.Start.{Start}

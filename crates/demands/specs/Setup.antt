@@ -4,7 +4,8 @@ use mathlib.Core.Bool.{true}
 use mathlib.Core.List.{List, []}
 use Prim.Native.Nat.{ℕ}
 use Rattle.wire.specs.Wire.{byte, number}
-use Rattle.ranges.specs.Ranges.{isSetup, areCycles, isFamily}
+use Rattle.ranges.specs.Ranges.{isSetup}
+use Rattle.tails.specs.Tails.{areCycles, isFamily}
 use Rattle.element.specs.declared.Write.{Write}
 use Rattle.auditor.specs.Template.{InRange}
 use Rattle.setup.proofs.Faithful.{Bytes}

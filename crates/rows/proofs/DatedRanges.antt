@@ -12,8 +12,8 @@ use Rattle.wire.specs.Wire.{byte, number}
 use Rattle.wire.proofs.Numbers.{past}
 use Rattle.calendar.specs.Calendar.{dateAt, isDay}
 use Rattle.calendar.proofs.Dates.{calendar-days}
-use Rattle.ranges.specs.Ranges.{areCycles}
-use Rattle.ranges.proofs.Accepted.{CycleRanges, CyclicRuleRanges, CyclesRanges, CyclesAccepted, cycles-accepted, cycles-complete}
+use Rattle.tails.specs.Tails.{areCycles}
+use Rattle.tails.proofs.Accepted.{CycleRanges, CyclicRuleRanges, CyclesRanges, CyclesAccepted, cycles-accepted, cycles-complete}
 use Rattle.rows.specs.Rows.{Fits, spelled, Two, Cyclic, CyclicLimit, Cycles, Dates, undated, dated, paired, cyclesRow, cyclesBytes}
 use Rattle.rows.specs.InRange.{CalendarDay, CyclicRange, CyclicLimitRange, CyclicLimitsRange, CyclesRange, DatesRange}
 use Rattle.rows.specs.Tails.{FineDates}

@@ -9,8 +9,8 @@ use borrow.Author.Tests.{ltb-true, ltb-false}
 use lib.Dec.{ltb}
 use lib.ListN.{length, List·getD-eq-default}
 use Rattle.wire.specs.Wire.{byte}
-use Rattle.ranges.specs.Ranges.{isFamily}
-use Rattle.ranges.proofs.Accepted.{FamilyRanges, FamilyAccepted, family-accepted, family-complete}
+use Rattle.tails.specs.Tails.{isFamily}
+use Rattle.tails.proofs.Accepted.{FamilyRanges, FamilyAccepted, family-accepted, family-complete}
 use Rattle.rows.specs.Rows.{Fits, spelled, Controls, Families, cpa, cpace, listed, controlsRow, controlsBytes}
 use Rattle.rows.specs.InRange.{ControlRange, CashbackRange, ControlsRange, FamiliesRange}
 use Rattle.rows.specs.Tails.{FineFamilies}

@@ -8,9 +8,10 @@ use native.Mathlib.Omega.{arith}
 use lib.ListN.{length, getD}
 use Rattle.wire.specs.Wire.{byte, number}
 use Rattle.wire.proofs.Pairs.{both}
-use Rattle.ranges.specs.Ranges.{isSetup, areCycles, isFamily}
+use Rattle.ranges.specs.Ranges.{isSetup}
+use Rattle.tails.specs.Tails.{areCycles, isFamily}
 use Rattle.ranges.proofs.Accepted.{Currency, AccumulatorRanges, AccumulatorRuleRanges, ProfileRanges, ConversionRanges, Accepted, accepted, complete}
-use Rattle.ranges.proofs.Accepted.{CyclesAccepted, cycles-accepted, cycles-complete, FamilyAccepted, family-accepted, family-complete}
+use Rattle.tails.proofs.Accepted.{CyclesAccepted, cycles-accepted, cycles-complete, FamilyAccepted, family-accepted, family-complete}
 use Rattle.setup.specs.Setup.{isAccepted, readSetup, setupNumber}
 use Rattle.rows.specs.Rows.{Fits, Four, Limits, Profile, Conversion, Setup, listed, setupRow, body}
 use Rattle.rows.specs.InRange.{ThreeDigits, AccumulatorRange, AccumulatorLimits, CounterLimits, ProfileRange, ConversionRange, SameNumber, SamePair}

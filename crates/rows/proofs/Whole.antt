@@ -6,7 +6,7 @@ use mathlib.Core.Logic.{_↔_}
 use Prim.Native.Nat.{ℕ, _≤_, _<_}
 use lib.ListN.{length}
 use Rattle.wire.specs.Wire.{byte}
-use Rattle.ranges.specs.Ranges.{areCycles, isFamily}
+use Rattle.tails.specs.Tails.{areCycles, isFamily}
 use Rattle.rules.specs.Rules.{rulesOf}
 use Rattle.setup.specs.declared.ReadSetup.{ReadSetup}
 use Rattle.setup.specs.Setup.{isAccepted, readSetup, wordsAfter, setupNumber}

@@ -20,7 +20,8 @@ use Rattle.load.specs.Load.{limitIn, ruleWords, rulesWords, profileHeadWords, s
 use Rattle.load.specs.Load.{cycleWords, cyclicRuleWords, cyclicRulesWords, cyclesWords, familyWords}
 use Rattle.load.proofs.Sizes.{loaded-size}
 use Rattle.load.proofs.Stores.{all}
-use Rattle.ranges.specs.Ranges.{isSetup, areCycles, isFamily}
+use Rattle.ranges.specs.Ranges.{isSetup}
+use Rattle.tails.specs.Tails.{areCycles, isFamily}
 use Rattle.ranges.proofs.Accepted.{accepted}
 use Rattle.refusal.specs.declared.Refusal.the-variants.{BadSetup}
 use Rattle.setup.specs.declared.SetupAnswer.the-variants.{Done, Refused}

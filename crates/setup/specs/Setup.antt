@@ -18,7 +18,8 @@ use Rattle.rules.specs.Rules.{Rules, Profile, two, four, five, eight, blankProf
 use Rattle.layout.specs.Layout.{profileFrom, conversionFrom}
 use Rattle.layout.specs.Layout as layout
 use Rattle.load.specs.Load.{stored}
-use Rattle.ranges.specs.Ranges.{isSetup, areCycles, isFamily}
+use Rattle.ranges.specs.Ranges.{isSetup}
+use Rattle.tails.specs.Tails.{areCycles, isFamily}
 use Rattle.setup.specs.declared.Fresh.{Fresh}
 use Rattle.setup.specs.declared.SetupAnswer.{SetupAnswer}
 use Rattle.setup.specs.declared.SetupAnswer.the-variants.{Done, Refused}

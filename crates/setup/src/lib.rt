@@ -108,7 +108,7 @@ pub fn read_setup(
     ensures { λ r. ⌜ (r ≡ readSetup (now (s .entry)) (now (t .entry)) (now (f .entry)) unnamed)
         × (now (words .exit) ≡ wordsAfter (now (words .entry)) (now (s .entry)) (now (t .entry)) (now (f .entry)) syllabus unnamed) ⌝ }
 {
-    if ranges::is_setup(s, unnamed) & ranges::are_cycles(t) & ranges::is_family(f) {
+    if ranges::is_setup(s, unnamed) & tails::are_cycles(t) & tails::is_family(f) {
         load::load(words, s, t, f, syllabus);
         let fresh = read_fresh(s, t);
         ReadSetup {

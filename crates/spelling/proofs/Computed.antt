@@ -15,7 +15,7 @@ use Rattle.load.specs.Load.{profilesWords, cycleWords, cyclicRuleWords, cyclicR
 use Rattle.ranges.specs.Ranges.{isSetup, hasLength, isHead, areAccumulators, isAccumulator, areProfiles, isProfileOrAbsent, isProfile}
 use Rattle.ranges.specs.Ranges.{areMasks, isMaximumAmount, areAccumulatorRules, isAccumulatorRule, areCounterRules, areSent}
 use Rattle.ranges.specs.Ranges.{areNumbersApart, profileNumber, areConversions, isConversionOrAbsent, isConversion, conversionPair, arePairsApart}
-use Rattle.ranges.specs.Ranges.{areCycles, isFamily}
+use Rattle.tails.specs.Tails.{areCycles, isFamily}
 use Rattle.setup.specs.Setup.{freshIn, readSetup, wordsAfter, rateIn, accumulatorIn, counterIn, profileIn, cycleIn, cyclicIn, rulesIn}
 use Rattle.shape.specs.declared.Shape.{Shape}
 use Rattle.shape.specs.Shape.{shapeOf, tailsOf, baseTail, selectionTail, syllabusTail}

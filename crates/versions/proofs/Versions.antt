@@ -15,7 +15,8 @@ use lib.Seq.{take-append-le, take-append-seam}
 use Rattle.wire.specs.Wire.{byte}
 use Rattle.wire.proofs.Pairs.{both}
 use Rattle.refusal.specs.declared.Refusal.{Refusal}
-use Rattle.ranges.specs.Ranges.{isSetup, areCycles, isFamily}
+use Rattle.ranges.specs.Ranges.{isSetup}
+use Rattle.tails.specs.Tails.{areCycles, isFamily}
 use Rattle.setup.specs.declared.ReadSetup.{ReadSetup}
 use Rattle.setup.specs.Setup.{isAccepted, readSetup, wordsAfter}
 use Rattle.setup.proofs.Faithful.{untouched}

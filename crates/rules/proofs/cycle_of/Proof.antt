@@ -1,3 +1,4 @@
+use native.Mathlib.Omega.{arith}
 use borrow.Author.Needs.{needs}
 use denote.Ref.{now}
 use mathlib.Core.Path.{sym}
@@ -26,5 +27,5 @@ returns-2 c =
 pub cycle-of-spec : {M : Type 1} → statement M
 cycle-of-spec =
     tie.close
-    (tie.spec (search needs) (search needs) (search needs) (search needs) (search needs) (search needs) (search needs) (search needs)
-    (search needs) (search needs) (search needs) (search needs) (search needs) returns returns-2)
+    (tie.spec (search needs) (search needs) (search needs) (λ c. omega arith) (search needs) (search needs) (search needs) (λ c. omega arith)
+    (search needs) (search needs) (search needs) (λ c. omega arith) (search needs) returns returns-2)

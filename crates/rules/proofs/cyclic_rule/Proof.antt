@@ -1,3 +1,4 @@
+use native.Mathlib.Omega.{arith}
 use borrow.Author.Needs.{needs}
 use denote.Ref.{now}
 use Rattle.rules.specs.Rules.{cyclicRuleAt, indexOf, blankCyclic}
@@ -26,5 +27,5 @@ returns-2 c =
 pub cyclic-rule-spec : {M : Type 1} → statement M
 cyclic-rule-spec =
     tie.close
-    (tie.spec (search needs) (search needs) (search needs) (search needs) (search needs) (search needs) (search needs) (search needs)
-    (search needs) (search needs) returns returns-2)
+    (tie.spec (search needs) (search needs) (search needs) (search needs) (search needs) (search needs) (λ c. omega arith) (search needs)
+    (search needs) (λ c. omega arith) returns returns-2)

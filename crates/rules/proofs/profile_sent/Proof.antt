@@ -1,3 +1,4 @@
+use native.Mathlib.Omega.{arith}
 use borrow.Author.Needs.{needs}
 use denote.Ref.{now}
 use Rattle.rules.specs.Rules.{profileOf}
@@ -15,5 +16,5 @@ returns c =
 pub profile-sent-spec : {M : Type 1} → statement M
 profile-sent-spec =
     tie.close
-    (tie.spec (search needs) (search needs) (search needs) (search needs) (search needs) (search needs) (search needs) (search needs)
-    (search needs) (search needs) (search needs) (search needs) (search needs) returns)
+    (tie.spec (search needs) (search needs) (search needs) (λ c. omega arith) (search needs) (search needs) (search needs) (λ c. omega arith)
+    (search needs) (search needs) (search needs) (λ c. omega arith) (search needs) returns)

@@ -1,8 +1,8 @@
 use borrow.Author.Tests.{eq-eqb, ne-eqb}
-use Rattle.ranges.specs.Ranges.{areCycles}
+use Rattle.tails.specs.Tails.{areCycles}
 use borrow.Author.Needs.{needs}
-use Rattle.ranges.proofs.are_cycles.Statement.{statement}
-use Rattle.ranges.proofs.are_cycles.Tie as tie
+use Rattle.tails.proofs.are_cycles.Statement.{statement}
+use Rattle.tails.proofs.are_cycles.Tie as tie
 
 returns : tie.Need-returns
 unfolding areCycles

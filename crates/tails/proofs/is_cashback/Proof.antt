@@ -1,6 +1,6 @@
 use borrow.Author.Needs.{needs}
-use Rattle.ranges.proofs.is_cashback.Statement.{statement}
-use Rattle.ranges.proofs.is_cashback.Tie as tie
+use Rattle.tails.proofs.is_cashback.Statement.{statement}
+use Rattle.tails.proofs.is_cashback.Tie as tie
 
 returns : tie.Need-returns
 returns c = simp (c .byte-at .ensures)

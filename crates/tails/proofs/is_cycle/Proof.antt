@@ -1,7 +1,7 @@
-use Rattle.ranges.specs.Ranges.{isCycle}
+use Rattle.tails.specs.Tails.{isCycle}
 use borrow.Author.Needs.{needs}
-use Rattle.ranges.proofs.is_cycle.Statement.{statement}
-use Rattle.ranges.proofs.is_cycle.Tie as tie
+use Rattle.tails.proofs.is_cycle.Statement.{statement}
+use Rattle.tails.proofs.is_cycle.Tie as tie
 
 returns : tie.Need-returns
 unfolding isCycle

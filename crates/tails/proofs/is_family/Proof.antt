@@ -1,8 +1,8 @@
 use borrow.Author.Tests.{eq-eqb, ne-eqb}
-use Rattle.ranges.specs.Ranges.{isFamily}
+use Rattle.tails.specs.Tails.{isFamily}
 use borrow.Author.Needs.{needs}
-use Rattle.ranges.proofs.is_family.Statement.{statement}
-use Rattle.ranges.proofs.is_family.Tie as tie
+use Rattle.tails.proofs.is_family.Statement.{statement}
+use Rattle.tails.proofs.is_family.Tie as tie
 
 returns : tie.Need-returns
 unfolding isFamily

@@ -1,6 +1,6 @@
 use borrow.Author.Needs.{needs}
-use Rattle.ranges.proofs.are_controls.Statement.{statement}
-use Rattle.ranges.proofs.are_controls.Tie as tie
+use Rattle.tails.proofs.are_controls.Statement.{statement}
+use Rattle.tails.proofs.are_controls.Tie as tie
 
 returns : tie.Need-returns
 returns c =

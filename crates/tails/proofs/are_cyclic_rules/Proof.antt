@@ -1,7 +1,7 @@
-use Rattle.ranges.specs.Ranges.{areCyclicRules}
+use Rattle.tails.specs.Tails.{areCyclicRules}
 use borrow.Author.Needs.{needs}
-use Rattle.ranges.proofs.are_cyclic_rules.Statement.{statement}
-use Rattle.ranges.proofs.are_cyclic_rules.Tie as tie
+use Rattle.tails.proofs.are_cyclic_rules.Statement.{statement}
+use Rattle.tails.proofs.are_cyclic_rules.Tie as tie
 
 returns : tie.Need-returns
 unfolding areCyclicRules

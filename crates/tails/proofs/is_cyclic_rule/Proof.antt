@@ -1,7 +1,7 @@
-use Rattle.ranges.specs.Ranges.{isCyclicRule}
+use Rattle.tails.specs.Tails.{isCyclicRule}
 use borrow.Author.Needs.{needs}
-use Rattle.ranges.proofs.is_cyclic_rule.Statement.{statement}
-use Rattle.ranges.proofs.is_cyclic_rule.Tie as tie
+use Rattle.tails.proofs.is_cyclic_rule.Statement.{statement}
+use Rattle.tails.proofs.is_cyclic_rule.Tie as tie
 
 returns : tie.Need-returns
 unfolding isCyclicRule
