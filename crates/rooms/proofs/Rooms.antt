@@ -18,7 +18,7 @@ use Rattle.rules.specs.Rules.{Rules, profileAt, accumulatorRule, findProfile}
 use Rattle.rules.proofs.Places.{each}
 use Rattle.purchase.specs.Meter.{amountAt}
 use Rattle.rooms.specs.declared.RoomLeft.the-variants.{Left}
-use Rattle.rooms.specs.Rooms.{leftOf, leftIn, roomsAt, roomsOf, roomLeft, roomNumber, cellCount, cellOf, cellSet, columnSet, columnRenewed, filled, renewed}
+use Rattle.rooms.specs.Rooms.{leftOf, leftIn, roomsAt, roomsOf, storedAt, roomLeft, roomNumber, cellCount, cellOf, cellSet, columnSet, columnRenewed, filled, renewed}
 
 -- n cells, by their places
 abbrev listed : ℕ → (ℕ → ℕ) → List ℕ
@@ -56,6 +56,13 @@ module _ (rules : Rules) where
   stored values Two = each _ refl refl refl refl
   stored values Three = each _ refl refl refl refl
   stored values Four = each _ refl refl refl refl
+
+  pub stored-four : (values : Values) (place : Place) → storedAt (roomsOf rules values) place ≡ roomsAt rules values place
+  unfolding roomsOf roomsAt
+  stored-four values One = refl
+  stored-four values Two = refl
+  stored-four values Three = refl
+  stored-four values Four = refl
 
   -- and so what is answered for accumulator i + 1 of a profile
   pub asked : (values : Values) (profile : ℕ) (place : Place) (i : ℕ) → findProfile rules profile ≡ At place → i < 4

@@ -66,6 +66,10 @@ renewed rules before after rooms =
     let column : ℕ → List ℕ → List ℕ = λ i. columnRenewed rules i (amountAt before i) (amountAt after i) in
     column 3 (column 2 (column 1 (column 0 rooms)))
 
+-- the four that are stored for a place
+abbrev pub storedAt : List ℕ → Place → List ℕ
+storedAt rooms place = four (λ i. getD rooms (cellOf place i) 0)
+
 -- ASKED for an accumulator of a profile, by their numbers: what is stored; refusal 3 for a profile that the set-up lacks, then 6 for an
 -- accumulator that is not 1 to 4
 abbrev pub roomIn : List ℕ → (accumulator : ℕ) → Found → RoomLeft

@@ -4,7 +4,7 @@ ghost use mathlib.Core.Path.{_≡_};
 ghost use Prim.Native.Nat.{_<_};
 ghost use lib.ListN.{length};
 ghost use Rattle.rules.specs.Rules.{rulesOf};
-ghost use Rattle.rooms.specs.Rooms.{cellCount, noRooms, cellOf, leftIn, cellSet, columnSet, columnRenewed, filled, renewed, roomLeft};
+ghost use Rattle.rooms.specs.Rooms.{cellCount, noRooms, cellOf, leftIn, cellSet, columnSet, columnRenewed, filled, renewed, storedAt, roomLeft};
 use money::AccumulatorAmount;
 use refusal::Refusal;
 use rules::Found;
@@ -116,6 +116,14 @@ pub fn refresh(words: &Words, before: Values, after: Values, rooms: &mut Rooms)
     renew_if_moved(words, 1, old[1], new[1], rooms);
     renew_if_moved(words, 2, old[2], new[2], rooms);
     renew_if_moved(words, 3, old[3], new[3], rooms);
+}
+
+// The four rooms that are stored for the profile at a place.
+pub fn stored(rooms: &Rooms, place: Place) -> [u64; 4]
+    ensures { λ r. ⌜ r ≡ storedAt (now (rooms .entry)) place ⌝ }
+{
+    let at = cell(place, 0);
+    [rooms[at], rooms[at + 1], rooms[at + 2], rooms[at + 3]]
 }
 
 // The room that is stored for an accumulator, 1 to 4, of a profile, by its number.

@@ -27,7 +27,9 @@ returns-2 c =
     simp (sym (met .before .before .find-profile .ensures) ∙ met .place .given .1, c .if1 .taken)
 
 sub-cell : tie.Need-sub-cell
-sub-cell c = one-to-four _ (c .if1 .left) .0
+sub-cell c =
+    let read = c .before .before .before in
+    omega (arith, one-to-four (read .before .before .args .accumulator) (c .if1 .left))
 
 cell-requires : tie.Need-cell-requires
 cell-requires c κs =
