@@ -14,7 +14,8 @@ use Rattle.answers.proofs.put_fields.Tie as tie
 returns : tie.Need-returns
 returns c =
     let second = c .before .before in
-    let first = second .before .before .before .before in
+    let between = second .before .before in
+    let first = between .before .before in
     let start = first .before .before .before in
     let a = start .before .before .args in
     let room = now (a .room) in

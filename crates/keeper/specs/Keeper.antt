@@ -1,0 +1,52 @@
+-- The room left through a conversation (request Seven): stored after the set-up, every answer and refusal, and after scripts.
+use Prim.Native.Nat.{ℕ}
+use mathlib.Core.Bool.{Bool, true, false, cond}
+use mathlib.Core.List.{List}
+use Rattle.rules.specs.declared.Values.{Values}
+use Rattle.rules.specs.Rules.{Rules, rulesOf}
+use Rattle.rooms.specs.Rooms.{filled, renewed}
+use Rattle.shape.specs.declared.Shape.{Shape}
+use Rattle.script.specs.Script.{rulesAfter}
+use Rattle.state.specs.declared.State.{State}
+use Rattle.state.specs.declared.Answer.{Answer}
+use Rattle.state.specs.declared.Answer.the-variants.{Refused as AnswerRefused, Started, Given, Done}
+use Rattle.records.specs.declared.Event.{Event}
+use Rattle.records.specs.declared.Event.the-variants.{SetUp, End, Refused, Answered}
+use Rattle.conversation.specs.Conversation.{takenOf, takenWrites}
+use Rattle.opening.specs.Opening.{begunOf, wordsBegun}
+
+-- a script was carried out
+abbrev pub isDone : Answer → Bool
+isDone (AnswerRefused refusal) = false
+isDone (Started atc visits) = false
+isDone (Given kind atc iad) = false
+isDone Done = true
+
+abbrev pub isScripted : Event → Bool
+isScripted SetUp = false
+isScripted End = false
+isScripted (Refused refusal) = false
+isScripted (Answered said answer) = isDone answer
+
+-- AN EVENT: a script may have written limits and values, so that all sixteen are worked out anew; otherwise the rules are those before, and the
+-- rooms of the accumulators whose value moved are
+unfoldable pub roomsAfter : Rules → (before after : Values) → Event → (rooms : List ℕ) → List ℕ
+roomsAfter rules before after event rooms = cond (isScripted event) (filled rules after rooms) (renewed rules before after rooms)
+
+-- A RECORD, by the rules that it leaves
+unfoldable pub roomsTaken : Rules → Shape → State → (paper : List ℕ) (at : ℕ) (rooms : List ℕ) → List ℕ
+roomsTaken rules shape state paper at rooms =
+    let taken = takenOf rules shape state paper at in
+    roomsAfter (rulesAfter rules (takenWrites shape state paper at)) (state .values) (taken .state .values) (taken .event) rooms
+
+-- THE SET-UP; where it is refused there is no card, and the cells stay
+abbrev pub setUpRooms : Rules → Values → Event → (rooms : List ℕ) → List ℕ
+setUpRooms rules values SetUp rooms = filled rules values rooms
+setUpRooms rules values End rooms = rooms
+setUpRooms rules values (Refused refusal) rooms = rooms
+setUpRooms rules values (Answered said answer) rooms = rooms
+
+unfoldable pub roomsBegun : (words rooms paper : List ℕ) → List ℕ
+roomsBegun words rooms paper =
+    let begun = begunOf paper in
+    setUpRooms (rulesOf (wordsBegun words paper)) (begun .state .values) (begun .event) rooms

@@ -1,0 +1,81 @@
+// A conversation that also keeps the room left: the cells beside the card are right after the set-up,
+// every answer and every refusal.
+ghost use mathlib.Core.Path.{_≡_};
+ghost use Rattle.rules.specs.Rules.{rulesOf};
+ghost use Rattle.script.specs.Script.{rulesAfter, wordsAfter};
+ghost use Rattle.conversation.specs.Conversation.{takenOf, takenWrites};
+ghost use Rattle.opening.specs.Opening.{begunOf, wordsBegun};
+ghost use Rattle.keeper.specs.Keeper.{isScripted, roomsAfter, roomsTaken, roomsBegun};
+use opening::Begun;
+use records::Event;
+use records::Taken;
+use rooms::Rooms;
+use rules::Values;
+use rules::Words;
+use shape::Shape;
+use state::Answer;
+use state::State;
+
+// Whether a script was carried out.
+fn is_scripted(event: Event) -> bool
+    ensures { λ r. ⌜ r ≡ isScripted event ⌝ }
+{
+    let Event::Answered { answer, .. } = event else {
+        return false;
+    };
+    match answer {
+        Answer::Done => true,
+        _ => false,
+    }
+}
+
+// The room left after an event, by the values before and after it. A script may have written limits:
+// then all are worked out anew.
+fn keep(words: &Words, before: Values, after: Values, event: Event, rooms: &mut Rooms)
+    ensures { λ _. ⌜ now (rooms .exit) ≡ roomsAfter (rulesOf (now (words .entry))) before after event (now (rooms .entry)) ⌝ }
+{
+    if is_scripted(event) {
+        rooms::fill(words, after, rooms);
+    } else {
+        rooms::refresh(words, before, after, rooms);
+    }
+}
+
+// The paper is opened and its set-up read, or refused. There is room left once there is a card.
+pub fn begin(paper: &[u8], words: &mut Words, rooms: &mut Rooms) -> Begun
+    ensures { λ r. ⌜ (r ≡ begunOf (now (paper .entry)))
+        × (now (words .exit) ≡ wordsBegun (now (words .entry)) (now (paper .entry)))
+        × (now (rooms .exit) ≡ roomsBegun (now (words .entry)) (now (rooms .entry)) (now (paper .entry))) ⌝ }
+{
+    let begun = opening::begin(paper, words);
+    let event = begun.event;
+    if let Event::SetUp = event {
+        let state = begun.state;
+        let values = state.values;
+        rooms::fill(words, values, rooms);
+    }
+    begun
+}
+
+// The record at a place of a paper.
+pub fn take(
+    words: &mut Words,
+    rooms: &mut Rooms,
+    shape: Shape,
+    state: State,
+    paper: &[u8],
+    at: usize,
+) -> Taken
+    ensures { λ r. ⌜ (r ≡ takenOf (rulesOf (now (words .entry))) shape state (now (paper .entry)) at)
+        × (now (words .exit) ≡ wordsAfter (now (words .entry)) (takenWrites shape state (now (paper .entry)) at))
+        × (rulesOf (now (words .exit)) ≡ rulesAfter (rulesOf (now (words .entry))) (takenWrites shape state (now (paper .entry)) at))
+        × (now (rooms .exit) ≡ roomsTaken (rulesOf (now (words .entry))) shape state (now (paper .entry)) at (now (rooms .entry))) ⌝ }
+{
+    let taken = conversation::take(words, shape, state, paper, at);
+    let before = state.values;
+    let left = taken.state;
+    let after = left.values;
+    let event = taken.event;
+    keep(words, before, after, event, rooms);
+    taken
+}

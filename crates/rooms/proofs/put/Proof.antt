@@ -1,0 +1,11 @@
+use borrow.Author.Needs.{needs}
+use Rattle.rooms.specs.Rooms.{cellSet}
+use Rattle.rooms.proofs.put.Statement.{statement}
+use Rattle.rooms.proofs.put.Tie as tie
+
+returns : tie.Need-returns
+unfolding cellSet
+returns c = simp (c .left .ensures, c .before .cell .ensures .0)
+
+pub put-spec : {M : Type 1} → statement M
+put-spec = tie.close (tie.spec (search needs) (search needs) (search needs) (search needs) (search needs) returns)
