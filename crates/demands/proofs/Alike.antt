@@ -49,7 +49,8 @@ use Rattle.cryptogram.specs.Cryptogram.{limitsByte, verification, issuerBefore,
 use Rattle.cycles.specs.Cycles.{timingOf, dated}
 use Rattle.first.specs.First.{decision, settled, concluded, purchaseOf, firstBits, firstAnswered, firstPerformed}
 use Rattle.first.specs.First as issuing
-use Rattle.second.specs.Second.{closed, recovered, isUnable, unableBits, issuerUnable, unablePerformed, updateByte, ordered}
+use Rattle.closing.specs.Closing.{closed, recovered, ordered}
+use Rattle.second.specs.Second.{isUnable, unableBits, issuerUnable, unablePerformed, updateByte}
 use Rattle.second.specs.Second.{verifiedPerformed, failedPerformed, absentPerformed, secondPerformed}
 use Rattle.state.specs.Ruling.{Ruling, refuse, take, refused, carried}
 use Rattle.card.specs.Card.{freshState, ruleChosen, ruleFirstFields, startPerformed, startStep, firstStep, secondStep}

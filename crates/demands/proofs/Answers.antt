@@ -42,8 +42,9 @@ use Rattle.cryptogram.specs.Cryptogram.{limitsByte, laterCode, verification, is
 use Rattle.cycles.specs.Cycles.{timingOf, dated}
 use Rattle.first.specs.First.{purchaseOf, firstBits, firstKind, firstPerformed, firstAnswered, settled, asked, concluded}
 use Rattle.state.specs.State.{unableIn}
-use Rattle.second.specs.Second.{isUnable, unableBits, issuerUnable, closingKind, laterKind, unablePerformed, verifiedPerformed}
-use Rattle.second.specs.Second.{failedPerformed, absentPerformed, secondPerformed, closed, updateByte}
+use Rattle.closing.specs.Closing.{closingKind, laterKind, closed}
+use Rattle.second.specs.Second.{isUnable, unableBits, issuerUnable, unablePerformed, verifiedPerformed}
+use Rattle.second.specs.Second.{failedPerformed, absentPerformed, secondPerformed, updateByte}
 use Rattle.state.specs.Ruling.{refused}
 use Rattle.scripting.specs.Scripting.{scriptPerformed}
 use Rattle.card.specs.Card.{isDated, freshState}

@@ -47,7 +47,8 @@ use Rattle.state.specs.declared.Outcome.{Outcome}
 use Rattle.cryptogram.specs.Cryptogram.{limitsByte, verification, sentIad}
 use Rattle.cycles.specs.Cycles.{timingOf, advanced, dated}
 use Rattle.first.specs.First.{decision, settled, asked, concluded, firstAnswered, firstPerformed}
-use Rattle.second.specs.Second.{closed, ordered, unablePerformed, verifiedPerformed, failedPerformed, absentPerformed, secondPerformed}
+use Rattle.closing.specs.Closing.{closed, ordered}
+use Rattle.second.specs.Second.{unablePerformed, verifiedPerformed, failedPerformed, absentPerformed, secondPerformed}
 use Rattle.scripting.specs.Scripting.{scriptPerformed, scriptStep, scriptWrites}
 use Rattle.card.specs.Card.{freshState, startStep, firstStep, secondStep}
 use Rattle.demands.specs.Setup.{Setup}

@@ -41,8 +41,8 @@ use Rattle.state.specs.declared.State.{State}
 use Rattle.state.specs.declared.Outcome.{Outcome}
 use Rattle.cycles.specs.Cycles.{timingOf, dated}
 use Rattle.first.specs.First.{purchaseOf, firstKind, firstPerformed, firstAnswered, settled, asked, concluded}
-use Rattle.second.specs.Second.{isUnable, unablePerformed, verifiedPerformed, failedPerformed, absentPerformed, secondPerformed, closed}
-use Rattle.second.specs.Second.{recovered as cardRecovered}
+use Rattle.closing.specs.Closing.{closed, recovered as cardRecovered}
+use Rattle.second.specs.Second.{isUnable, unablePerformed, verifiedPerformed, failedPerformed, absentPerformed, secondPerformed}
 use Rattle.state.specs.Ruling.{refused}
 use Rattle.scripting.specs.Scripting.{scriptPerformed}
 use Rattle.card.specs.Card.{isDated, freshState}

@@ -27,7 +27,8 @@ use Rattle.state.specs.declared.Outcome.{Outcome}
 use Rattle.cycles.specs.Cycles.{timingOf, dated}
 use Rattle.first.specs.First.{firstPerformed, firstAnswered, firstKind, settled, asked, concluded}
 use Rattle.script.specs.declared.Scripts.{Scripts}
-use Rattle.second.specs.Second.{secondPerformed, isUnable, unablePerformed, verifiedPerformed, failedPerformed, absentPerformed, closed}
+use Rattle.closing.specs.Closing.{closed}
+use Rattle.second.specs.Second.{secondPerformed, isUnable, unablePerformed, verifiedPerformed, failedPerformed, absentPerformed}
 use Rattle.scripting.specs.Scripting.{scriptPerformed}
 use Rattle.card.specs.Card.{freshState}
 use Rattle.demands.specs.Setup.{Setup}

@@ -44,7 +44,8 @@ use Rattle.state.specs.declared.Outcome.{Outcome}
 use Rattle.cycles.specs.Cycles.{timingOf, dated}
 use Rattle.first.specs.First.{decision, purchaseOf, firstKind, firstPerformed, firstAnswered, settled, asked, concluded}
 use Rattle.state.specs.State.{unableIn}
-use Rattle.second.specs.Second.{isUnable, unableBits, unablePerformed, secondPerformed, closed}
+use Rattle.closing.specs.Closing.{closed}
+use Rattle.second.specs.Second.{isUnable, unableBits, unablePerformed, secondPerformed}
 use Rattle.card.specs.Card.{isDated}
 use Rattle.demands.specs.Setup.{Setup, numberAt, IsCpa, AcceptedSetup}
 use Rattle.demands.specs.Conversation.{Exchange, Sitting, after, told, rulesBy, sat, next, Spoken}

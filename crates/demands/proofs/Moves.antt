@@ -23,7 +23,8 @@ use Rattle.meters.specs.declared.Change.{Change}
 use Rattle.meters.specs.declared.Change.the-variants.{Approve, Decline, SetToLimits, Clear}
 use Rattle.meters.specs.Meters.{Entry, put, add, moved, addition, applied, entered as entriesOf}
 use Rattle.meters.proofs.Ledger.{applied-moves}
-use Rattle.second.specs.Second.{updateByte, orderedChange, ordered as orderedValues}
+use Rattle.closing.specs.Closing.{orderedChange, ordered as orderedValues}
+use Rattle.second.specs.Second.{updateByte}
 use Rattle.demands.specs.Setup.{Setup, familyByte, IsCpa, AcceptedSetup}
 use Rattle.demands.specs.Conversation.{rulesBy}
 use Rattle.demands.specs.Audit.{isActive, isAllowed, countsDeclines, upperOf, capOf, Conversion, comesTo, over, none, worthTo, adds, counted}

@@ -32,8 +32,8 @@ use Rattle.state.specs.declared.State.{State}
 use Rattle.state.specs.declared.Outcome.{Outcome}
 use Rattle.cycles.specs.Cycles.{dated}
 use Rattle.first.specs.First.{firstPerformed, firstAnswered, settled, asked, concluded}
-use Rattle.second.specs.Second.{isUnable, unablePerformed, verifiedPerformed, failedPerformed, absentPerformed, secondPerformed, closed, ordered}
-use Rattle.second.specs.Second.{updateByte, orderedChange}
+use Rattle.closing.specs.Closing.{closed, ordered, orderedChange}
+use Rattle.second.specs.Second.{isUnable, unablePerformed, verifiedPerformed, failedPerformed, absentPerformed, secondPerformed, updateByte}
 use Rattle.scripting.specs.Scripting.{scriptPerformed}
 use Rattle.card.specs.Message.{Message}
 use Rattle.demands.specs.Ledger.{owed}

@@ -32,7 +32,8 @@ use Rattle.state.specs.declared.State.{State}
 use Rattle.state.specs.declared.Outcome.{Outcome}
 use Rattle.cycles.specs.Cycles.{dated}
 use Rattle.first.specs.First.{firstPerformed, firstAnswered, settled, asked, concluded}
-use Rattle.second.specs.Second.{isUnable, unablePerformed, verifiedPerformed, failedPerformed, absentPerformed, secondPerformed, closed}
+use Rattle.closing.specs.Closing.{closed}
+use Rattle.second.specs.Second.{isUnable, unablePerformed, verifiedPerformed, failedPerformed, absentPerformed, secondPerformed}
 use Rattle.state.specs.Ruling.{refused}
 use Rattle.scripting.specs.Scripting.{scriptPerformed}
 use Rattle.card.specs.Message.{Message, StartCommand, FirstCommand, SecondCommand, ScriptCommand, messageWrites}

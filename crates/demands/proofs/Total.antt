@@ -45,8 +45,9 @@ use Rattle.state.specs.declared.State.{State}
 use Rattle.state.specs.declared.Outcome.{Outcome}
 use Rattle.cycles.specs.Cycles.{timingOf, dated}
 use Rattle.first.specs.First.{purchaseOf, firstKind, firstPerformed, firstAnswered, settled, asked, concluded}
-use Rattle.second.specs.Second.{isUnable, unableBits, unablePerformed, verifiedPerformed, failedPerformed, absentPerformed, secondPerformed, closed}
-use Rattle.second.specs.Second.{ordered as orderedValues, updateByte}
+use Rattle.closing.specs.Closing.{closed, ordered as orderedValues}
+use Rattle.second.specs.Second.{isUnable, unableBits, unablePerformed, verifiedPerformed, failedPerformed, absentPerformed, secondPerformed}
+use Rattle.second.specs.Second.{updateByte}
 use Rattle.scripting.specs.Scripting.{scriptPerformed}
 use Rattle.card.specs.Card.{startPerformed, isDated, freshState}
 use Rattle.state.specs.Ruling.{refused as refusal}

@@ -1,59 +1,20 @@
--- Second GENERATE AC (document 01, "Second: the answer"; document 02, Five).
+-- Second GENERATE AC (document 01, "Second: the answer").
 use Prim.Native.Nat.{ℕ, _/_, _%_}
 use mathlib.Core.Bool.{Bool, true, false, cond, not, _||_, _&&_}
 use lib.Dec.{eqb, leb}
-use Rattle.calendar.specs.declared.Date.{Date}
-use Rattle.rules.specs.declared.Place.{Place}
-use Rattle.rules.specs.declared.Values.{Values}
 use Rattle.rules.specs.Rules.{Rules, profileAt}
-use Rattle.purchase.specs.declared.Timing.{Timing}
-use Rattle.purchase.specs.declared.Timing.the-variants.{Undated, InOrder, DateError}
-use Rattle.purchase.specs.declared.Purchase.{Purchase}
-use Rattle.meters.specs.declared.Change.{Change}
-use Rattle.meters.specs.declared.Change.the-variants.{Approve, SetToLimits, Clear}
 use Rattle.meters.specs.Meters.{offline, applied}
 use Rattle.checks.specs.Checks.{decisionBits, meetsMask}
 use Rattle.state.specs.declared.History.{History}
 use Rattle.state.specs.State.{failedIn, unableIn}
 use Rattle.command.specs.declared.Second.{Second}
-use Rattle.state.specs.declared.Answer.the-variants.{Given}
 use Rattle.cryptogram.specs.declared.Issuer.{Issuer}
-use Rattle.state.specs.declared.Kind.{Kind}
-use Rattle.state.specs.declared.Kind.the-variants.{Aac, Tc, Arqc}
-use Rattle.cryptogram.specs.declared.Later.{Later}
-use Rattle.cryptogram.specs.declared.Later.the-variants.{Aac as LaterAac, Tc as LaterTc}
 use Rattle.state.specs.declared.Pending.{Pending}
-use Rattle.state.specs.declared.Phase.the-variants.{Idle}
 use Rattle.state.specs.declared.State.{State}
 use Rattle.state.specs.declared.Outcome.{Outcome}
-use Rattle.script.specs.declared.Scripts.{Scripts}
 use Rattle.script.specs.Script.{heard}
-use Rattle.cryptogram.specs.Cryptogram.{verification, issuerBefore, sentIad}
-
-abbrev pub closingKind : Bool → Kind
-closingKind true = Tc
-closingKind false = Aac
-
-abbrev pub laterKind : Bool → Later
-laterKind true = LaterTc
-laterKind false = LaterAac
-
--- closes the transaction; the CVR is First's but for second type, b2 and b1 of byte 1, and b1 of byte 4
-unfoldable pub closed : Rules → ℕ → Pending → Bool → Values → (last : Date) → History → Scripts → Issuer → Outcome
-closed rules atc pending approves values last history scripts issuer =
-    record {
-      state = record { values = values; phase = Idle; atc = atc; last = last; history = history; scripts = scripts };
-      answer =
-          Given (closingKind approves) atc
-          (sentIad rules (pending .place) values
-          (verification rules (pending .history) (pending .limits) (pending .scripts) Arqc (laterKind approves) issuer));
-    }
-
--- Annex I's recovery: in a date error a TC, but for one after Y3 or Z3, makes the transaction's date the last one
-abbrev pub recovered : Timing → (approves : Bool) → (last : Date) → Date
-recovered Undated approves last = last
-recovered InOrder approves last = last
-recovered (DateError date) approves last = cond approves date last
+use Rattle.cryptogram.specs.Cryptogram.{issuerBefore}
+use Rattle.closing.specs.Closing.{closed, recovered, ordered}
 
 -- Y3 (5933) or Z3 (5A33)
 abbrev pub isUnable : ℕ → Bool
@@ -78,14 +39,6 @@ unablePerformed rules state requested pending =
 -- CSU byte 2
 abbrev pub updateByte : ℕ → ℕ
 updateByte csu = csu / 65536 % 256
-
--- CSU byte 2 b2-b1: 00 nothing, 01 upper limits, 10 zero, 11 add as in an offline approval
-abbrev pub orderedChange : ℕ → Purchase → Change
-orderedChange order purchase = cond (eqb order 1) SetToLimits (cond (eqb order 2) Clear (Approve purchase))
-
-unfoldable pub ordered : Rules → Place → Values → Purchase → ℕ → Values
-ordered rules place values purchase update =
-    cond (eqb (update % 4) 0) values (applied rules place values (orderedChange (update % 4) purchase))
 
 -- verified: history bits 0, 2, 3, 4 are cleared, "go online next" becomes CSU byte 2 b4; TC if requested and b8 is set. A script that failed in an
 -- earlier transaction is forgotten

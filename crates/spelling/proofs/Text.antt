@@ -18,7 +18,8 @@ use Rattle.checks.specs.Checks.{maximumExceeded, decisionBits}
 use Rattle.cryptogram.specs.Cryptogram.{limitsByte, verification, sentIad}
 use Rattle.cycles.specs.Cycles.{timingOf, dated}
 use Rattle.first.specs.First.{decision, settled, asked, concluded, firstAnswered, firstPerformed}
-use Rattle.second.specs.Second.{closed, unablePerformed, secondPerformed}
+use Rattle.closing.specs.Closing.{closed}
+use Rattle.second.specs.Second.{unablePerformed, secondPerformed}
 use Rattle.card.specs.Card.{freshState, startStep, firstStep, secondStep}
 use Rattle.card.specs.Message.{messageStep, messageWrites}
 use Rattle.lines.specs.Lines.{digit, decimal, hex, refusalLine, startLine, cryptogramLine}

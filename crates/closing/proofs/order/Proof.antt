@@ -1,8 +1,8 @@
 use borrow.Author.Needs.{needs}
 use borrow.Author.Tests.{eq-eqb, ne-eqb}
-use Rattle.second.specs.Second.{ordered}
-use Rattle.second.proofs.order.Statement.{statement}
-use Rattle.second.proofs.order.Tie as tie
+use Rattle.closing.specs.Closing.{ordered}
+use Rattle.closing.proofs.order.Statement.{statement}
+use Rattle.closing.proofs.order.Tie as tie
 
 returns : tie.Need-returns
 unfolding ordered

@@ -1,6 +1,6 @@
 use borrow.Author.Tests.{eq-eqb, ne-eqb}
-use Rattle.second.proofs.change_ordered.Statement.{statement}
-use Rattle.second.proofs.change_ordered.Tie as tie
+use Rattle.closing.proofs.change_ordered.Statement.{statement}
+use Rattle.closing.proofs.change_ordered.Tie as tie
 
 returns : tie.Need-returns
 returns c = simp (eq-eqb _ _ (c .if1 .taken))

@@ -1,7 +1,7 @@
 use borrow.Author.Needs.{needs}
-use Rattle.second.specs.Second.{closed}
-use Rattle.second.proofs.close.Statement.{statement}
-use Rattle.second.proofs.close.Tie as tie
+use Rattle.closing.specs.Closing.{closed}
+use Rattle.closing.proofs.close.Statement.{statement}
+use Rattle.closing.proofs.close.Tie as tie
 
 returns : tie.Need-returns
 unfolding closed

@@ -1,6 +1,6 @@
 use borrow.Author.Needs.{needs}
-use Rattle.second.proofs.recover.Statement.{statement}
-use Rattle.second.proofs.recover.Tie as tie
+use Rattle.closing.proofs.recover.Statement.{statement}
+use Rattle.closing.proofs.recover.Tie as tie
 
 returns : tie.Need-returns
 returns c = simp (c .enum-told .given .1)
