@@ -16,7 +16,7 @@ use Rattle.paper.specs.Walk.{part}
 use Rattle.script.specs.Script.{rulesAfter}
 use Rattle.state.specs.declared.State.{State}
 use Rattle.element.specs.declared.Write.{Write}
-use Rattle.card.specs.Card.{Ruling, refuse, take, carried}
+use Rattle.state.specs.Ruling.{Ruling, refuse, take, carried}
 use Rattle.scripting.specs.Scripting.{ruleScript, scriptPerformed, scriptStep, writesRuled, scriptWrites}
 use Rattle.records.specs.declared.Taken.{Taken}
 use Rattle.records.specs.declared.Event.{Event}
