@@ -236,7 +236,7 @@ static void draw_runs(struct chance *chance, size_t next)
     for (unsigned i = 0; i < RUNS; i++) {
         const size_t left = draft->records - next;
         size_t count = below(chance, left + 1);
-        if (left == 0 && percent(chance, 50))
+        if (left == 0 && percent(chance, 70))
             return;
         if (percent(chance, 30))
             count = left;
@@ -280,11 +280,13 @@ static void draw_stack(struct chance *chance)
     invent_setup(chance, &world, &setup, 0, 6);
     invent_version(chance, &world, &setup);
     begin();
-    const size_t most = percent(chance, 85) ? 12 : 30;
+    const size_t most = percent(chance, 85) ? 16 : 30;
     const size_t commands = below(chance, most + 1);
     invent_commands(chance, &world, &setup, draft, commands, tidy);
     length = 0;
-    const size_t records = 1 + below(chance, draft->records);
+    size_t records = 1 + below(chance, draft->records);
+    if (percent(chance, 60))
+        records = 1 + below(chance, records < 4 ? records : 4);
     add_paper(chance, records);
     draw_runs(chance, records);
     cut(chance);
