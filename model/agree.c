@@ -224,9 +224,9 @@ static bool refuses(unsigned refusal, size_t length, size_t size)
     return answers == 0;
 }
 
-/* The paper's last commands, from one of them on, as a run: it is refused with a
- * byte left over and with a byte too little room, and then answers as the paper
- * does. What ends the paper refuses it. */
+/* The paper's last commands, from one of them on, as a run: it is refused with
+ * a byte left over and with a byte too little room, and then answers as the
+ * paper does. What ends the paper refuses it. */
 static bool runs(const uint8_t *paper, size_t length, uint64_t number)
 {
     bool over;

@@ -12,18 +12,18 @@
 #include "script.h"
 
 enum {
-    ANSWER = 36,    /* bytes */
-    HEAD = 4,       /* of a block: its length; of a run: the size of its room */
-    ROOM = 65536,   /* the largest */
-    RUN = 65536,    /* the longest, without its head */
-    RUNS = 8,       /* the most in a stack */
-    FAR = 300000,   /* beyond any buffer */
+    ANSWER = 36,  /* bytes */
+    HEAD = 4,     /* of a block: its length; of a run: the size of its room */
+    ROOM = 65536, /* the largest */
+    RUN = 65536,  /* the longest, without its head */
+    RUNS = 8,     /* the most in a stack */
+    FAR = 300000, /* beyond any buffer */
     STACK = 1 << 22
 };
 
-static struct draft part;         /* the paper, or the run, that goes to the stack */
+static struct draft part; /* the paper or the run that goes to the stack */
 static uint8_t stack[HEAD + STACK];
-static size_t length;             /* of the stack, without its own head */
+static size_t length; /* of the stack, without its own head */
 
 static void add(const void *bytes, size_t count)
 {

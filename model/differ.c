@@ -1,8 +1,8 @@
 /* differ STACK MODEL PROVED NAME [WHAT]: compares the lines that two programs
  * gave for a stack, paper by paper, and ends in 'N papers, M differ'. The first
  * paper that differs is shown on standard error, with NAME for the second
- * program; WHAT is another word for a paper. Status 0 exactly when none differs,
- * 1 when one does, 2 when a file cannot be read. */
+ * program; WHAT is another word for a paper. Status 0 exactly when none
+ * differs, 1 when one does, 2 when a file cannot be read. */
 #include <inttypes.h>
 #include <stdio.h>
 #include <stdlib.h>

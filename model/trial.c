@@ -16,7 +16,7 @@ enum { STATUS_BYTES = 64 };
 static int given = -1, wrote = -1, nowhere = -1; /* the program's 0, 1 and 2 */
 static char *answer;
 
-static void fail(const char *what)
+static _Noreturn void fail(const char *what)
 {
     perror(what);
     exit(2);
