@@ -12,6 +12,7 @@ _Static_assert(sizeof ((struct bundle *)0)->buffer >= 4 + PAPER_MAX,
 void bundle_open(struct bundle *bundle, FILE *file)
 {
     bundle->file = file;
+    bundle->longest = PAPER_MAX;
     bundle->at = 0;
     bundle->have = 0;
     setvbuf(file, NULL, _IONBF, 0); /* the buffer is here */
@@ -59,7 +60,7 @@ enum bundle_next bundle_next(struct bundle *bundle, const uint8_t **paper,
     if (!fill(bundle, 4))
         return stopped(bundle);
     const uint32_t announced = get32(bundle->buffer + bundle->at);
-    if (announced > PAPER_MAX) {
+    if (announced > bundle->longest) {
         bundle->at += 4;
         if (skip(bundle, announced))
             return BUNDLE_TOO_LONG;

@@ -9,7 +9,7 @@
 
 enum bundle_next {
     BUNDLE_PAPER,
-    BUNDLE_TOO_LONG,  /* over PAPER_MAX, skipped */
+    BUNDLE_TOO_LONG,  /* over the longest, skipped */
     BUNDLE_END,
     BUNDLE_CUT_SHORT, /* the next paper, or its length, is not whole */
     BUNDLE_FAILED     /* the file could not be read */
@@ -17,6 +17,7 @@ enum bundle_next {
 
 struct bundle {
     FILE *file;
+    size_t longest;  /* that is not skipped: PAPER_MAX, or what is put here */
     size_t at, have; /* in the buffer */
     uint8_t buffer[1 << 18];
 };

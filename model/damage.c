@@ -215,9 +215,8 @@ static void damage_tail(struct chance *chance, const struct draft_setup *setup,
     *at = percent(chance, 50) ? value : (uint8_t)(*at + 1);
 }
 
-/* A record that cannot be read, before any record or after the last. */
-static void damage_record(struct chance *chance,
-                          const struct draft_setup *setup, struct draft *draft)
+void damage_record(struct chance *chance, const struct draft_setup *setup,
+                   struct draft *draft)
 {
     const bool dated = draft_is_dated(setup), cpace = draft_is_cpace(setup);
     const uint8_t sizes[] = {cpace ? 2 : 1,
@@ -266,8 +265,7 @@ static void damage_record(struct chance *chance,
     draft_insert(draft, place, bytes, 3 + length);
 }
 
-/* A record's length, not its bytes, so that all that follows slips. */
-static void damage_length(struct chance *chance, struct draft *draft)
+void damage_length(struct chance *chance, struct draft *draft)
 {
     const size_t start = draft->start[below(chance, draft->records)];
     const unsigned length = get16(draft->bytes + start);

@@ -1,8 +1,8 @@
-/* differ STACK MODEL PROVED NAME: compares the lines that two programs gave
- * for a stack, paper by paper, and ends in 'N papers, M differ'. The first
+/* differ STACK MODEL PROVED NAME [WHAT]: compares the lines that two programs
+ * gave for a stack, paper by paper, and ends in 'N papers, M differ'. The first
  * paper that differs is shown on standard error, with NAME for the second
- * program. Status 0 exactly when none differs, 1 when one does, 2 when a
- * file cannot be read. */
+ * program; WHAT is another word for a paper. Status 0 exactly when none
+ * differs, 1 when one does, 2 when a file cannot be read. */
 #include <inttypes.h>
 #include <stdio.h>
 #include <stdlib.h>
@@ -20,6 +20,7 @@ struct lines {
 };
 
 static struct bundle bundle;
+static const char *what_it_is = "paper";
 
 static void fail(const char *what)
 {
@@ -81,7 +82,8 @@ static void show(uint64_t number, const uint8_t *paper, size_t length,
                  const struct lines *model, const struct lines *proved,
                  const char *name)
 {
-    fprintf(stderr, "paper %" PRIu64 " differs, its bytes:\n", number);
+    fprintf(stderr, "%s %" PRIu64 " differs, its bytes:\n", what_it_is,
+            number);
     if (length > PAPER_MAX)
         fprintf(stderr, "(over 65,536 bytes)");
     else
@@ -99,10 +101,12 @@ int main(int argc, char **argv)
     static uint8_t kept[PAPER_MAX]; /* the paper at hand */
     size_t kept_length = 0;
 
-    if (argc != 5) {
-        fprintf(stderr, "usage: differ STACK MODEL PROVED NAME\n");
+    if (argc != 5 && argc != 6) {
+        fprintf(stderr, "usage: differ STACK MODEL PROVED NAME [WHAT]\n");
         return 2;
     }
+    if (argc == 6)
+        what_it_is = argv[5];
     FILE *file = fopen(argv[1], "rb");
     if (!file)
         fail(argv[1]);
@@ -138,6 +142,6 @@ int main(int argc, char **argv)
     }
     free(model.text);
     free(proved.text);
-    printf("%" PRIu64 " papers, %" PRIu64 " differ\n", papers, differ);
+    printf("%" PRIu64 " %ss, %" PRIu64 " differ\n", papers, what_it_is, differ);
     return differ > 0;
 }

@@ -29,14 +29,14 @@ struct record record_at(const uint8_t *at)
     };
 }
 
-/* Takes the next record, which must be whole and of a known kind. Whether the
- * set-up has scripts is known behind it. */
-static bool take(struct sitting *sitting, struct record *record)
+/* Takes the next record, which must be whole and of a known kind. Before there
+ * is a set-up none has scripts. */
+static bool take(const struct setup *setup, const uint8_t **place,
+                 const uint8_t *end, struct record *record)
 {
-    const struct card *card = &sitting->card;
-    const uint8_t *at = sitting->at;
-    const size_t left = (size_t)(sitting->end - at);
-    const unsigned later = sitting->record > 0;
+    const uint8_t *at = *place;
+    const size_t left = (size_t)(end - at);
+    const unsigned later = setup != NULL;
 
     if (left < 2)
         return fault(CUT_IN_LENGTH + later);
@@ -49,9 +49,9 @@ static bool take(struct sitting *sitting, struct record *record)
     if (record->kind == 0)
         return fault(KIND_ZERO + later);
     if (record->kind > KIND_SECOND
-        && !(record->kind == KIND_SCRIPT && later && card->setup.scripts))
+        && !(record->kind == KIND_SCRIPT && later && setup->scripts))
         return fault(KIND_ABOVE + later);
-    sitting->at = at + 2 + length;
+    *place = at + 2 + length;
     return true;
 }
 
@@ -69,7 +69,7 @@ static unsigned set_up(struct sitting *sitting)
         return unreadable(PAPER_VERSION + (version > 0));
     if (sitting->at == sitting->end)
         return unreadable(PAPER_BARE);
-    if (!take(sitting, &record))
+    if (!take(NULL, &sitting->at, sitting->end, &record))
         return 9;
     if (record.kind != KIND_SETUP)
         return unreadable(SETUP_MISSING + record.kind - KIND_START);
@@ -97,7 +97,7 @@ static char hex(unsigned nibble)
     return (char)(nibble < 10 ? '0' + nibble : 'A' - 10 + nibble);
 }
 
-static char *put_hex(char *at, const uint8_t *bytes, size_t count)
+char *put_hex(char *at, const uint8_t *bytes, size_t count)
 {
     for (size_t i = 0; i < count; i++) {
         at[2 * i] = hex(bytes[i] >> 4);
@@ -184,61 +184,90 @@ static size_t first_length(const struct setup *setup)
         + (is_cpace(setup) ? CVM_BYTES + CASHBACK_BYTES : 0);
 }
 
-/* Answers a command record; *rest is what follows the 0 of a done one. */
-static unsigned command(struct card *card, const struct record *record,
-                        char **rest)
+/* Whether a record is a command's, its body as long as the set-up has it. */
+static bool fits(const struct setup *setup, const struct record *record)
 {
-    struct answer answer;
-    unsigned refusal;
+    const bool cpace = is_cpace(setup);
 
     switch (record->kind) {
+    case KIND_START:
+        return fits_start(setup, record->length)
+            || fault(START_LENGTH
+                     + bad_start(record->length, setup->selection.on, cpace));
+    case KIND_FIRST:
+        return record->length == first_length(setup)
+            || fault(FIRST_LENGTH
+                     + bad_first(record->length, setup->cyclics > 0, cpace));
+    case KIND_SECOND:
+        return record->length == SECOND_BYTES
+            || fault(SECOND_LENGTH + (record->length > SECOND_BYTES));
+    case KIND_SCRIPT:
+        return record->length >= MESSAGING_BYTES || fault(SCRIPT_LENGTH);
+    default:
+        return fault(SETUP_REPEATED);
+    }
+}
+
+bool take_command(const struct setup *setup, const uint8_t **place,
+                  const uint8_t *end, struct record *command)
+{
+    return take(setup, place, end, command) && fits(setup, command);
+}
+
+unsigned answer_command(struct card *card, const struct record *command,
+                        struct reply *reply)
+{
+    switch (command->kind) {
     case KIND_START: {
-        const bool selects = card->setup.selection.on;
-        if (!fits_start(&card->setup, record->length))
-            return unreadable(START_LENGTH
-                              + bad_start(record->length, selects,
-                                          is_cpace(&card->setup)));
-        const struct start start = read_start(record);
-        unsigned visits;
-        refusal = card_start(card, &start, &visits);
-        if (refusal > 0)
-            return refusal;
-        *(*rest)++ = ' ';
-        *rest = put_number(*rest, card->atc);
-        if (selects) {
-            *(*rest)++ = ' ';
-            *rest = put_number(*rest, visits);
-        }
-        return 0;
+        const struct start start = read_start(command);
+        return card_start(card, &start, &reply->visits);
     }
     case KIND_FIRST: {
-        if (record->length != first_length(&card->setup))
-            return unreadable(FIRST_LENGTH
-                              + bad_first(record->length,
-                                          card->setup.cyclics > 0,
-                                          is_cpace(&card->setup)));
-        const struct first first = read_first(record);
-        refusal = card_first(card, &first, &answer);
-        break;
+        const struct first first = read_first(command);
+        return card_first(card, &first, &reply->answer);
     }
     case KIND_SECOND: {
-        if (record->length != SECOND_BYTES)
-            return unreadable(SECOND_LENGTH + (record->length > SECOND_BYTES));
-        const struct second second = read_second(record);
-        refusal = card_second(card, &second, &answer);
-        break;
+        const struct second second = read_second(command);
+        return card_second(card, &second, &reply->answer);
     }
-    case KIND_SCRIPT: {
-        if (record->length < MESSAGING_BYTES)
-            return unreadable(SCRIPT_LENGTH);
-        const struct script script = read_script(record);
+    default: {
+        const struct script script = read_script(command);
         return card_script(card, &script);
     }
-    default:
-        return unreadable(SETUP_REPEATED);
     }
+}
+
+/* What follows the 0 of a done command. */
+static char *put_reply(char *at, const struct card *card, uint8_t kind,
+                       const struct reply *reply)
+{
+    switch (kind) {
+    case KIND_START:
+        *at++ = ' ';
+        at = put_number(at, card->atc);
+        if (!card->setup.selection.on)
+            return at;
+        *at++ = ' ';
+        return put_number(at, reply->visits);
+    case KIND_SCRIPT:
+        return at;
+    default:
+        return put_answer(at, card, &reply->answer);
+    }
+}
+
+/* Answers the next command; *rest is what follows the 0 of a done one. */
+static unsigned answer_next(struct sitting *sitting, char **rest)
+{
+    struct card *card = &sitting->card;
+    struct record command;
+    struct reply reply;
+
+    if (!take_command(&card->setup, &sitting->at, sitting->end, &command))
+        return 9;
+    const unsigned refusal = answer_command(card, &command, &reply);
     if (refusal == 0)
-        *rest = put_answer(*rest, card, &answer);
+        *rest = put_reply(*rest, card, command.kind, &reply);
     return refusal;
 }
 
@@ -252,14 +281,9 @@ size_t sitting_line(struct sitting *sitting, char *line)
     char *at = put_number(line, sitting->record);
     *at++ = ' ';
     char *rest = at + 1;
-    unsigned refusal;
-    struct record record;
-    if (sitting->record == 0)
-        refusal = set_up(sitting);
-    else if (take(sitting, &record))
-        refusal = command(&sitting->card, &record, &rest);
-    else
-        refusal = 9;
+    const unsigned refusal = sitting->record == 0
+        ? set_up(sitting)
+        : answer_next(sitting, &rest);
     if (refusal == 0)
         *at = '0';
     else

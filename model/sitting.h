@@ -29,6 +29,30 @@ void sitting_open(struct sitting *sitting, const uint8_t *paper, size_t length);
  * the paper has no more. The room must be LINE_MAX_BYTES. */
 size_t sitting_line(struct sitting *sitting, char *line);
 
+/* Whether the set-up was taken; asked behind the first line. */
+static inline bool has_card(const struct sitting *sitting)
+{
+    return sitting->record > 1 || !sitting->over;
+}
+
+/* What a done command gives besides its 0. */
+struct reply {
+    unsigned visits;      /* of a Start, with selection on */
+    struct answer answer; /* of a First or a Second */
+};
+
+/* The next command of a paper or of a run: a record that is whole, of a kind
+ * and a length that the set-up has. False is refusal 9. */
+bool take_command(const struct setup *setup, const uint8_t **place,
+                  const uint8_t *end, struct record *command);
+
+/* The refusal, 0 when done. */
+unsigned answer_command(struct card *card, const struct record *command,
+                        struct reply *reply);
+
+/* Bytes in hex, upper case; returns where they end. */
+char *put_hex(char *at, const uint8_t *bytes, size_t count);
+
 /* The record that begins here, and what a body says; it is whole and of the
  * right kind and length. A First's date is behind the rest, what a CPACE card
  * asks for at its end. */

@@ -1,0 +1,20 @@
+/* Request Seven: the room left, which is what can still be spent offline. */
+#ifndef MODEL_ROOMS_H
+#define MODEL_ROOMS_H
+
+#include "sitting.h"
+
+/* A sitting, and behind each of its lines, while there is a card, a line of
+ * rooms for each profile. */
+struct display {
+    struct sitting sitting;
+    unsigned place; /* of the next profile to show */
+    unsigned places;
+};
+
+void display_open(struct display *display, const uint8_t *paper, size_t length);
+
+/* The next line, as sitting_line gives it. */
+size_t display_line(struct display *display, char *line);
+
+#endif
