@@ -1,4 +1,5 @@
 use borrow.Author.Needs.{needs}
+use native.Mathlib.Omega.{arith}
 use native.Mathlib.Nat.{add-zero}
 use Rattle.rooms.proofs.stored.Statement.{statement}
 use Rattle.rooms.proofs.stored.Tie as tie

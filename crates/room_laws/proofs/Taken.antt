@@ -7,7 +7,7 @@ use native.Mathlib.Omega.{arith}
 use lib.ListN.{length}
 use Rattle.rules.specs.Rules.{Rules, rulesOf}
 use Rattle.rooms.specs.Rooms.{roomsOf, cellCount, filled, renewed}
-use Rattle.rooms.proofs.Rooms.{filled-is, renewed-is, unmoved, rooms-size, filled-size, renewed-size}
+use Rattle.room_laws.proofs.Rooms.{filled-is, renewed-is, unmoved, rooms-size, filled-size, renewed-size}
 use Rattle.shape.specs.declared.Shape.{Shape}
 use Rattle.paper.specs.declared.Next.{Next}
 use Rattle.paper.specs.declared.Next.the-variants.{Record, Fault, End as PaperEnd}

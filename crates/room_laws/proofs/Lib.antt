@@ -1,0 +1,4 @@
+pub mod Rooms
+pub mod Taken
+pub mod Kept
+pub mod Samples
