@@ -159,9 +159,10 @@ static void add_run(uint32_t size)
 /* No more of a run than a part of its head. */
 static void add_head(struct chance *chance)
 {
-    const uint8_t head[3] = {below(chance, 20) == 0, 0,
-                             (uint8_t)below(chance, 3)};
-    const size_t count = below(chance, HEAD);
+    const uint8_t first = below(chance, 20) == 0;
+    const uint8_t third = (uint8_t)below(chance, 3);
+    const uint8_t head[] = {first, 0, third};
+    const size_t count = below(chance, sizeof head + 1);
 
     add_number((uint32_t)count);
     add(head, count);
