@@ -1,0 +1,4 @@
+pub mod Text
+pub mod Shown
+pub mod Display
+pub mod Recomputed
