@@ -1,0 +1,71 @@
+-- A step where there is room, and one where there is none. Assumes nothing.
+use mathlib.Core.Path.{_≡_, refl, sym, ap, _∙_}
+use mathlib.Core.Bool.{true, false}
+use mathlib.Core.List.{List}
+use Prim.Native.Nat.{ℕ, _+_, _%_, _^_}
+use lib.ListN.{length}
+use Rattle.rules.specs.Rules.{Rules, rulesOf}
+use Rattle.script.specs.Script.{rulesAfter, wordsAfter}
+use Rattle.opening.specs.declared.Begun.{Begun}
+use Rattle.records.specs.declared.Taken.{Taken}
+use Rattle.conversation.specs.Conversation.{takenOf, takenWrites}
+use Rattle.opening.specs.Opening.{begunOf, wordsBegun}
+use Rattle.keeper.specs.Keeper.{roomsTaken, roomsBegun}
+use Rattle.lines.specs.Stored.{Stored}
+use Rattle.display.specs.declared.Wants.{Wants}
+use Rattle.display.specs.declared.Shown.{Shown}
+use Rattle.display.specs.Text.{longest, hasRoom, setUpText, recordText}
+use Rattle.display.specs.Shown.{wantsAfter, begunText, begunShown, unshown, setUpShown, setUpWords, setUpRooms, setUpRoom}
+use Rattle.display.specs.Shown.{nextRules, nextRooms, nextText, nextShown, stillShown, recordShown, recordWords, recordRules, recordRooms, recordRoom}
+
+-- ---- the set-up
+
+module _ (words rooms paper room : List ℕ) (to : ℕ) where
+  abbrev SetUp : Shown → (words rooms room : List ℕ) → Type 0
+  SetUp shown words′ rooms′ room′ =
+      (shown ≡ setUpShown words rooms paper (length room) to) × (words′ ≡ setUpWords words paper (length room) to)
+      × (rooms′ ≡ setUpRooms words rooms paper (length room) to)
+      × (room′ ≡ setUpRoom words rooms paper room to)
+
+  pub no-set-up : {shown : Shown} → hasRoom (length room) to ≡ false → shown ≡ unshown to → SetUp shown words rooms room
+  unfolding setUpShown setUpWords setUpRooms setUpRoom
+  no-set-up full e = (rw full e, rw full, rw full, rw full)
+
+  pub set-up : {begun : Begun} {words′ rooms′ room′ : List ℕ} {end : ℕ} {wants : Wants} → hasRoom (length room) to ≡ true
+      → begun ≡ begunOf paper → words′ ≡ wordsBegun words paper → rooms′ ≡ roomsBegun words rooms paper
+      → Stored room to (setUpText (rulesOf words′) rooms′ (begun .event)) longest end room′ → wants ≡ wantsAfter (begun .event)
+      → SetUp (record { shape = begun .shape; state = begun .state; at = begun .at; number = 1; end = end; wants = wants }) words′ rooms′ room′
+  unfolding setUpShown setUpWords setUpRooms setUpRoom begunShown begunText
+  set-up {begun} {words′} {rooms′} {room′} {end} {wants} fits b w r s n =
+      let text : setUpText (rulesOf words′) rooms′ (begun .event) ≡ begunText words rooms paper = rw (w, r, b) in
+      let ends : end ≡ to + length (begunText words rooms paper) = rw (← text) (s .behind) in
+      (rw (fits, n, ends, b), rw fits w, rw fits r, rw (fits, ← text) (s .is))
+
+-- ---- a record
+
+module _ (words rooms : List ℕ) (shown : Shown) (paper room : List ℕ) (to : ℕ) where
+  abbrev Recorded : Shown → (words rooms room : List ℕ) → Type 0
+  Recorded shown′ words′ rooms′ room′ =
+      (shown′ ≡ recordShown (rulesOf words) rooms shown paper (length room) to) × (words′ ≡ recordWords words shown paper (length room) to)
+      × (rulesOf words′ ≡ recordRules (rulesOf words) shown paper (length room) to)
+      × (rooms′ ≡ recordRooms (rulesOf words) rooms shown paper (length room) to)
+      × (room′ ≡ recordRoom (rulesOf words) rooms shown paper room to)
+
+  pub no-record : {shown′ : Shown} → hasRoom (length room) to ≡ false → shown′ ≡ stillShown shown to → Recorded shown′ words rooms room
+  unfolding recordShown recordWords recordRules recordRooms recordRoom
+  no-record full e = (rw full e, rw full, rw full, rw full, rw full)
+
+  pub recorded : {taken : Taken} {words′ rooms′ room′ : List ℕ} {number end : ℕ} {wants : Wants} → hasRoom (length room) to ≡ true
+      → taken ≡ takenOf (rulesOf words) (shown .shape) (shown .state) paper (shown .at)
+      → words′ ≡ wordsAfter words (takenWrites (shown .shape) (shown .state) paper (shown .at))
+      → rulesOf words′ ≡ rulesAfter (rulesOf words) (takenWrites (shown .shape) (shown .state) paper (shown .at))
+      → rooms′ ≡ roomsTaken (rulesOf words) (shown .shape) (shown .state) paper (shown .at) rooms
+      → Stored room to (recordText (rulesOf words′) rooms′ (shown .number) (taken .event)) longest end room′
+      → number ≡ (shown .number + 1) % 65536
+      → wants ≡ wantsAfter (taken .event)
+      → Recorded (record { shape = shown .shape; state = taken .state; at = taken .at; number = number; end = end; wants = wants }) words′ rooms′ room′
+  unfolding recordShown recordWords recordRules recordRooms recordRoom nextShown nextText nextRules nextRooms
+  recorded {taken} {words′} {rooms′} {room′} {number} {end} {wants} fits t w u r s k n =
+      let text : recordText (rulesOf words′) rooms′ (shown .number) (taken .event) ≡ nextText (rulesOf words) shown paper rooms = rw (u, r, t) in
+      let ends : end ≡ to + length (nextText (rulesOf words) shown paper rooms) = rw (← text) (s .behind) in
+      (rw (fits, n, ends, k, t), rw fits w, rw fits u, rw fits r, rw (fits, ← text) (s .is))

@@ -1,0 +1,101 @@
+-- A paper shown record by record, in lent room: what a step leaves where the longest text fits, and that otherwise all stays and room is wanted.
+use mathlib.Core.Bool.{cond}
+use mathlib.Core.List.{List}
+use Prim.Native.Nat.{ℕ, _+_, _%_}
+use lib.ListN.{length}
+use lib.Seq.{sets}
+use Rattle.rules.specs.Rules.{Rules, rulesOf}
+use Rattle.setup.specs.Setup.{noCard}
+use Rattle.shape.specs.Shape.{based}
+use Rattle.script.specs.Script.{rulesAfter, wordsAfter}
+use Rattle.card.specs.Card.{freshState}
+use Rattle.records.specs.declared.Event.{Event}
+use Rattle.records.specs.declared.Event.the-variants.{SetUp, End, Refused, Answered}
+use Rattle.records.specs.declared.Taken.{Taken}
+use Rattle.conversation.specs.Conversation.{takenOf, takenWrites}
+use Rattle.opening.specs.Opening.{begunOf, wordsBegun}
+use Rattle.keeper.specs.Keeper.{roomsTaken, roomsBegun}
+use Rattle.display.specs.declared.Wants.{Wants}
+use Rattle.display.specs.declared.Wants.the-variants.{Record, Room, Nothing}
+use Rattle.display.specs.declared.Shown.{Shown}
+use Rattle.display.specs.Text.{setUpText, recordText, hasRoom}
+
+-- a refusal that ends the paper, and its end, want nothing more
+abbrev pub wantsAfter : Event → Wants
+wantsAfter SetUp = Record
+wantsAfter End = Nothing
+wantsAfter (Refused refusal) = Nothing
+wantsAfter (Answered said answer) = Record
+
+-- THE SET-UP: its text, and where the paper then is
+unfoldable pub begunText : (words rooms paper : List ℕ) → List ℕ
+begunText words rooms paper = setUpText (rulesOf (wordsBegun words paper)) (roomsBegun words rooms paper) (begunOf paper .event)
+
+unfoldable pub begunShown : (paper : List ℕ) (end : ℕ) → Shown
+begunShown paper end =
+    let begun = begunOf paper in
+    record { shape = begun .shape; state = begun .state; at = begun .at; number = 1; end = end; wants = wantsAfter (begun .event) }
+
+-- without room there is no card
+unfoldable pub unshown : (to : ℕ) → Shown
+unshown to = record { shape = based 0; state = freshState noCard; at = 0; number = 0; end = to; wants = Room }
+
+unfoldable pub setUpShown : (words rooms paper : List ℕ) (bytes to : ℕ) → Shown
+setUpShown words rooms paper bytes to =
+    cond (hasRoom bytes to) (begunShown paper (to + length (begunText words rooms paper))) (unshown to)
+
+unfoldable pub setUpWords : (words paper : List ℕ) (bytes to : ℕ) → List ℕ
+setUpWords words paper bytes to = cond (hasRoom bytes to) (wordsBegun words paper) words
+
+unfoldable pub setUpRooms : (words rooms paper : List ℕ) (bytes to : ℕ) → List ℕ
+setUpRooms words rooms paper bytes to = cond (hasRoom bytes to) (roomsBegun words rooms paper) rooms
+
+unfoldable pub setUpRoom : (words rooms paper room : List ℕ) (to : ℕ) → List ℕ
+setUpRoom words rooms paper room to = cond (hasRoom (length room) to) (sets room to (begunText words rooms paper)) room
+
+-- THE NEXT RECORD: what it comes to, the rules and the cells that it leaves, its text, and where the paper then is
+module _ (rules : Rules) (shown : Shown) (paper : List ℕ) where
+  abbrev pub takenNext : Taken
+  takenNext = takenOf rules (shown .shape) (shown .state) paper (shown .at)
+
+  unfoldable pub nextRules : Rules
+  nextRules = rulesAfter rules (takenWrites (shown .shape) (shown .state) paper (shown .at))
+
+  unfoldable pub nextRooms : (rooms : List ℕ) → List ℕ
+  nextRooms rooms = roomsTaken rules (shown .shape) (shown .state) paper (shown .at) rooms
+
+  unfoldable pub nextText : (rooms : List ℕ) → List ℕ
+  nextText rooms = recordText nextRules (nextRooms rooms) (shown .number) (takenNext .event)
+
+  unfoldable pub nextShown : (end : ℕ) → Shown
+  nextShown end =
+      record {
+        shape = shown .shape;
+        state = takenNext .state;
+        at = takenNext .at;
+        number = (shown .number + 1) % 65536;
+        end = end;
+        wants = wantsAfter (takenNext .event);
+      }
+
+-- without room the paper is where it was
+unfoldable pub stillShown : Shown → (to : ℕ) → Shown
+stillShown shown to =
+    record { shape = shown .shape; state = shown .state; at = shown .at; number = shown .number; end = to; wants = Room }
+
+unfoldable pub recordShown : Rules → (rooms : List ℕ) → Shown → (paper : List ℕ) (bytes to : ℕ) → Shown
+recordShown rules rooms shown paper bytes to =
+    cond (hasRoom bytes to) (nextShown rules shown paper (to + length (nextText rules shown paper rooms))) (stillShown shown to)
+
+unfoldable pub recordWords : (words : List ℕ) → Shown → (paper : List ℕ) (bytes to : ℕ) → List ℕ
+recordWords words shown paper bytes to =
+    cond (hasRoom bytes to) (wordsAfter words (takenWrites (shown .shape) (shown .state) paper (shown .at))) words
+
+unfoldable pub recordRules : Rules → Shown → (paper : List ℕ) (bytes to : ℕ) → Rules
+recordRules rules shown paper bytes to = cond (hasRoom bytes to) (nextRules rules shown paper) rules
+
+unfoldable pub recordRooms : Rules → (rooms : List ℕ) → Shown → (paper : List ℕ) (bytes to : ℕ) → List ℕ
+recordRooms rules rooms shown paper bytes to = cond (hasRoom bytes to) (nextRooms rules shown paper rooms) rooms
+
+unfoldable pub recordRoom : Rules → (rooms : List ℕ) → Shown → (paper room : List ℕ) (to : ℕ) → List ℕ
+recordRoom rules rooms shown paper room to = cond (hasRoom (length room) to) (sets room to (nextText rules shown paper rooms)) room

@@ -1,0 +1,268 @@
+// A paper shown record by record: the lines of its sitting and, while there is a card, the room left of
+// each profile behind each, in lent room.
+ghost use mathlib.Core.Path.{_≡_};
+ghost use mathlib.Core.List.{[], _∷_, _++_};
+ghost use Prim.Native.Nat.{_+_, _≤_};
+ghost use lib.ListN.{length};
+ghost use Rattle.rules.specs.Rules.{rulesOf};
+ghost use Rattle.lines.specs.Stored.{Stored};
+ghost use Rattle.lines.specs.Sitting.{eventLine};
+ghost use Rattle.numerals.specs.Numeral.{numeral};
+ghost use Rattle.display.specs.Text.{longest, hasRoom, heading, roomLine, placeLine, roomLines, setUpText, recordText};
+ghost use Rattle.display.specs.Shown.{wantsAfter, unshown, setUpShown, setUpWords, setUpRooms, setUpRoom};
+ghost use Rattle.display.specs.Shown.{recordShown, recordWords, recordRules, recordRooms, recordRoom};
+use records::Event;
+use rooms::Rooms;
+use rules::Place;
+use rules::Words;
+use shape::Dating;
+use shape::Family;
+use shape::Selecting;
+use shape::Shape;
+use state::State;
+use std::num::wrapping_add_u16;
+
+// The most bytes of a record's line and the lines of four profiles' rooms.
+pub const LONGEST: usize = 454;
+
+// What is wanted next: a further record, room, or nothing, as the paper is at its end.
+pub enum Wants {
+    Record,
+    Room,
+    Nothing,
+}
+
+// How far a paper is shown: its shape, the card, the place and the number of the next record, where
+// the text ends, and what is wanted.
+pub struct Shown {
+    pub shape: Shape,
+    pub state: State,
+    pub at: usize,
+    pub number: u16,
+    pub end: usize,
+    pub wants: Wants,
+}
+
+// Whether the longest text fits from a place on.
+fn has_room(bytes: usize, at: usize) -> bool
+    ensures { λ r. ⌜ r ≡ hasRoom bytes at ⌝ }
+{
+    if bytes < at {
+        return false;
+    }
+    LONGEST <= bytes - at
+}
+
+fn put_text(room: &mut [u8], at: usize, text: &[u8]) -> usize
+    requires { ⌜ at + length (now text) ≤ length (now room) ⌝ }
+    ensures { λ r. ⌜ Stored (now (room .entry)) at (now (text .entry)) (length (now (text .entry))) r (now (room .exit)) ⌝ }
+{
+    bytes::copy(text, &mut room[at..]);
+    at + text.len()
+}
+
+// A number, and the mark behind it.
+fn put_field(room: &mut [u8], at: usize, n: u64, mark: u8) -> usize
+    requires { ⌜ at + 21 ≤ length (now room) ⌝ }
+    ensures { λ r. ⌜ Stored (now (room .entry)) at (numeral n ++ mark ∷ []) 21 r (now (room .exit)) ⌝ }
+{
+    let at = numerals::put_number(room, at, n);
+    put_text(room, at, &[mark])
+}
+
+// The word, and a profile's number.
+fn put_heading(room: &mut [u8], at: usize, number: u8) -> usize
+    requires { ⌜ at + 26 ≤ length (now room) ⌝ }
+    ensures { λ r. ⌜ Stored (now (room .entry)) at (heading number) 9 r (now (room .exit)) ⌝ }
+{
+    let at = put_text(room, at, b"room ");
+    put_field(room, at, number as u64, b' ')
+}
+
+// The rooms of a profile, by its number.
+fn put_room_line(room: &mut [u8], at: usize, number: u8, rooms: [u64; 4]) -> usize
+    requires { ⌜ at + 93 ≤ length (now room) ⌝ }
+    ensures { λ r. ⌜ Stored (now (room .entry)) at (roomLine number rooms) 93 r (now (room .exit)) ⌝ }
+{
+    let at = put_heading(room, at, number);
+    let at = put_field(room, at, rooms[0], b' ');
+    let at = put_field(room, at, rooms[1], b' ');
+    let at = put_field(room, at, rooms[2], b' ');
+    put_field(room, at, rooms[3], b'\n')
+}
+
+// Those of the profile at a place, where there is one.
+fn put_place(words: &Words, rooms: &Rooms, place: Place, room: &mut [u8], at: usize) -> usize
+    requires { ⌜ at + 93 ≤ length (now room) ⌝ }
+    ensures { λ r. ⌜ Stored (now (room .entry)) at (placeLine (rulesOf (now (words .entry))) (now (rooms .entry)) place) 93 r (now (room .exit)) ⌝ }
+{
+    let number = rules::profile_number(words, place);
+    if number == 0 {
+        return at;
+    }
+    put_room_line(room, at, number, rooms::stored(rooms, place))
+}
+
+// The rooms of all profiles, in the set-up's order.
+fn put_rooms(words: &Words, rooms: &Rooms, room: &mut [u8], at: usize) -> usize
+    requires { ⌜ at + 372 ≤ length (now room) ⌝ }
+    ensures { λ r. ⌜ Stored (now (room .entry)) at (roomLines (rulesOf (now (words .entry))) (now (rooms .entry))) 372 r (now (room .exit)) ⌝ }
+{
+    let at = put_place(words, rooms, Place::One, room, at);
+    let at = put_place(words, rooms, Place::Two, room, at);
+    let at = put_place(words, rooms, Place::Three, room, at);
+    put_place(words, rooms, Place::Four, room, at)
+}
+
+// The line of an event; a paper's end has none.
+fn put_event(room: &mut [u8], at: usize, number: u16, event: Event) -> usize
+    requires { ⌜ at + 82 ≤ length (now room) ⌝ }
+    ensures { λ r. ⌜ Stored (now (room .entry)) at (eventLine number event) 82 r (now (room .exit)) ⌝ }
+{
+    match event {
+        Event::SetUp => lines::put_refusal(room, at, number, 0),
+        Event::End => at,
+        Event::Refused(refusal) => lines::put_refusal(room, at, number, refusal.number()),
+        Event::Answered { answer, .. } => lines::put_answer(room, at, number, answer),
+    }
+}
+
+// The set-up's line, and the rooms of a card that is set up.
+fn put_set_up(words: &Words, rooms: &Rooms, event: Event, room: &mut [u8], at: usize) -> usize
+    requires { ⌜ at + longest ≤ length (now room) ⌝ }
+    ensures { λ r. ⌜ Stored (now (room .entry)) at (setUpText (rulesOf (now (words .entry))) (now (rooms .entry)) event) longest r (now (room .exit)) ⌝ }
+{
+    let end = put_event(room, at, 0, event);
+    if let Event::SetUp = event {
+        return put_rooms(words, rooms, room, end);
+    }
+    end
+}
+
+// A record's line, and the rooms behind it.
+fn put_record(
+    words: &Words,
+    rooms: &Rooms,
+    number: u16,
+    event: Event,
+    room: &mut [u8],
+    at: usize,
+) -> usize
+    requires { ⌜ at + longest ≤ length (now room) ⌝ }
+    ensures { λ r. ⌜ Stored (now (room .entry)) at (recordText (rulesOf (now (words .entry))) (now (rooms .entry)) number event) longest r (now (room .exit)) ⌝ }
+{
+    let end = put_event(room, at, number, event);
+    if let Event::End = event {
+        return end;
+    }
+    put_rooms(words, rooms, room, end)
+}
+
+// Behind a refusal that ends the paper, and its end, nothing more is wanted.
+fn wanted(event: Event) -> Wants
+    ensures { λ r. ⌜ r ≡ wantsAfter event ⌝ }
+{
+    match event {
+        Event::SetUp => Wants::Record,
+        Event::End => Wants::Nothing,
+        Event::Refused(_) => Wants::Nothing,
+        Event::Answered { .. } => Wants::Record,
+    }
+}
+
+// Nothing is shown for want of room: there is no card.
+fn show_nothing(to: usize) -> Shown
+    ensures { λ r. ⌜ r ≡ unshown to ⌝ }
+{
+    let none = setup::no_card();
+    Shown {
+        shape: Shape {
+            base: 0,
+            selecting: Selecting::Off,
+            syllabus: 0,
+            dating: Dating::Off,
+            family: Family::Cpa,
+            scripting: false,
+            unnamed: 4_194_304,
+        },
+        state: card::fresh_card(none),
+        at: 0,
+        number: 0,
+        end: to,
+        wants: Wants::Room,
+    }
+}
+
+// The paper's set-up, from a place of the room on. Without room for the longest text nothing is done.
+pub fn show_set_up(
+    paper: &[u8],
+    words: &mut Words,
+    rooms: &mut Rooms,
+    room: &mut [u8],
+    to: usize,
+) -> Shown
+    ensures { λ r. ⌜ (r ≡ setUpShown (now (words .entry)) (now (rooms .entry)) (now (paper .entry)) (length (now (room .entry))) to)
+        × (now (words .exit) ≡ setUpWords (now (words .entry)) (now (paper .entry)) (length (now (room .entry))) to)
+        × (now (rooms .exit) ≡ setUpRooms (now (words .entry)) (now (rooms .entry)) (now (paper .entry)) (length (now (room .entry))) to)
+        × (now (room .exit) ≡ setUpRoom (now (words .entry)) (now (rooms .entry)) (now (paper .entry)) (now (room .entry)) to) ⌝ }
+{
+    if !has_room(room.len(), to) {
+        return show_nothing(to);
+    }
+    let begun = keeper::begin(paper, words, rooms);
+    let event = begun.event;
+    let end = put_set_up(words, rooms, event, room, to);
+    let shape = begun.shape;
+    let state = begun.state;
+    Shown {
+        shape,
+        state,
+        at: begun.at,
+        number: 1,
+        end,
+        wants: wanted(event),
+    }
+}
+
+// The next record, from a place of the room on. Without room for the longest text nothing is done.
+pub fn show_record(
+    words: &mut Words,
+    rooms: &mut Rooms,
+    shown: Shown,
+    paper: &[u8],
+    room: &mut [u8],
+    to: usize,
+) -> Shown
+    ensures { λ r. ⌜ (r ≡ recordShown (rulesOf (now (words .entry))) (now (rooms .entry)) shown (now (paper .entry)) (length (now (room .entry))) to)
+        × (now (words .exit) ≡ recordWords (now (words .entry)) shown (now (paper .entry)) (length (now (room .entry))) to)
+        × (rulesOf (now (words .exit)) ≡ recordRules (rulesOf (now (words .entry))) shown (now (paper .entry)) (length (now (room .entry))) to)
+        × (now (rooms .exit) ≡ recordRooms (rulesOf (now (words .entry))) (now (rooms .entry)) shown (now (paper .entry)) (length (now (room .entry))) to)
+        × (now (room .exit) ≡ recordRoom (rulesOf (now (words .entry))) (now (rooms .entry)) shown (now (paper .entry)) (now (room .entry)) to) ⌝ }
+{
+    let shape = shown.shape;
+    let state = shown.state;
+    let at = shown.at;
+    let number = shown.number;
+    if !has_room(room.len(), to) {
+        return Shown {
+            shape,
+            state,
+            at,
+            number,
+            end: to,
+            wants: Wants::Room,
+        };
+    }
+    let taken = keeper::take(words, rooms, shape, state, paper, at);
+    let event = taken.event;
+    let end = put_record(words, rooms, number, event, room, to);
+    let after = taken.state;
+    Shown {
+        shape,
+        state: after,
+        at: taken.at,
+        number: wrapping_add_u16(number, 1),
+        end,
+        wants: wanted(event),
+    }
+}

@@ -1,0 +1,2 @@
+pub mod Display
+pub mod Recomputed
