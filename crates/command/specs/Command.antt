@@ -1,9 +1,9 @@
 -- The commands of a paper (document 01, "The paper" and "Refusal numbers"; document 02, Three, Five and Thirteen).
 use Prim.Native.Nat.{ℕ, _+_, _-_}
-use mathlib.Core.Bool.{Bool, true, false, cond, _&&_}
+use mathlib.Core.Bool.{Bool, true, false, cond, not, _&&_, _||_}
 use mathlib.Core.List.{List, [], _∷_}
 use lib.ListN.{length, getD, take, drop}
-use lib.Dec.{eqb, leb}
+use lib.Dec.{eqb, leb, ltb}
 use Rattle.wire.specs.Wire.{byte, number}
 use Rattle.calendar.specs.Calendar.{dateAt}
 use Rattle.cpace.specs.declared.Cvm.{Cvm}
@@ -142,6 +142,14 @@ readBy (On start end entries) dating family slots paper kind body =
 unfoldable pub commandIn : Shape → Values → (paper : List ℕ) (kind : ℕ) (body : List ℕ) → ReadCommand
 commandIn shape values paper kind body =
     readBy (shape .selecting) (shape .dating) (shape .family) (slotsOf (shape .family) values) paper kind body
+
+-- WHETHER IT IS ONE, by its kind and its body's length: a Start that selects its profile has data of any length, to a CPACE card the interface at
+-- least
+abbrev pub isCommand : Shape → (kind length : ℕ) → Bool
+isCommand shape kind length =
+    cond (isSelecting (shape .selecting) kind) (ltb 0 length || not (isCpace (shape .family)))
+    (cond (eqb kind 2) (eqb length (startLength (shape .family)))
+    (cond (eqb kind 3) (eqb length (firstLength (shape .dating) (shape .family))) (eqb kind 4 && eqb length 8)))
 
 abbrev pub readNumber : ReadCommand → ℕ
 readNumber (Taken command) = 0

@@ -2,7 +2,7 @@
 ghost use mathlib.Core.Path.{_≡_};
 ghost use Prim.Native.Nat.{_≤_};
 ghost use Rattle.command.specs.Command.{isCpace, interfaceOf, startLength, profileNamed, startOf, plainLength, firstLength, whenOf, cvmOf, cashbackOf};
-ghost use Rattle.command.specs.Command.{firstOf, secondOf, commandOf, slotsOf, isSelecting, selectedIn, startSelected, commandIn};
+ghost use Rattle.command.specs.Command.{firstOf, secondOf, commandOf, slotsOf, isSelecting, selectedIn, startSelected, commandIn, isCommand};
 use calendar::Date;
 use cpace::Cvm;
 use money::TransactionAmount;
@@ -281,4 +281,23 @@ pub fn read_record(shape: Shape, values: Values, paper: &[u8], kind: u8, body: &
         return read_selecting(family, selecting, values, paper, body);
     }
     read_command(dating, family, kind, body)
+}
+
+// Whether a record of a kind with a body of so many bytes is a command, by the paper's shape.
+pub fn is_command(shape: Shape, kind: u8, length: usize) -> bool
+    ensures { λ r. ⌜ r ≡ isCommand shape kind length ⌝ }
+{
+    let selecting = shape.selecting;
+    let dating = shape.dating;
+    let family = shape.family;
+    if selects(selecting, kind) {
+        return (0 < length) | !is_cpace(family);
+    }
+    if kind == START {
+        return length == start_length(family);
+    }
+    if kind == FIRST {
+        return length == first_length(dating, family);
+    }
+    (kind == SECOND) & (length == 8)
 }

@@ -20,10 +20,11 @@ use Rattle.records.specs.declared.Taken.{Taken}
 use Rattle.records.specs.declared.Said.{Said}
 use Rattle.records.specs.declared.Event.{Event}
 use Rattle.records.specs.declared.Event.the-variants.{SetUp, End, Refused, Answered}
+use Rattle.records.specs.Records.{recordTaken, recordWrites}
 use Rattle.conversation.specs.Conversation.{takenOf, takenWrites}
 use Rattle.opening.specs.Opening.{begunOf, wordsBegun}
 use Rattle.records.proofs.Event as E
-use Rattle.keeper.specs.Keeper.{isDone, isScripted, roomsAfter, roomsTaken, setUpRooms, roomsBegun}
+use Rattle.keeper.specs.Keeper.{isDone, isScripted, roomsAfter, roomsRecorded, roomsTaken, setUpRooms, roomsBegun}
 
 pub not-answered : (event : Event) → OneOf (0 ∷ 1 ∷ 2 ∷ []) (tagOf E.the-type event) → false ≡ isScripted event
 not-answered SetUp k = refl
@@ -62,6 +63,13 @@ module _ (words rooms paper : List ℕ) {begun : Begun} (is : begun ≡ begunOf 
     by End k = refl
     by (Refused refusal) k = refl
     by (Answered said answer) k = refl
+
+pub recorded : (rules : Rules) (shape : Shape) (state : State) (paper : List ℕ) (kind : ℕ) (body : List ℕ) (end : ℕ) (rooms : List ℕ)
+    {taken : Taken} {rules′ : Rules}
+    → taken ≡ recordTaken rules shape state paper kind body end → rules′ ≡ rulesAfter rules (recordWrites shape state kind body)
+    → roomsAfter rules′ (state .values) (taken .state .values) (taken .event) rooms ≡ roomsRecorded rules shape state paper kind body end rooms
+unfolding roomsRecorded
+recorded rules shape state paper kind body end rooms t r = rw (t, r)
 
 pub at-record : (rules : Rules) (shape : Shape) (state : State) (paper : List ℕ) (at : ℕ) (rooms : List ℕ) {taken : Taken} {rules′ : Rules}
     → taken ≡ takenOf rules shape state paper at → rules′ ≡ rulesAfter rules (takenWrites shape state paper at)

@@ -12,6 +12,7 @@ use Rattle.state.specs.declared.Answer.{Answer}
 use Rattle.state.specs.declared.Answer.the-variants.{Refused as AnswerRefused, Started, Given, Done}
 use Rattle.records.specs.declared.Event.{Event}
 use Rattle.records.specs.declared.Event.the-variants.{SetUp, End, Refused, Answered}
+use Rattle.records.specs.Records.{recordTaken, recordWrites}
 use Rattle.conversation.specs.Conversation.{takenOf, takenWrites}
 use Rattle.opening.specs.Opening.{begunOf, wordsBegun}
 
@@ -33,7 +34,13 @@ isScripted (Answered said answer) = isDone answer
 unfoldable pub roomsAfter : Rules → (before after : Values) → Event → (rooms : List ℕ) → List ℕ
 roomsAfter rules before after event rooms = cond (isScripted event) (filled rules after rooms) (renewed rules before after rooms)
 
--- A RECORD, by the rules that it leaves
+-- A RECORD wherever its bytes stand, by the rules that it leaves
+unfoldable pub roomsRecorded : Rules → Shape → State → (paper : List ℕ) (kind : ℕ) (body : List ℕ) (end : ℕ) (rooms : List ℕ) → List ℕ
+roomsRecorded rules shape state paper kind body end rooms =
+    let taken = recordTaken rules shape state paper kind body end in
+    roomsAfter (rulesAfter rules (recordWrites shape state kind body)) (state .values) (taken .state .values) (taken .event) rooms
+
+-- and the one at a place of a paper
 unfoldable pub roomsTaken : Rules → Shape → State → (paper : List ℕ) (at : ℕ) (rooms : List ℕ) → List ℕ
 roomsTaken rules shape state paper at rooms =
     let taken = takenOf rules shape state paper at in

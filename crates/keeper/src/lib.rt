@@ -3,9 +3,10 @@
 ghost use mathlib.Core.Path.{_≡_};
 ghost use Rattle.rules.specs.Rules.{rulesOf};
 ghost use Rattle.script.specs.Script.{rulesAfter, wordsAfter};
+ghost use Rattle.records.specs.Records.{recordTaken, recordWrites};
 ghost use Rattle.conversation.specs.Conversation.{takenOf, takenWrites};
 ghost use Rattle.opening.specs.Opening.{begunOf, wordsBegun};
-ghost use Rattle.keeper.specs.Keeper.{isScripted, roomsAfter, roomsTaken, roomsBegun};
+ghost use Rattle.keeper.specs.Keeper.{isScripted, roomsAfter, roomsRecorded, roomsTaken, roomsBegun};
 use opening::Begun;
 use records::Event;
 use records::Taken;
@@ -29,11 +30,14 @@ fn is_scripted(event: Event) -> bool
     }
 }
 
-// The room left after an event, by the values before and after it. A script may have written limits:
+// The room left after a record, by the values before and after it. A script may have written limits:
 // then all are worked out anew.
-fn keep(words: &Words, before: Values, after: Values, event: Event, rooms: &mut Rooms)
-    ensures { λ _. ⌜ now (rooms .exit) ≡ roomsAfter (rulesOf (now (words .entry))) before after event (now (rooms .entry)) ⌝ }
+fn keep(words: &Words, before: Values, taken: Taken, rooms: &mut Rooms)
+    ensures { λ _. ⌜ now (rooms .exit) ≡ roomsAfter (rulesOf (now (words .entry))) before (taken .state .values) (taken .event) (now (rooms .entry)) ⌝ }
 {
+    let state = taken.state;
+    let after = state.values;
+    let event = taken.event;
     if is_scripted(event) {
         rooms::fill(words, after, rooms);
     } else {
@@ -57,6 +61,28 @@ pub fn begin(paper: &[u8], words: &mut Words, rooms: &mut Rooms) -> Begun
     begun
 }
 
+// A record of a kind, whose body ends at a place; it may come from elsewhere than the paper.
+pub fn take_record(
+    words: &mut Words,
+    rooms: &mut Rooms,
+    shape: Shape,
+    state: State,
+    paper: &[u8],
+    kind: u8,
+    body: &[u8],
+    end: usize,
+) -> Taken
+    ensures { λ r. ⌜ (r ≡ recordTaken (rulesOf (now (words .entry))) shape state (now (paper .entry)) kind (now (body .entry)) end)
+        × (now (words .exit) ≡ wordsAfter (now (words .entry)) (recordWrites shape state kind (now (body .entry))))
+        × (rulesOf (now (words .exit)) ≡ rulesAfter (rulesOf (now (words .entry))) (recordWrites shape state kind (now (body .entry))))
+        × (now (rooms .exit) ≡ roomsRecorded (rulesOf (now (words .entry))) shape state (now (paper .entry)) kind (now (body .entry)) end (now (rooms .entry))) ⌝ }
+{
+    let taken = records::take(words, shape, state, paper, kind, body, end);
+    let before = state.values;
+    keep(words, before, taken, rooms);
+    taken
+}
+
 // The record at a place of a paper.
 pub fn take(
     words: &mut Words,
@@ -73,9 +99,6 @@ pub fn take(
 {
     let taken = conversation::take(words, shape, state, paper, at);
     let before = state.values;
-    let left = taken.state;
-    let after = left.values;
-    let event = taken.event;
-    keep(words, before, after, event, rooms);
+    keep(words, before, taken, rooms);
     taken
 }

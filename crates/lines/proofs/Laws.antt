@@ -57,7 +57,7 @@ selected-line number atc visits =
     one-line _ _ (selected-plain number atc visits)
     (simp length-append (omega (arith, Decimal.size number, ap length Decimal.zero, Decimal.size atc, Decimal.size visits)))
 
-written-size : (iad : Iad) → length (written iad zeros) ≡ 32
+pub written-size : (iad : Iad) → length (written iad zeros) ≡ 32
 unfolding written writeIad iadBytes pairsOf
 written-size iad = by (isWritable iad) refl where
   by : (t : Bool) → isWritable iad ≡ t → length (written iad zeros) ≡ 32

@@ -2,13 +2,13 @@
 use Prim.Native.Nat.{ℕ}
 use mathlib.Core.Bool.{Bool, cond, _&&_}
 use mathlib.Core.List.{List, [], _∷_}
-use lib.Dec.{eqb}
+use lib.Dec.{eqb, ltb}
 use Rattle.refusal.specs.declared.Refusal.the-variants.{Unreadable}
 use Rattle.rules.specs.Rules.{Rules}
 use Rattle.shape.specs.declared.Shape.{Shape}
 use Rattle.command.specs.declared.ReadCommand.{ReadCommand}
 use Rattle.command.specs.declared.ReadCommand.the-variants.{Taken as CommandTaken, Refused as CommandRefused}
-use Rattle.command.specs.Command.{commandIn}
+use Rattle.command.specs.Command.{commandIn, isCommand}
 use Rattle.state.specs.declared.State.{State}
 use Rattle.element.specs.declared.Write.{Write}
 use Rattle.card.specs.Card.{stepOf}
@@ -45,3 +45,7 @@ bodyWrites state (result ∷ template) = scriptWrites state result template
 
 abbrev pub recordWrites : Shape → State → (kind : ℕ) (body : List ℕ) → List Write
 recordWrites shape state kind body = cond (isScript shape kind) (bodyWrites state body) []
+
+-- WHETHER IT CAN BE READ, by its kind and its body's length: a script that has a byte, or a command
+abbrev pub canBeRead : Shape → (kind length : ℕ) → Bool
+canBeRead shape kind length = cond (isScript shape kind) (ltb 0 length) (isCommand shape kind length)

@@ -2,7 +2,7 @@
 ghost use mathlib.Core.Path.{_≡_};
 ghost use Rattle.rules.specs.Rules.{rulesOf};
 ghost use Rattle.script.specs.Script.{rulesAfter, wordsAfter};
-ghost use Rattle.records.specs.Records.{answeredBy, scriptedBy, bodyWrites, recordTaken, recordWrites};
+ghost use Rattle.records.specs.Records.{answeredBy, scriptedBy, bodyWrites, recordTaken, recordWrites, canBeRead};
 use command::Command;
 use command::ReadCommand;
 use refusal::Refusal;
@@ -112,4 +112,16 @@ pub fn take(
     let values = state.values;
     let read = command::read_record(shape, values, paper, kind, body);
     answer(words, state, read, end)
+}
+
+// Whether a record of a kind with a body of so many bytes is answered; otherwise it is refusal 9.
+pub fn can_be_read(shape: Shape, kind: u8, length: usize) -> bool
+    ensures { λ r. ⌜ r ≡ canBeRead shape kind length ⌝ }
+{
+    if shape.scripting {
+        if kind == SCRIPT {
+            return 0 < length;
+        }
+    }
+    command::is_command(shape, kind, length)
 }

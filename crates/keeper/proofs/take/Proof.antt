@@ -7,8 +7,8 @@ use Rattle.keeper.proofs.take.Tie as tie
 
 returns : tie.Need-returns
 returns c =
-    let after = c .before .before .before in
-    let read = after .before .before .before in
+    let kept = c .before .before in
+    let read = kept .before .before in
     let a = read .before .before .before .args in
     let taken = read .take .ensures in
     let there = at-record _ (a .shape) (a .state) (now (a .paper)) (a .at) (now (a .rooms)) (taken .0) (taken .2) in
