@@ -18,7 +18,7 @@ use Rattle.paper.specs.Paper.{nextAt}
 use Rattle.paper.specs.Walk.{Met, part, placeIn}
 use Rattle.paper.proofs.Walk.{inside, Stopped, past-end, rests, walk-on}
 use Rattle.text.proofs.Laws.{sets-on}
-use Rattle.script.specs.Script.{wordsAfter}
+use Rattle.script.specs.Script.{rulesAfter, wordsAfter}
 use Rattle.command.specs.declared.ReadCommand.{ReadCommand}
 use Rattle.command.specs.declared.ReadCommand.the-variants.{Taken as CommandTaken, Refused as CommandRefused}
 use Rattle.command.specs.Command.{commandIn}
@@ -34,7 +34,7 @@ use Rattle.records.proofs.Readable.{IsAnswered, Answers, answered-or-not}
 use Rattle.keeper.specs.Keeper.{roomsAfter, roomsRecorded}
 use Rattle.answers.specs.Answers.{size, answerBytes, placed}
 use Rattle.answers.proofs.Laws.{answer-size}
-use Rattle.runs.specs.Runs.{recordsIn, allRead, isRun, Card, answeredIn, takenBy, writesOf, cardBehind, cardAfter, answersTo}
+use Rattle.runs.specs.Runs.{recordsIn, allRead, isRun, Card, cardOf, answeredIn, takenBy, writesOf, cardBehind, cardAfter, answersTo}
 use Rattle.runs.proofs.Walk.{metFrom, isRunFrom, body-length, first}
 
 -- ---- a record, wherever it ends
@@ -94,21 +94,22 @@ module _ (shape : Shape) (paper run : List ℕ) where
         by true b q = (refl, q)
         by false b q = (q, absurd (let z : _≡_ {A = ℕ} 0 1 = cc in omega arith))
 
-      pub is-answered : {taken : Taken} → taken ≡ recordTaken (rulesOf (card .words)) shape (card .state) paper kind (part run start end) end
+      pub is-answered : {taken : Taken} → taken ≡ recordTaken (card .rules) shape (card .state) paper kind (part run start end) end
           → IsAnswered end taken
       is-answered is =
           let can = ap (canBeRead shape kind) (body-length shape run at kind start end e) ∙ both .0 in
-          rw is (rw can at (answered-or-not (rulesOf (card .words)) (card .state) end shape paper kind (part run start end)))
+          rw is (rw can at (answered-or-not (card .rules) (card .state) end shape paper kind (part run start end)))
 
       card-is : {taken : Taken} {words rooms : List ℕ}
-          → taken ≡ recordTaken (rulesOf (card .words)) shape (card .state) paper kind (part run start end) end
+          → taken ≡ recordTaken (card .rules) shape (card .state) paper kind (part run start end) end
           → words ≡ wordsAfter (card .words) (recordWrites shape (card .state) kind (part run start end))
-          → rooms ≡ roomsRecorded (rulesOf (card .words)) shape (card .state) paper kind (part run start end) end (card .rooms)
-          → cardBehind shape paper card met ≡ record { words = words; rooms = rooms; state = taken .state }
+          → rulesOf words ≡ rulesAfter (card .rules) (recordWrites shape (card .state) kind (part run start end))
+          → rooms ≡ roomsRecorded (card .rules) shape (card .state) paper kind (part run start end) end (card .rooms)
+          → cardBehind shape paper card met ≡ cardOf words rooms (taken .state)
       unfolding cardBehind roomsRecorded
-      card-is t w r =
-          let same = elsewhere (rulesOf (card .words)) shape (card .state) paper kind (part run start end) end in
-          rw (t, w, r, same .0, same .1)
+      card-is t w q r =
+          let same = elsewhere (card .rules) shape (card .state) paper kind (part run start end) end in
+          rw (t, r, ← q, ← w, same .0, same .1)
 
       behind : (said : Said) (answer : Answer) → takenBy shape paper card met .event ≡ Answered said answer
           → Going card₀ room₀ (cardBehind shape paper card met) (placed room to (answerBytes answer)) end (to + size)
@@ -137,15 +138,16 @@ module _ (shape : Shape) (paper run : List ℕ) where
 
       -- by what the record came to, wherever it ends
       pub go-on : {taken : Taken} {words rooms room′ : List ℕ} (said : Said) (answer : Answer)
-          → taken ≡ recordTaken (rulesOf (card .words)) shape (card .state) paper kind (part run start end) end
+          → taken ≡ recordTaken (card .rules) shape (card .state) paper kind (part run start end) end
           → words ≡ wordsAfter (card .words) (recordWrites shape (card .state) kind (part run start end))
-          → rooms ≡ roomsRecorded (rulesOf (card .words)) shape (card .state) paper kind (part run start end) end (card .rooms)
+          → rulesOf words ≡ rulesAfter (card .rules) (recordWrites shape (card .state) kind (part run start end))
+          → rooms ≡ roomsRecorded (card .rules) shape (card .state) paper kind (part run start end) end (card .rooms)
           → taken .event ≡ Answered said answer → room′ ≡ placed room to (answerBytes answer)
-          → Going card₀ room₀ (record { words = words; rooms = rooms; state = taken .state }) room′ end (to + size)
-      go-on said answer t w r event put =
-          let same = elsewhere (rulesOf (card .words)) shape (card .state) paper kind (part run start end) end .1 in
+          → Going card₀ room₀ (cardOf words rooms (taken .state)) room′ end (to + size)
+      go-on said answer t w q r event put =
+          let same = elsewhere (card .rules) shape (card .state) paper kind (part run start end) end .1 in
           let given = sym same ∙ ap (λ (x : Taken). x .event) (sym t) ∙ event in
-          rw put (subst (λ (x : Card). Going card₀ room₀ x (placed room to (answerBytes answer)) end (to + size)) (card-is t w r) (behind said answer given))
+          rw put (subst (λ (x : Card). Going card₀ room₀ x (placed room to (answerBytes answer)) end (to + size)) (card-is t w q r) (behind said answer given))
 
     -- a run has no place where there is no record
     pub never : at < length run → Stopped run at → ⊥

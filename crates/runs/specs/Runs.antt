@@ -6,10 +6,10 @@ use lib.Dec.{leb, ltb}
 use lib.ListN.{length}
 use lib.Seq.{sets}
 use Rattle.refusal.specs.declared.Refusal.the-variants.{Unreadable, NoRoomForAnswers}
-use Rattle.rules.specs.Rules.{rulesOf}
+use Rattle.rules.specs.Rules.{Rules, rulesOf}
 use Rattle.shape.specs.declared.Shape.{Shape}
 use Rattle.paper.specs.Walk.{Met, metIn, placeIn}
-use Rattle.script.specs.Script.{wordsAfter}
+use Rattle.script.specs.Script.{rulesAfter, wordsAfter}
 use Rattle.element.specs.declared.Write.{Write}
 use Rattle.state.specs.declared.State.{State}
 use Rattle.records.specs.declared.Event.{Event}
@@ -42,14 +42,15 @@ isRun shape run = leb (length run) (stopIn run) && allRead shape (recordsIn run)
 unfoldable pub countOf : Shape → (run : List ℕ) → Counted
 countOf shape run = cond (isRun shape run) (Records (length (recordsIn run))) NotCounted
 
--- THE CARD: its rules as they lie in words, the room left, its state
+-- THE CARD: its rules and the words that they lie in, the room left, its state
 pub record Card : Type 0 where
   pub words : List ℕ
+  pub rules : Rules
   pub rooms : List ℕ
   pub state : State
 
 abbrev pub cardOf : (words rooms : List ℕ) → State → Card
-cardOf words rooms state = record { words = words; rooms = rooms; state = state }
+cardOf words rooms state = record { words = words; rules = rulesOf words; rooms = rooms; state = state }
 
 -- where an answer was given, its 36 bytes
 abbrev pub answeredIn : Event → List ℕ
@@ -61,7 +62,7 @@ answeredIn (Answered said answer) = answerBytes answer
 module _ (shape : Shape) (paper : List ℕ) where
   -- A RECORD on a card: what it comes to, what it writes, and the card behind it
   abbrev pub takenBy : Card → Met → Taken
-  takenBy card met = recordTaken (rulesOf (card .words)) shape (card .state) paper (met .kind) (met .body) 0
+  takenBy card met = recordTaken (card .rules) shape (card .state) paper (met .kind) (met .body) 0
 
   abbrev pub writesOf : Card → Met → List Write
   writesOf card met = recordWrites shape (card .state) (met .kind) (met .body)
@@ -70,7 +71,8 @@ module _ (shape : Shape) (paper : List ℕ) where
   cardBehind card met =
       record {
         words = wordsAfter (card .words) (writesOf card met);
-        rooms = roomsRecorded (rulesOf (card .words)) shape (card .state) paper (met .kind) (met .body) 0 (card .rooms);
+        rules = rulesAfter (card .rules) (writesOf card met);
+        rooms = roomsRecorded (card .rules) shape (card .state) paper (met .kind) (met .body) 0 (card .rooms);
         state = takenBy card met .state;
       }
 

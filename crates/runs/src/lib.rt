@@ -5,6 +5,7 @@ ghost use mathlib.Core.Bool.{true};
 ghost use Prim.Native.Nat.{_*_, _≤_};
 ghost use lib.ListN.{length};
 ghost use lib.Seq.{sets};
+ghost use Rattle.rules.specs.Rules.{rulesOf};
 ghost use Rattle.answers.specs.Answers.{size};
 ghost use Rattle.runs.specs.Runs.{recordsIn, isRun, countOf, cardOf, cardAfter, answersTo, cardRun, roomRun, endOf};
 use paper::Next;
@@ -67,7 +68,8 @@ fn answer_records(
     ensures { λ r. ⌜ (let card = cardOf (now (words .entry)) (now (rooms .entry)) state in
         let after = cardAfter shape (now (paper .entry)) card (recordsIn (now (records .entry))) in
         (r ≡ after .state) × (now (words .exit) ≡ after .words) × (now (rooms .exit) ≡ after .rooms)
-        × (now (room .exit) ≡ sets (now (room .entry)) 0 (answersTo shape (now (paper .entry)) card (recordsIn (now (records .entry)))))) ⌝ }
+        × (now (room .exit) ≡ sets (now (room .entry)) 0 (answersTo shape (now (paper .entry)) card (recordsIn (now (records .entry)))))
+        × (rulesOf (now (words .exit)) ≡ after .rules)) ⌝ }
 {
     let mut state = state;
     let mut at = 0;
@@ -113,7 +115,8 @@ pub fn run(
     ensures { λ r. ⌜ (r ≡ endOf shape (now (paper .entry)) (cardOf (now (words .entry)) (now (rooms .entry)) state) (now (records .entry)) (length (now (room .entry))))
         × (now (words .exit) ≡ cardRun shape (now (paper .entry)) (cardOf (now (words .entry)) (now (rooms .entry)) state) (now (records .entry)) (length (now (room .entry))) .words)
         × (now (rooms .exit) ≡ cardRun shape (now (paper .entry)) (cardOf (now (words .entry)) (now (rooms .entry)) state) (now (records .entry)) (length (now (room .entry))) .rooms)
-        × (now (room .exit) ≡ roomRun shape (now (paper .entry)) (cardOf (now (words .entry)) (now (rooms .entry)) state) (now (records .entry)) (now (room .entry))) ⌝ }
+        × (now (room .exit) ≡ roomRun shape (now (paper .entry)) (cardOf (now (words .entry)) (now (rooms .entry)) state) (now (records .entry)) (now (room .entry)))
+        × (rulesOf (now (words .exit)) ≡ cardRun shape (now (paper .entry)) (cardOf (now (words .entry)) (now (rooms .entry)) state) (now (records .entry)) (length (now (room .entry))) .rules) ⌝ }
 {
     let Counted::Records(count) = count_records(shape, records) else {
         return RunEnd {

@@ -5,7 +5,7 @@ use native.Mathlib.Omega.{arith}
 use lib.ListN.{length}
 use Rattle.paper.proofs.Walk.{inside, walk-on}
 use Rattle.opening.proofs.Parts.{record-inside}
-use Rattle.runs.specs.Runs.{Card}
+use Rattle.runs.specs.Runs.{Card, cardOf}
 use Rattle.runs.proofs.Walk.{stopped}
 use Rattle.runs.proofs.Going.{Going, begin, is-answered, not-answered, go-on, never, over}
 use Rattle.runs.proofs.answer_records.Statement.{statement}
@@ -13,7 +13,7 @@ use Rattle.runs.proofs.answer_records.Tie as tie
 
 abbrev Inv-loop : tie.InvT-loop
 Inv-loop words₀ rooms₀ shape paper run room₀ state₀ at₀ to₀ words rooms room state at to =
-    Going shape paper run (record { words = words₀; rooms = rooms₀; state = state₀ }) room₀ (record { words = words; rooms = rooms; state = state }) room at to
+    Going shape paper run (cardOf words₀ rooms₀ state₀) room₀ (cardOf words rooms state) room at to
 
 abbrev μ-loop : tie.MeasureT-loop
 μ-loop words₀ rooms₀ shape paper run room₀ state₀ at₀ to₀ words rooms room state at to = length run - at
@@ -90,7 +90,7 @@ loop-again c =
     let read = told .before .before in
     let is = sym (read .record-at .ensures) ∙ told .kind .given .1 in
     let by = taken .take-record .ensures in
-    go-on _ _ _ (read .before .before .loop .inv) _ _ _ is _ _ (by .0) (by .1) (by .3) (event .event .given .1) (put .put .ensures)
+    go-on _ _ _ (read .before .before .loop .inv) _ _ _ is _ _ (by .0) (by .1) (by .2) (by .3) (event .event .given .1) (put .put .ensures)
 
 same-length-3 : tie.Need-same-length-3 Inv-loop μ-loop
 same-length-3 c = c .before .loop .inv .sized
@@ -98,7 +98,13 @@ same-length-3 c = c .before .loop .inv .sized
 returns-3 : tie.Need-returns-3 Inv-loop μ-loop
 returns-3 c =
     let end = over _ _ _ (c .before .loop .inv) (c .loop-test .left) in
-    (ap (λ (x : Card). x .state) (end .0), ap (λ (x : Card). x .words) (end .0), ap (λ (x : Card). x .rooms) (end .0), end .1)
+    let card = end .0 in (
+      ap (λ (x : Card). x .state) card,
+      ap (λ (x : Card). x .words) card,
+      ap (λ (x : Card). x .rooms) card,
+      end .1,
+      ap (λ (x : Card). x .rules) card,
+    )
 
 pub answer-records-spec : {M : Type 1} → statement M
 answer-records-spec =

@@ -15,7 +15,7 @@ returns c =
     let a = start .before .args in
     let none = uncounted (a .shape) (now (a .records)) _ (count .count-records .ensures) (c .before .match .keys2) in
     let ruled = no-run (a .shape) (now (a .records)) (length (now (a .room))) none in
-    (simp (ruled), simp (ruled), simp (ruled), simp (ruled))
+    (simp (ruled), simp (ruled), simp (ruled), simp (ruled), simp (ruled))
 
 returns-2 : tie.Need-returns-2
 unfolding cardRun roomRun
@@ -26,7 +26,7 @@ returns-2 c =
     let a = start .before .args in
     let is = sym (count .count-records .ensures) ∙ told .count .given .1 in
     let ruled = no-room (a .shape) (now (a .records)) (length (now (a .room))) is (c .if1 .taken) in
-    (simp (ruled), simp (ruled), simp (ruled), simp (ruled))
+    (simp (ruled), simp (ruled), simp (ruled), simp (ruled), simp (ruled))
 
 answer-records-requires : tie.Need-answer-records-requires
 answer-records-requires c κs =
@@ -49,7 +49,7 @@ returns-3 c =
     let is = sym (count .count-records .ensures) ∙ told .count .given .1 in
     let ruled = has-room (a .shape) (now (a .records)) (length (now (a .room))) is (test .if1 .left) .0 in
     let by = answered .answer-records .ensures in
-    (simp (ruled, by .0), simp (ruled) (by .1), simp (ruled) (by .2), simp (ruled) (by .3))
+    (simp (ruled, by .0), simp (ruled) (by .1), simp (ruled) (by .2), simp (ruled) (by .3), simp (ruled) (by .4))
 
 pub run-spec : {M : Type 1} → statement M
 run-spec =
