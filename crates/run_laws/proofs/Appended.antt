@@ -76,7 +76,7 @@ module _ (a b : List ℕ) where
         by false true kind start end = refl
         by false false kind start end = refl
 
-  part-behind : (start end : ℕ) → part (a ++ b) (length a + start) (length a + end) ≡ part b start end
+  pub part-behind : (start end : ℕ) → part (a ++ b) (length a + start) (length a + end) ≡ part b start end
   part-behind start end =
       let size : length a + end - (length a + start) ≡ end - start = omega arith in
       rw (size, drop-append-add a b start)
@@ -103,7 +103,7 @@ module _ (a b : List ℕ) where
   number-before at h = rw (List·getD-append a b 0 (at + 0) (omega arith), List·getD-append a b 0 (at + 1) (omega arith))
 
   module _ (at kind start end : ℕ) (i : Inside a at kind start end) where
-    next-before : nextAt (a ++ b) at ≡ Record kind start end
+    pub next-before : nextAt (a ++ b) at ≡ Record kind start end
     unfolding nextAt
     next-before =
         let n = number-before at (omega (arith, i .holds, i .fits)) ∙ i .length-is in
@@ -114,7 +114,7 @@ module _ (a b : List ℕ) where
         let whole : ltb (length (a ++ b)) end ≡ false = le-ltb (length (a ++ b)) end (omega (arith, i .fits, long)) in
         rw (within, n, some, ends, whole, List·getD-append a b 0 (at + 2) (omega (arith, i .holds, i .fits)), i .kind-is, i .start-is)
 
-    part-before : part (a ++ b) start end ≡ part a start end
+    pub part-before : part (a ++ b) start end ≡ part a start end
     part-before =
         let size = length-drop start a in
         rw (drop-append-le start a b (omega (arith, i .start-is, i .holds, i .fits)))

@@ -40,7 +40,7 @@ use Rattle.runs.specs.Runs.{recordsIn, stopIn, allRead, isRun, Card, answeredIn
 use Rattle.run_laws.specs.Singly.{spelled}
 use Rattle.run_laws.proofs.Appended as Appended
 
-end-is-past : (s : List ℕ) (at : ℕ) → nextAt s at ≡ End → length s ≤ at
+pub end-is-past : (s : List ℕ) (at : ℕ) → nextAt s at ≡ End → length s ≤ at
 unfolding nextAt
 end-is-past s at = by (leb (length s) at) (isFaultAt s at) refl where
   by : (over fault : Bool) → leb (length s) at ≡ over → Appended.next over fault (byte s (at + 2)) (at + 3) (endAt s at) ≡ End → length s ≤ at

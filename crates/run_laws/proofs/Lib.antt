@@ -1,3 +1,5 @@
 pub mod Appended
 pub mod Laws
 pub mod Singly
+pub mod Behind
+pub mod Sitting

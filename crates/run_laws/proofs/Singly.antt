@@ -42,7 +42,7 @@ pub record Same (taken : Taken) (writes : List Write) (outcome : Outcome) (told-
   pub writes-are : writes ≡ told-writes
 
 module _ (shape : Shape) (paper : List ℕ) where
-  one : (card : Card) (met : Met) → canBeRead shape (met .kind) (length (met .body)) ≡ true
+  pub one : (card : Card) (met : Met) → canBeRead shape (met .kind) (length (met .body)) ≡ true
       → Same (takenBy shape paper card met) (writesOf shape paper card met)
       (messageStep (card .rules) (card .state) (sentBy shape paper (card .state) met)) (messageWrites (card .state) (sentBy shape paper (card .state) met))
   unfolding answeredBy scriptedBy bodyWrites messageStep messageWrites stepOf
@@ -73,17 +73,17 @@ module _ (shape : Shape) (paper : List ℕ) where
 
   -- ---- records, one after the other
 
-  abbrev sittingOf : Card → List Exchange → Sitting
+  abbrev pub sittingOf : Card → List Exchange → Sitting
   sittingOf card log = record { rules = card .rules; state = card .state; log = log }
 
   module _ (card : Card) (met : Met) (can : canBeRead shape (met .kind) (length (met .body)) ≡ true) (log : List Exchange) where
-    abbrev message : Message
+    abbrev pub message : Message
     message = sentBy shape paper (card .state) met
 
-    abbrev outcome : Outcome
+    abbrev pub outcome : Outcome
     outcome = messageStep (card .rules) (card .state) message
 
-    told-is : told (sittingOf card log) message
+    pub told-is : told (sittingOf card log) message
         ≡ sittingOf (cardBehind shape paper card met) (record { command = message; answer = outcome .answer } ∷ log)
     unfolding cardBehind
     told-is = let same = one card met can in rw (same .state-is, same .writes-are)

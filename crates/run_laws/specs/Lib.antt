@@ -1,1 +1,2 @@
 pub mod Singly
+pub mod Behind
