@@ -3,3 +3,4 @@ pub mod Laws
 pub mod Singly
 pub mod Behind
 pub mod Sitting
+pub mod Samples
