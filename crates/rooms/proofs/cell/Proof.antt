@@ -18,5 +18,5 @@ returns-4 c = (simp (c .enum-told4 .given .1), search needs)
 pub cell-spec : {M : Type 1} → statement M
 cell-spec =
     tie.close
-    (tie.spec (search needs) (search needs) (search needs) (search needs) (search needs) (search needs) (search needs) returns returns-2 returns-3
-    returns-4)
+    (tie.spec (search needs) (search needs) (λ c. omega arith) (search needs) (λ c. omega arith) (search needs) (λ c. omega arith) returns
+    returns-2 returns-3 returns-4)

@@ -1,5 +1,6 @@
-use borrow.Author.Needs.{needs}
-use Rattle.rooms.specs.Rooms.{filled}
+use native.Mathlib.Omega.{arith}
+use mathlib.Core.Path.{ap, _∙_}
+use Rattle.rooms.specs.Rooms.{columnSet, filled}
 use Rattle.rooms.proofs.fill.Statement.{statement}
 use Rattle.rooms.proofs.fill.Tie as tie
 
@@ -9,9 +10,11 @@ returns c =
     let third = c .before .before .before in
     let second = third .before .before .before in
     let first = second .before .before .before in
-    simp (c .renew4 .ensures, third .renew3 .ensures, second .renew2 .ensures, first .renew .ensures)
+    c .renew4 .ensures
+    ∙ ap (columnSet _ _ _) (third .renew3 .ensures ∙ ap (columnSet _ _ _) (second .renew2 .ensures ∙ ap (columnSet _ _ _) (first .renew .ensures)))
 
 pub fill-spec : {M : Type 1} → statement M
 fill-spec =
     tie.close
-    (tie.spec (search needs) (search needs) (search needs) (search needs) (search needs) (search needs) (search needs) (search needs) returns)
+    (tie.spec (λ c. omega arith) (λ c κs. omega arith) (λ c. omega arith) (λ c κs. omega arith) (λ c. omega arith) (λ c κs. omega arith)
+    (λ c. omega arith) (λ c κs. omega arith) returns)

@@ -1,3 +1,4 @@
+use native.Mathlib.Omega.{arith}
 use borrow.Author.Needs.{needs}
 use borrow.Author.Tests.{eq-eqb, ne-eqb, lt-ltb, le-ltb}
 use Rattle.rooms.specs.Rooms.{leftIn}
@@ -26,4 +27,4 @@ returns-3 c =
     (simp (ne-eqb _ _ (other .if1 .left), le-ltb _ _ (c .if2 .left)))
 
 pub left-spec : {M : Type 1} → statement M
-left-spec = tie.close (tie.spec (search needs) returns (search needs) (search needs) returns-2 returns-3)
+left-spec = tie.close (tie.spec (search needs) returns (search needs) (λ c. omega arith) returns-2 returns-3)

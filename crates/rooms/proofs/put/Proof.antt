@@ -1,3 +1,4 @@
+use native.Mathlib.Omega.{arith}
 use borrow.Author.Needs.{needs}
 use Rattle.rooms.specs.Rooms.{cellSet}
 use Rattle.rooms.proofs.put.Statement.{statement}
@@ -8,4 +9,4 @@ unfolding cellSet
 returns c = simp (c .left .ensures, c .before .cell .ensures .0)
 
 pub put-spec : {M : Type 1} → statement M
-put-spec = tie.close (tie.spec (search needs) (search needs) (search needs) (search needs) (search needs) returns)
+put-spec = tie.close (tie.spec (λ c κs. omega arith) (search needs) (λ c. omega arith) (λ c. omega arith) (search needs) returns)

@@ -1,5 +1,6 @@
-use borrow.Author.Needs.{needs}
-use Rattle.rooms.specs.Rooms.{renewed}
+use native.Mathlib.Omega.{arith}
+use mathlib.Core.Path.{ap, _∙_}
+use Rattle.rooms.specs.Rooms.{columnRenewed, renewed}
 use Rattle.rooms.proofs.refresh.Statement.{statement}
 use Rattle.rooms.proofs.refresh.Tie as tie
 
@@ -12,15 +13,13 @@ returns c =
     let second = to-third .before in
     let to-second = second .before .before .before in
     let first = to-second .before in
-    simp (
-      c .renew-if-moved4 .ensures,
-      third .renew-if-moved3 .ensures,
-      second .renew-if-moved2 .ensures,
-      first .renew-if-moved .ensures,
-    )
+    c .renew-if-moved4 .ensures
+    ∙ ap (columnRenewed _ _ _ _)
+    (third .renew-if-moved3 .ensures
+    ∙ ap (columnRenewed _ _ _ _) (second .renew-if-moved2 .ensures ∙ ap (columnRenewed _ _ _ _) (first .renew-if-moved .ensures)))
 
 pub refresh-spec : {M : Type 1} → statement M
 refresh-spec =
     tie.close
-    (tie.spec (search needs) (search needs) (search needs) (search needs) (search needs) (search needs) (search needs) (search needs) (search needs)
-    (search needs) (search needs) (search needs) returns)
+    (tie.spec (λ c. omega arith) (λ c. omega arith) (λ c κs. omega arith) (λ c. omega arith) (λ c. omega arith) (λ c κs. omega arith)
+    (λ c. omega arith) (λ c. omega arith) (λ c κs. omega arith) (λ c. omega arith) (λ c. omega arith) (λ c κs. omega arith) returns)

@@ -1,4 +1,4 @@
-use borrow.Author.Needs.{needs}
+use native.Mathlib.Omega.{arith}
 use mathlib.Core.Path.{ap, _∙_}
 use Rattle.rooms.specs.Rooms.{cellSet, columnSet}
 use Rattle.rooms.proofs.renew.Statement.{statement}
@@ -18,4 +18,4 @@ returns c =
     ∙ ap (cellSet _ _ _ _) (third .put3 .ensures ∙ ap (cellSet _ _ _ _) (second .put2 .ensures ∙ ap (cellSet _ _ _ _) (first .put .ensures)))
 
 pub renew-spec : {M : Type 1} → statement M
-renew-spec = tie.close (tie.spec (search needs) (search needs) (search needs) (search needs) (search needs) returns)
+renew-spec = tie.close (tie.spec (λ c κs. omega arith) (λ c κs. omega arith) (λ c κs. omega arith) (λ c κs. omega arith) (λ c. omega arith) returns)

@@ -1,4 +1,4 @@
-use borrow.Author.Needs.{needs}
+use native.Mathlib.Omega.{arith}
 use borrow.Author.Tests.{eq-eqb, ne-eqb}
 use Rattle.rooms.specs.Rooms.{columnRenewed}
 use Rattle.rooms.proofs.renew_if_moved.Statement.{statement}
@@ -15,4 +15,4 @@ unfolding columnRenewed
 returns-2 c = simp (eq-eqb _ _ (c .if1 .left))
 
 pub renew-if-moved-spec : {M : Type 1} → statement M
-renew-if-moved-spec = tie.close (tie.spec (search needs) (search needs) returns returns-2)
+renew-if-moved-spec = tie.close (tie.spec (λ c κs. omega arith) (λ c. omega arith) returns returns-2)

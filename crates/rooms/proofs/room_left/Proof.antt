@@ -46,4 +46,4 @@ returns-3 c =
 pub room-left-spec : {M : Type 1} → statement M
 room-left-spec =
     tie.close
-    (tie.spec (search needs) (search needs) (search needs) returns returns-2 sub-cell cell-requires (search needs) (search needs) returns-3)
+    (tie.spec (search needs) (search needs) (search needs) returns returns-2 sub-cell cell-requires (λ c. omega arith) (λ c. omega arith) returns-3)
