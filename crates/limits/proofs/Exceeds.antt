@@ -1,15 +1,20 @@
 -- What it is to exceed a limit, in numbers. Assumes nothing.
 use mathlib.Core.Path.{_≡_, refl, sym, ap, _∙_}
 use mathlib.Core.Bool.{Bool, true, false, cond, _&&_, _||_, or-true, or-false}
-use Prim.Native.Nat.{ℕ, _+_, _-_, _<_, _≤_}
+use mathlib.Core.List.{_++_}
+use Prim.Native.Nat.{ℕ, _+_, _-_, _*_, _<_, _≤_}
 use native.Mathlib.Omega.{arith}
 use borrow.Author.Tests.{ltb-true, ltb-false, lt-ltb, le-ltb}
 use lib.Dec.{ltb}
 use Rattle.money.specs.declared.AccumulatorAmount.{AccumulatorAmount}
 use Rattle.money.specs.declared.Converted.{Converted}
 use Rattle.money.specs.declared.Converted.the-variants.{Amount, Over, NoEntry}
-use Rattle.purchase.specs.Meter.{MeterRule, once}
-use Rattle.limits.specs.Limits.{bit, sumExceeds, valueExceeds, exceeds}
+use Rattle.rules.specs.declared.Place.{Place}
+use Rattle.rules.specs.declared.Values.{Values}
+use Rattle.rules.specs.Rules.{Rules, four}
+use Rattle.purchase.specs.declared.Purchase.{Purchase}
+use Rattle.purchase.specs.Meter.{Meter, MeterRule, once}
+use Rattle.limits.specs.Limits.{bit, packed, sumExceeds, valueExceeds, exceeds, exceedsLower, exceedsUpper}
 
 -- a sum against a limit is the summand against what is left to it
 pub left-to : (limit value more : ℕ) → value ≤ limit → ltb (limit - value) more ≡ ltb limit (value + more)
@@ -117,3 +122,16 @@ module _ (rule : MeterRule) (include : Bool) (worth : Converted) (limit value : 
   -- an active one that doesn't exceed a limit is within it
   pub active-within : rule .active ≡ true → exceeds rule include worth limit value ≡ false → Within limit value include worth
   active-within active e = kept-within limit value include worth (sym (active-exceeds active) ∙ e)
+
+-- the limits of four meters, side by side
+module _ (rules : Rules) (place : Place) (values : Values) (purchase : Purchase) (meter : ℕ → Meter) where
+  abbrev lower : ℕ → Bool
+  lower i = exceedsLower rules place values purchase (meter i)
+
+  abbrev upper : ℕ → Bool
+  upper i = exceedsUpper rules place values purchase (meter i)
+
+  pub four-packed : {w x y z : ℕ} → w ≡ bit (lower 0) + bit (upper 0) * 16 → x ≡ bit (lower 1) + bit (upper 1) * 16
+      → y ≡ bit (lower 2) + bit (upper 2) * 16 → z ≡ bit (lower 3) + bit (upper 3) * 16
+      → w + x * 2 + y * 4 + z * 8 ≡ packed (four lower ++ four upper)
+  four-packed p q r s = omega arith

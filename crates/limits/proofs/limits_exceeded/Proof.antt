@@ -33,4 +33,4 @@ returns-2 c =
     (simp (c .bit2 .ensures .0, lower .bit .ensures .0, sum), omega (arith, c .bit2 .ensures .1, lower .bit .ensures .1))
 
 pub limits-exceeded-spec : {M : Type 1} → statement M
-limits-exceeded-spec = tie.close (tie.spec (search needs) returns (search needs) (search needs) (search needs) (search needs) returns-2)
+limits-exceeded-spec = tie.close (tie.spec (search needs) returns (search needs) (search needs) (λ c. omega arith) (λ c. omega arith) returns-2)

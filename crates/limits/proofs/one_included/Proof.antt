@@ -15,4 +15,4 @@ returns-2 c =
     (simp (c .bit .ensures .0, c .before .is-open .ensures, included, and-true), c .bit .ensures .1)
 
 pub one-included-spec : {M : Type 1} → statement M
-one-included-spec = tie.close (tie.spec returns (search needs) (search needs) (search needs) returns-2)
+one-included-spec = tie.close (tie.spec returns (λ c. omega arith) (search needs) (search needs) returns-2)

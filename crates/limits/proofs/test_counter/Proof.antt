@@ -31,5 +31,5 @@ returns-2 c =
 pub test-counter-spec : {M : Type 1} → statement M
 test-counter-spec =
     tie.close
-    (tie.spec (search needs) returns (search needs) (search needs) (search needs) (search needs) (search needs)
-    (search needs) (search needs) (search needs) (search needs) returns-2)
+    (tie.spec (search needs) returns (λ c κs. omega arith) (λ c. omega arith) (λ c. omega arith) (λ c. omega arith) (search needs)
+    (λ c. omega arith) (search needs) (λ c. omega arith) (λ c. omega arith) returns-2)

@@ -32,5 +32,5 @@ returns-3 c = (simp (c .enum-told3 .given .1), omega arith)
 pub test-dating-spec : {M : Type 1} → statement M
 test-dating-spec =
     tie.close
-    (tie.spec (search needs) (search needs) (search needs) (search needs) (search needs) (search needs) (search needs) (search needs)
-    (search needs) (search needs) (search needs) returns returns-2 returns-3)
+    (tie.spec (search needs) (search needs) (λ c. omega arith) (search needs) (search needs) (λ c. omega arith) (search needs) (search needs)
+    (λ c. omega arith) (λ c. omega arith) (search needs) returns returns-2 returns-3)
