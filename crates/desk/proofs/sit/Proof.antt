@@ -14,6 +14,6 @@ slice-aggregate-transcribe c =
 pub sit-spec : {M : Type 1} → statement M
 sit-spec =
     tie.close
-    (tie.spec (search needs) (search needs) (search needs) (search needs) slice-aggregate-transcribe (search needs) (search needs) (search needs)
-    (search needs) (search needs) (search needs) (search needs) (search needs) (search needs) (search needs) (search needs) (search needs)
-    (search needs))
+    (tie.spec (search needs) (λ c. omega arith) (search needs) (λ c. omega arith) slice-aggregate-transcribe (search needs) (search needs)
+    (search needs) (λ c. omega arith) (λ c. omega arith) (search needs) (search needs) (λ c. omega arith) (λ c. omega arith) (search needs)
+    (λ c. omega arith) (λ c. omega arith) (search needs))

@@ -1,3 +1,4 @@
+use native.Mathlib.Omega.{arith}
 -- Each turn is counted, and the places stay in the buffer.
 use borrow.Author.Needs.{needs}
 use Prim.Native.Nat.{_-_, _≤_}
@@ -17,8 +18,8 @@ abbrev μ-loop : tie.MeasureT-loop
 pub turn-pages-spec : {M : Type 1} → statement M
 turn-pages-spec =
     tie.close
-    (tie.spec Inv-loop μ-loop
-    (search needs) (search needs) (search needs) (search needs) (search needs) (search needs) (search needs) (search needs)
-    (search needs) (search needs) (search needs) (search needs) (search needs) (search needs) (search needs) (search needs)
-    (search needs) (search needs) (search needs) (search needs) (search needs) (search needs) (search needs) (search needs)
-    (search needs) (search needs) (search needs) (search needs) (search needs) (search needs))
+    (tie.spec Inv-loop μ-loop (λ c. omega arith) (λ c. omega arith) (λ c κs. omega arith) (λ c. omega arith) (search needs) (λ c. omega arith)
+    (λ c. omega arith) (search needs) (search needs) (λ c. omega arith) (λ c. omega arith) (search needs) (λ c. omega arith) (λ c. omega arith)
+    (search needs) (λ c. omega arith) (λ c κs. omega arith) (search needs) (λ c. omega arith) (λ c. omega arith) (search needs) (search needs)
+    (λ c. omega arith) (λ c. omega arith) (search needs) (λ c. omega arith) (λ c. omega arith) (λ c. omega arith) (λ c. omega arith)
+    (search needs))
