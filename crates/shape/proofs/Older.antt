@@ -17,7 +17,7 @@ use Rattle.shape.specs.declared.Tails.{Tails}
 use Rattle.shape.specs.declared.Tails.the-variants.{Ended, Wrong}
 use Rattle.shape.specs.declared.ReadShape.the-variants.{Taken, Refused}
 use Rattle.shape.specs.Shape.{baseLength, based, baseTail, entriesEnd, fileEnd, selects, selectionTail, follows, syllabusTail}
-use Rattle.shape.specs.Shape.{dates, datesEnd, datingTail, families, familyEnd, familyTail, scripts, scriptingTail}
+use Rattle.shape.specs.Shape.{dates, datesEnd, datingTail, families, familyEnd, familyTail, scripts, scriptingTail, loggingTail}
 use Rattle.shape.specs.Shape.{behind, tailsOf, whole, shapeOf}
 use Rattle.shape.proofs.Ends.{Ends, behind-ends, end-ends, switched-ends}
 use Rattle.shape.proofs.Scripting.{off-before}
@@ -144,6 +144,21 @@ module _ (body : List ℕ) where
     abbrev byteTail : List ℕ → Shape → ℕ → Tails
     byteTail s shape at = cond (leb (length s) at) Wrong (cond (ltb 1 (byte s at)) Wrong (Ended (sets shape (byte s at)) (at + 1)))
 
+    near-byte : (shape : Shape) (at : ℕ) → Near (byteTail newer shape at) (byteTail body shape at)
+    near-byte shape at =
+        rw (same-byte body at, longer) (by (leb (length body) at) (leb (length body + 1) at) refl refl (ltb 1 (byte body at)) refl)
+      where
+        by : (older later : Bool) → leb (length body) at ≡ older → leb (length body + 1) at ≡ later → (above : Bool) → ltb 1 (byte body at) ≡ above
+            → Near (cond later Wrong (cond above Wrong (Ended (sets shape (byte body at)) (at + 1))))
+            (cond older Wrong (cond above Wrong (Ended (sets shape (byte body at)) (at + 1))))
+        by true true h k above l = same
+        by true false h k above l =
+            let here : at ≡ length body = omega (arith, leb-true (length body) at h, leb-false (length body + 1) at k) in
+            let none : byte body at ≡ 0 = List·getD-eq-default body 0 (leb-true (length body) at h) in
+            rw (← l, none, here) (past (sets shape 0))
+        by false true h k above l = absurd (omega (arith, leb-false (length body) at h, leb-true (length body + 1) at k))
+        by false false h k above l = same
+
     missing-byte : (shape : Shape) → byteTail newer shape (length body + 1) ≡ Wrong
     missing-byte shape = rw (longer, le-leb (length body + 1) (length body + 1) (omega arith))
 
@@ -193,19 +208,7 @@ module _ (body : List ℕ) where
 
   near-syllabus : (shape : Shape) (at : ℕ) → Near (syllabusTail newer shape at) (syllabusTail body shape at)
   unfolding syllabusTail
-  near-syllabus shape at =
-      rw (same-byte body at, longer) (by (leb (length body) at) (leb (length body + 1) at) refl refl (ltb 1 (byte body at)) refl)
-    where
-      by : (older later : Bool) → leb (length body) at ≡ older → leb (length body + 1) at ≡ later → (above : Bool) → ltb 1 (byte body at) ≡ above
-          → Near (cond later Wrong (cond above Wrong (Ended (follows shape (byte body at)) (at + 1))))
-          (cond older Wrong (cond above Wrong (Ended (follows shape (byte body at)) (at + 1))))
-      by true true h k above l = same
-      by true false h k above l =
-          let here : at ≡ length body = omega (arith, leb-true (length body) at h, leb-false (length body + 1) at k) in
-          let none : byte body at ≡ 0 = List·getD-eq-default body 0 (leb-true (length body) at h) in
-          rw (← l, none, here) (past (follows shape 0))
-      by false true h k above l = absurd (omega (arith, leb-false (length body) at h, leb-true (length body + 1) at k))
-      by false false h k above l = same
+  near-syllabus = near-byte follows
 
   missing-syllabus : (shape : Shape) → syllabusTail newer shape (length body + 1) ≡ Wrong
   unfolding syllabusTail
@@ -295,3 +298,30 @@ module _ (body : List ℕ) where
   pub scripts-off : shapeOf 6 newer ≡ shapeOf 5 body
   unfolding shapeOf tailsOf scriptingTail
   scripts-off = last (λ shape b. scripts shape (eqb b 1)) near-5 (off-before body 5 (lit≤ tt))
+
+  -- ---- the log: a body that is taken ends with its scripts, and behind them stands the switch
+
+  near-scripting : (shape : Shape) (at : ℕ) → Near (scriptingTail newer shape at) (scriptingTail body shape at)
+  unfolding scriptingTail
+  near-scripting = near-byte (λ shape b. scripts shape (eqb b 1))
+
+  missing-scripting : (shape : Shape) → scriptingTail newer shape (length body + 1) ≡ Wrong
+  unfolding scriptingTail
+  missing-scripting = missing-byte (λ shape b. scripts shape (eqb b 1))
+
+  near-6 : Near (tailsOf 6 newer) (tailsOf 6 body)
+  unfolding tailsOf
+  near-6 = near-behind scriptingTail near-scripting missing-scripting near-5
+
+  logged-off : (shape : Shape) → loggingTail newer shape (length body) ≡ Ended shape (length body + 1)
+  unfolding loggingTail
+  logged-off shape = rw (longer, lt-leb (length body + 1) (length body) (omega arith), getD-append-seam body 0 [] 0)
+
+  behind-6 : tailsOf 7 newer ≡ behind (tailsOf 6 newer) (loggingTail newer)
+  unfolding tailsOf
+  behind-6 = refl
+
+  -- THE LOG OFF: the older shape
+  pub log-off : (shape : Shape) → shapeOf 6 body ≡ Taken shape → shapeOf 7 newer ≡ Taken shape
+  unfolding shapeOf
+  log-off shape e = rw behind-6 (added-off (loggingTail newer) shape shape near-6 e (logged-off shape))

@@ -1,7 +1,7 @@
 -- The shape of a paper: what its version adds to a set-up's body, read front to back (docs/PAPERS.md, "How a version adds"; document 02, Three,
--- Nine, Five, Thirteen and Twelve). The base of document 01, 52 + 107p + 7c bytes, then a tail for each addition, in the order of the versions, to
+-- Nine, Five, Thirteen, Twelve and Eight). The base of document 01, 52 + 107p + 7c bytes, then a tail for each addition, in the order of the versions, to
 -- the body's end.
-use Prim.Native.Nat.{ℕ, zero, suc, _+_, _-_, _^_, _≤_}
+use Prim.Native.Nat.{ℕ, zero, suc, _+_, _-_, _*_, _^_, _≤_}
 use mathlib.Core.Bool.{Bool, false, cond}
 use mathlib.Core.List.{List, []}
 use lib.Dec.{eqb, ltb, leb}
@@ -16,16 +16,28 @@ use Rattle.shape.specs.declared.Dating.{Dating}
 use Rattle.shape.specs.declared.Dating.the-variants.{Off as DatesOff, On as DatesOn}
 use Rattle.shape.specs.declared.Family.{Family}
 use Rattle.shape.specs.declared.Family.the-variants.{Cpa, Cpace}
+use Rattle.shape.specs.declared.Logging.{Logging}
+use Rattle.shape.specs.declared.Logging.the-variants.{Off as LogOff, On as LogOn}
 use Rattle.shape.specs.declared.Shape.{Shape}
 use Rattle.shape.specs.declared.Tails.{Tails}
 use Rattle.shape.specs.declared.Tails.the-variants.{Ended, Wrong}
 use Rattle.shape.specs.declared.ReadShape.{ReadShape}
 use Rattle.shape.specs.declared.ReadShape.the-variants.{Taken, Refused}
 
--- THE BASE, which is whole; with no tail nothing is selected, the syllabus is 0, nothing is dated, the family is CPA, scripts are off, and mask bits
--- 0 to 21 are named
+-- THE BASE, which is whole; with no tail nothing is selected, the syllabus is 0, nothing is dated, the family is CPA, scripts and the log are off,
+-- and mask bits 0 to 21 are named
 abbrev pub based : (base : ℕ) → Shape
-based base = record { base = base; selecting = Off; syllabus = 0; dating = DatesOff; family = Cpa; scripting = false; unnamed = 2 ^ 22 }
+based base =
+    record {
+      base = base;
+      selecting = Off;
+      syllabus = 0;
+      dating = DatesOff;
+      family = Cpa;
+      scripting = false;
+      logging = LogOff;
+      unnamed = 2 ^ 22;
+    }
 
 unfoldable pub baseTail : List ℕ → Tails
 baseTail body = cond (ltb (length body) (baseLength body)) Wrong (Ended (based (baseLength body)) (baseLength body))
@@ -48,6 +60,7 @@ selects shape start end entries =
       dating = shape .dating;
       family = shape .family;
       scripting = shape .scripting;
+      logging = shape .logging;
       unnamed = shape .unnamed;
     }
 
@@ -68,6 +81,7 @@ follows shape syllabus =
       dating = shape .dating;
       family = shape .family;
       scripting = shape .scripting;
+      logging = shape .logging;
       unnamed = shape .unnamed;
     }
 
@@ -86,6 +100,7 @@ dates shape dating =
       dating = dating;
       family = shape .family;
       scripting = shape .scripting;
+      logging = shape .logging;
       unnamed = 2 ^ 25;
     }
 
@@ -110,6 +125,7 @@ families shape family =
       dating = shape .dating;
       family = family;
       scripting = shape .scripting;
+      logging = shape .logging;
       unnamed = 2 ^ 26;
     }
 
@@ -133,12 +149,41 @@ scripts shape scripting =
       dating = shape .dating;
       family = shape .family;
       scripting = scripting;
+      logging = shape .logging;
       unnamed = shape .unnamed;
     }
 
 unfoldable pub scriptingTail : List ℕ → Shape → (at : ℕ) → Tails
 scriptingTail body shape at =
     cond (leb (length body) at) Wrong (cond (ltb 1 (byte body at)) Wrong (Ended (scripts shape (eqb (byte body at) 1)) (at + 1)))
+
+-- VERSION 07, the log: 0 off; 1 on, the ring's size, the switches, a byte for each profile, and two tables, each the number of its entries and 3
+-- bytes for each
+abbrev pub logs : Shape → Logging → Shape
+logs shape logging =
+    record {
+      base = shape .base;
+      selecting = shape .selecting;
+      syllabus = shape .syllabus;
+      dating = shape .dating;
+      family = shape .family;
+      scripting = shape .scripting;
+      logging = logging;
+      unnamed = shape .unnamed;
+    }
+
+abbrev pub tableEnd : List ℕ → (at : ℕ) → ℕ
+tableEnd body at = at + 1 + 3 * byte body at
+
+abbrev pub logEnd : List ℕ → (at : ℕ) → ℕ
+logEnd body at = tableEnd body (tableEnd body (at + 3 + byte body 3))
+
+unfoldable pub loggingTail : List ℕ → Shape → (at : ℕ) → Tails
+loggingTail body shape at =
+    cond (leb (length body) at) Wrong
+    (cond (eqb (byte body at) 0) (Ended shape (at + 1))
+    (cond (ltb 1 (byte body at)) Wrong
+    (cond (ltb (length body) (logEnd body at)) Wrong (Ended (logs shape (LogOn at (logEnd body at))) (logEnd body at)))))
 
 -- one tail behind another; above the paper's version it is off and has no bytes
 abbrev pub behind : Tails → (Shape → ℕ → Tails) → Tails
@@ -150,11 +195,13 @@ since first version before tail = cond (ltb version first) before (behind before
 
 unfoldable pub tailsOf : (version : ℕ) (body : List ℕ) → Tails
 tailsOf version body =
-    since 6 version
+    since 7 version
+    (since 6 version
     (since 5 version
     (since 4 version (since 3 version (since 2 version (baseTail body) (selectionTail body)) (syllabusTail body)) (datingTail body))
     (familyTail body))
-    (scriptingTail body)
+    (scriptingTail body))
+    (loggingTail body)
 
 -- THE SHAPE: the last tail ends where the body does, or refusal 1
 abbrev pub whole : List ℕ → Tails → ReadShape
@@ -177,6 +224,11 @@ abbrev pub familyPart : Family → (body : List ℕ) → List ℕ
 familyPart Cpa body = []
 familyPart (Cpace start end) body = take (end - start) (drop start body)
 
+-- the tail of version 07 where the log is on, no byte where it is off
+abbrev pub logPart : Logging → (body : List ℕ) → List ℕ
+logPart LogOff body = []
+logPart (LogOn start end) body = take (end - start) (drop start body)
+
 -- the tail lies in so many bytes
 abbrev pub Spans : Dating → (bytes : ℕ) → Type 0
 Spans DatesOff bytes = Unit
@@ -185,6 +237,10 @@ Spans (DatesOn start end) bytes = (start ≤ end) × (end ≤ bytes)
 abbrev pub Holds : Family → (bytes : ℕ) → Type 0
 Holds Cpa bytes = Unit
 Holds (Cpace start end) bytes = (start ≤ end) × (end ≤ bytes)
+
+abbrev pub Keeps : Logging → (bytes : ℕ) → Type 0
+Keeps LogOff bytes = Unit
+Keeps (LogOn start end) bytes = (start ≤ end) × (end ≤ bytes)
 
 -- the file lies in so many bytes
 abbrev pub Lies : Selecting → (bytes : ℕ) → Type 0
@@ -204,6 +260,10 @@ abbrev pub familyAt : (place : ℕ) → Family → Family
 familyAt place Cpa = Cpa
 familyAt place (Cpace start end) = Cpace (place + start) (place + end)
 
+abbrev pub loggingAt : (place : ℕ) → Logging → Logging
+loggingAt place LogOff = LogOff
+loggingAt place (LogOn start end) = LogOn (place + start) (place + end)
+
 abbrev pub shapeAt : (place : ℕ) → Shape → Shape
 shapeAt place shape =
     record {
@@ -213,6 +273,7 @@ shapeAt place shape =
       dating = datingAt place (shape .dating);
       family = familyAt place (shape .family);
       scripting = shape .scripting;
+      logging = loggingAt place (shape .logging);
       unnamed = shape .unnamed;
     }
 

@@ -2,13 +2,14 @@
 // each addition, in the order of the versions, each beginning with a byte that can say "off". A
 // tail tells where it ends; the last one ends where the body does. No crate above knows a version.
 ghost use mathlib.Core.Path.{_≡_};
-ghost use Prim.Native.Nat.{_+_, _≤_};
+ghost use Prim.Native.Nat.{_+_, _^_, _≤_, _<_};
 ghost use lib.ListN.{length};
-ghost use Rattle.shape.specs.Shape.{baseTail, entriesEnd, selectionTail, syllabusTail, dates, datingTail, families, familyTail, scriptingTail, since, tailsOf, shapeOf};
+ghost use Rattle.shape.specs.Shape.{baseTail, entriesEnd, selectionTail, syllabusTail, dates, datingTail, families, familyTail, scriptingTail};
+ghost use Rattle.shape.specs.Shape.{tableEnd, logEnd, loggingTail, since, tailsOf, shapeOf};
 use refusal::Refusal;
 
 // The first version with a tail that selects profiles, with a syllabus, with dates, with a card family,
-// and with issuer scripts.
+// with issuer scripts, and with a log.
 const SELECTION: u8 = 2;
 
 const SYLLABUS: u8 = 3;
@@ -18,6 +19,8 @@ const DATES: u8 = 4;
 const FAMILY: u8 = 5;
 
 const SCRIPTS: u8 = 6;
+
+const LOG: u8 = 7;
 
 // The first mask bit without a name: 22, from version 04 on 25, and from version 05 on 26.
 const UNNAMED: u32 = 4_194_304;
@@ -48,6 +51,13 @@ pub enum Family {
     Cpace { start: usize, end: usize },
 }
 
+// Whether transactions are logged. The tail with the log's settings and tables stands from start up to
+// end.
+pub enum Logging {
+    Off,
+    On { start: usize, end: usize },
+}
+
 // The base's length, what the tails say, an older paper's being off, and the first mask bit that is
 // unnamed.
 pub struct Shape {
@@ -57,6 +67,7 @@ pub struct Shape {
     pub dating: Dating,
     pub family: Family,
     pub scripting: bool,
+    pub logging: Logging,
     pub unnamed: u32,
 }
 
@@ -87,6 +98,7 @@ fn read_base(body: &[u8]) -> Tails
             dating: Dating::Off,
             family: Family::Cpa,
             scripting: false,
+            logging: Logging::Off,
             unnamed: UNNAMED,
         },
         at: base,
@@ -127,6 +139,7 @@ fn read_selection(body: &[u8], shape: Shape, at: usize) -> Tails
     }
     let dating = shape.dating;
     let family = shape.family;
+    let logging = shape.logging;
     Tails::Ended {
         shape: Shape {
             base: shape.base,
@@ -139,6 +152,7 @@ fn read_selection(body: &[u8], shape: Shape, at: usize) -> Tails
             dating,
             family,
             scripting: shape.scripting,
+            logging,
             unnamed: shape.unnamed,
         },
         at: end,
@@ -159,6 +173,7 @@ fn read_syllabus(body: &[u8], shape: Shape, at: usize) -> Tails
     let selecting = shape.selecting;
     let dating = shape.dating;
     let family = shape.family;
+    let logging = shape.logging;
     Tails::Ended {
         shape: Shape {
             base: shape.base,
@@ -167,6 +182,7 @@ fn read_syllabus(body: &[u8], shape: Shape, at: usize) -> Tails
             dating,
             family,
             scripting: shape.scripting,
+            logging,
             unnamed: shape.unnamed,
         },
         at: at + 1,
@@ -179,6 +195,7 @@ fn with_dates(shape: Shape, dating: Dating) -> Shape
 {
     let selecting = shape.selecting;
     let family = shape.family;
+    let logging = shape.logging;
     Shape {
         base: shape.base,
         selecting,
@@ -186,6 +203,7 @@ fn with_dates(shape: Shape, dating: Dating) -> Shape
         dating,
         family,
         scripting: shape.scripting,
+        logging,
         unnamed: UNNAMED_DATED,
     }
 }
@@ -223,6 +241,7 @@ fn with_family(shape: Shape, family: Family) -> Shape
 {
     let selecting = shape.selecting;
     let dating = shape.dating;
+    let logging = shape.logging;
     Shape {
         base: shape.base,
         selecting,
@@ -230,6 +249,7 @@ fn with_family(shape: Shape, family: Family) -> Shape
         dating,
         family,
         scripting: shape.scripting,
+        logging,
         unnamed: UNNAMED_FAMILY,
     }
 }
@@ -275,6 +295,7 @@ fn read_scripting(body: &[u8], shape: Shape, at: usize) -> Tails
     let selecting = shape.selecting;
     let dating = shape.dating;
     let family = shape.family;
+    let logging = shape.logging;
     Tails::Ended {
         shape: Shape {
             base: shape.base,
@@ -283,9 +304,64 @@ fn read_scripting(body: &[u8], shape: Shape, at: usize) -> Tails
             dating,
             family,
             scripting: scripts == 1,
+            logging,
             unnamed: shape.unnamed,
         },
         at: at + 1,
+    }
+}
+
+// Where a table of the log at a place ends: the number of its entries, and 3 bytes for each.
+fn table_end(body: &[u8], at: usize) -> usize
+    requires { ⌜ at < 2 ^ 63 + 2048 ⌝ }
+    ensures { λ r. ⌜ (r ≡ tableEnd (now (body .entry)) at) × (r < at + 1024) ⌝ }
+{
+    at + 1 + 3 * wire::byte_at(body, at) as usize
+}
+
+// Where the log's tail at a place ends: switch, ring's size, switches, a byte for each profile, and two
+// tables.
+fn log_end(body: &[u8], at: usize) -> usize
+    requires { ⌜ at < 2 ^ 63 ⌝ }
+    ensures { λ r. ⌜ r ≡ logEnd (now (body .entry)) at ⌝ }
+{
+    let first = at + 3 + wire::byte_at(body, layout::PROFILES) as usize;
+    table_end(body, table_end(body, first))
+}
+
+// Version 07's tail at a place: the log, 0 off or 1 on; where it is on, its settings and two tables.
+fn read_logging(body: &[u8], shape: Shape, at: usize) -> Tails
+    ensures { λ r. ⌜ r ≡ loggingTail (now (body .entry)) shape at ⌝ }
+{
+    if body.len() <= at {
+        return Tails::Wrong;
+    }
+    let log = wire::byte_at(body, at);
+    if log == 0 {
+        return Tails::Ended { shape, at: at + 1 };
+    }
+    if 1 < log {
+        return Tails::Wrong;
+    }
+    let end = log_end(body, at);
+    if body.len() < end {
+        return Tails::Wrong;
+    }
+    let selecting = shape.selecting;
+    let dating = shape.dating;
+    let family = shape.family;
+    Tails::Ended {
+        shape: Shape {
+            base: shape.base,
+            selecting,
+            syllabus: shape.syllabus,
+            dating,
+            family,
+            scripting: shape.scripting,
+            logging: Logging::On { start: at, end },
+            unnamed: shape.unnamed,
+        },
+        at: end,
     }
 }
 
@@ -354,6 +430,19 @@ fn add_scripting(version: u8, body: &[u8], tails: Tails) -> Tails
     read_scripting(body, shape, at)
 }
 
+// Version 07's tail behind that.
+fn add_logging(version: u8, body: &[u8], tails: Tails) -> Tails
+    ensures { λ r. ⌜ r ≡ since 7 version tails (loggingTail (now (body .entry))) ⌝ }
+{
+    let Tails::Ended { shape, at } = tails else {
+        return Tails::Wrong;
+    };
+    if version < LOG {
+        return tails;
+    }
+    read_logging(body, shape, at)
+}
+
 // The base and the tails of a version, one behind the other.
 fn read_tails(version: u8, body: &[u8]) -> Tails
     ensures { λ r. ⌜ r ≡ tailsOf version (now (body .entry)) ⌝ }
@@ -363,7 +452,8 @@ fn read_tails(version: u8, body: &[u8]) -> Tails
     let rounding = add_syllabus(version, body, selecting);
     let dating = add_dating(version, body, rounding);
     let family = add_family(version, body, dating);
-    add_scripting(version, body, family)
+    let scripting = add_scripting(version, body, family);
+    add_logging(version, body, scripting)
 }
 
 // The shape of a body, or refusal 1 where bytes are missing or left over, or a tail is out of range.

@@ -6,16 +6,17 @@ use Rattle.shape.proofs.read_tails.Tie as tie
 returns : tie.Need-returns
 unfolding tailsOf
 returns c =
-    let dating = c .before .before in
-    let rounding = dating .before in
+    let family = c .before .before in
+    let rounding = family .before .before in
     simp (
-      c .add-scripting .ensures,
-      c .before .add-family .ensures,
-      dating .add-dating .ensures,
+      c .add-logging .ensures,
+      c .before .add-scripting .ensures,
+      family .add-family .ensures,
+      family .before .add-dating .ensures,
       rounding .add-syllabus .ensures,
       rounding .before .add-selection .ensures,
       rounding .before .before .read-base .ensures,
     )
 
 pub read-tails-spec : {M : Type 1} → statement M
-read-tails-spec = tie.close (tie.spec (search needs) (search needs) (search needs) (search needs) (search needs) (search needs) returns)
+read-tails-spec = tie.close (tie.spec (search needs) (search needs) (search needs) (search needs) (search needs) (search needs) (search needs) returns)
