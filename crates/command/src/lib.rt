@@ -127,7 +127,7 @@ fn plain_length(dating: Dating) -> usize
 }
 
 // These, and the 9 bytes of a CPACE card's CVM results and cashback.
-fn first_length(dating: Dating, family: Family) -> usize
+pub fn first_length(dating: Dating, family: Family) -> usize
     ensures { λ r. ⌜ r ≡ firstLength dating family ⌝ }
 {
     let plain = plain_length(dating);

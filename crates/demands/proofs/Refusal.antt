@@ -12,7 +12,7 @@ use Rattle.wire.specs.Wire.{isCurrency}
 use Rattle.money.specs.Money.{max}
 use Rattle.refusal.specs.declared.Refusal.{Refusal}
 use Rattle.refusal.specs.declared.Refusal.the-variants.{BadSetup, OutOfTurn, UnknownProfile, AtcUsedUp, BadType, OutOfRange, RoomTooSmall, NotAnIad}
-use Rattle.refusal.specs.declared.Refusal.the-variants.{Unreadable, BadRate, BadMta, NotSelected, NotADay, NoRoomForAnswers, Malformed, TooDeep}
+use Rattle.refusal.specs.declared.Refusal.the-variants.{Unreadable, BadRate, BadMta, NotSelected, NotADay, PastData, NoRoomForAnswers, Malformed, TooDeep}
 use Rattle.refusal.specs.Refusal.{refusalNumber}
 use Rattle.calendar.proofs.Dates.{calendar-days}
 use Rattle.ranges.proofs.Accepted.{Currency, currency}
@@ -404,6 +404,7 @@ in-kind rules state command = by (did rules state command) where
   some-refusal BadMta e = omega arith
   some-refusal NotSelected e = omega arith
   some-refusal NotADay e = omega arith
+  some-refusal PastData e = omega arith
   some-refusal NoRoomForAnswers e = omega arith
   some-refusal Malformed e = omega arith
   some-refusal TooDeep e = omega arith

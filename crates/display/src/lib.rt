@@ -17,6 +17,7 @@ use rules::Place;
 use rules::Words;
 use shape::Dating;
 use shape::Family;
+use shape::Logging;
 use shape::Selecting;
 use shape::Shape;
 use state::State;
@@ -183,6 +184,7 @@ fn show_nothing(to: usize) -> Shown
             dating: Dating::Off,
             family: Family::Cpa,
             scripting: false,
+            logging: Logging::Off,
             unnamed: 4_194_304,
         },
         state: card::fresh_card(none),

@@ -2,12 +2,13 @@
 ghost use mathlib.Core.Path.{_≡_};
 ghost use Prim.Native.Nat.{_+_, _<_, _^_};
 ghost use lib.ListN.{length};
-ghost use Rattle.setup.specs.Setup.{wordsAfter};
-ghost use Rattle.shape.specs.Shape.{cyclesPart, familyPart, Lies, Spans, Holds, selectingAt, datingAt, familyAt, shapeAt};
+ghost use Rattle.setup.specs.Setup.{isAccepted, wordsAfter};
+ghost use Rattle.shape.specs.Shape.{cyclesPart, familyPart, Lies, Spans, Holds, Keeps, selectingAt, datingAt, familyAt, loggingAt, shapeAt};
 ghost use Rattle.shape.specs.declared.ReadShape.the-variants.{Taken as ShapeTaken};
 ghost use Rattle.shape.proofs.Inside.{Inside};
-ghost use Rattle.opening.specs.Opening.{setUpEvent, refusedAt, baseBegun, shapedBegun, shapedWords};
+ghost use Rattle.opening.specs.Opening.{setUpEvent, refusedAt, baseBegun, logJudged, pastBegun, shapedBegun, shapedWords};
 ghost use Rattle.opening.specs.Opening.{setupBegun, setupWords, begunOf, wordsBegun};
+use log_tail::Judged;
 use paper::Opened;
 use records::Event;
 use refusal::Refusal;
@@ -15,6 +16,7 @@ use rules::Words;
 use setup::SetupAnswer;
 use shape::Dating;
 use shape::Family;
+use shape::Logging;
 use shape::ReadShape;
 use shape::Selecting;
 use shape::Shape;
@@ -50,6 +52,7 @@ fn refuse(refusal: Refusal, at: usize) -> Begun
             dating: Dating::Off,
             family: Family::Cpa,
             scripting: false,
+            logging: Logging::Off,
             unnamed: 4_194_304,
         },
         state: card::fresh_card(none),
@@ -130,6 +133,20 @@ fn family_in(family: Family, place: usize, bytes: usize) -> Family
     }
 }
 
+// And those of the log's tail.
+fn log_at(logging: Logging, place: usize, bytes: usize) -> Logging
+    requires { ⌜ Keeps logging bytes × (place + bytes < 2 ^ 63) ⌝ }
+    ensures { λ r. ⌜ r ≡ loggingAt place logging ⌝ }
+{
+    match logging {
+        Logging::Off => Logging::Off,
+        Logging::On { start, end } => Logging::On {
+            start: place + start,
+            end: place + end,
+        },
+    }
+}
+
 // A shape with its places in the paper.
 fn place_in(shape: Shape, place: usize, bytes: usize) -> Shape
     requires { ⌜ Inside shape bytes × (place + bytes < 2 ^ 63) ⌝ }
@@ -141,6 +158,8 @@ fn place_in(shape: Shape, place: usize, bytes: usize) -> Shape
     let dating = date_in(dates, place, bytes);
     let kind = shape.family;
     let family = family_in(kind, place, bytes);
+    let log = shape.logging;
+    let logging = log_at(log, place, bytes);
     Shape {
         base: shape.base,
         selecting,
@@ -148,6 +167,7 @@ fn place_in(shape: Shape, place: usize, bytes: usize) -> Shape
         dating,
         family,
         scripting: shape.scripting,
+        logging,
         unnamed: shape.unnamed,
     }
 }
@@ -174,7 +194,37 @@ fn controls_in(family: Family, body: &[u8]) -> &[u8]
     }
 }
 
-// A set-up of this shape: its base, its tail with dates where there is one, and a CPACE card's.
+// The log's settings and tables, where it is on; First's data is as long as the shape says.
+fn judge_log(shape: Shape, body: &[u8]) -> Judged
+    requires { ⌜ Keeps (shape .logging) (length (now body)) ⌝ }
+    ensures { λ r. ⌜ r ≡ logJudged shape (now (body .entry)) ⌝ }
+{
+    let logging = shape.logging;
+    let Logging::On { start, end } = logging else {
+        return Judged::Sound;
+    };
+    let dating = shape.dating;
+    let family = shape.family;
+    let first = command::first_length(dating, family);
+    log_tail::judge(
+        &body[start..end],
+        wire::byte_at(body, layout::PROFILES),
+        first,
+    )
+}
+
+// A log whose tables reach past their data: refusal 14, where everything else is accepted.
+fn refuse_log(base: &[u8], cycles: &[u8], family: &[u8], unnamed: u32, end: usize) -> Begun
+    ensures { λ r. ⌜ r ≡ pastBegun (isAccepted (now (base .entry)) (now (cycles .entry)) (now (family .entry)) unnamed) end ⌝ }
+{
+    if setup::is_accepted(base, cycles, family, unnamed) {
+        return refuse(Refusal::PastData, end);
+    }
+    refuse(Refusal::BadSetup, end)
+}
+
+// A set-up of this shape: its base, its tail with dates where there is one, a CPACE card's, and the
+// log's.
 fn take_shaped(shape: Shape, body: &[u8], place: usize, end: usize, words: &mut Words) -> Begun
     requires { ⌜ Inside shape (length (now body)) × (place + length (now body) < 2 ^ 63) ⌝ }
     ensures { λ r. ⌜ (r ≡ shapedBegun (now (body .entry)) place end (ShapeTaken shape))
@@ -186,7 +236,11 @@ fn take_shaped(shape: Shape, body: &[u8], place: usize, end: usize, words: &mut 
     let cycles = cycles_in(dating, body);
     let family = shape.family;
     let controls = controls_in(family, body);
-    take_base(placed, &body[..base], cycles, controls, end, words)
+    match judge_log(shape, body) {
+        Judged::Sound => take_base(placed, &body[..base], cycles, controls, end, words),
+        Judged::Wrong => refuse(Refusal::BadSetup, end),
+        Judged::PastData => refuse_log(&body[..base], cycles, controls, shape.unnamed, end),
+    }
 }
 
 // The set-up: its shape is read, and then what it says, or refused.

@@ -11,11 +11,11 @@ use Rattle.refusal.specs.declared.Refusal.the-variants.{Unreadable}
 use Rattle.rules.specs.Word.{wordCount}
 use Rattle.setup.specs.Setup.{setupNumber}
 use Rattle.shape.specs.declared.Shape.{Shape}
-use Rattle.shape.specs.Shape.{basePart, cyclesPart, familyPart, shapeOf, shapeAt}
 use Rattle.opening.specs.declared.Begun.{Begun}
 use Rattle.records.specs.declared.Event.{Event}
 use Rattle.records.specs.declared.Event.the-variants.{SetUp, Refused}
-use Rattle.opening.specs.Opening.{begunOf, setupBegun, shapedBegun}
+use Rattle.opening.specs.Opening.{begunOf, setupBegun}
+use Rattle.opening.proofs.Unlogged.{sound-below}
 use Rattle.conversation.specs.Events.{eventsOf}
 use Rattle.lines.specs.Lines.{refusalLine}
 use Rattle.lines.specs.Sitting.{answerLine, linesOf, sittingLines}
@@ -24,11 +24,11 @@ use Rattle.rows.specs.Whole.{IsTaken}
 use Rattle.rows.proofs.Whole.{taken-if-spelled}
 use Rattle.spelling.specs.Spelling.{Bytes}
 use Rattle.spelling.specs.Faults.{OpenFault, Opens}
-use Rattle.spelling.specs.Sitting.{NotSetUp, no-shape, no-base, happened}
+use Rattle.spelling.specs.Sitting.{NotSetUp, happened}
 use Rattle.spelling.specs.Sitting as Sp
 use Rattle.spelling.proofs.Numbers.{byte-small}
 use Rattle.spelling.proofs.Opening.{opens, faults, Opening, opens-or-faults}
-use Rattle.spelling.proofs.Papers.{set-up-or-not, One, refused-shape, refused-base, taken-or-not}
+use Rattle.spelling.proofs.Papers.{set-up-or-not, One, not-begun, taken-or-not}
 use Rattle.papers.specs.Papers.{setupOf, Accepted, walked, commandsOf, faulty}
 use Rattle.papers.specs.Talk.{allAnswered, talk, ending, eventsBy, CutBehind, Plain, Heard, unread, not-set-up, heard}
 use Rattle.papers.specs.Lines.{answerLines, endingLines, linesBy}
@@ -93,22 +93,27 @@ ended-at-once words paper refusal e = rw e
 
 one-event : (paper : List ℕ) (version : ℕ) (body rest : List ℕ) → Opens paper version body rest → NotSetUp version body → One (begunOf paper .event)
 unfolding begunOf setupBegun
-one-event paper version body rest o n = let r = opens paper version body rest o in rw (r .0, r .1) (by n) where
-  by : NotSetUp version body → One (shapedBegun body 4 (4 + length body) (shapeOf version body) .event)
-  by (no-shape e) = refused-shape body 4 (4 + length body) (shapeOf version body) e
-  by (no-base shape t e) =
-      rw t
-      (refused-base (shapeAt 4 shape) (basePart shape body) (cyclesPart (shape .dating) body) (familyPart (shape .family) body) (4 + length body) e)
+one-event paper version body rest o n = let r = opens paper version body rest o in rw (r .0, r .1) (not-begun version body 4 (4 + length body) n)
+
+-- no paper of these versions has a log
+unlogged : (version : ℕ) (body rest paper : List ℕ) → Opens paper version body rest → Sp.PastSetUp version body → ⊥
+unlogged version body rest paper o p =
+    let sound = sound-below version (omega (arith, o .most)) body (p .shape) (p .shape-is) in
+    let z : _≡_ {A = ℕ} 0 1 = cc (sound, p .log) in
+    omega arith
 
 -- EVERY BYTE STRING: it does not open, its set-up is not one, or it is heard
 pub every-paper : (words paper : List ℕ) → length words ≡ wordCount → Bytes paper → Heard words paper
 unfolding begunOf
 every-paper words paper lent bytes = by (opens-or-faults paper bytes) where
-  by-set-up : (o : Opening paper) → ((shape : Shape) × Sp.SetUp (o .version) (o .body) shape) ⊎ NotSetUp (o .version) (o .body) → Heard words paper
+  by-set-up : (o : Opening paper)
+      → ((shape : Shape) × Sp.SetUp (o .version) (o .body) shape) ⊎ (NotSetUp (o .version) (o .body) ⊎ Sp.PastSetUp (o .version) (o .body))
+      → Heard words paper
   by-set-up o (inl t) =
       let a = accepted-if-taken paper bytes (o .version) (o .body) (o .rest) (o .opens) (t .0) (t .1) in
       heard a (events-are words paper lent bytes a)
-  by-set-up o (inr n) =
+  by-set-up o (inr (inr p)) = absurd (unlogged (o .version) (o .body) (o .rest) paper (o .opens) p)
+  by-set-up o (inr (inl n)) =
       let i = one-event paper (o .version) (o .body) (o .rest) (o .opens) n in
       not-set-up (o .version) (o .body) (o .rest) (o .opens)
       (λ s. taken-or-not (o .version) (o .body) (shape (o .version) (o .body) s) (set-up (o .version) (o .body) s) n)
@@ -126,9 +131,11 @@ accepted-exactly paper bytes = (λ e. by e (opens-or-faults paper bytes), begun)
   begun a = ap (λ (b : Begun). b .event) (begins (replicate wordCount 0) paper refl bytes a .begun-is)
 
   by-set-up : begunOf paper .event ≡ SetUp → (o : Opening paper)
-      → ((shape : Shape) × Sp.SetUp (o .version) (o .body) shape) ⊎ NotSetUp (o .version) (o .body) → Accepted paper
+      → ((shape : Shape) × Sp.SetUp (o .version) (o .body) shape) ⊎ (NotSetUp (o .version) (o .body) ⊎ Sp.PastSetUp (o .version) (o .body))
+      → Accepted paper
   by-set-up e o (inl t) = accepted-if-taken paper bytes (o .version) (o .body) (o .rest) (o .opens) (t .0) (t .1)
-  by-set-up e o (inr n) =
+  by-set-up e o (inr (inr p)) = absurd (unlogged (o .version) (o .body) (o .rest) paper (o .opens) p)
+  by-set-up e o (inr (inl n)) =
       let i = one-event paper (o .version) (o .body) (o .rest) (o .opens) n in
       let z : _≡_ {A = ℕ} 0 1 = cc (i .is) in
       absurd (omega arith)

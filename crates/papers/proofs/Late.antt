@@ -47,7 +47,7 @@ unfolding late shapeOf tailsOf baseTail selectionTail syllabusTail datingTail re
     areProfiles isProfileOrAbsent isProfile areMasks isMaximumAmount areAccumulatorRules isAccumulatorRule areCounterRules areSent
     areNumbersApart profileNumber areConversions isConversionOrAbsent isConversion conversionPair arePairsApart
     areCycles isCycle areCyclicRules isCyclicRule dateAt isDay hasDay isFamily
-set-up = record { shape-is = refl; base = refl }
+set-up = record { shape-is = refl; base = refl; log = refl }
 
 pub accepted : Accepted late
 accepted = accepted-if-taken late bytes 4 lateBody lateRest opens shaped set-up

@@ -15,7 +15,7 @@ use Rattle.auditor.specs.Template.{InRange}
 use Rattle.shape.specs.declared.Shape.{Shape}
 use Rattle.shape.specs.Shape.{basePart, cyclesPart, familyPart, shapeAt}
 use Rattle.records.specs.declared.Event.the-variants.{SetUp}
-use Rattle.opening.specs.Opening.{begunOf, baseBegun, setupBegun, setupWords, wordsBegun}
+use Rattle.opening.specs.Opening.{logJudged, begunOf, baseBegun, setupBegun, setupWords, wordsBegun}
 use Rattle.demands.specs.Setup.{Setup, AcceptedSetup}
 use Rattle.demands.specs.Conversation.{rulesBy}
 use Rattle.rows.specs.Rows.{body as spelledBase, cyclesBytes, controlsBytes}
@@ -122,10 +122,12 @@ module _ (version : ℕ) (body : List ℕ) (i : IsSetup version body) where
   good = all-in-range (i .setup) (i .tail) (i .fits) (i .fine) .1 (i .in-range, i .dates-in-range, i .families-in-range)
 
   pub set-up : Sp.SetUp version body shape
+  unfolding logJudged
   set-up =
       record {
         shape-is = rw (← i .version-is, ← i .spelled) (says .read);
         base = rw (base-is, cycles-are, controls-are, started base cycles controls (shape .unnamed) good);
+        log = refl;
       }
 
   -- what is read behind the base
@@ -249,9 +251,9 @@ begins words paper lent bytes a =
     record {
       shape = shapeAt 4 form;
       at = 4 + length b;
-      begun-is = rw (setup-is paper a, r .0, r .1, t .shape-is, base, cycles, family, started _ _ _ _ (good v b (a .set-up)));
+      begun-is = rw (setup-is paper a, r .0, r .1, t .shape-is, t .log, base, cycles, family, started _ _ _ _ (good v b (a .set-up)));
       rules =
-          rw (setup-is paper a, r .0, r .1, t .shape-is)
+          rw (setup-is paper a, r .0, r .1, t .shape-is, t .log)
           (rules-are words paper v b (a .rest) (a .opens) form t bytes lent ∙ (λ j. rulesIn (base j) (cycles j) (family j) (form .syllabus)));
       lies = lies-there words paper v b (a .rest) (a .opens) form t;
       manner = chooses words paper v b (a .rest) (a .opens) form t ∙ manner-read v b (a .set-up) ∙ sym (manner-is paper a);

@@ -13,6 +13,7 @@ use Rattle.wire.specs.Wire.{byte}
 use Rattle.selection.specs.Selection.{isFile}
 use Rattle.shape.specs.declared.Dating.the-variants.{Off as DatesOff}
 use Rattle.shape.specs.declared.Family.the-variants.{Cpa}
+use Rattle.shape.specs.declared.Logging.the-variants.{Off as LogOff}
 use Rattle.shape.specs.declared.Shape.{Shape}
 use Rattle.shape.specs.declared.Tails.{Tails}
 use Rattle.shape.specs.declared.Tails.the-variants.{Ended, Wrong}
@@ -69,7 +70,16 @@ choosingEnd base c = length base + length (choosingBytes c)
 
 abbrev pub chosen : List ℕ → Choosing → Shape
 chosen base c =
-    record { base = length base; selecting = selecting c (length base); syllabus = 0; dating = DatesOff; family = Cpa; scripting = false; unnamed = 2 ^ 22 }
+    record {
+      base = length base;
+      selecting = selecting c (length base);
+      syllabus = 0;
+      dating = DatesOff;
+      family = Cpa;
+      scripting = false;
+      logging = LogOff;
+      unnamed = 2 ^ 22;
+    }
 
 pub choosing-read : (base : List ℕ) (c : Choosing) (rest : List ℕ)
     → selectionTail (base ++ (choosingBytes c ++ rest)) (based (length base)) (length base) ≡ Ended (chosen base c) (choosingEnd base c)

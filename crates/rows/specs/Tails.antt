@@ -12,6 +12,7 @@ use Rattle.shape.specs.declared.Dating.{Dating}
 use Rattle.shape.specs.declared.Dating.the-variants.{Off as DatesOff, On as DatesOn}
 use Rattle.shape.specs.declared.Family.{Family}
 use Rattle.shape.specs.declared.Family.the-variants.{Cpa, Cpace}
+use Rattle.shape.specs.declared.Logging.the-variants.{Off as LogOff}
 use Rattle.shape.specs.declared.Shape.{Shape}
 use Rattle.shape.specs.declared.ReadShape.the-variants.{Taken}
 use Rattle.shape.specs.Shape.{basePart, cyclesPart, familyPart, shapeOf}
@@ -189,7 +190,7 @@ abbrev pub familiesAt : (base : List ℕ) → Choosing → Dates → ℕ
 familiesAt base choosing dates = datesAt base choosing + length (datesBytes dates)
 
 -- the shape: the base's length, where the file stands, the syllabus, where the dates' and the family's tail stand, whether scripts are on,
--- the first unnamed mask bit
+-- no log, the first unnamed mask bit
 abbrev pub shapeSaid : (base : List ℕ) → Tail → Shape
 shapeSaid base tail =
     record {
@@ -199,6 +200,7 @@ shapeSaid base tail =
       dating = dating (datesOf tail) (datesAt base (choosingOf tail));
       family = familyFrom (familiesOf tail) (familiesAt base (choosingOf tail) (datesOf tail));
       scripting = scriptingOf tail;
+      logging = LogOff;
       unnamed = unnamedOf tail;
     }
 

@@ -94,6 +94,13 @@ pub fn no_card() -> Fresh
     }
 }
 
+// Whether a set-up is accepted: its base, and the tails of versions 04 and 05, are in range.
+pub fn is_accepted(s: &[u8], t: &[u8], f: &[u8], unnamed: u32) -> bool
+    ensures { λ r. ⌜ r ≡ isAccepted (now (s .entry)) (now (t .entry)) (now (f .entry)) unnamed ⌝ }
+{
+    ranges::is_setup(s, unnamed) & tails::are_cycles(t) & tails::is_family(f)
+}
+
 // The base of a set-up, the tail of version 04 where dates are on, that of version 05 of a CPACE card,
 // and what the other tails say: the syllabus, and the first mask bit that is unnamed. Refusal 1 leaves
 // the words as they were.
@@ -108,7 +115,7 @@ pub fn read_setup(
     ensures { λ r. ⌜ (r ≡ readSetup (now (s .entry)) (now (t .entry)) (now (f .entry)) unnamed)
         × (now (words .exit) ≡ wordsAfter (now (words .entry)) (now (s .entry)) (now (t .entry)) (now (f .entry)) syllabus unnamed) ⌝ }
 {
-    if ranges::is_setup(s, unnamed) & tails::are_cycles(t) & tails::is_family(f) {
+    if is_accepted(s, t, f, unnamed) {
         load::load(words, s, t, f, syllabus);
         let fresh = read_fresh(s, t);
         ReadSetup {

@@ -8,7 +8,9 @@ use native.Mathlib.Omega.{arith}
 use lib.Dec.{eqb}
 use lib.ListN.{length, take, drop, length-drop}
 use lib.Seq.{drop-append-le, take-append-le}
-use Rattle.refusal.specs.declared.Refusal.the-variants.{BadSetup, Unreadable}
+use Rattle.refusal.specs.declared.Refusal.the-variants.{BadSetup, Unreadable, PastData}
+use Rattle.log_tail.specs.declared.Judged.{Judged}
+use Rattle.log_tail.specs.declared.Judged.the-variants.{Sound, Wrong as LogWrong, PastData as TableFault}
 use Rattle.rules.specs.Rules.{rulesOf}
 use Rattle.rules.specs.Word.{wordCount}
 use Rattle.setup.specs.declared.SetupAnswer.{SetupAnswer}
@@ -38,13 +40,14 @@ use Rattle.paper.specs.Walk.{part}
 use Rattle.lines.specs.Lines.{refusalLine}
 use Rattle.records.specs.declared.Event.{Event}
 use Rattle.records.specs.declared.Event.the-variants.{Refused}
-use Rattle.opening.specs.Opening.{setUpEvent, begunOf, baseBegun, setupBegun, shapedBegun, setupWords, wordsBegun}
+use Rattle.opening.specs.declared.Begun.{Begun}
+use Rattle.opening.specs.Opening.{logJudged, pastBegun, loggedBegun, setUpEvent, begunOf, baseBegun, setupBegun, shapedBegun, setupWords, wordsBegun}
 use Rattle.conversation.specs.Events.{eventsOf}
 use Rattle.lines.specs.Sitting.{linesOf, sittingLines}
 use Rattle.spelling.specs.Spelling.{Bytes, Sent, spellAll, choiceIn, datesIn, familyIn, scriptsIn, Manner, mannerIn, AllFit}
 use Rattle.spelling.specs.Faults.{OpenFault, Opens}
-use Rattle.spelling.specs.Sitting.{Lies, setupFrom, SetUp, NotSetUp, no-shape, no-base, Ends, rulesFrom, cardFrom, sittingOf}
-use Rattle.spelling.specs.Sitting.{Sat, unread, not-set-up, sat}
+use Rattle.spelling.specs.Sitting.{Lies, setupFrom, SetUp, NotSetUp, no-shape, no-base, no-log, PastSetUp, Ends, rulesFrom, cardFrom, sittingOf}
+use Rattle.spelling.specs.Sitting.{Sat, unread, not-set-up, past-data, sat}
 use Rattle.spelling.proofs.Numbers.{byte-small, bytes-take, bytes-drop, bytes-front}
 use Rattle.spelling.proofs.Shapes.{record-is, here-length, part-drop}
 use Rattle.spelling.proofs.Opening.{opens, faults, Opening, opens-or-faults}
@@ -62,6 +65,13 @@ is-accepted s t f unnamed e = by (isAccepted s t f unnamed) refl e where
   by : (b : Bool) → isAccepted s t f unnamed ≡ b → by-answer s t b .answer ≡ Done → isAccepted s t f unnamed ≡ true
   by true q e = q
   by false q e = let z : _≡_ {A = ℕ} 0 1 = cc in absurd (omega arith)
+
+pub not-accepted : (s t f : List ℕ) (unnamed : ℕ) → setupNumber (readSetup s t f unnamed .answer) ≡ 1 → isAccepted s t f unnamed ≡ false
+unfolding readSetup by-answer
+not-accepted s t f unnamed = by (isAccepted s t f unnamed) where
+  by : (b : Bool) → setupNumber (by-answer s t b .answer) ≡ 1 → b ≡ false
+  by true e = absurd (omega arith)
+  by false e = refl
 
 -- a shape is taken, or its refusal is 1
 pub data ShapeWays (t : ReadShape) : Type 0 where
@@ -83,17 +93,23 @@ abbrev accepts : Shape → (body : List ℕ) → Bool
 accepts shape body = isAccepted (basePart shape body) (cyclesPart (shape .dating) body) (familyPart (shape .family) body) (shape .unnamed)
 
 -- EVERY SET-UP IS TAKEN OR NOT
-pub set-up-or-not : (version : ℕ) (body : List ℕ) → ((shape : Shape) × SetUp version body shape) ⊎ NotSetUp version body
+pub set-up-or-not : (version : ℕ) (body : List ℕ) → ((shape : Shape) × SetUp version body shape) ⊎ (NotSetUp version body ⊎ PastSetUp version body)
 unfolding readSetup by-answer
 set-up-or-not version body = by (shape-ways version body) where
-  by-base : (shape : Shape) → shapeOf version body ≡ Taken shape → (b : Bool) → accepts shape body ≡ b
-      → ((shape : Shape) × SetUp version body shape) ⊎ NotSetUp version body
-  by-base shape e true q = inl (shape, record { shape-is = e; base = rw q })
-  by-base shape e false q = inr (no-base shape e (rw q))
+  by-log : (shape : Shape) → shapeOf version body ≡ Taken shape → accepts shape body ≡ true → (judged : Judged) → logJudged shape body ≡ judged
+      → ((shape : Shape) × SetUp version body shape) ⊎ (NotSetUp version body ⊎ PastSetUp version body)
+  by-log shape e q Sound l = inl (shape, record { shape-is = e; base = rw q; log = l })
+  by-log shape e q LogWrong l = inr (inl (no-log shape e l))
+  by-log shape e q TableFault l = inr (inr (record { shape = shape; shape-is = e; base = rw q; log = l }))
 
-  by : ShapeWays (shapeOf version body) → ((shape : Shape) × SetUp version body shape) ⊎ NotSetUp version body
+  by-base : (shape : Shape) → shapeOf version body ≡ Taken shape → (b : Bool) → accepts shape body ≡ b
+      → ((shape : Shape) × SetUp version body shape) ⊎ (NotSetUp version body ⊎ PastSetUp version body)
+  by-base shape e true q = by-log shape e q (logJudged shape body) refl
+  by-base shape e false q = inr (inl (no-base shape e (rw q)))
+
+  by : ShapeWays (shapeOf version body) → ((shape : Shape) × SetUp version body shape) ⊎ (NotSetUp version body ⊎ PastSetUp version body)
   by (shape-taken shape e) = by-base shape e (accepts shape body) refl
-  by (shape-one e) = inr (no-shape e)
+  by (shape-one e) = inr (inl (no-shape e))
 
 pub bytes-cycles : (dating : Dating) (body : List ℕ) → Bytes body → Bytes (cyclesPart dating body)
 bytes-cycles DatesOff body h = tt
@@ -176,7 +192,7 @@ module _ (words s : List ℕ) (version : ℕ) (body rest : List ℕ) (o : Opens 
           let r = opens s version body rest o in
           let rules = rulesFrom shape body in
           let manner = mannerIn shape body in
-          rw (r .0, r .1, t .shape-is, F.started base tail controls (shape .unnamed) good, rules-are)
+          rw (r .0, r .1, t .shape-is, t .log, F.started base tail controls (shape .unnamed) good, rules-are)
           (ap (λ (l : List (List ℕ)). refusalLine 0 0 ∷ l)
           (ap (linesOf 1) (events-by (shapeAt 4 shape) s lies-there manner chooses xs (length s) rules (cardFrom shape body) (4 + length body) fit end ends
           (r .2 ∙ e) (omega (arith, length-drop (4 + length body) s)))
@@ -212,27 +228,55 @@ refused-base shape base tail controls end e = by (readSetup base tail controls (
   by Done e = absurd (omega arith)
   by (SetupRefused refusal) e = record { refusal = refusal; is = refl; one = e }
 
+-- a base that is refused, whatever the log is
+pub refused-logged : (judged : Judged) (accepted : Bool) (end : ℕ) (begun : Begun) → accepted ≡ false → One (begun .event)
+    → One (loggedBegun judged accepted end begun .event)
+unfolding pastBegun
+refused-logged Sound accepted end begun no one = one
+refused-logged LogWrong accepted end begun no one = record { refusal = BadSetup; is = refl; one = refl }
+refused-logged TableFault accepted end begun no one = record { refusal = BadSetup; is = rw no; one = refl }
+
+pub not-begun : (version : ℕ) (body : List ℕ) (place end : ℕ) → NotSetUp version body → One (shapedBegun body place end (shapeOf version body) .event)
+not-begun version body place end (no-shape e) = refused-shape body place end (shapeOf version body) e
+not-begun version body place end (no-base shape t e) =
+    let base = basePart shape body in
+    let cycles = cyclesPart (shape .dating) body in
+    let family = familyPart (shape .family) body in
+    rw t
+    (refused-logged (logJudged shape body) (accepts shape body) end (baseBegun (shapeAt place shape) base cycles family end)
+    (not-accepted base cycles family (shape .unnamed) e) (refused-base (shapeAt place shape) base cycles family end e))
+not-begun version body place end (no-log shape t l) = rw (t, l) (record { refusal = BadSetup; is = refl; one = refl })
+
+pub past-begun : (version : ℕ) (body : List ℕ) (place end : ℕ) → PastSetUp version body
+    → shapedBegun body place end (shapeOf version body) .event ≡ Refused PastData
+unfolding pastBegun
+past-begun version body place end p =
+    let shape = p .shape in
+    rw (p .shape-is, p .log, is-accepted (basePart shape body) (cyclesPart (shape .dating) body) (familyPart (shape .family) body) (shape .unnamed) (p .base))
+
 -- AND ONE WHOSE SET-UP IS REFUSED THE ONE LINE 0 1
 pub one-line : (words s : List ℕ) (version : ℕ) (body rest : List ℕ) → Opens s version body rest → NotSetUp version body
     → sittingLines words s ≡ refusalLine 0 1 ∷ []
 unfolding begunOf setupBegun
 one-line words s version body rest o n =
-    let i : One (shapedBegun (part s 4 (4 + length body)) 4 (4 + length body) (shapeOf version (part s 4 (4 + length body))) .event) = rw (r .1) (by n) in
+    let r = opens s version body rest o in
+    let i : One (shapedBegun (part s 4 (4 + length body)) 4 (4 + length body) (shapeOf version (part s 4 (4 + length body))) .event) =
+    rw (r .1) (not-begun version body 4 (4 + length body) n) in
     ended-at-once words s (i .refusal) (rw (r .0) (i .is)) ∙ ap (λ (k : ℕ). refusalLine 0 k ∷ []) (i .one)
-  where
-    r : (openPaper s ≡ Setup version 4 (4 + length body)) × (part s 4 (4 + length body) ≡ body) × (drop (4 + length body) s ≡ rest)
-    r = opens s version body rest o
 
-    by : NotSetUp version body → One (shapedBegun body 4 (4 + length body) (shapeOf version body) .event)
-    by (no-shape e) = refused-shape body 4 (4 + length body) (shapeOf version body) e
-    by (no-base shape t e) =
-        rw t
-        (refused-base (shapeAt 4 shape) (basePart shape body) (cyclesPart (shape .dating) body) (familyPart (shape .family) body) (4 + length body) e)
+-- AND ONE WHOSE LOG REACHES PAST ITS DATA THE ONE LINE 0 14
+pub fourteen-line : (words s : List ℕ) (version : ℕ) (body rest : List ℕ) → Opens s version body rest → PastSetUp version body
+    → sittingLines words s ≡ refusalLine 0 14 ∷ []
+unfolding begunOf setupBegun
+fourteen-line words s version body rest o p =
+    let r = opens s version body rest o in
+    ended-at-once words s PastData (rw (r .0, r .1) (past-begun version body 4 (4 + length body) p))
 
--- EVERY BYTE STRING IS ONE OF THE THREE, WITH ITS LINES
+-- EVERY BYTE STRING IS ONE OF THE FOUR, WITH ITS LINES
 pub every-paper : (words s : List ℕ) → length words ≡ wordCount → Bytes s → Sat words s
 every-paper words s lent bytes = by (opens-or-faults s bytes) where
-  by-set-up : (o : Opening s) → ((shape : Shape) × SetUp (o .version) (o .body) shape) ⊎ NotSetUp (o .version) (o .body) → Sat words s
+  by-set-up : (o : Opening s)
+      → ((shape : Shape) × SetUp (o .version) (o .body) shape) ⊎ (NotSetUp (o .version) (o .body) ⊎ PastSetUp (o .version) (o .body)) → Sat words s
   by-set-up o (inl t) =
       let manner = mannerIn (t .0) (o .body) in
       let rest-bytes : Bytes (o .rest) =
@@ -241,8 +285,10 @@ every-paper words s lent bytes = by (opens-or-faults s bytes) where
       sat (o .version) (o .body) (t .0) (t .1) (p .sent) (p .rest) (p .fit) (p .ends)
       (subst (Opens s (o .version) (o .body)) (p .is) (o .opens))
       (lines-of words s (o .version) (o .body) (o .rest) (o .opens) (t .0) (t .1) bytes lent (p .sent) (p .rest) (p .fit) (p .ends) (p .is))
-  by-set-up o (inr n) =
+  by-set-up o (inr (inl n)) =
       not-set-up (o .version) (o .body) (o .rest) (o .opens) n (one-line words s (o .version) (o .body) (o .rest) (o .opens) n)
+  by-set-up o (inr (inr p)) =
+      past-data (o .version) (o .body) (o .rest) (o .opens) p (fourteen-line words s (o .version) (o .body) (o .rest) (o .opens) p)
 
   by : OpenFault s ⊎ Opening s → Sat words s
   by (inl f) = unread f (nine-line words s f)
@@ -270,7 +316,7 @@ one-sitting s v w b c x y t u xs ys r q h k d e o p =
     one-way (mannerIn x b) xs ys r q h (subst (λ (z : Manner). AllFit z ys) chosen k) d (subst (λ (z : Manner). Ends z q) chosen e) (one .2) in
     (one .0, one .1, way .0, way .1)
 
--- THE THREE SHUT EACH OTHER OUT
+-- THE FOUR SHUT EACH OTHER OUT
 pub opens-or-not : (s : List ℕ) (v : ℕ) (b rest : List ℕ) → OpenFault s → Opens s v b rest → ⊥
 opens-or-not s v b rest f o = let z : _≡_ {A = ℕ} 0 1 = cc (faults s f, opens s v b rest o .0) in omega arith
 
@@ -279,4 +325,25 @@ taken-or-not v b x t (no-shape e) = let none : shapeNumber (shapeOf v b) ≡ 0 =
 taken-or-not v b x t (no-base y u e) =
     let same : y ≡ x = cc (t .shape-is, u) in
     let none : setupNumber (setupFrom y b .answer) ≡ 0 = rw (same, t .base) in
+    omega arith
+taken-or-not v b x t (no-log y u l) =
+    let same : y ≡ x = cc (t .shape-is, u) in
+    let z : _≡_ {A = ℕ} 0 1 = cc (same, l, t .log) in
+    omega arith
+
+pub taken-or-past : (v : ℕ) (b : List ℕ) (x : Shape) → SetUp v b x → PastSetUp v b → ⊥
+taken-or-past v b x t p =
+    let same : p .shape ≡ x = cc (t .shape-is, p .shape-is) in
+    let z : _≡_ {A = ℕ} 0 1 = cc (same, p .log, t .log) in
+    omega arith
+
+pub refused-or-past : (v : ℕ) (b : List ℕ) → NotSetUp v b → PastSetUp v b → ⊥
+refused-or-past v b (no-shape e) p = let none : shapeNumber (shapeOf v b) ≡ 0 = rw (p .shape-is) in omega arith
+refused-or-past v b (no-base y u e) p =
+    let same : y ≡ p .shape = cc (p .shape-is, u) in
+    let none : setupNumber (setupFrom y b .answer) ≡ 0 = rw (same, p .base) in
+    omega arith
+refused-or-past v b (no-log y u l) p =
+    let same : y ≡ p .shape = cc (p .shape-is, u) in
+    let z : _≡_ {A = ℕ} 0 1 = cc (same, l, p .log) in
     omega arith

@@ -7,7 +7,7 @@ use borrow.Author.Tests.{ne-eqb}
 use lib.ListN.{replicate}
 use Rattle.refusal.specs.declared.Refusal.{Refusal}
 use Rattle.refusal.specs.declared.Refusal.the-variants.{BadSetup, OutOfTurn, UnknownProfile, AtcUsedUp, BadType, OutOfRange}
-use Rattle.refusal.specs.declared.Refusal.the-variants.{RoomTooSmall, NotAnIad, Unreadable, BadRate, BadMta, NotSelected, NotADay, NoRoomForAnswers, Malformed, TooDeep}
+use Rattle.refusal.specs.declared.Refusal.the-variants.{RoomTooSmall, NotAnIad, Unreadable, BadRate, BadMta, NotSelected, NotADay, PastData, NoRoomForAnswers, Malformed, TooDeep}
 use Rattle.refusal.specs.Refusal.{refusalNumber}
 use Rattle.iad.specs.declared.Iad.{Iad}
 use Rattle.iad.specs.Iad.{written}
@@ -35,6 +35,7 @@ small BadRate = omega arith
 small BadMta = omega arith
 small NotSelected = omega arith
 small NotADay = omega arith
+small PastData = omega arith
 small NoRoomForAnswers = omega arith
 small Malformed = omega arith
 small TooDeep = omega arith

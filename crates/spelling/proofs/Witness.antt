@@ -65,7 +65,7 @@ pub set-up : SetUp 1 body (based 159)
 unfolding printed shapeOf tailsOf baseTail readSetup isSetup hasLength isHead areAccumulators isAccumulator number
     areProfiles isProfileOrAbsent isProfile areMasks isMaximumAmount areAccumulatorRules isAccumulatorRule areCounterRules areSent
     areNumbersApart profileNumber areConversions isConversionOrAbsent isConversion conversionPair arePairsApart areCycles isFamily
-set-up = record { shape-is = refl; base = refl }
+set-up = record { shape-is = refl; base = refl; log = refl }
 
 abbrev pub named : Manner
 named = record { choice = byName; dates = undated; family = cpa; scripts = unscripted }
@@ -116,7 +116,7 @@ pub brought-set-up : SetUp 2 selectionBody selective
 unfolding selection shapeOf tailsOf baseTail selectionTail entriesEnd readSetup isSetup hasLength isHead areAccumulators isAccumulator number
     areProfiles isProfileOrAbsent isProfile areMasks isMaximumAmount areAccumulatorRules isAccumulatorRule areCounterRules areSent
     areNumbersApart profileNumber areConversions isConversionOrAbsent isConversion conversionPair arePairsApart areCycles isFamily
-brought-set-up = record { shape-is = refl; base = refl }
+brought-set-up = record { shape-is = refl; base = refl; log = refl }
 
 pub brought-chosen : mannerIn selective selectionBody ≡ chosen
 unfolding selection
@@ -167,7 +167,7 @@ unfolding calendar shapeOf tailsOf baseTail selectionTail syllabusTail datingTai
     areProfiles isProfileOrAbsent isProfile areMasks isMaximumAmount areAccumulatorRules isAccumulatorRule areCounterRules areSent
     areNumbersApart profileNumber areConversions isConversionOrAbsent isConversion conversionPair arePairsApart
     areCycles isCycle areCyclicRules isCyclicRule dateAt isDay hasDay isFamily
-dated-set-up = record { shape-is = refl; base = refl }
+dated-set-up = record { shape-is = refl; base = refl; log = refl }
 
 pub dated-manner : mannerIn calendarly calendarBody ≡ onDays
 dated-manner = refl
@@ -236,7 +236,7 @@ pub cpace-set-up : SetUp 5 cpaceBody cpacely
 unfolding cpacePaper shapeOf tailsOf baseTail selectionTail syllabusTail datingTail familyTail readSetup isSetup hasLength isHead areAccumulators isAccumulator
     number areProfiles isProfileOrAbsent isProfile areMasks isMaximumAmount areAccumulatorRules isAccumulatorRule areCounterRules areSent
     areNumbersApart profileNumber areConversions isConversionOrAbsent isConversion conversionPair arePairsApart areCycles isFamily
-cpace-set-up = record { shape-is = refl; base = refl }
+cpace-set-up = record { shape-is = refl; base = refl; log = refl }
 
 pub cpace-manner : mannerIn cpacely cpaceBody ≡ presenting
 cpace-manner = refl

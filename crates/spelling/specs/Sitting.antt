@@ -10,6 +10,7 @@ use Rattle.slot.specs.declared.Slots.{Slots}
 use Rattle.setup.specs.declared.SetupAnswer.the-variants.{Done}
 use Rattle.setup.specs.declared.ReadSetup.{ReadSetup}
 use Rattle.setup.specs.Setup.{readSetup, setupNumber, rulesIn, freshIn}
+use Rattle.log_tail.specs.declared.Judged.the-variants.{Sound, Wrong, PastData as TableFault}
 use Rattle.refusal.specs.declared.Refusal.{Refusal}
 use Rattle.refusal.specs.declared.Refusal.the-variants.{Unreadable}
 use Rattle.refusal.specs.Refusal.{refusalNumber}
@@ -30,6 +31,7 @@ use Rattle.state.specs.declared.State.{State}
 use Rattle.script.specs.Script.{rulesAfter}
 use Rattle.card.specs.Card.{freshState}
 use Rattle.card.specs.Message.{Message, StartCommand, FirstCommand, SecondCommand, ScriptCommand, messageStep, messageWrites}
+use Rattle.opening.specs.Opening.{logJudged}
 use Rattle.lines.specs.Lines.{refusalLine}
 use Rattle.records.specs.declared.Event.{Event}
 use Rattle.records.specs.declared.Event.the-variants.{Refused as EndRefused, Answered}
@@ -94,16 +96,25 @@ pub record Spelled (manner : Manner) (slots : Slots) (s : List ℕ) (at : ℕ) (
 abbrev pub setupFrom : Shape → (body : List ℕ) → ReadSetup
 setupFrom shape body = readSetup (basePart shape body) (cyclesPart (shape .dating) body) (familyPart (shape .family) body) (shape .unnamed)
 
--- the set-up is taken: its shape, and its base with those tails
+-- the set-up is taken: its shape, its base with those tails, and its log
 pub record SetUp (version : ℕ) (body : List ℕ) (shape : Shape) : Type 0 where
   pub shape-is : shapeOf version body ≡ ShapeTaken shape
   pub base : setupFrom shape body .answer ≡ Done
+  pub log : logJudged shape body ≡ Sound
 
--- or its shape is refused, or its base
+-- or its shape is refused, or its base, or its log's settings
 pub data NotSetUp (version : ℕ) (body : List ℕ) : Type 0 where
   no-shape : shapeNumber (shapeOf version body) ≡ 1 → NotSetUp version body
   no-base : (shape : Shape) → shapeOf version body ≡ ShapeTaken shape → setupNumber (setupFrom shape body .answer) ≡ 1
       → NotSetUp version body
+  no-log : (shape : Shape) → shapeOf version body ≡ ShapeTaken shape → logJudged shape body ≡ Wrong → NotSetUp version body
+
+-- or all of it is right, but that a table of its log reaches past its data
+pub record PastSetUp (version : ℕ) (body : List ℕ) : Type 0 where
+  pub shape : Shape
+  pub shape-is : shapeOf version body ≡ ShapeTaken shape
+  pub base : setupFrom shape body .answer ≡ Done
+  pub log : logJudged shape body ≡ TableFault
 
 -- the rules that a message leaves
 abbrev pub rulesLeft : Rules → State → Message → Rules
@@ -175,6 +186,8 @@ pub data Sat (words s : List ℕ) : Type 0 where
   unread : OpenFault s → sittingLines words s ≡ refusalLine 0 9 ∷ [] → Sat words s
   not-set-up : (version : ℕ) (body rest : List ℕ) → Opens s version body rest → NotSetUp version body
       → sittingLines words s ≡ refusalLine 0 1 ∷ [] → Sat words s
+  past-data : (version : ℕ) (body rest : List ℕ) → Opens s version body rest → PastSetUp version body
+      → sittingLines words s ≡ refusalLine 0 14 ∷ [] → Sat words s
   sat : (version : ℕ) (body : List ℕ) (shape : Shape) → SetUp version body shape
       → (xs : List Sent) (rest : List ℕ) → AllFit (mannerIn shape body) xs → (ends : Ends (mannerIn shape body) rest)
       → Opens s version body (spellAll xs ++ rest) → sittingLines words s ≡ sittingOf shape body xs ends → Sat words s

@@ -7,6 +7,7 @@ use native.Mathlib.Omega.{arith}
 use lib.ListN.{length}
 use lib.Seq.{length-sets}
 use Rattle.refusal.specs.declared.Refusal.{Refusal}
+use Rattle.refusal.specs.declared.Refusal.the-variants.{BadSetup, PastData}
 use Rattle.rules.specs.Word.{wordCount}
 use Rattle.rules.specs.Rules.{rulesOf}
 use Rattle.load.specs.Load.{stored, loaded}
@@ -14,6 +15,8 @@ use Rattle.load.proofs.Sizes.{loaded-size}
 use Rattle.load.proofs.Stores.{all}
 use Rattle.setup.specs.Setup.{isAccepted, wordsAfter}
 use Rattle.setup.proofs.Faithful.{untouched}
+use Rattle.log_tail.specs.declared.Judged.{Judged}
+use Rattle.log_tail.specs.declared.Judged.the-variants.{Sound, Wrong, PastData as TableFault}
 use Rattle.shape.specs.declared.Shape.{Shape}
 use Rattle.shape.specs.declared.ReadShape.{ReadShape}
 use Rattle.shape.specs.declared.ReadShape.the-variants.{Taken as ShapeTaken, Refused as ShapeRefused}
@@ -26,7 +29,8 @@ use Rattle.state.specs.declared.State.{State}
 use Rattle.script.specs.Script as script
 use Rattle.records.specs.declared.Event.{Event}
 use Rattle.records.specs.declared.Event.the-variants.{SetUp, End, Refused, Answered}
-use Rattle.opening.specs.Opening.{setUpEvent, baseBegun, shapedBegun, setupBegun, openedBegun, begunOf}
+use Rattle.opening.specs.declared.Begun.{Begun}
+use Rattle.opening.specs.Opening.{setUpEvent, baseBegun, logJudged, pastBegun, loggedBegun, loggedWords, shapedBegun, setupBegun, openedBegun, begunOf}
 use Rattle.opening.specs.Opening.{shapedWords, setupWords, openedWords, wordsBegun}
 use Rattle.conversation.specs.Conversation.{takenOf, takenWrites}
 use Rattle.conversation.specs.Events.{ending, wordsFrom, wordsLeft}
@@ -49,10 +53,16 @@ stored-length words s t f syllabus unnamed = by (isAccepted s t f unnamed) where
 begun-length : (words paper : List ℕ) → length (wordsBegun words paper) ≡ length words
 unfolding wordsBegun setupWords
 begun-length words paper = by (openPaper paper) where
+  by-log : (judged : Judged) {then : List ℕ} → length then ≡ length words → length (loggedWords judged words then) ≡ length words
+  by-log Sound same = same
+  by-log Wrong same = refl
+  by-log TableFault same = refl
+
   by-shape : (body : List ℕ) (read : ReadShape) → length (shapedWords words body read) ≡ length words
   by-shape body (ShapeRefused refusal) = refl
   by-shape body (ShapeTaken shape) =
-      stored-length words (basePart shape body) (cyclesPart (shape .dating) body) (familyPart (shape .family) body) (shape .syllabus) (shape .unnamed)
+      by-log (logJudged shape body)
+      (stored-length words (basePart shape body) (cyclesPart (shape .dating) body) (familyPart (shape .family) body) (shape .syllabus) (shape .unnamed))
 
   by : (opened : Opened) → length (openedWords words paper opened) ≡ length words
   by (OpenRefused refusal) = refl
@@ -98,13 +108,19 @@ module _ (words words′ paper : List ℕ) (lent : length words ≡ wordCount) (
       rw good (all words (loaded s t f syllabus) (size ∙ sym lent) ∙ sym (all words′ (loaded s t f syllabus) (size ∙ sym lent′)))
 
   same-words : begunOf paper .event ≡ SetUp → wordsBegun words paper ≡ wordsBegun words′ paper
-  unfolding begunOf setupBegun baseBegun wordsBegun setupWords
+  unfolding begunOf setupBegun baseBegun pastBegun wordsBegun setupWords
   same-words = by (openPaper paper) where
     by-base : (shape : Shape) (s t f : List ℕ) (end : ℕ) (b : Bool) → isAccepted s t f (shape .unnamed) ≡ b → baseBegun shape s t f end .event ≡ SetUp
         → wordsAfter words s t f (shape .syllabus) (shape .unnamed) ≡ wordsAfter words′ s t f (shape .syllabus) (shape .unnamed)
     by-base shape s t f end true good e = filled s t f (shape .syllabus) (shape .unnamed) good
     by-base shape s t f end false bad e =
         absurd (not-both _ (sym (ap (λ r. setUpEvent (r .answer)) (untouched words s t f (shape .syllabus) (shape .unnamed) bad .1)) ∙ e))
+
+    by-log : (judged : Judged) (accepted : Bool) (end : ℕ) (begun : Begun) {then then′ : List ℕ} → (begun .event ≡ SetUp → then ≡ then′)
+        → loggedBegun judged accepted end begun .event ≡ SetUp → loggedWords judged words then ≡ loggedWords judged words′ then′
+    by-log Sound accepted end begun same e = same e
+    by-log Wrong accepted end begun same e = absurd (not-both BadSetup e)
+    by-log TableFault accepted end begun same e = absurd (not-both (cond accepted PastData BadSetup) e)
 
     by-shape : (body : List ℕ) (place end : ℕ) (read : ReadShape) → shapedBegun body place end read .event ≡ SetUp
         → shapedWords words body read ≡ shapedWords words′ body read
@@ -113,7 +129,9 @@ module _ (words words′ paper : List ℕ) (lent : length words ≡ wordCount) (
         let base = basePart shape body in
         let cycles = cyclesPart (shape .dating) body in
         let family = familyPart (shape .family) body in
-        by-base (shapeAt place shape) base cycles family end (isAccepted base cycles family (shape .unnamed)) refl e
+        let accepted = isAccepted base cycles family (shape .unnamed) in
+        by-log (logJudged shape body) accepted end (baseBegun (shapeAt place shape) base cycles family end)
+        (by-base (shapeAt place shape) base cycles family end accepted refl) e
 
     by : (opened : Opened) → openedBegun paper opened .event ≡ SetUp → openedWords words paper opened ≡ openedWords words′ paper opened
     by (OpenRefused refusal) e = absurd (not-both refusal e)

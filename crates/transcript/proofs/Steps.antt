@@ -12,12 +12,14 @@ use lib.Dec.{eqb, ltb}
 use lib.ListN.{length}
 use Rattle.wire.specs.Wire.{byte}
 use Rattle.refusal.specs.declared.Refusal.{Refusal}
-use Rattle.refusal.specs.declared.Refusal.the-variants.{Unreadable}
+use Rattle.refusal.specs.declared.Refusal.the-variants.{BadSetup, Unreadable, PastData}
 use Rattle.refusal.specs.Refusal.{refusalNumber}
 use Rattle.rules.specs.Rules.{Rules, rulesOf}
 use Rattle.setup.specs.declared.SetupAnswer.{SetupAnswer}
 use Rattle.setup.specs.declared.SetupAnswer.the-variants.{Done, Refused as SetupRefused}
-use Rattle.setup.specs.Setup.{readSetup}
+use Rattle.setup.specs.Setup.{isAccepted, readSetup}
+use Rattle.log_tail.specs.declared.Judged.{Judged}
+use Rattle.log_tail.specs.declared.Judged.the-variants.{Sound, Wrong, PastData as TableFault}
 use Rattle.shape.specs.declared.Shape.{Shape}
 use Rattle.shape.specs.declared.ReadShape.{ReadShape}
 use Rattle.shape.specs.declared.ReadShape.the-variants.{Taken as ShapeTaken, Refused as ShapeRefused}
@@ -40,7 +42,7 @@ use Rattle.records.specs.declared.Taken.{Taken}
 use Rattle.records.specs.declared.Event.{Event}
 use Rattle.records.specs.declared.Event.the-variants.{SetUp, End, Refused, Answered}
 use Rattle.records.specs.Records.{answeredBy, scriptedBy}
-use Rattle.opening.specs.Opening.{setUpEvent, baseBegun, shapedBegun, setupBegun, openedBegun, begunOf}
+use Rattle.opening.specs.Opening.{setUpEvent, baseBegun, logJudged, pastBegun, loggedBegun, shapedBegun, setupBegun, openedBegun, begunOf}
 use Rattle.records.specs.Records.{isScript}
 use Rattle.opening.specs.Opening.{wordsBegun}
 use Rattle.conversation.specs.Conversation.{nextTaken, takenOf, takenWrites}
@@ -197,7 +199,7 @@ opening paper version start end = by (isUnreadable paper) (nextAt paper 1) refl 
       by-kind (byte paper 0) kind start₀ end₀ (eqb kind 1) n (ltb-false 65536 (length paper) short) e
 
 pub begins : (paper : List ℕ) → Beginning paper (begunOf paper)
-unfolding begunOf baseBegun
+unfolding begunOf baseBegun pastBegun
 begins paper = by (openPaper paper) refl where
   by-answer : (shape : Shape) (base cycles family : List ℕ) (end : ℕ) → Opening paper end
       → (answer : SetupAnswer) → readSetup base cycles family (shape .unnamed) .answer ≡ answer
@@ -205,13 +207,19 @@ begins paper = by (openPaper paper) refl where
   by-answer shape base cycles family end o Done e = accepted (ap setUpEvent e) o
   by-answer shape base cycles family end o (SetupRefused refusal) e = refused refusal (ap setUpEvent e)
 
+  by-log : (judged : Judged) (accepted : Bool) (end : ℕ) (begun : Begun) → Beginning paper begun → Beginning paper (loggedBegun judged accepted end begun)
+  by-log Sound accepted end begun b = b
+  by-log Wrong accepted end begun b = refused BadSetup refl
+  by-log TableFault accepted end begun b = refused (cond accepted PastData BadSetup) refl
+
   by-shape : (body : List ℕ) (place end : ℕ) → Opening paper end → (read : ReadShape) → Beginning paper (shapedBegun body place end read)
   by-shape body place end o (ShapeRefused refusal) = refused refusal refl
   by-shape body place end o (ShapeTaken shape) =
       let base = basePart shape body in
       let cycles = cyclesPart (shape .dating) body in
       let family = familyPart (shape .family) body in
-      by-answer (shapeAt place shape) base cycles family end o (readSetup base cycles family (shape .unnamed) .answer) refl
+      by-log (logJudged shape body) (isAccepted base cycles family (shape .unnamed)) end (baseBegun (shapeAt place shape) base cycles family end)
+      (by-answer (shapeAt place shape) base cycles family end o (readSetup base cycles family (shape .unnamed) .answer) refl)
 
   by : (opened : Opened) → openPaper paper ≡ opened → Beginning paper (openedBegun paper opened)
   by (OpenRefused refusal) e = refused refusal refl

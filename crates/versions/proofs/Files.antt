@@ -31,6 +31,7 @@ use Rattle.command.specs.declared.Command.the-variants.{Start as StartCommand}
 use Rattle.command.specs.declared.ReadCommand.the-variants.{Taken as CommandTaken}
 use Rattle.opening.specs.declared.Begun.{Begun}
 use Rattle.opening.specs.Opening.{baseBegun, setupBegun, begunOf}
+use Rattle.opening.proofs.Unlogged.{sound-below}
 use Rattle.versions.proofs.Papers.{Known, Reads, readsOf, paperOf, file-there, by-body, begun-is}
 
 -- a tail that is off, or on with so many bytes in all
@@ -328,8 +329,9 @@ module _ (s : List ℕ) (sized : length s ≡ 52 + 107 * byte s 3 + 7 * byte s 4
       let t = takes version cpace behind b in
       let known = known-behind b in
       let paper = paperOf version (body behind) rest in
+      let unlogged = sound-below version (omega (arith, known .1)) (body behind) (t .shape) (t .is) in
       let shaped : begunOf paper .shape ≡ shapeAt 4 (t .shape) =
-      ap (λ (x : Begun). x .shape) (begun-is version known (body behind) rest short) ∙ rw (t .is) in
+      ap (λ (x : Begun). x .shape) (begun-is version known (body behind) rest short) ∙ rw (t .is, unlogged) in
       let lies = inside (body behind) version (t .shape) (t .is) .file in
       let reads : readsOf (begunOf paper .shape) paper ≡ readsOf (t .shape) (body behind) =
       ap (λ (shape : Shape). readsOf shape paper) shaped ∙ by-body version known (body behind) rest short (t .shape) lies in

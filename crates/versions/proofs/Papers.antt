@@ -42,6 +42,7 @@ use Rattle.script.specs.Script.{rulesAfter}
 use Rattle.records.specs.Records.{answeredBy, scriptedBy, isScript}
 use Rattle.conversation.specs.Conversation.{nextTaken, takenOf, nextWrites, takenWrites}
 use Rattle.opening.specs.Opening.{setUpEvent, baseBegun, setupBegun, begunOf, setupWords, wordsBegun}
+use Rattle.opening.proofs.Unlogged.{sound-below}
 use Rattle.conversation.specs.Events.{following, eventsFrom, eventsOf}
 use Rattle.conversation.proofs.Events.{settled}
 
@@ -309,7 +310,8 @@ module _ (version : ℕ) (known : Known version) (body rest : List ℕ) (short :
       let read = readSetup (parts .base) (parts .cycles) (parts .family) (shape .unnamed) in
       let state = freshState (read .fresh) in
       let paper = paperOf version body rest in
-      rw (opened, its-body, e)
+      let unlogged = sound-below version (omega (arith, known .1)) body shape e in
+      rw (opened, its-body, e, unlogged)
       (ap (following (setUpEvent (read .answer)))
       (ap (eventsFrom (length paper) rules (shapeAt 4 shape) state paper) (sym front-length)
       ∙ events-of-rest (front version body) rest (shapeAt 4 shape) (length paper) rules state (omega (arith, whole-length))

@@ -37,6 +37,7 @@ use Rattle.command.specs.Command.{selectingOf, fileIn, readBy, slotsOf, command
 use Rattle.opening.specs.declared.Begun.{Begun}
 use Rattle.records.specs.declared.Event.the-variants.{SetUp, Refused as EndRefused}
 use Rattle.opening.specs.Opening.{setUpEvent, baseBegun, shapedBegun, setupBegun, begunOf}
+use Rattle.opening.proofs.Unlogged.{sound-below}
 use Rattle.lines.specs.Sitting.{linesOf, sittingLines}
 use Rattle.versions.proofs.Papers.{Known, readsOf, paperOf, Parts, partsOf, eventsWith, eventsShaped}
 use Rattle.versions.proofs.Papers.{part-before, file-there, whole-length, events-are, begun-is}
@@ -63,6 +64,7 @@ naming shape unnamed =
       dating = shape .dating;
       family = shape .family;
       scripting = shape .scripting;
+      logging = shape .logging;
       unnamed = unnamed;
     }
 
@@ -196,8 +198,9 @@ module _ (older later fewer more : ℕ) (b : List ℕ) (adds : Adds older later 
     by (Refused refusal) f g = absurd (never refusal g)
     by (Taken shape) f g =
         let parts = partsOf shape b in
+        let unlogged = sound-below older (omega (arith, adds .known .1)) b shape f in
         by-parts shape f (parts .base) (parts .cycles) (parts .family) refl
-        (isAccepted (parts .base) (parts .cycles) (parts .family) (shape .unnamed)) refl g
+        (isAccepted (parts .base) (parts .cycles) (parts .family) (shape .unnamed)) refl (rw unlogged at g)
 
 -- ---- a version 03 set-up with dates off behind it
 

@@ -11,8 +11,13 @@ date-in-requires c κs = search needs
 family-in-requires : tie.Need-family-in-requires
 family-in-requires c κs = search needs
 
+log-at-requires : tie.Need-log-at-requires
+log-at-requires c κs = search needs
+
 returns : tie.Need-returns
-returns c = simp (c .family-in .ensures, c .before .date-in .ensures, c .before .before .select-in .ensures)
+returns c =
+    let family = c .before in
+    simp (c .log-at .ensures, family .family-in .ensures, family .before .date-in .ensures, family .before .before .select-in .ensures)
 
 pub place-in-spec : {M : Type 1} → statement M
-place-in-spec = tie.close (tie.spec select-in-requires date-in-requires family-in-requires returns)
+place-in-spec = tie.close (tie.spec select-in-requires date-in-requires family-in-requires log-at-requires returns)
