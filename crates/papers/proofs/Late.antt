@@ -22,6 +22,7 @@ use Rattle.shape.specs.Shape.{based, baseTail, selectionTail, syllabusTail, dat
 use Rattle.demands.specs.Conversation.{Exchange}
 use Rattle.demands.specs.Audit.{bought, lastDate, audited}
 use Rattle.demands.proofs.Computed.{computed}
+use Rattle.opening.specs.Opening.{logJudged}
 use Rattle.spelling.specs.Spelling.{Bytes, big, recordOf}
 use Rattle.spelling.specs.Faults.{Opens}
 use Rattle.spelling.specs.Sitting.{SetUp}
@@ -43,7 +44,7 @@ abbrev shaped : Shape
 shaped = dates (based 159) (DatesOn 161 207)
 
 set-up : SetUp 4 lateBody shaped
-unfolding late shapeOf tailsOf baseTail selectionTail syllabusTail datingTail readSetup isSetup hasLength isHead areAccumulators isAccumulator number
+unfolding late shapeOf tailsOf baseTail selectionTail syllabusTail datingTail logJudged readSetup isSetup hasLength isHead areAccumulators isAccumulator number
     areProfiles isProfileOrAbsent isProfile areMasks isMaximumAmount areAccumulatorRules isAccumulatorRule areCounterRules areSent
     areNumbersApart profileNumber areConversions isConversionOrAbsent isConversion conversionPair arePairsApart
     areCycles isCycle areCyclicRules isCyclicRule dateAt isDay hasDay isFamily

@@ -43,7 +43,7 @@ use Rattle.scripting.specs.Scripting.{scriptPerformed, scriptStep, scriptWrites
 use Rattle.opening.specs.declared.Begun.{Begun}
 use Rattle.records.specs.declared.Event.{Event}
 use Rattle.records.specs.Records.{answeredBy, scriptedBy, bodyWrites}
-use Rattle.opening.specs.Opening.{baseBegun, setupBegun, begunOf, setupWords, wordsBegun}
+use Rattle.opening.specs.Opening.{logJudged, baseBegun, setupBegun, begunOf, setupWords, wordsBegun}
 use Rattle.conversation.specs.Conversation.{takenOf, takenWrites}
 use Rattle.conversation.specs.Events.{eventsFrom, eventsOf}
 use Rattle.lines.specs.Lines.{digit, decimal, hex, refusalLine, startLine, selectedLine, cryptogramLine}
@@ -58,11 +58,11 @@ inRange s unnamed = isSetup s unnamed
 -- a paper opened, and its set-up read into words
 unfoldable begun : (paper : List ℕ) → Begun
 unfolding inRange areConversions isConversionOrAbsent isConversion conversionPair arePairsApart areCycles isFamily openPaper nextAt shapeOf tailsOf baseTail
-    selectionTail syllabusTail readSetup freshIn freshState freshScripts kept begunOf setupBegun baseBegun
+    selectionTail syllabusTail readSetup freshIn freshState freshScripts kept begunOf setupBegun baseBegun logJudged
 begun paper = begunOf paper
 
 unfoldable rules : (words paper : List ℕ) → Rules
-unfolding wordsBegun setupWords wordsAfter loaded headWords ratesWords rateWords profilesWords profileWords profileHeadWords rulesWords ruleWords
+unfolding wordsBegun setupWords wordsAfter logJudged loaded headWords ratesWords rateWords profilesWords profileWords profileHeadWords rulesWords ruleWords
     limitIn sentWords cyclesWords cycleWords cyclicRulesWords cyclicRuleWords familyWords rulesOf profileOf
 rules words paper = rulesOf (wordsBegun words paper)
 

@@ -229,12 +229,12 @@ refused-base shape base tail controls end e = by (readSetup base tail controls (
   by (SetupRefused refusal) e = record { refusal = refusal; is = refl; one = e }
 
 -- a base that is refused, whatever the log is
-pub refused-logged : (judged : Judged) (accepted : Bool) (end : ℕ) (begun : Begun) → accepted ≡ false → One (begun .event)
-    → One (loggedBegun judged accepted end begun .event)
+pub refused-logged : (judged : Judged) (good : Bool) (end : ℕ) (begun : Begun) → good ≡ false → One (begun .event)
+    → One (loggedBegun judged good end begun .event)
 unfolding pastBegun
-refused-logged Sound accepted end begun no one = one
-refused-logged LogWrong accepted end begun no one = record { refusal = BadSetup; is = refl; one = refl }
-refused-logged TableFault accepted end begun no one = record { refusal = BadSetup; is = rw no; one = refl }
+refused-logged Sound good end begun bad o = o
+refused-logged LogWrong good end begun bad o = record { refusal = BadSetup; is = refl; one = refl }
+refused-logged TableFault good end begun bad o = record { refusal = BadSetup; is = rw bad; one = refl }
 
 pub not-begun : (version : ℕ) (body : List ℕ) (place end : ℕ) → NotSetUp version body → One (shapedBegun body place end (shapeOf version body) .event)
 not-begun version body place end (no-shape e) = refused-shape body place end (shapeOf version body) e

@@ -26,6 +26,7 @@ use Rattle.shape.specs.Shape.{based, baseTail, entriesEnd, selects, selectionTa
 use Rattle.state.specs.declared.State.{State}
 use Rattle.conversation.specs.Events.{eventsFrom}
 use Rattle.lines.specs.Sitting.{sittingLines}
+use Rattle.opening.specs.Opening.{logJudged}
 use Rattle.spelling.specs.Spelling.{Bytes, big, recordOf, unsaid, on, unshown, shown, Sent, names, brings, first, firstOn, second, script}
 use Rattle.spelling.specs.Spelling.{kindOf, bodyOf, spellAll, paperOf}
 use Rattle.spelling.specs.Spelling.{byName, byFile, undated, dated, cpa, cpace, unscripted, scripted, Manner, mannerIn, Fits, AllFit}
@@ -62,7 +63,7 @@ unfolding printed sent spellAll kindOf bodyOf recordOf big
 opens = record { is = refl; least = lit≤ tt; most = lit≤ tt; short = lit≤ tt }
 
 pub set-up : SetUp 1 body (based 159)
-unfolding printed shapeOf tailsOf baseTail readSetup isSetup hasLength isHead areAccumulators isAccumulator number
+unfolding printed shapeOf tailsOf baseTail logJudged readSetup isSetup hasLength isHead areAccumulators isAccumulator number
     areProfiles isProfileOrAbsent isProfile areMasks isMaximumAmount areAccumulatorRules isAccumulatorRule areCounterRules areSent
     areNumbersApart profileNumber areConversions isConversionOrAbsent isConversion conversionPair arePairsApart areCycles isFamily
 set-up = record { shape-is = refl; base = refl; log = refl }
@@ -113,7 +114,7 @@ unfolding selection brought spellAll kindOf bodyOf recordOf big
 brought-opens = record { is = refl; least = lit≤ tt; most = lit≤ tt; short = lit≤ tt }
 
 pub brought-set-up : SetUp 2 selectionBody selective
-unfolding selection shapeOf tailsOf baseTail selectionTail entriesEnd readSetup isSetup hasLength isHead areAccumulators isAccumulator number
+unfolding selection shapeOf tailsOf baseTail selectionTail entriesEnd logJudged readSetup isSetup hasLength isHead areAccumulators isAccumulator number
     areProfiles isProfileOrAbsent isProfile areMasks isMaximumAmount areAccumulatorRules isAccumulatorRule areCounterRules areSent
     areNumbersApart profileNumber areConversions isConversionOrAbsent isConversion conversionPair arePairsApart areCycles isFamily
 brought-set-up = record { shape-is = refl; base = refl; log = refl }
@@ -163,7 +164,7 @@ unfolding calendar datedSent spellAll kindOf bodyOf recordOf big
 dated-opens = record { is = refl; least = lit≤ tt; most = lit≤ tt; short = lit≤ tt }
 
 pub dated-set-up : SetUp 4 calendarBody calendarly
-unfolding calendar shapeOf tailsOf baseTail selectionTail syllabusTail datingTail readSetup isSetup hasLength isHead areAccumulators isAccumulator number
+unfolding calendar shapeOf tailsOf baseTail selectionTail syllabusTail datingTail logJudged readSetup isSetup hasLength isHead areAccumulators isAccumulator number
     areProfiles isProfileOrAbsent isProfile areMasks isMaximumAmount areAccumulatorRules isAccumulatorRule areCounterRules areSent
     areNumbersApart profileNumber areConversions isConversionOrAbsent isConversion conversionPair arePairsApart
     areCycles isCycle areCyclicRules isCyclicRule dateAt isDay hasDay isFamily
@@ -233,7 +234,7 @@ unfolding cpacePaper cpaceSent spellAll kindOf bodyOf recordOf big
 cpace-opens = record { is = refl; least = lit≤ tt; most = lit≤ tt; short = lit≤ tt }
 
 pub cpace-set-up : SetUp 5 cpaceBody cpacely
-unfolding cpacePaper shapeOf tailsOf baseTail selectionTail syllabusTail datingTail familyTail readSetup isSetup hasLength isHead areAccumulators isAccumulator
+unfolding cpacePaper shapeOf tailsOf baseTail selectionTail syllabusTail datingTail familyTail logJudged readSetup isSetup hasLength isHead areAccumulators isAccumulator
     number areProfiles isProfileOrAbsent isProfile areMasks isMaximumAmount areAccumulatorRules isAccumulatorRule areCounterRules areSent
     areNumbersApart profileNumber areConversions isConversionOrAbsent isConversion conversionPair arePairsApart areCycles isFamily
 cpace-set-up = record { shape-is = refl; base = refl; log = refl }

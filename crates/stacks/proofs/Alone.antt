@@ -116,11 +116,11 @@ module _ (words words′ paper : List ℕ) (lent : length words ≡ wordCount) (
     by-base shape s t f end false bad e =
         absurd (not-both _ (sym (ap (λ r. setUpEvent (r .answer)) (untouched words s t f (shape .syllabus) (shape .unnamed) bad .1)) ∙ e))
 
-    by-log : (judged : Judged) (accepted : Bool) (end : ℕ) (begun : Begun) {then then′ : List ℕ} → (begun .event ≡ SetUp → then ≡ then′)
-        → loggedBegun judged accepted end begun .event ≡ SetUp → loggedWords judged words then ≡ loggedWords judged words′ then′
-    by-log Sound accepted end begun same e = same e
-    by-log Wrong accepted end begun same e = absurd (not-both BadSetup e)
-    by-log TableFault accepted end begun same e = absurd (not-both (cond accepted PastData BadSetup) e)
+    by-log : (judged : Judged) (good : Bool) (end : ℕ) (begun : Begun) {then then′ : List ℕ} → (begun .event ≡ SetUp → then ≡ then′)
+        → loggedBegun judged good end begun .event ≡ SetUp → loggedWords judged words then ≡ loggedWords judged words′ then′
+    by-log Sound good end begun same e = same e
+    by-log Wrong good end begun same e = absurd (not-both BadSetup e)
+    by-log TableFault good end begun same e = absurd (not-both (cond good PastData BadSetup) e)
 
     by-shape : (body : List ℕ) (place end : ℕ) (read : ReadShape) → shapedBegun body place end read .event ≡ SetUp
         → shapedWords words body read ≡ shapedWords words′ body read
@@ -129,9 +129,9 @@ module _ (words words′ paper : List ℕ) (lent : length words ≡ wordCount) (
         let base = basePart shape body in
         let cycles = cyclesPart (shape .dating) body in
         let family = familyPart (shape .family) body in
-        let accepted = isAccepted base cycles family (shape .unnamed) in
-        by-log (logJudged shape body) accepted end (baseBegun (shapeAt place shape) base cycles family end)
-        (by-base (shapeAt place shape) base cycles family end accepted refl) e
+        let good = isAccepted base cycles family (shape .unnamed) in
+        by-log (logJudged shape body) good end (baseBegun (shapeAt place shape) base cycles family end)
+        (by-base (shapeAt place shape) base cycles family end good refl) e
 
     by : (opened : Opened) → openedBegun paper opened .event ≡ SetUp → openedWords words paper opened ≡ openedWords words′ paper opened
     by (OpenRefused refusal) e = absurd (not-both refusal e)

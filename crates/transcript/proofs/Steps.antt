@@ -207,10 +207,10 @@ begins paper = by (openPaper paper) refl where
   by-answer shape base cycles family end o Done e = accepted (ap setUpEvent e) o
   by-answer shape base cycles family end o (SetupRefused refusal) e = refused refusal (ap setUpEvent e)
 
-  by-log : (judged : Judged) (accepted : Bool) (end : ℕ) (begun : Begun) → Beginning paper begun → Beginning paper (loggedBegun judged accepted end begun)
-  by-log Sound accepted end begun b = b
-  by-log Wrong accepted end begun b = refused BadSetup refl
-  by-log TableFault accepted end begun b = refused (cond accepted PastData BadSetup) refl
+  by-log : (judged : Judged) (good : Bool) (end : ℕ) (begun : Begun) → Beginning paper begun → Beginning paper (loggedBegun judged good end begun)
+  by-log Sound good end begun b = b
+  by-log Wrong good end begun b = refused BadSetup refl
+  by-log TableFault good end begun b = refused (cond good PastData BadSetup) refl
 
   by-shape : (body : List ℕ) (place end : ℕ) → Opening paper end → (read : ReadShape) → Beginning paper (shapedBegun body place end read)
   by-shape body place end o (ShapeRefused refusal) = refused refusal refl

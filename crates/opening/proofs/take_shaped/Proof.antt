@@ -16,19 +16,21 @@ controls-in-requires c κs = c .before .before .before .pre .0 .family
 
 judge-log-requires : tie.Need-judge-log-requires
 judge-log-requires c κs =
-    let start = c .before .before .before .before in
-    start .pre .0 .log
+    let place = c .before .before in
+    place .before .before .pre .0 .log
 
 slice-aggregate-take-base : tie.Need-slice-aggregate-take-base
 slice-aggregate-take-base c =
-    let controls = c .before .before .before .before in
-    let start = controls .before .before .before .before in
+    let judge = c .before .before .before in
+    let place = judge .before .before .before in
+    let start = place .before .before in
     sym (length-take-le _ (now (start .args .body)) (start .pre .0 .base))
 
 slice-aggregate-refuse-log : tie.Need-slice-aggregate-refuse-log
 slice-aggregate-refuse-log c =
-    let controls = c .before .before .before .before in
-    let start = controls .before .before .before .before in
+    let judge = c .before .before .before in
+    let place = judge .before .before .before in
+    let start = place .before .before in
     sym (length-take-le _ (now (start .args .body)) (start .pre .0 .base))
 
 returns : tie.Need-returns
