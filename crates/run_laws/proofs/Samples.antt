@@ -1,5 +1,5 @@
 -- Runs worked out, on the card of the printed set-up: of a wrong card the statements are then shown to be false. Assumes nothing.
-use mathlib.Core.Bool.{Bool, true, false, cond, _&&_}
+use mathlib.Core.Bool.{Bool, true, false, not, _&&_}
 use mathlib.Core.List.{List, [], _∷_, _++_}
 use Prim.Native.Nat.{ℕ, zero, suc, _+_}
 use lib.Dec.{T, eqb}
