@@ -14,13 +14,15 @@ use Rattle.refusal.specs.declared.Refusal.the-variants.{Unreadable}
 use Rattle.rules.specs.Rules.{Rules, rulesOf}
 use Rattle.setup.specs.declared.SetupAnswer.{SetupAnswer}
 use Rattle.setup.specs.declared.SetupAnswer.the-variants.{Done, Refused as SetupRefused}
-use Rattle.setup.specs.Setup.{readSetup}
+use Rattle.setup.specs.Setup.{isAccepted, readSetup}
+use Rattle.log_tail.specs.declared.Judged.{Judged}
+use Rattle.log_tail.specs.declared.Judged.the-variants.{Sound, Wrong, PastData as TableFault}
 use Rattle.shape.specs.declared.Selecting.{Selecting}
 use Rattle.shape.specs.declared.Selecting.the-variants.{Off, On}
 use Rattle.shape.specs.declared.Shape.{Shape}
 use Rattle.shape.specs.declared.ReadShape.{ReadShape}
 use Rattle.shape.specs.declared.ReadShape.the-variants.{Taken as ShapeTaken, Refused as ShapeRefused}
-use Rattle.shape.specs.Shape.{Lies, selectingAt, shapeOf}
+use Rattle.shape.specs.Shape.{Lies, basePart, cyclesPart, familyPart, selectingAt, shapeOf, shapeAt}
 use Rattle.shape.proofs.Inside as Inside
 use Rattle.paper.specs.declared.Next.{Next}
 use Rattle.paper.specs.declared.Next.the-variants.{Record, Fault, End}
@@ -30,7 +32,7 @@ use Rattle.paper.specs.Paper.{latest, nextAt, isUnreadable, setupIn, openPaper}
 use Rattle.paper.specs.Walk.{part}
 use Rattle.paper.proofs.Walk.{inside}
 use Rattle.opening.specs.declared.Begun.{Begun}
-use Rattle.opening.specs.Opening.{baseBegun, shapedBegun, setupBegun, openedBegun, begunOf, setupWords, openedWords, wordsBegun}
+use Rattle.opening.specs.Opening.{logJudged, pastBegun, loggedBegun, baseBegun, shapedBegun, setupBegun, openedBegun, begunOf, setupWords, openedWords, wordsBegun}
 use Rattle.opening.proofs.Parts.{part-length}
 use Rattle.records.specs.declared.Event.{Event}
 use Rattle.records.specs.declared.Event.the-variants.{SetUp, Refused}
@@ -115,16 +117,28 @@ module _ (p : List ℕ) (version start end : ℕ) (o : Opens p version start end
     by (On from to entries) lies = (omega (arith, lies .0), omega (arith, lies .1, i))
 
   within : begunOf p .event ≡ SetUp → Within p (begunOf p)
-  unfolding begunOf setupBegun baseBegun
+  unfolding begunOf setupBegun baseBegun pastBegun
   within e = subst (λ opened. openedBegun p opened .event ≡ SetUp → Within p (openedBegun p opened)) (sym (o .is)) (by (shapeOf version (part p start end)) refl) e where
+    by-log : (judged : Judged) (good : Bool) (begun : Begun) → Within p begun → loggedBegun judged good end begun .event ≡ SetUp
+        → Within p (loggedBegun judged good end begun)
+    by-log Sound good begun w e = w
+    by-log Wrong good begun w e = absurd (let z : _≡_ {A = ℕ} 0 1 = cc in omega arith)
+    by-log TableFault good begun w e = absurd (let z : _≡_ {A = ℕ} 0 1 = cc in omega arith)
+
     by : (read : ReadShape) → shapeOf version (part p start end) ≡ read → shapedBegun (part p start end) start end read .event ≡ SetUp
         → Within p (shapedBegun (part p start end) start end read)
     by (ShapeRefused refusal) s e = absurd (let z : _≡_ {A = ℕ} 0 1 = cc in omega arith)
     by (ShapeTaken shape) s e =
-        record {
-          lies = lies-at (shape .selecting) (Inside.inside (part p start end) version shape s .file);
+        let body = part p start end in
+        let base = basePart shape body in
+        let cycles = cyclesPart (shape .dating) body in
+        let family = familyPart (shape .family) body in
+        by-log (logJudged shape body) (isAccepted base cycles family (shape .unnamed)) (baseBegun (shapeAt start shape) base cycles family end)
+        (record {
+          lies = lies-at (shape .selecting) (Inside.inside body version shape s .file);
           at-most = inside p 1 1 start end (o .first) .fits;
-        }
+        })
+        e
 
 -- ---- lines, one behind the other
 
