@@ -1,9 +1,9 @@
 use native.Mathlib.Omega.{arith}
 use borrow.Author.Needs.{needs}
 use borrow.Author.Tests.{eq-eqb, ne-eqb, lt-ltb, le-ltb}
-use Rattle.rooms.specs.Rooms.{leftIn}
-use Rattle.rooms.proofs.left.Statement.{statement}
-use Rattle.rooms.proofs.left.Tie as tie
+use Rattle.room.specs.Room.{leftIn}
+use Rattle.room.proofs.left.Statement.{statement}
+use Rattle.room.proofs.left.Tie as tie
 
 returns : tie.Need-returns
 unfolding leftIn
