@@ -1,8 +1,8 @@
 use borrow.Author.Needs.{needs}
 use mathlib.Core.Path.{sym, _∙_}
-use Rattle.keeper.specs.Keeper.{roomsAfter}
-use Rattle.keeper.proofs.keep.Statement.{statement}
-use Rattle.keeper.proofs.keep.Tie as tie
+use Rattle.upkeep.specs.Upkeep.{roomsAfter}
+use Rattle.upkeep.proofs.keep.Statement.{statement}
+use Rattle.upkeep.proofs.keep.Tie as tie
 
 returns : tie.Need-returns
 unfolding roomsAfter

@@ -1,7 +1,7 @@
 use borrow.Author.Needs.{needs}
-use Rattle.keeper.proofs.Cases.{not-answered, no-script}
-use Rattle.keeper.proofs.is_scripted.Statement.{statement}
-use Rattle.keeper.proofs.is_scripted.Tie as tie
+use Rattle.upkeep.proofs.Cases.{not-answered, no-script}
+use Rattle.upkeep.proofs.is_scripted.Statement.{statement}
+use Rattle.upkeep.proofs.is_scripted.Tie as tie
 
 returns : tie.Need-returns
 returns c = not-answered (c .before .args .event) (c .match .keys2)
