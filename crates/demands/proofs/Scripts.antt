@@ -11,7 +11,8 @@ use Rattle.iad.specs.declared.Cvr.{Cvr}
 use Rattle.rules.specs.declared.Place.{Place}
 use Rattle.rules.specs.Rules.{Rules}
 use Rattle.object.specs.declared.Reading.the-variants.{Sound}
-use Rattle.object.specs.Object.{readTemplate, commandsOf}
+use Rattle.object.specs.Object.{readTemplate}
+use Rattle.cursor.specs.Cursor.{commandsOf}
 use Rattle.element.specs.declared.Write.{Write}
 use Rattle.put_data.specs.PutData.{writesOf}
 use Rattle.auditor.specs.Template.{writesIn, Bytes, EachBytes, InRange}

@@ -9,7 +9,7 @@ use Rattle.money.specs.declared.AccumulatorAmount.{AccumulatorAmount}
 use Rattle.rules.specs.declared.Values.{Values}
 use Rattle.rules.specs.Rules.{Rules}
 use Rattle.rules.specs.Limits.{withAccumulatorLimits, withCounterLimits, accumulatorLimitsPut, counterLimitsPut}
-use Rattle.object.specs.Object.{commandsOf}
+use Rattle.cursor.specs.Cursor.{commandsOf}
 use Rattle.element.specs.declared.Write.{Write}
 use Rattle.element.specs.declared.Write.the-variants.{Value, AccumulatorLimits, CounterLimits}
 use Rattle.put_data.specs.PutData.{writesOf}

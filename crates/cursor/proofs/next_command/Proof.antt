@@ -7,12 +7,13 @@ use mathlib.Core.Bool.{true, false}
 use Prim.Native.Nat.{ℕ, _+_, _-_, _<_}
 use lib.ListN.{length}
 use Rattle.wire.specs.Wire.{byte}
-use Rattle.object.specs.Object.{isConstructed, placesFrom, firstOf, nextCommand}
-use Rattle.object.specs.declared.Next.the-variants.{Command}
-use Rattle.object.proofs.Heads.{At, right-at, wrong-at}
-use Rattle.object.proofs.Places.{places-end, places-filler, places-wrong, places-constructed, places-command, places-other}
-use Rattle.object.proofs.next_command.Statement.{statement}
-use Rattle.object.proofs.next_command.Tie as tie
+use Rattle.head.specs.Head.{isConstructed}
+use Rattle.cursor.specs.Cursor.{placesFrom, firstOf, nextCommand}
+use Rattle.cursor.specs.declared.Next.the-variants.{Command}
+use Rattle.head.proofs.Heads.{At, right-at, wrong-at}
+use Rattle.cursor.proofs.Places.{places-end, places-filler, places-wrong, places-constructed, places-command, places-other}
+use Rattle.cursor.proofs.next_command.Statement.{statement}
+use Rattle.cursor.proofs.next_command.Tie as tie
 
 abbrev Inv-loop : tie.InvT-loop
 Inv-loop template from at₀ at = placesFrom template from ≡ placesFrom template at

@@ -9,8 +9,9 @@ use lib.ListN.{length, drop, drop-of-length-le}
 use lib.Seq.{drop-drop}
 use borrow.Author.Tests.{eq-eqb, ne-eqb}
 use Rattle.wire.specs.Wire.{byte}
-use Rattle.object.specs.Object.{valueSize, headSize, headRight, isConstructed, objectSize, placesBehind, placesFrom}
-use Rattle.object.proofs.Heads.{first-byte, rest-some, head-some}
+use Rattle.head.specs.Head.{valueSize, headSize, headRight, isConstructed, objectSize}
+use Rattle.cursor.specs.Cursor.{placesBehind, placesFrom}
+use Rattle.head.proofs.Heads.{first-byte, rest-some, head-some}
 
 skip : (a m : ℕ) (s : List ℕ) → placesBehind a m s ≡ placesBehind (a + m) 0 (drop m s)
 unfolding placesBehind

@@ -9,10 +9,11 @@ use lib.ListN.{length, drop, length-drop}
 use lib.Seq.{drop-drop}
 use lib.Dec.{ltb, eqb}
 use borrow.Author.Tests.{ltb-true, ltb-false, eqb-true}
-use Rattle.object.specs.declared.Next.the-variants.{Command, End}
-use Rattle.object.specs.Object.{valueSize, headSize, headRight, isConstructed, objectSize, Place, placesBehind, placesFrom, firstOf, nextCommand}
-use Rattle.object.proofs.Heads.{right-fits, head-some}
-use Rattle.object.proofs.Places.{command-first, places-end}
+use Rattle.cursor.specs.declared.Next.the-variants.{Command, End}
+use Rattle.head.specs.Head.{valueSize, headSize, headRight, isConstructed, objectSize}
+use Rattle.cursor.specs.Cursor.{Place, placesBehind, placesFrom, firstOf, nextCommand}
+use Rattle.head.proofs.Heads.{right-fits, head-some}
+use Rattle.cursor.proofs.Places.{command-first, places-end}
 
 -- the first place of those of u, which stands at a: where it lies, and that the others are those from its end on
 record Ahead (u : List ℕ) (a : ℕ) (ps : List Place) (x y : ℕ) : Type 0 where

@@ -1,7 +1,7 @@
 use borrow.Author.Needs.{needs}
 use borrow.Author.Tests.{lt-leb, le-leb}
-use Rattle.object.proofs.head_within.Statement.{statement}
-use Rattle.object.proofs.head_within.Tie as tie
+use Rattle.head.proofs.head_within.Statement.{statement}
+use Rattle.head.proofs.head_within.Tie as tie
 
 returns : tie.Need-returns
 returns c = simp (lt-leb _ _ (c .if1 .taken))

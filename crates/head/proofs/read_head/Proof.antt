@@ -5,11 +5,11 @@ use mathlib.Core.Path.{_≡_, sym, ap, _∙_}
 use mathlib.Core.List.{List}
 use Prim.Native.Nat.{ℕ, _%_, _≤_, _<_}
 use Rattle.wire.specs.Wire.{byte}
-use Rattle.object.specs.Object.{headOf, headBehind}
-use Rattle.object.specs.declared.Head.the-variants.{Wrong}
-use Rattle.object.proofs.Heads.{tag-right, tag-wrong}
-use Rattle.object.proofs.read_head.Statement.{statement}
-use Rattle.object.proofs.read_head.Tie as tie
+use Rattle.head.specs.Head.{headOf, headBehind}
+use Rattle.head.specs.declared.Head.the-variants.{Wrong}
+use Rattle.head.proofs.Heads.{tag-right, tag-wrong}
+use Rattle.head.proofs.read_head.Statement.{statement}
+use Rattle.head.proofs.read_head.Tie as tie
 
 short : (s : List ℕ) (b : ℕ) → b ≡ byte s 0 → (b % 32 ≡ 31 → ⊥) → headOf s ≡ headBehind s 1
 short s b e h = let x = ap (λ n. n % 32) e in let p = ne-eqb (byte s 0 % 32) 31 (λ z. h (x ∙ z)) in tag-right s 1 (simp (p)) (simp (p))

@@ -3,10 +3,10 @@ use native.Mathlib.Omega.{arith}
 use denote.Ref.{now}
 use mathlib.Core.Path.{sym, ap, _∙_}
 use Prim.Native.Nat.{_+_}
-use Rattle.object.specs.Object.{headWithin}
-use Rattle.object.proofs.Heads.{plain-length, length-81, length-82, other-length}
-use Rattle.object.proofs.read_length.Statement.{statement}
-use Rattle.object.proofs.read_length.Tie as tie
+use Rattle.head.specs.Head.{headWithin}
+use Rattle.head.proofs.Heads.{plain-length, length-81, length-82, other-length}
+use Rattle.head.proofs.read_length.Statement.{statement}
+use Rattle.head.proofs.read_length.Tie as tie
 
 returns : tie.Need-returns
 returns c =

@@ -12,9 +12,9 @@ use borrow.Author.Tests.{lt-ltb, le-ltb, ne-eqb, leb-true}
 use Rattle.wire.specs.Wire.{byte, number}
 use Rattle.wire.proofs.Pairs.{both}
 use Rattle.wire.proofs.Numbers.{halves, one}
-use Rattle.object.specs.declared.Head.{Head}
-use Rattle.object.specs.declared.Head.the-variants.{Right, Wrong}
-use Rattle.object.specs.Object.{tagSize, tagRight, lead, lengthRight, lengthSize, lengthAt, valueSize, headSize, objectSize, headFormed, headRight, headWithin, headBehind, headOf}
+use Rattle.head.specs.declared.Head.{Head}
+use Rattle.head.specs.declared.Head.the-variants.{Right, Wrong}
+use Rattle.head.specs.Head.{tagSize, tagRight, lead, lengthRight, lengthSize, lengthAt, valueSize, headSize, objectSize, headFormed, headRight, headWithin, headBehind, headOf}
 
 -- ---- parts of a list
 pub rest-all : (s : List ℕ) (k : ℕ) → take (length s - k) (drop k s) ≡ drop k s
