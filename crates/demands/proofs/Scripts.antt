@@ -19,9 +19,9 @@ use Rattle.auditor.specs.Template.{writesIn, Bytes, EachBytes, InRange}
 use Rattle.auditor.proofs.Commands.{same-commands}
 use Rattle.auditor.proofs.Writes.{same-writes}
 use Rattle.auditor.proofs.Ranges.{commands-bytes, writes-in-range}
-use Rattle.script.specs.declared.Scripts.{Scripts}
+use Rattle.marks.specs.declared.Scripts.{Scripts}
 use Rattle.script.specs.Script.{hasFailedHere, freshScripts, started, heard, done, oneDone, oneFailed, Tried, triedNext, tried, templateTried, ranOf}
-use Rattle.script.proofs.Marks.{Says, fresh-says, done-says, failed-says, started-says, heard-says}
+use Rattle.marks.proofs.Marks.{Says, fresh-says, done-says, failed-says, started-says, heard-says}
 use Rattle.command.specs.declared.First.{First}
 use Rattle.command.specs.declared.Second.{Second}
 use Rattle.purchase.specs.declared.Purchase.{Purchase}

@@ -12,7 +12,7 @@ use Rattle.cursor.specs.Cursor.{placesFrom, cut, commandsOf}
 use Rattle.cursor.proofs.Cursor.{Step}
 use Rattle.element.specs.declared.Write.{Write}
 use Rattle.put_data.specs.PutData.{writesOf, isSome, isValid}
-use Rattle.script.specs.declared.Scripts.{Scripts}
+use Rattle.marks.specs.declared.Scripts.{Scripts}
 use Rattle.script.specs.Script.{hasFailedHere, done, given, oneDone, oneFailed, Tried, behind, triedNext, tried, templateTried, ranOf, rulesRun, wordsRun}
 use Rattle.script.proofs.Writes.{Left, Alike, at-first, passed, at-last}
 

@@ -20,7 +20,7 @@ use Rattle.rules.proofs.Limits.{Whole, Stays, accumulator-limited, counter-limi
 use Rattle.element.specs.declared.Write.{Write}
 use Rattle.element.specs.declared.Write.the-variants.{Value, AccumulatorLimits, CounterLimits}
 use Rattle.cursor.specs.Cursor.{commandsOf}
-use Rattle.script.specs.declared.Scripts.{Scripts}
+use Rattle.marks.specs.declared.Scripts.{Scripts}
 use Rattle.script.specs.Script.{valueIn, valuesWith, rulesWith, valuesAfter, rulesAfter, countOf, templateTried, ranOf, rulesRun}
 use Rattle.script.proofs.Laws.{count-below}
 

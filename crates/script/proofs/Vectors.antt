@@ -16,7 +16,7 @@ use Rattle.head.specs.Head.{valueSize, headFormed, headRight}
 use Rattle.cursor.specs.Cursor.{placesBehind, placesFrom, cut, commandsOf}
 use Rattle.element.specs.Element.{lengthSize, lengthAt, valueWritten, limitsWritten, countsWritten, meaningOf, headSize, elementSize, elementMeaning}
 use Rattle.put_data.specs.PutData.{writesBy, isPutData, listPlace, macPlace, isSecured, elementsOf, writesOf}
-use Rattle.script.specs.declared.Scripts.{Scripts}
+use Rattle.marks.specs.declared.Scripts.{Scripts}
 use Rattle.script.specs.Script.{valueIn, kept, freshScripts, oneDone, oneFailed, started, heard, marksOf, done, tried, templateTried, ranOf, rulesRun}
 use Rattle.script.proofs.Laws.{manyDone}
 
