@@ -1,9 +1,9 @@
 use borrow.Author.Needs.{needs}
 use borrow.Author.Tests.{eq-eqb, ne-eqb}
 use mathlib.Core.Path.{sym, _∙_}
-use Rattle.first.specs.First.{decision}
-use Rattle.first.proofs.decide.Statement.{statement}
-use Rattle.first.proofs.decide.Tie as tie
+use Rattle.decision.specs.Decision.{decision}
+use Rattle.decision.proofs.decide.Statement.{statement}
+use Rattle.decision.proofs.decide.Tie as tie
 
 returns : tie.Need-returns
 unfolding decision

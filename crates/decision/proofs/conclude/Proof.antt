@@ -1,8 +1,8 @@
 use borrow.Author.Needs.{needs}
 use mathlib.Core.Path.{sym, _∙_}
-use Rattle.first.specs.First.{concluded}
-use Rattle.first.proofs.conclude.Statement.{statement}
-use Rattle.first.proofs.conclude.Tie as tie
+use Rattle.decision.specs.Decision.{concluded}
+use Rattle.decision.proofs.conclude.Statement.{statement}
+use Rattle.decision.proofs.conclude.Tie as tie
 
 returns : tie.Need-returns
 unfolding concluded

@@ -1,7 +1,7 @@
 use borrow.Author.Needs.{needs}
-use Rattle.first.specs.First.{settled}
-use Rattle.first.proofs.settle.Statement.{statement}
-use Rattle.first.proofs.settle.Tie as tie
+use Rattle.decision.specs.Decision.{settled}
+use Rattle.decision.proofs.settle.Statement.{statement}
+use Rattle.decision.proofs.settle.Tie as tie
 
 returns : tie.Need-returns
 unfolding settled

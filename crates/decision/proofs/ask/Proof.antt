@@ -1,7 +1,7 @@
 use borrow.Author.Needs.{needs}
-use Rattle.first.specs.First.{asked}
-use Rattle.first.proofs.ask.Statement.{statement}
-use Rattle.first.proofs.ask.Tie as tie
+use Rattle.decision.specs.Decision.{asked}
+use Rattle.decision.proofs.ask.Statement.{statement}
+use Rattle.decision.proofs.ask.Tie as tie
 
 returns : tie.Need-returns
 unfolding asked
