@@ -54,8 +54,8 @@ void script_by(uint8_t result, const char *template);
 void script(const char *template);
 
 /* The set-up becomes version 07, its log on in every profile, with a ring of
- * this size, these switches and empty tables; dated, CPACE, scripts and all else
- * stay. */
+ * this size, these switches and empty tables; dated, CPACE, scripts and all
+ * else stay. */
 void logs(uint8_t size, uint8_t switches);
 
 /* An entry of First's table, which has First's data, and one of Second's. */

@@ -278,7 +278,7 @@ static bool read_table(struct log_table *table, unsigned whose,
 }
 
 /* A switch, 0 or 1; if 1, the ring's size, what is logged, whether each profile
- * logs, and both tables. Whether these reach past the data is not asked here. */
+ * logs, and both tables. Whether these reach past the data is asked later. */
 static bool read_log(struct setup *setup, const uint8_t **place,
                      const uint8_t *end)
 {

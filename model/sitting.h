@@ -7,8 +7,9 @@
 
 enum {
     PAPER_MAX = 65536,
-    LINE_MAX_BYTES = 96, /* "21783 0 40 65535 ", 64 digits and a line feed fit */
-    /* "log 20 ", 19 bytes, 255 fields of 24 and a line feed */
+    /* "21783 0 40 65535 ", 64 digits and a line feed fit */
+    LINE_MAX_BYTES = 96,
+    /* "log 20 ", 19 bytes, 255 fields of 24 bytes and a line feed */
     LOG_LINE_MAX_BYTES = 7 + 2 * (19 + 255 * 24) + 1
 };
 
