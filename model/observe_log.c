@@ -310,8 +310,8 @@ static void see_shown(const struct setup *setup, const struct shown *shown)
     reached_if(strlen(shown->text) == 2 * (19 + 255 * 24), SHOWN_LONGEST);
     for (unsigned i = 0; i < table->entries; i++) {
         const uint8_t *entry = table->entry + ENTRY * i;
-        reached_if(entry[1] > 0 && entry[2] > 0,
-                   SHOWN_FIELD + part_of(setup, entry));
+        if (entry[1] > 0 && entry[2] > 0)
+            reached(SHOWN_FIELD + part_of(setup, entry));
     }
 }
 
