@@ -31,6 +31,8 @@ static struct sitting sitting;
 static struct display display;
 static uint8_t expected[ROOM_BYTES], room[ROOM_BYTES];
 static uint8_t records[PAPER_MAX + 1];
+static char expected_log[LOG_RECORDS * LOG_LINE_MAX_BYTES];
+static size_t expected_log_size;
 
 /* What a line of a sitting says. */
 struct line {
@@ -74,7 +76,8 @@ struct rooms {
 /* The room lines that come next, one for each profile of the body. */
 static bool read_rooms(const uint8_t *body, struct rooms *rooms)
 {
-    char text[LINE_MAX_BYTES], again[LINE_MAX_BYTES];
+    static char text[LOG_LINE_MAX_BYTES + 1];
+    char again[LINE_MAX_BYTES];
 
     for (unsigned p = 0; p < body[PROFILES_AT]; p++) {
         uint64_t *left = rooms->left[p];
@@ -132,11 +135,12 @@ static unsigned sent_in(const uint8_t *body, const uint8_t *iad,
 }
 
 /* Display shows the sitting's lines; rooms as the set-up has them, kept by what
- * is refused and by Start, and as each IAD says until a script writes. */
+ * is refused and by Start, and as each IAD says until a script writes; then the
+ * log. */
 static bool shows(const uint8_t *paper, size_t length)
 {
     const uint8_t *body = paper + BODY;
-    char text[LINE_MAX_BYTES], shown[LINE_MAX_BYTES];
+    static char text[LOG_LINE_MAX_BYTES], shown[LOG_LINE_MAX_BYTES];
     struct rooms before = {0}, after = {0};
     bool written = false;
 
@@ -167,6 +171,10 @@ static bool shows(const uint8_t *paper, size_t length)
         }
         before = after;
     }
+    for (size_t size; (size = sitting_log_line(&sitting, text)) > 0;)
+        if (display_line(&display, shown) != size
+            || memcmp(text, shown, size) != 0)
+            return false;
     return display_line(&display, shown) == 0;
 }
 
@@ -180,8 +188,29 @@ static void put_line(uint8_t *at, const struct line *line)
     memcpy(at + 4, line->iad, IAD_BYTES);
 }
 
-/* How many lines the paper has behind the first one; their answers become the
- * expected ones, and *over says whether a refusal ended it. */
+/* The lines of the sitting's log, one behind the other. */
+static size_t put_log(char *lines)
+{
+    char *at = lines;
+
+    for (size_t size; (size = sitting_log_line(&sitting, at)) > 0;)
+        at += size;
+    return (size_t)(at - lines);
+}
+
+/* Whether the log of a paper and a run is that of the paper with the run's
+ * records in it. The run's records are still there. */
+static bool logs_as_expected(void)
+{
+    static char lines[sizeof expected_log];
+
+    sitting.shown = 0;
+    return put_log(lines) == expected_log_size
+        && memcmp(lines, expected_log, expected_log_size) == 0;
+}
+
+/* How many lines the paper has behind the first one; their answers and its log
+ * become the expected ones, and *over says whether a refusal ended it. */
 static size_t expect_answers(const uint8_t *paper, size_t length, bool *over)
 {
     char text[LINE_MAX_BYTES];
@@ -195,6 +224,7 @@ static size_t expect_answers(const uint8_t *paper, size_t length, bool *over)
             put_line(expected + ANSWER_BYTES * (line.number - 1), &line);
     }
     *over = sitting.over;
+    expected_log_size = put_log(expected_log);
     return lines - 1;
 }
 
@@ -216,12 +246,15 @@ static bool refuses(unsigned refusal, size_t length, size_t size)
 {
     size_t answers;
 
-    if (run(&sitting.card, records, length, room, size, &answers) != refusal)
+    const size_t logged = sitting.log.logged;
+
+    if (run(&sitting.card, &sitting.log, records, length, room, size,
+            &answers) != refusal)
         return false;
     for (size_t i = 0; i < size; i++)
         if (room[i] != UNTOUCHED)
             return false;
-    return answers == 0;
+    return answers == 0 && sitting.log.logged == logged;
 }
 
 /* The paper's last commands, from one of them on, as a run: it is refused with
@@ -248,10 +281,11 @@ static bool runs(const uint8_t *paper, size_t length, uint64_t number)
     records[left] = 0;
     if (!refuses(9, left + 1, size - 1) || !refuses(17, left, size - 1))
         return false;
-    return run(&sitting.card, records, left, room, size + 1, &answers) == 0
+    return run(&sitting.card, &sitting.log, records, left, room, size + 1,
+               &answers) == 0
         && answers == count
         && memcmp(room, expected + ANSWER_BYTES * from, size) == 0
-        && room[size] == UNTOUCHED;
+        && room[size] == UNTOUCHED && logs_as_expected();
 }
 
 int main(int argc, char **argv)

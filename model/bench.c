@@ -41,7 +41,8 @@ static void say(const char *text)
     put(text, strlen(text));
 }
 
-/* The lines of block 1. */
+/* The lines of block 1. Its log is not shown: when it could be, behind the last
+ * run, the data of the runs are gone. */
 static void answer_paper(const uint8_t *block, size_t length)
 {
     char line[LINE_MAX_BYTES];
@@ -83,8 +84,8 @@ static void answer_run(const uint8_t *block, size_t length)
     char line[LINE_MAX_BYTES];
 
     memset(room, UNTOUCHED, size);
-    const unsigned refusal = run(&sitting.card, block + head, length - head,
-                                 room, size, &answers);
+    const unsigned refusal = run(&sitting.card, &sitting.log, block + head,
+                                 length - head, room, size, &answers);
     put(line, (size_t)sprintf(line, "run %u %zu\n", refusal, answers));
     put_room(size);
 }

@@ -729,6 +729,48 @@ static void cut_short(void)
     expect("far too long and cut short");
 }
 
+/* The log is not shown; the card answers as it does without one. A table past
+ * its data ends the paper, and all behind it. */
+static void with_log(void)
+{
+    draft_printed_setup(&setup);
+    logs(2, DECLINED | APPROVED | WITH_CVR);
+    at_second(FROM_SECOND, 1, 8);
+    begin();
+    start(1);
+    first(TC, 5000);
+    start(1);
+    first(TC, 1);
+    hand_in();
+    second(TC, Y3, ABSENT, 0);
+    run(ANSWER);
+    start(1);
+    first(TC, 5000);
+    second(TC, Y3, ABSENT, 0);
+    run(3 * ANSWER);
+    say("0 0\n"
+        "1 0 1\n"
+        "2 0 40 1 " IAD("9030000000", "000000005000", "0100")
+        "3 0 2\n"
+        "4 0 80 2 " IAD("A030200000", "000000005000", "0100")
+        "run 0 1\n"
+        GIVEN("40", "0002", "6230200100", "000000005001", "0200")
+        "run 0 3\n"
+        STARTED("0003")
+        GIVEN("00", "0003", "8231300000", "000000005001", "0200")
+        REFUSED("02"));
+    expect("a log");
+
+    at_second(FROM_SECOND, 8, 2);
+    begin();
+    start(1);
+    hand_in();
+    start(1);
+    run(ANSWER);
+    say("0 14\n");
+    expect("a table past its data");
+}
+
 int main(int argc, char **argv)
 {
     if (argc < 2) {
@@ -748,6 +790,8 @@ int main(int argc, char **argv)
     versions();
     if (LATEST > 5)
         by_script();
+    if (LATEST > 6)
+        with_log();
     refused_papers();
     long_papers();
     heads();

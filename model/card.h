@@ -29,6 +29,7 @@ enum {
     VERSION_CYCLES = 4,
     VERSION_FAMILY = 5,
     VERSION_SCRIPTS = 6,
+    VERSION_LOG = 7,
     VERSION_MAX = LATEST
 };
 
@@ -89,6 +90,23 @@ enum {
     CONTROL_BITS = 15
 };
 
+/* What is logged (request Eight) and what a record has of the answer, as CPA
+ * Table L-10 numbers it. */
+enum {
+    LOG_DECLINED = 0x80,
+    LOG_APPROVED = 0x40,
+    LOG_OFFLINE_ONLY = 0x20, /* of the approved ones */
+    LOG_ATC = 0x10,
+    LOG_CID = 0x08,
+    LOG_CVR = 0x04,
+
+    LOG_SWITCHES = 0xFC,
+    LOG_RECORDS = 20
+};
+
+/* Whose table it is, and whose data an entry means. */
+enum { OF_FIRST = 0, OF_SECOND = 1 };
+
 /* Kinds of record. */
 enum {
     KIND_SETUP = 1,
@@ -133,6 +151,7 @@ struct profile {
     uint16_t mta_currency;
     bool mta_on;
     bool cashback_check;
+    bool log; /* its transactions are logged */
     uint8_t number;
     uint8_t accumulator_sent; /* 0 for none, else 1 to 4 */
     uint8_t counter_sent[2];
@@ -162,12 +181,28 @@ struct cyclic {
     uint8_t first_day; /* of a week */
 };
 
+/* A log table: entries of three bytes, source, position and length. They stay
+ * where they stand in the paper. */
+struct log_table {
+    const uint8_t *entry;
+    uint8_t entries;
+};
+
+/* The log; off, its ring has no record and its tables no entry. */
+struct log_rule {
+    struct log_table table[2];
+    uint8_t size; /* of the ring */
+    uint8_t switches;
+    bool on;
+};
+
 /* What a set-up fixes for the whole paper; scripts change its limits. */
 struct setup {
     struct profile profile[PROFILES_MAX];
     struct conversion conversion[CONVERSIONS_MAX];
     struct selection selection;
     struct cyclic cyclic[CYCLICS];
+    struct log_rule log;
     uint16_t currency[ACCUMULATORS];
     uint8_t profiles, conversions;
     uint8_t cyclics; /* none, or all: then First carries the date */

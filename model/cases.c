@@ -1,7 +1,7 @@
 /* Papers made by hand, their lines worked out by hand from documents 01 and
  * 02: the printed sitting, the edges a) to l), CPA's examples of selection and
- * of cyclic accumulators, CPACE's rules, issuer scripts, and what surrounds
- * them. */
+ * of cyclic accumulators, CPACE's rules, issuer scripts, the transaction log,
+ * and what surrounds them. */
 #include <stdio.h>
 #include <string.h>
 
@@ -1920,6 +1920,322 @@ static void script_counts(void)
     }
 }
 
+/* A log table with this entry alone, on a card whose First has 12 bytes. */
+static void entry_case(unsigned whose, uint8_t source, uint8_t position,
+                       uint8_t length, const char *lines)
+{
+    char name[64];
+
+    printed();
+    logs(1, 0);
+    draft_log_entry(&setup.table[whose], source, position, length);
+    begin();
+    start(1);
+    snprintf(name, sizeof name, "table %u: (%u, %u, %u)", whose, source,
+             position, length);
+    expect(name, lines);
+}
+
+static void log_entries(void)
+{
+    static const uint8_t taken[][3] = {{0, 1, 12}, {0, 12, 1}, {0, 13, 0},
+                                       {0, 0, 255}, {0, 9, 4}, {1, 1, 8},
+                                       {1, 9, 0}, {1, 0, 255}};
+    static const uint8_t past[][3] = {{0, 1, 13}, {0, 12, 2}, {0, 13, 1},
+                                      {0, 14, 0}, {0, 2, 255}, {1, 1, 9},
+                                      {1, 8, 2}, {1, 9, 1}, {1, 10, 0},
+                                      {1, 9, 4}, {1, 2, 255}};
+
+    for (size_t i = 0; i < sizeof taken / sizeof *taken; i++)
+        for (unsigned whose = taken[i][0]; whose < 2; whose++)
+            entry_case(whose, taken[i][0], taken[i][1], taken[i][2],
+                       "0 0\n1 0 1\n");
+    for (size_t i = 0; i < sizeof past / sizeof *past; i++)
+        for (unsigned whose = past[i][0]; whose < 2; whose++)
+            entry_case(whose, past[i][0], past[i][1], past[i][2], "0 14\n");
+    entry_case(0, 1, 1, 1, "0 1\n");
+    entry_case(0, 1, 0, 0, "0 1\n");
+    entry_case(1, 2, 1, 1, "0 1\n");
+    entry_case(1, 0xFF, 0, 0, "0 1\n");
+}
+
+/* With dates First has 3 bytes more, on a CPACE card 9. */
+static void log_data_lengths(void)
+{
+    for (unsigned kind = 0; kind < 4; kind++) {
+        for (unsigned by = 0; by < 2; by++) {
+            printed();
+            if (kind & 1)
+                cyclic(0x050715, DAYS, FRI, DAYS, FRI);
+            if (kind & 2)
+                cpace();
+            logs(1, 0);
+            at_first(1, (uint8_t)(12 + 3 * (kind & 1) + 9 * (kind >> 1) + by));
+            begin();
+            expect("as long as First's data, and longer",
+                   by ? "0 14\n" : "0 0\n");
+        }
+    }
+}
+
+/* The tail of version 07, behind those of all others, off. */
+static void log_tails(void)
+{
+    static const char *const taken = "0 0\n1 0 1\n";
+    static const char *const refused = "0 1\n";
+    const struct {
+        const char *tail, *lines;
+    } cases[] = {
+        {"00", taken},
+        {"", refused},
+        {"02", refused},
+        {"FF", refused},
+        {"00 00", refused},
+        {"00 00 00 00 00 00", refused},
+        {"01", refused},
+        {"01 00 00 00 00 00", taken},
+        {"01 14 FC 01 00 00", taken},
+        {"02 14 FC 01 00 00", refused},
+        {"01 15 FC 01 00 00", refused},
+        {"01 FF FC 01 00 00", refused},
+        {"01 14 FD 01 00 00", refused},
+        {"01 14 FE 01 00 00", refused},
+        {"01 14 FC 02 00 00", refused},
+        {"01 14 FC 01 00", refused},
+        {"01 14 FC 01", refused},
+        {"01 14 FC", refused},
+        {"01 14", refused},
+        {"01 14 FC 01 00 00 00", refused},
+        {"01 14 FC 01 01 00 0C 01 00", taken},
+        {"01 14 FC 01 01 00 0C 01", refused},
+        {"01 14 FC 01 01 00 0C 00", refused},
+        {"01 14 FC 01 00 01 01 08 01", taken},
+        {"01 14 FC 01 00 01 01 08", refused},
+        {"01 14 FC 01 00 01 01 08 01 00", refused},
+        {"01 14 FC 01 00 01 01 08 02", "0 14\n"},
+        {"01 14 FC 01 00 01 01 08 02 00", refused},
+        {"01 15 FC 01 00 01 01 08 02", refused},
+        {"01 14 FD 01 00 01 01 08 02", refused},
+        {"01 14 FC 02 00 01 01 08 02", refused},
+        {"01 14 FC 01 00 02 01 08 02 02 01 01", refused},
+        {"01 14 FC 01 01 00 0D 01 01 02 01 01", refused},
+        {"01 14 FC 01 01 00 0D 01 01 01 01 01", "0 14\n"}};
+
+    for (size_t i = 0; i < sizeof cases / sizeof *cases; i++) {
+        tail_case(7, "00 00 00 00 00", cases[i].tail, cases[i].lines);
+        if (*cases[i].tail)
+            tail_case(6, "00 00 00 00 00", cases[i].tail, refused);
+    }
+}
+
+/* What is refused makes no record; Second closes the First that was taken. */
+static void log_refusals(void)
+{
+    lenient();
+    logs(3, DECLINED | APPROVED | WITH_ATC);
+    at_first(12, 1);
+    at_second(FROM_FIRST, 12, 1);
+    at_second(FROM_SECOND, 5, 4);
+    begin();
+    start(1);
+    first(3, 7);
+    first_offline(ARQC, 9);
+    first(TC, 8);
+    start(2);
+    second(TC, Y3, 3, 0);
+    draft_second(draft, TC, Z3, ABSENT, 0x12345678);
+    second(TC, Y3, ABSENT, 0);
+    expect("log, refused commands",
+           "0 0\n"
+           "1 0 1\n"
+           "2 5\n"
+           "3 0 80 1 " IAD("A030000000", "000000000000", "0000")
+           "4 2\n"
+           "5 3\n"
+           "6 6\n"
+           "7 0 40 1 " IAD("6230000100", "000000000009", "0100")
+           "8 2\n"
+           "log 1 0000000000090978000000" "0001" "23" "12345678\n");
+
+    begin(); /* what a Start drops, and an ARQC that stays open */
+    start(1);
+    first(ARQC, 5);
+    start(1);
+    first(AAC, 6);
+    start(1);
+    first(ARQC, 7);
+    expect("log, ARQCs",
+           "0 0\n"
+           "1 0 1\n"
+           "2 0 80 1 " IAD("A030000000", "000000000000", "0000")
+           "3 0 2\n"
+           "4 0 00 2 " IAD("8031000000", "000000000000", "0000")
+           "5 0 3\n"
+           "6 0 80 3 " IAD("A031000000", "000000000000", "0000")
+           "log 1 0000000000060978000000" "0002" "22\n");
+}
+
+/* A paper that a refusal ends shows no log, and a fresh one has none. */
+static void log_ends(void)
+{
+    lenient();
+    logs(1, DECLINED);
+    begin();
+    expect("log, a set-up alone", "0 0\n");
+    start(1);
+    first(AAC, 5);
+    expect("log, one record",
+           "0 0\n"
+           "1 0 1\n"
+           "2 0 00 1 " IAD("8030000000", "000000000000", "0000")
+           "log 1 0000000000050978000000\n");
+    draft_insert(draft, draft->length, (const uint8_t[]){0}, 1);
+    expect("log, 9 behind it",
+           "0 0\n"
+           "1 0 1\n"
+           "2 0 00 1 " IAD("8030000000", "000000000000", "0000")
+           "3 9\n");
+    setup.log_size = 0;
+    begin();
+    start(1);
+    first(AAC, 5);
+    expect("log, a ring of size 0",
+           "0 0\n"
+           "1 0 1\n"
+           "2 0 00 1 " IAD("8030000000", "000000000000", "0000"));
+    logs(1, APPROVED);
+    setup.log = 0;
+    begin();
+    start(1);
+    first(AAC, 5);
+    expect("log off",
+           "0 0\n"
+           "1 0 1\n"
+           "2 0 00 1 " IAD("8030000000", "000000000000", "0000"));
+}
+
+/* Of three profiles the second logs; its record stays when others are used. */
+static void log_profiles(void)
+{
+    lenient();
+    profiles_alike(3);
+    for (unsigned i = 0; i < 3; i++) {
+        setup.profile[i].accumulator_sent = 0;
+        setup.profile[i].counter_sent[0] = 0;
+    }
+    logs(2, APPROVED | WITH_CID | WITH_ATC);
+    setup.profile[0].log = 0;
+    setup.profile[2].log = 0;
+    begin();
+    for (uint8_t i = 1; i <= 3; i++) {
+        start(i);
+        first(TC, 40u + i);
+    }
+    expect("log, profiles",
+           "0 0\n"
+           "1 0 1\n2 0 40 1 0FA50190300000000000000000000000" "0F01" ZEROS "\n"
+           "3 0 2\n4 0 40 2 0FA50190300000000000000000000000" "0F02" ZEROS "\n"
+           "5 0 3\n6 0 40 3 0FA50190300000000000000000000000" "0F03" ZEROS "\n"
+           "log 1 0000000000420978000000" "000240\n");
+}
+
+/* Dates, CVM results and cashback, as a CPACE card's First carries them. */
+static void log_of_cpace(void)
+{
+    lenient();
+    cyclic(0x050715, DAYS, FRI, DAYS, FRI);
+    cpace();
+    logs(4, DECLINED | WITH_CVR);
+    at_first(13, 3);
+    at_first(16, 3);
+    at_first(19, 6);
+    at_second(FROM_FIRST, 24, 1);
+    at_second(FROM_SECOND, 1, 4);
+    begin();
+    cvm = BY_SIGNATURE;
+    cashback = 0xA1A2A3A4A5A6;
+    start(1);
+    first_on(0x050716, AAC, MOST);
+    start(1);
+    first_on(0x050717, ARQC, 0);
+    second(AAC, OTHER, VERIFIED, 0);
+    expect("log, CPACE and dated",
+           "0 0\n"
+           "1 0 1\n"
+           "2 0 00 1 " IAD("8030300000", "000000000000", "0000")
+           "3 0 2\n"
+           "4 0 80 2 " IAD("A030000000", "000000000000", "0000")
+           "5 0 00 2 " IAD("2030000000", "000000000000", "0000")
+           "log 1 0000000000000978050717" "2030000000" "A6" "00303001\n"
+           "log 2 9999999999990978050716" "8030300000" "050716" "1E0300"
+           "A1A2A3A4A5A6\n");
+}
+
+/* Request Eight: its three sittings, byte for byte. */
+static void log_sittings(void)
+{
+    log_ring();
+    expect_bytes("log, a ring of two",
+                 "0700B7010103000100000000097800000000000000000000000000000000"
+                 "000000000000000000000000000000000000000000000000000001000000"
+                 "400000040000000400000000000000000000000007000000000000138800"
+                 "000000000027100000000000000000000000000000000000000000000000"
+                 "0000000000000000000000000000000000000000000000000000000003FF"
+                 "FF00000000000000000001010000000000000102DC0101000C0103000C01"
+                 "01020201000900020201000D030100000000000013880978220002020100"
+                 "0D0301000000000000000109782200090401593300000000000002020100"
+                 "0D030100000000000013880978220009040159330000000000");
+    expect("log, a ring of two",
+           "0 0\n"
+           "1 0 1\n"
+           "2 0 40 1 " IAD("9030000000", "000000005000", "0100")
+           "3 0 2\n"
+           "4 0 80 2 " IAD("A030200000", "000000005000", "0100")
+           "5 0 40 2 " IAD("6230200100", "000000005001", "0200")
+           "6 0 3\n"
+           "7 0 00 3 " IAD("8231300000", "000000005001", "0200")
+           "8 2\n"
+           "log 1 0000000050000978000000823130000000030022\n"
+           "log 2 00000000000109780000006230200100000240225933\n");
+    log_offline_only();
+    expect_bytes("log, offline only",
+                 "0700AE010103000100000000097800000000000000000000000000000000"
+                 "000000000000000000000000000000000000000000000000000001000000"
+                 "400000040000000400000000000000000000000007000000000000138800"
+                 "000000000027100000000000000000000000000000000000000000000000"
+                 "0000000000000000000000000000000000000000000000000000000003FF"
+                 "FF0000000000000000000101000000000000011478010001010504000202"
+                 "01000D0301000000000000006409782200020201000D0302000000000000"
+                 "00C8097822000904013030010080000000020201000D0302000000000000"
+                 "012C097822000904015A33021234567800020201000D0300000000000000"
+                 "0190097822");
+    expect("log, offline only",
+           "0 0\n"
+           "1 0 1\n"
+           "2 0 40 1 " IAD("9030000000", "000000000100", "0100")
+           "3 0 2\n"
+           "4 0 80 2 " IAD("A030000000", "000000000100", "0100")
+           "5 0 40 2 " IAD("6030000000", "000000000100", "0100")
+           "6 0 3\n"
+           "7 0 80 3 " IAD("A030000000", "000000000100", "0100")
+           "8 0 40 3 " IAD("6230000100", "000000000400", "0200")
+           "9 0 4\n"
+           "10 0 00 4 " IAD("8231000000", "000000000400", "0200")
+           "log 1 000000000300097800000000034012345678\n"
+           "log 2 0000000001000978000000000140\n");
+    log_past_data();
+    expect_bytes("log, past the data",
+                 "0700B1010103000100000000097800000000000000000000000000000000"
+                 "000000000000000000000000000000000000000000000000000001000000"
+                 "400000040000000400000000000000000000000007000000000000138800"
+                 "000000000027100000000000000000000000000000000000000000000000"
+                 "0000000000000000000000000000000000000000000000000000000003FF"
+                 "FF0000000000000000000101000000000000010000000002010900010802"
+                 "00020201");
+    expect("log, past the data",
+           "0 14\n");
+}
+
 static void papers(void)
 {
     printed();
@@ -1943,10 +2259,10 @@ static void papers(void)
     expect("version 05 without a tail", "0 1\n");
     draft->bytes[0] = 6;
     expect("version 06, without a tail", LATEST < 6 ? "0 9\n" : "0 1\n");
-    if (LATEST > 5) {
-        draft->bytes[0] = LATEST + 1;
-        expect("version 07", "0 9\n");
-    }
+    draft->bytes[0] = 7;
+    expect("version 07, without a tail", LATEST < 7 ? "0 9\n" : "0 1\n");
+    draft->bytes[0] = 8;
+    expect("version 08", "0 9\n");
     begin();
     draft->length--;
     expect("set-up cut short", "0 9\n");
@@ -2028,6 +2344,16 @@ int main(void)
         templates();
         commands();
         script_counts();
+    }
+    if (LATEST > 6) {
+        log_sittings();
+        log_entries();
+        log_data_lengths();
+        log_tails();
+        log_refusals();
+        log_ends();
+        log_profiles();
+        log_of_cpace();
     }
     annex_i();
     cycles();

@@ -5,6 +5,7 @@
 
 #include "bytes.h"
 #include "fields.h"
+#include "invent_log.h"
 
 /* One field out of its range. */
 static void damage_field(struct chance *chance, const struct draft_setup *setup,
@@ -173,6 +174,24 @@ static void damage_scripts(struct chance *chance,
     }
 }
 
+/* The tail of version 07: its switch, or a byte more or less, or three; a byte
+ * of what it has if it is on. */
+static void damage_log_tail(struct chance *chance,
+                            const struct draft_setup *setup,
+                            struct draft *draft)
+{
+    static const int sizes[] = {1, -1, 1, -1, 3, -3};
+    uint8_t *at = draft->bytes + SETUP_BODY + draft_setup_log(setup);
+    const uint8_t value = any_byte(chance);
+
+    if (setup->log && percent(chance, 70))
+        damage_log(chance, setup, draft);
+    else if (percent(chance, 60))
+        resize_setup(draft, PICK(chance, sizes));
+    else
+        *at = percent(chance, 50) ? !setup->log : value;
+}
+
 /* One byte of the tails that has a range or delimits: the syllabus, the switch,
  * the number of entries, or the length of one of them. */
 static void damage_tail(struct chance *chance, const struct draft_setup *setup,
@@ -183,6 +202,10 @@ static void damage_tail(struct chance *chance, const struct draft_setup *setup,
 
     if (setup->version < 2)
         return;
+    if (setup->version > 6 && percent(chance, 75)) {
+        damage_log_tail(chance, setup, draft);
+        return;
+    }
     if (setup->version > 5 && percent(chance, 50)) {
         damage_scripts(chance, setup, draft);
         return;
@@ -335,6 +358,9 @@ void damage(struct chance *chance, const struct draft_setup *setup,
             struct draft *draft)
 {
     static const uint8_t versions[] = {
+#if LATEST > 6
+        7,
+#endif
 #if LATEST > 5
         6,
 #endif

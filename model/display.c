@@ -1,5 +1,5 @@
 /* display [FILE]: the lines of a paper, from the file or standard input, with
- * the room left behind each. */
+ * the room left behind each, and then its log. */
 #include <stdio.h>
 #include <stdlib.h>
 
@@ -18,7 +18,7 @@ int main(int argc, char **argv)
 {
     const char *name = argc == 2 ? argv[1] : "standard input";
     FILE *file = stdin;
-    char line[LINE_MAX_BYTES];
+    char line[LOG_LINE_MAX_BYTES];
 
     if (argc > 2) {
         fprintf(stderr, "usage: display [FILE]\n");

@@ -458,6 +458,55 @@ static void by_script(void)
     expect_rooms("refused scripts");
 }
 
+/* The log is shown behind all rooms, and not where a refusal ends the paper. */
+static void with_log(void)
+{
+    static const uint8_t left_over = 0;
+
+    lenient();
+    logs(2, DECLINED | APPROVED | WITH_CID);
+    begin();
+    open_with(1, TC, 400);
+    open_with(1, AAC, 500);
+    open_with(1, TC, 600);
+    start(2);
+    say(1,
+        "0 0\n"
+        "room 1 10000 0 0 0\n"
+        "1 0 1\n"
+        "room 1 10000 0 0 0\n"
+        "2 0 40 1 " IAD("9030000000", "000000000400", "0100", "01")
+        "room 1 9600 0 0 0\n"
+        "3 0 2\n"
+        "room 1 9600 0 0 0\n"
+        "4 0 00 2 " IAD("8030000000", "000000000400", "0100", "01")
+        "room 1 9600 0 0 0\n"
+        "5 0 3\n"
+        "room 1 9600 0 0 0\n"
+        "6 0 40 3 " IAD("9030000000", "000000001000", "0200", "01")
+        "room 1 9000 0 0 0\n"
+        "7 3\n"
+        "room 1 9000 0 0 0\n");
+    expect("a log",
+           "log 1 000000000600097800000040\n"
+           "log 2 000000000500097800000000\n");
+
+    begin();
+    open_with(1, AAC, 500);
+    draft_insert(draft, draft->length, &left_over, 1);
+    expect("a log, and a byte left over",
+           "0 0\n"
+           "room 1 10000 0 0 0\n"
+           "1 0 1\n"
+           "room 1 10000 0 0 0\n"
+           "2 0 00 1 " IAD("8030000000", "000000000000", "0000", "01")
+           "room 1 10000 0 0 0\n"
+           "3 9\n"
+           "room 1 10000 0 0 0\n");
+    log_past_data();
+    expect("a table past its data", "0 14\n");
+}
+
 int main(int argc, char **argv)
 {
     if (argc < 2) {
@@ -477,6 +526,8 @@ int main(int argc, char **argv)
     versions();
     if (LATEST > 5)
         by_script();
+    if (LATEST > 6)
+        with_log();
     printf("%u cases of display, %u wrong\n", cases, wrong);
     return wrong > 0;
 }

@@ -67,6 +67,25 @@ static uint8_t *put_family(const struct draft_setup *setup, uint8_t *at)
     return at;
 }
 
+static uint8_t *put_log(const struct draft_setup *setup, uint8_t *at)
+{
+    *at++ = setup->log;
+    if (!setup->log)
+        return at;
+    *at++ = setup->log_size;
+    *at++ = setup->log_switches;
+    for (int p = 0; p < setup->profiles; p++)
+        *at++ = setup->profile[p].log;
+    for (int i = 0; i < 2; i++) {
+        const struct draft_table *table = &setup->table[i];
+        const size_t length = (size_t)LOG_ENTRY * table->entries;
+        *at++ = table->entries;
+        memcpy(at, table->entry, length);
+        at += length;
+    }
+    return at;
+}
+
 bool draft_is_dated(const struct draft_setup *setup)
 {
     return setup->version > 3 && setup->dated;
@@ -147,6 +166,8 @@ size_t draft_setup_body(const struct draft_setup *setup, uint8_t *body)
         at = put_family(setup, at);
     if (setup->version > 5)
         *at++ = setup->scripts;
+    if (setup->version > 6)
+        at = put_log(setup, at);
     return (size_t)(at - body);
 }
 
@@ -176,6 +197,29 @@ size_t draft_setup_scripts(const struct draft_setup *setup)
     const size_t family = (size_t)SETUP_FAMILY + setup->profiles;
 
     return draft_setup_family(setup) + (setup->family ? family : 1);
+}
+
+size_t draft_setup_log(const struct draft_setup *setup)
+{
+    return draft_setup_scripts(setup) + 1;
+}
+
+size_t draft_data_length(const struct draft_setup *setup, unsigned source)
+{
+    if (source == FROM_SECOND)
+        return 8;
+    return 12 + (draft_is_dated(setup) ? 3 : 0)
+        + (draft_is_cpace(setup) ? 9 : 0);
+}
+
+void draft_log_entry(struct draft_table *table, uint8_t source,
+                     uint8_t position, uint8_t length)
+{
+    assert(table->entries < LOG_ENTRIES);
+    uint8_t *entry = table->entry[table->entries++];
+    entry[0] = source;
+    entry[1] = position;
+    entry[2] = length;
 }
 
 void draft_entry(struct draft_file *file, const uint8_t *entry, size_t length)

@@ -58,6 +58,17 @@ enum {
 enum { DAYS = 1, WEEKS = 2, MONTHS = 3 };
 enum { FRI, SAT, SUN, MON, TUE, WED, THU };
 
+/* Switches of a log, and whose data an entry of its tables means. */
+enum {
+    DECLINED = 0x80,
+    APPROVED = 0x40,
+    OFFLINE_ONLY = 0x20,
+    WITH_ATC = 0x10,
+    WITH_CID = 0x08,
+    WITH_CVR = 0x04
+};
+enum { FROM_FIRST = 0, FROM_SECOND = 1 };
+
 enum {
     DRAFT_BYTES = 1 << 17,
     DRAFT_RECORDS = 1 << 15,
@@ -70,8 +81,13 @@ enum {
     SETUP_CYCLES = 28, /* the tail of version 04, dated, without its limits */
     SETUP_LIMITS = 18, /* of a profile in it */
     SETUP_FAMILY = 9,  /* the tail of version 05, CPACE, without its switches */
+    SETUP_LOG = 3,     /* of version 07, with a log, before the profiles' */
+    LOG_ENTRY = 3,
+    LOG_ENTRIES = 255,
+    SETUP_TABLE = 1 + LOG_ENTRY * LOG_ENTRIES,
     SETUP_ROOM = SETUP_BASE + 2 + FILE_ROOM + 1 + SETUP_CYCLES
-        + 5 * SETUP_LIMITS + SETUP_FAMILY + 5 + 1
+        + 5 * SETUP_LIMITS + SETUP_FAMILY + 5 + 1 + SETUP_LOG + 5
+        + 2 * SETUP_TABLE
 };
 
 struct draft_profile {
@@ -93,6 +109,7 @@ struct draft_profile {
         uint64_t limit;
     } cyclic[2];
     uint8_t cashback; /* is checked */
+    uint8_t log;      /* is on in this profile */
 };
 
 /* Profile selection: a switch, the number of entries, and the entries, each
@@ -101,6 +118,12 @@ struct draft_file {
     uint8_t on, entries;
     size_t length;
     uint8_t bytes[FILE_ROOM];
+};
+
+/* First's log table or Second's: entries of source, position and length. */
+struct draft_table {
+    uint8_t entries;
+    uint8_t entry[LOG_ENTRIES][LOG_ENTRY];
 };
 
 /* One profile and one conversion more than a set-up may have. */
@@ -132,6 +155,9 @@ struct draft_setup {
     uint8_t family;         /* from version 05 on, and if it is CPACE: */
     uint8_t control[8];     /* of the accumulators, then of the counters */
     uint8_t scripts;        /* from version 06 on */
+    uint8_t log;            /* from version 07 on, and if it is 1: */
+    uint8_t log_size, log_switches;
+    struct draft_table table[2];
 };
 
 /* What a First has behind its terminal type, where the set-up asks for it. */
@@ -173,16 +199,24 @@ bool draft_is_dated(const struct draft_setup *setup);
 bool draft_is_cpace(const struct draft_setup *setup);
 bool draft_has_scripts(const struct draft_setup *setup);
 
-/* The body alone, and where its tails, that of version 04, that of 05 and that
- * of 06 begin; all return a length. */
+/* How long First's or Second's data are, in a paper with this set-up. */
+size_t draft_data_length(const struct draft_setup *setup, unsigned source);
+
+/* The body alone, and where its tails, that of version 04, that of 05, that of
+ * 06 and that of 07 begin; all return a length. */
 size_t draft_setup_body(const struct draft_setup *setup, uint8_t *body);
 size_t draft_setup_base(const struct draft_setup *setup);
 size_t draft_setup_cycles(const struct draft_setup *setup);
 size_t draft_setup_family(const struct draft_setup *setup);
 size_t draft_setup_scripts(const struct draft_setup *setup);
+size_t draft_setup_log(const struct draft_setup *setup);
 
 /* The next entry of a file, its length before it; it may be ill-formed. */
 void draft_entry(struct draft_file *file, const uint8_t *entry, size_t length);
+
+/* The next entry of a log table; it may be anything. */
+void draft_log_entry(struct draft_table *table, uint8_t source,
+                     uint8_t position, uint8_t length);
 
 /* Puts bytes before place, or takes them away; what follows moves. */
 void draft_insert(struct draft *draft, size_t place, const uint8_t *bytes,

@@ -260,3 +260,48 @@ void script_refusals(void)
     draft_record(draft, KIND_SCRIPT, NULL, 0);
     start(1);
 }
+
+/* Document 01's set-up with a log. */
+static void begin_log(uint8_t size, uint8_t switches)
+{
+    draft_printed_setup(&setup);
+    logs(size, switches);
+}
+
+void log_ring(void)
+{
+    begin_log(2, DECLINED | APPROVED | WITH_ATC | WITH_CID | WITH_CVR);
+    at_first(12, 1);
+    at_second(FROM_FIRST, 12, 1);
+    at_second(FROM_SECOND, 2, 2);
+    at_second(FROM_SECOND, 0, 9);
+    begin();
+    printed_commands();
+}
+
+void log_offline_only(void)
+{
+    begin_log(20, APPROVED | OFFLINE_ONLY | WITH_ATC | WITH_CID);
+    at_second(FROM_SECOND, 5, 4);
+    begin();
+    start(1);
+    first(TC, 100);
+    start(1);
+    first(ARQC, 200);
+    second(TC, OTHER, VERIFIED, 0x80);
+    start(1);
+    first(ARQC, 300);
+    draft_second(draft, TC, Z3, FAILED, 0x12345678);
+    start(1);
+    first(AAC, 400);
+}
+
+void log_past_data(void)
+{
+    begin_log(0, 0);
+    setup.profile[0].log = 0;
+    at_second(FROM_SECOND, 9, 0);
+    at_second(FROM_SECOND, 8, 2);
+    begin();
+    start(1);
+}

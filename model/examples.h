@@ -1,5 +1,4 @@
-/* The papers of versions 04 and 05 in examples/, and those of version 06,
- * command by command. */
+/* The papers of versions 04 to 07 in examples/, command by command. */
 #ifndef MODEL_EXAMPLES_H
 #define MODEL_EXAMPLES_H
 
@@ -32,5 +31,14 @@ void script_between(void);
 
 /* Scripts that are refused, and one without a body. */
 void script_refusals(void);
+
+/* The printed sitting with a log of two records: the first one has gone. */
+void log_ring(void);
+
+/* Of the approvals only those that no issuer gave, and no decline. */
+void log_offline_only(void);
+
+/* An entry that reaches past Second's data, though nothing is ever logged. */
+void log_past_data(void);
 
 #endif

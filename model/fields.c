@@ -88,6 +88,11 @@ const struct field *fields(void)
     add(IN_CHECKS, 0, 1, 0, 1); /* cashback */
     if (SCRIPTS_FIELDS > 0)
         add(IN_SCRIPTS, 0, 1, 0, 1);
+    if (LOG_FIELDS > 0) {
+        add(IN_LOG, 0, 1, 0, 1);
+        add(IN_LOG, 1, 1, 0, 20); /* the ring's size */
+        add(IN_LOGS, 0, 1, 0, 1);
+    }
     assert(filled == FIELDS);
     return table;
 }
@@ -103,6 +108,9 @@ bool has_field(const struct draft_setup *setup, const struct field *field)
         return draft_is_cpace(setup);
     case IN_SCRIPTS:
         return setup->version > 5;
+    case IN_LOG:
+    case IN_LOGS:
+        return setup->version > 6 && setup->log;
     default:
         return true;
     }
@@ -111,7 +119,7 @@ bool has_field(const struct draft_setup *setup, const struct field *field)
 bool is_of_profile(const struct field *field)
 {
     return field->part == IN_PROFILE || field->part == IN_LIMITS
-        || field->part == IN_CHECKS;
+        || field->part == IN_CHECKS || field->part == IN_LOGS;
 }
 
 unsigned bad_values(const struct field *field)
@@ -174,8 +182,12 @@ size_t field_offset(const struct field *field, const struct draft_setup *setup,
         return offset + draft_setup_family(setup);
     case IN_CHECKS:
         return offset + draft_setup_family(setup) + SETUP_FAMILY + place;
-    default:
+    case IN_SCRIPTS:
         return offset + draft_setup_scripts(setup);
+    case IN_LOG:
+        return offset + draft_setup_log(setup);
+    default:
+        return offset + draft_setup_log(setup) + SETUP_LOG + place;
     }
 }
 

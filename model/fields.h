@@ -15,7 +15,9 @@ struct field {
         IN_LIMITS, /* a profile's in it */
         IN_FAMILY, /* the tail of version 05, CPACE */
         IN_CHECKS, /* a profile's in it */
-        IN_SCRIPTS /* the tail of version 06 */
+        IN_SCRIPTS, /* the tail of version 06 */
+        IN_LOG,     /* the tail of version 07, with a log */
+        IN_LOGS     /* a profile's in it */
     } part;
     size_t offset; /* in its part */
     unsigned width;
@@ -23,13 +25,16 @@ struct field {
     uint64_t low, high; /* of a number or a mask */
 };
 
-/* Those of every set-up come first, then those of version 04, of 05, of 06. */
+/* Those of every set-up come first, then those of version 04, of 05, of 06, of
+ * 07. */
 enum {
     BASE_FIELDS = 3 + 8 + (3 + 1 + 3 + 12 + 4 + 3) + 4,
     CYCLES_FIELDS = 2 + 8 + 4,
     FAMILY_FIELDS = 1 + 8 + 1,
     SCRIPTS_FIELDS = LATEST > 5 ? 1 : 0,
+    LOG_FIELDS = LATEST > 6 ? 3 : 0,
     FIELDS = BASE_FIELDS + CYCLES_FIELDS + FAMILY_FIELDS + SCRIPTS_FIELDS
+        + LOG_FIELDS
 };
 
 /* All of them; filled at the first call. */

@@ -3,6 +3,7 @@
 #include <string.h>
 
 #include "dates.h"
+#include "invent_log.h"
 #include "invent_script.h"
 
 static uint64_t around_thousands(struct chance *chance)
@@ -614,6 +615,12 @@ static void invent_version_05(struct chance *chance, struct world *world,
 void invent_version(struct chance *chance, struct world *world,
                     struct draft_setup *setup)
 {
+    if (LATEST > 6 && percent(chance, 35)) {
+        invent_version_05(chance, world, setup);
+        setup->scripts = percent(chance, 50);
+        invent_log(chance, setup);
+        return;
+    }
     if (LATEST > 5 && percent(chance, 40)) {
         invent_version_05(chance, world, setup);
         setup->version = 6;

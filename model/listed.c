@@ -6,6 +6,7 @@
 #include "damage.h"
 #include "fields.h"
 #include "invent.h"
+#include "invent_log.h"
 #include "script.h"
 
 static struct chance chance;
@@ -71,6 +72,22 @@ static void begin_scripts(unsigned profiles, bool dated, bool family)
     invent_commands(&chance, &world, &setup, draft, 3, true);
 }
 
+/* The same with a set-up of version 07 that has a log, CPACE or not. */
+static void begin_log(unsigned profiles, bool dated, bool family)
+{
+    struct world world;
+
+    invent_setup(&chance, &world, &setup, profiles, 6);
+    if (dated)
+        invent_cycles(&chance, &world, &setup);
+    if (family)
+        invent_family(&chance, &setup);
+    invent_log(&chance, &setup);
+    setup.log = 1;
+    begin();
+    invent_commands(&chance, &world, &setup, draft, 3, true);
+}
+
 /* Each field just out of range, in the first to the last of its kind. */
 static void fields_out_of_range(void)
 {
@@ -93,8 +110,10 @@ static void fields_out_of_range(void)
                 begin_dated(profiles);
             else if (i < BASE_FIELDS + CYCLES_FIELDS + FAMILY_FIELDS)
                 begin_cpace(profiles, turn & 1);
-            else
+            else if (i < FIELDS - LOG_FIELDS)
                 begin_scripts(profiles, turn & 1, turn & 2);
+            else
+                begin_log(profiles, turn & 1, turn & 2);
             const uint64_t value =
                 bad_value(&chance, field, setup.version, which);
             put_field(draft->bytes + field_offset(field, &setup, place),
@@ -1111,4 +1130,6 @@ void listed_papers(uint64_t seed, void (*then)(struct draft *draft))
     listed_cpace();
     if (LATEST > 5)
         listed_scripts();
+    if (LATEST > 6)
+        listed_log();
 }

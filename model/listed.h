@@ -1,5 +1,5 @@
-/* The papers that every stack begins with: each cause of refusals 1, 9 and
- * 12, field by field, and each branch of First and Second, whatever the
+/* The papers that every stack begins with: each cause of refusals 1, 9, 12 and
+ * 14, field by field, and each branch of First and Second, whatever the
  * seed. */
 #ifndef MODEL_LISTED_H
 #define MODEL_LISTED_H
@@ -31,6 +31,9 @@ void listed_cpace(void);
 
 /* Issuer scripts, where version 06 is read. */
 void listed_scripts(void);
+
+/* The transaction log, where version 07 is read. */
+void listed_log(void);
 
 /* Every version and kind that is none, and the largest of everything. */
 void listed_bounds(void);

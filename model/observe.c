@@ -6,6 +6,7 @@
 #include <string.h>
 
 #include "bytes.h"
+#include "observe_log.h"
 #include "observe_scripts.h"
 #include "reached.h"
 
@@ -69,8 +70,8 @@ static void observe_setup(const struct setup *setup, unsigned version)
         reached(SETUP_TAKEN + 0);
     else
         reached(SETUP_TAKEN + 1
-                + setup_kind(version, on, setup->cyclics > 0,
-                             is_cpace(setup), setup->scripts));
+                + setup_kind(version, on, setup->cyclics > 0, is_cpace(setup),
+                             setup->scripts, setup->log.on));
     reached_if(version >= VERSION_SYLLABUS,
                SYLLABUS_TAKEN + 2 * (version - VERSION_SYLLABUS)
                    + setup->syllabus);
@@ -1417,13 +1418,17 @@ void observe(const struct sitting *before, const struct sitting *after,
 
     if (refusal == 9)
         observe_unreadable_script(before);
-    if (refusal == 1 || refusal == 9)
+    if (refusal == 14)
+        observe_log_past(&is->setup);
+    if (refusal == 1 || refusal == 9 || refusal == 14)
         return;
     if (before->record == 0) {
         observe_setup(&is->setup, before->at[0]);
+        observe_log_setup(&is->setup);
         return;
     }
     record = record_at(before->at);
+    observe_log_command(before, &record, refusal);
     switch (record.kind) {
     case KIND_START: {
         const struct start start = read_start(&record);
@@ -1434,11 +1439,16 @@ void observe(const struct sitting *before, const struct sitting *after,
     case KIND_FIRST: {
         const struct first first = read_first(&record);
         observe_first(was, is, &first, refusal);
+        if (refusal == 0)
+            observe_log_answer(is, &record, closed_by,
+                               is->open.cvr[0] >> 4 & 3);
         break;
     }
     case KIND_SECOND: {
         const struct second second = read_second(&record);
         observe_second(was, is, &second, refusal);
+        if (refusal == 0)
+            observe_log_answer(is, &record, closed_by, is->open.cvr[0] >> 6);
         break;
     }
     default: {
@@ -1447,4 +1457,10 @@ void observe(const struct sitting *before, const struct sitting *after,
         break;
     }
     }
+    observe_log_line(after);
+}
+
+void observe_end(const struct sitting *sitting)
+{
+    observe_log_end(sitting);
 }

@@ -35,7 +35,7 @@ void observe_unreadable_script(const struct sitting *before)
     const uint8_t *at = before->at;
     const bool is_0 = before->record == 0;
 
-    if (is_0 && left > 0 && at[0] == VERSION_SCRIPTS && left > 3)
+    if (is_0 && left > 3 && at[0] >= VERSION_SCRIPTS && at[0] <= VERSION_MAX)
         at++;
     else if (is_0 || left < 3)
         return;

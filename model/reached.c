@@ -20,6 +20,9 @@ static const struct row {
 #if LATEST > 5
     REACHED_SCRIPTS(ROW)
 #endif
+#if LATEST > 6
+    REACHED_LOG(ROW)
+#endif
 #undef ROW
 };
 
@@ -82,6 +85,7 @@ static void see_paper(const uint8_t *paper, size_t length)
         observe(&before, &sitting, refusal_of(line));
         see_cvr(line, count);
     }
+    observe_end(&sitting);
     reached_count[LARGEST + 0] += length == PAPER_MAX;
     reached_count[LARGEST + 1] += sitting.record > 21000;
 }

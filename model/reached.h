@@ -1,7 +1,8 @@
 /* Which causes of refusal and which branches a stack of papers reaches.
  *
- * The model says the cause where it refuses with 1, 9, 12, 18 or 19 and where a
- * command of a script fails; observe.c and observe_scripts.c see all the rest.
+ * The model says the cause where it refuses with 1, 9, 12, 14, 18 or 19 and
+ * where a command of a script fails; observe.c, observe_scripts.c and
+ * observe_log.c see all the rest.
  * Only the program `reached` is compiled with REACHED and counts; everywhere
  * else the call is nothing at all.
  *
@@ -69,9 +70,25 @@
     "4 below|4 equal|4 above"
 
 /* What the latest version adds to rows that older ones have. */
-#if LATEST > 5
+#if LATEST > 6
+#define ABOVE_LATEST "00|above 07"
+#define MASK_VERSIONS "01 to 03|04|05 to 07"
+#define SCRIPT_VERSIONS "01 to 05|06 and 07, off|06 and 07, record 0"
+#define LOG_SETUP_KINDS                                                        \
+    "|07 CPA|07 CPA, dated|07 CPACE|07 CPACE, dated|"                          \
+    "07 log, CPA|07 log, CPA, dated|07 log, CPACE|07 log, CPACE, dated"
+#define LOG_SYLLABI "|0 in 07|1 in 07"
+enum { SETUP_KINDS_COUNT = 40, SYLLABI_COUNT = 10 };
+#elif LATEST > 5
 #define ABOVE_LATEST "00|above 06"
 #define MASK_VERSIONS "01 to 03|04|05 and 06"
+#define SCRIPT_VERSIONS "01 to 05|06, off|06, record 0"
+#define LOG_SETUP_KINDS ""
+#define LOG_SYLLABI ""
+enum { SETUP_KINDS_COUNT = 32, SYLLABI_COUNT = 8 };
+#endif
+
+#if LATEST > 5
 #define SCRIPT_SETUP_KINDS                                                     \
     "|06 CPA off|06 CPA on|06 CPA off, dated|06 CPA on, dated|"                \
     "06 CPACE off|06 CPACE on|06 CPACE off, dated|06 CPACE on, dated|"         \
@@ -80,12 +97,14 @@
     "06 scripts, CPACE on|06 scripts, CPACE off, dated|"                       \
     "06 scripts, CPACE on, dated"
 #define SCRIPT_SYLLABI "|0 in 06|1 in 06"
-enum { SETUP_KINDS_COUNT = 32, SYLLABI_COUNT = 8 };
 #else
 #define ABOVE_LATEST "00|above 05"
 #define MASK_VERSIONS "01 to 03|04|05"
+#define SCRIPT_VERSIONS ""
 #define SCRIPT_SETUP_KINDS ""
 #define SCRIPT_SYLLABI ""
+#define LOG_SETUP_KINDS ""
+#define LOG_SYLLABI ""
 enum { SETUP_KINDS_COUNT = 16, SYLLABI_COUNT = 6 };
 #endif
 
@@ -95,7 +114,7 @@ enum { SETUP_KINDS_COUNT = 16, SYLLABI_COUNT = 6 };
     "04 off|04 on|04 off, dated|04 on, dated|"                                 \
     "05 CPA off|05 CPA on|05 CPA off, dated|05 CPA on, dated|"                 \
     "05 CPACE off|05 CPACE on|05 CPACE off, dated|05 CPACE on, dated"          \
-    SCRIPT_SETUP_KINDS
+    SCRIPT_SETUP_KINDS LOG_SETUP_KINDS
 
 /* What has a value and grows by amounts, and its limits. */
 #define SLOTS "1|2|3|4|cyclic 1|cyclic 2"
@@ -221,7 +240,8 @@ enum { SETUP_KINDS_COUNT = 16, SYLLABI_COUNT = 6 };
       "taken, of version, selection",                                          \
       "01|" SETUP_KINDS)                                                       \
     X(SYLLABUS_TAKEN, SYLLABI_COUNT, "set-up", "taken, syllabus",              \
-      "0 in 03|1 in 03|0 in 04|1 in 04|0 in 05|1 in 05" SCRIPT_SYLLABI)        \
+      "0 in 03|1 in 03|0 in 04|1 in 04|0 in 05|1 in 05" SCRIPT_SYLLABI         \
+      LOG_SYLLABI)                                                             \
     X(DAY_TAKEN, 14, "set-up", "taken, days from, cyclic accumulator",         \
       FIRST_DAYS)                                                              \
     X(WEEK_TAKEN, 14, "set-up", "taken, weeks from, cyclic accumulator",       \
@@ -649,8 +669,7 @@ enum { SETUP_KINDS_COUNT = 16, SYLLABI_COUNT = 6 };
 
 /* What scripts add. */
 #define REACHED_SCRIPTS(X)                                                     \
-    X(KIND_OFF, 3, "refusal 9", "kind 5 without scripts",                      \
-      "01 to 05|06, off|06, record 0")                                         \
+    X(KIND_OFF, 3, "refusal 9", "kind 5 without scripts", SCRIPT_VERSIONS)     \
     X(SCRIPT_LENGTH, 1, "refusal 9", "Script's body empty", "")                \
     X(SCRIPTS_MISSING, 1, "refusal 1", "scripts: no switch", "")               \
     X(BAD_SCRIPTS, 2, "refusal 1", "scripts: switch", "2|above")               \
@@ -782,10 +801,86 @@ enum { SETUP_KINDS_COUNT = 16, SYLLABI_COUNT = 6 };
       "after Y3 or Z3|any other code")                                         \
     X(SLOT_NEW, 3, "script bits", "entry tests a written accumulator", "#1")
 
+/* The lengths of First's data, and whose data the entries of a table mean. */
+#define DATA_LENGTHS "12|15|21|24"
+#define ENTRIES_OF                                                             \
+    "First's 0|1|2 to 254|255|Second's 0|1|2 to 254|255"
+#define FIELDS_OF(of)                                                          \
+    of " position 0|position 0, length above the data|empty|"                  \
+    "empty, behind the data|one byte|to the end|all"
+
+/* What the log adds. */
+#define REACHED_LOG(X)                                                         \
+    X(LOG_MISSING, 1, "refusal 1", "log: no switch", "")                       \
+    X(BAD_LOG, 2, "refusal 1", "log: switch", "2|above")                       \
+    X(LOG_SHORT, 2, "refusal 1", "log on, the tail ends too early",            \
+      "before the profiles' switches|within them")                             \
+    X(BAD_SIZE, 2, "refusal 1", "ring's size", "21|above")                     \
+    X(BAD_LOG_SWITCHES, 3, "refusal 1", "log: unnamed switch",                 \
+      "01|02|both")                                                            \
+    X(BAD_LOG_ON, 4, "refusal 1", "log above 1, profile", "#1")                \
+    X(TABLE_MISSING, 2, "refusal 1", "log on, no table", "First's|Second's")   \
+    X(TABLE_SHORT, 2, "refusal 1", "log table cut short",                      \
+      "First's|Second's")                                                      \
+    X(BAD_SOURCE, 4, "refusal 1", "source of an entry",                        \
+      "First's table, the first|First's, a later one|"                         \
+      "Second's table, the first|Second's, a later one")                       \
+                                                                               \
+    X(PAST_DATA, 9, "refusal 14", "past the data, so long",                    \
+      "First's table, " DATA_LENGTHS "|"                                       \
+      "Second's, First's data, " DATA_LENGTHS "|Second's, its data")           \
+    X(PAST_AT, 6, "refusal 14", "past the data, the entry",                    \
+      "First's table, the first|First's, a later one|First's, the 255th|"      \
+      "Second's table, the first|Second's, a later one|Second's, the 255th")   \
+    X(PAST_BY, 5, "refusal 14", "past the data",                               \
+      "by one byte|by more|behind the last byte|an empty field|"               \
+      "a sum above 255")                                                       \
+    X(PAST_OTHER, 1, "refusal 14", "past Second's data, within First's", "")   \
+    X(PAST_UNUSED, 3, "refusal 14", "though nothing would be logged",          \
+      "size 0|neither declined nor approved|no profile")                       \
+                                                                               \
+    X(RING_TAKEN, 4, "log", "taken, ring's size", "0|1|2 to 19|20")            \
+    X(LOG_SWITCH, 12, "log", "taken, switch",                                  \
+      "CVR off|on|CID off|on|ATC off|on|offline only off|on|"                  \
+      "approved off|on|declined off|on")                                       \
+    X(LOG_ON, 8, "log", "taken, profile logs",                                 \
+      "1 not|1|2 not|2|3 not|3|4 not|4")                                       \
+    X(TABLE_TAKEN, 8, "log", "taken, entries of a table", ENTRIES_OF)          \
+    X(FIELD_TAKEN, 21, "log", "taken, an entry",                               \
+      FIELDS_OF("First's table") "|" FIELDS_OF("Second's, First's data") "|"   \
+      FIELDS_OF("Second's, its data"))                                         \
+                                                                               \
+    X(LOGGED_AS, 23, "log", "logged, closed by", CLOSED_WAYS)                  \
+    X(LEFT_OUT_AS, 23, "log", "not logged, closed by", CLOSED_WAYS)            \
+    X(LEFT_OUT_BY, 5, "log", "not logged for this alone",                      \
+      "size 0|the profile|declined off|approved off|offline only")             \
+    X(OFFLINE_KEEPS, 6, "log", "offline only, logged all the same",            \
+      "First TC|Y3 TC|Z3 TC|First AAC|Y3 or Z3 AAC|AAC, online")               \
+    X(NO_RECORD, 8, "log", "no record where all is logged",                    \
+      "ARQC|Start|Start over Second due|Script|refused First|"                 \
+      "refused Second|refused Start|refused Script")                           \
+    X(BETWEEN, 4, "log", "logged at Second, since its First came",             \
+      "a refused First|a refused Second|a refused Start|a Script")             \
+                                                                               \
+    X(LOG_LINES, 4, "log", "lines of a paper", "0|1|2 to 19|20")               \
+    X(RING_AT_END, 5, "log", "ring at the end of a paper",                     \
+      "empty|not full|just full|the oldest gone|all taken twice or more")      \
+    X(ENDED, 1, "log", "9 ends a paper with records: none shown", "")          \
+    X(SHOWN_OF, 8, "log", "shown, a record of",                                \
+      "First, " DATA_LENGTHS "|Second, " DATA_LENGTHS)                         \
+    X(SHOWN_DATE, 2, "log", "shown, date", "as First's|in error")              \
+    X(SHOWN_ATC, 1, "log", "shown, ATC above 255", "")                         \
+    X(SHOWN_AMOUNT, 2, "log", "shown, amount", "0|MAX")                        \
+    X(SHOWN_FIELD, 11, "log", "shown, a field from",                           \
+      "type|amount|currency|terminal|date|CVM results|cashback|"               \
+      "Second's type|code|issuer data|CSU")                                    \
+    X(SHOWN_LONGEST, 1, "log", "shown, 255 fields of 24 bytes", "")
+
 #define REACHED_NAME(name, count, part, text, labels)                          \
     name, name##_END = name + (count) - 1,
 enum {
-    REACHED_LIST(REACHED_NAME) REACHED_SCRIPTS(REACHED_NAME) REACHED_ALL
+    REACHED_LIST(REACHED_NAME) REACHED_SCRIPTS(REACHED_NAME)
+    REACHED_LOG(REACHED_NAME) REACHED_ALL
 };
 #undef REACHED_NAME
 
@@ -812,12 +907,15 @@ static inline bool fault(unsigned cause)
 
 /* Which kind of set-up this is: versions 02 and 03 with selection off or on,
  * version 04 with that and dated or not, version 05 with all that, and CPA or
- * CPACE, version 06 with all that, and scripts or not. */
+ * CPACE, version 06 with all that, and scripts or not; version 07 dated or not,
+ * CPA or CPACE, and with a log or not. */
 static inline unsigned setup_kind(unsigned version, bool on, bool dated,
-                                  bool cpace, bool scripts)
+                                  bool cpace, bool scripts, bool log)
 {
     const unsigned from = version < 5 ? 2 * (version - 2) : 8 * (version - 4);
 
+    if (version > 6)
+        return 32u + dated + 2 * cpace + 4 * log;
     return from + on + 2 * dated + 4 * cpace + 8 * scripts;
 }
 
@@ -844,6 +942,17 @@ static inline unsigned bad_first(size_t length, bool dated, bool cpace)
         other += i != right;
     }
     return 5 * right + 3 + (length > lengths[right]);
+}
+
+/* Which table has an entry past its data, and how long these are. */
+static inline unsigned past_data(unsigned whose, unsigned source,
+                                 size_t length)
+{
+    const bool dated = length == 15 || length == 24;
+
+    if (source > 0)
+        return 8;
+    return 4 * whose + dated + (length > 15 ? 2 : 0);
 }
 
 /* How three bytes that are no day fail, in the order of NOT_DAYS. */

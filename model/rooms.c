@@ -37,7 +37,9 @@ size_t display_line(struct display *display, char *line)
     if (display->place < display->places)
         return rooms_line(&sitting->card, display->place++, line);
     const size_t length = sitting_line(sitting, line);
-    if (length > 0 && has_card(sitting)) {
+    if (length == 0)
+        return sitting_log_line(sitting, line);
+    if (has_card(sitting)) {
         display->place = 0;
         display->places = sitting->card.setup.profiles;
     }

@@ -5,7 +5,7 @@
 #include "sitting.h"
 
 /* A sitting, and behind each of its lines, while there is a card, a line of
- * rooms for each profile. */
+ * rooms for each profile; the log behind all of them. */
 struct display {
     struct sitting sitting;
     unsigned place; /* of the next profile to show */
@@ -14,7 +14,8 @@ struct display {
 
 void display_open(struct display *display, const uint8_t *paper, size_t length);
 
-/* The next line, as sitting_line gives it. */
+/* The next line, as sitting_line and sitting_log_line give it. The room must be
+ * LOG_LINE_MAX_BYTES. */
 size_t display_line(struct display *display, char *line);
 
 #endif

@@ -32,8 +32,8 @@ static void put_answer(uint8_t *at, const struct card *card, uint8_t kind,
     memcpy(at + 4, reply->answer.iad, IAD_BYTES);
 }
 
-unsigned run(struct card *card, const uint8_t *records, size_t length,
-             uint8_t *room, size_t size, size_t *answers)
+unsigned run(struct card *card, struct log *log, const uint8_t *records,
+             size_t length, uint8_t *room, size_t size, size_t *answers)
 {
     const uint8_t *at = records;
     const uint8_t *end = records + length;
@@ -48,7 +48,7 @@ unsigned run(struct card *card, const uint8_t *records, size_t length,
         return 17;
     for (; *answers < count; ++*answers, room += ANSWER_BYTES) {
         take_command(&card->setup, &at, end, &command);
-        const unsigned refusal = answer_command(card, &command, &reply);
+        const unsigned refusal = answer_command(card, log, &command, &reply);
         put_answer(room, card, command.kind, refusal, &reply);
     }
     return 0;

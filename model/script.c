@@ -106,6 +106,27 @@ void scripts(void)
     setup.scripts = 1;
 }
 
+void logs(uint8_t size, uint8_t switches)
+{
+    setup.version = 7;
+    setup.log = 1;
+    setup.log_size = size;
+    setup.log_switches = switches;
+    for (unsigned i = 0; i < 5; i++)
+        setup.profile[i].log = 1;
+    memset(setup.table, 0, sizeof setup.table);
+}
+
+void at_first(uint8_t position, uint8_t length)
+{
+    draft_log_entry(&setup.table[0], FROM_FIRST, position, length);
+}
+
+void at_second(uint8_t source, uint8_t position, uint8_t length)
+{
+    draft_log_entry(&setup.table[1], source, position, length);
+}
+
 static unsigned nibble(char digit)
 {
     return (unsigned)(digit <= '9' ? digit - '0' : digit - 'A' + 10);
@@ -131,6 +152,11 @@ void printed_sitting(void)
 {
     draft_printed_setup(&setup);
     begin();
+    printed_commands();
+}
+
+void printed_commands(void)
+{
     start(1);
     first(TC, 5000);
     start(1);

@@ -53,8 +53,18 @@ void scripts(void);
 void script_by(uint8_t result, const char *template);
 void script(const char *template);
 
-/* Document 01's sitting: its set-up, its commands. */
+/* The set-up becomes version 07, its log on in every profile, with a ring of
+ * this size, these switches and empty tables; dated, CPACE, scripts and all
+ * else stay. */
+void logs(uint8_t size, uint8_t switches);
+
+/* An entry of First's table, which has First's data, and one of Second's. */
+void at_first(uint8_t position, uint8_t length);
+void at_second(uint8_t source, uint8_t position, uint8_t length);
+
+/* Document 01's sitting: its set-up, its commands; and the commands alone. */
 void printed_sitting(void);
+void printed_commands(void);
 
 /* So many profiles, numbered from 1: all like the first, or all of zeros. */
 void profiles_alike(unsigned count);

@@ -10,7 +10,9 @@ enum {
     CONVERSION_BYTES = 7,
     CYCLES_BYTES = 27, /* behind the switch, without the limits */
     LIMITS_BYTES = 18, /* of a profile */
-    CONTROLS_BYTES = ACCUMULATORS + COUNTERS
+    CONTROLS_BYTES = ACCUMULATORS + COUNTERS,
+    LOG_BYTES = 2, /* before the profiles' */
+    ENTRY_BYTES = 3
 };
 
 static bool read_profile(struct profile *profile, unsigned version,
@@ -256,6 +258,64 @@ static bool read_scripts(struct setup *setup, const uint8_t **place,
     return true;
 }
 
+/* So many entries, each of a source up to this one. */
+static bool read_table(struct log_table *table, unsigned whose,
+                       const uint8_t **place, const uint8_t *end)
+{
+    const uint8_t *at = *place;
+
+    if (at == end)
+        return fault(TABLE_MISSING + whose);
+    table->entries = *at++;
+    table->entry = at;
+    if (end - at < ENTRY_BYTES * table->entries)
+        return fault(TABLE_SHORT + whose);
+    for (unsigned i = 0; i < table->entries; i++, at += ENTRY_BYTES)
+        if (at[0] > whose)
+            return fault(BAD_SOURCE + 2 * whose + (i > 0));
+    *place = at;
+    return true;
+}
+
+/* A switch, 0 or 1; if 1, the ring's size, what is logged, whether each profile
+ * logs, and both tables. Whether these reach past the data is asked later. */
+static bool read_log(struct setup *setup, const uint8_t **place,
+                     const uint8_t *end)
+{
+    struct log_rule *log = &setup->log;
+    const uint8_t *at = *place;
+
+    if (at == end)
+        return fault(LOG_MISSING);
+    if (*at > 1)
+        return fault(BAD_LOG + (*at > 2));
+    log->on = *at++;
+    *place = at;
+    if (!log->on)
+        return true;
+
+    if (end - at < LOG_BYTES)
+        return fault(LOG_SHORT + 0);
+    if (end - at < LOG_BYTES + setup->profiles)
+        return fault(LOG_SHORT + 1);
+    log->size = *at++;
+    log->switches = *at++;
+    if (log->size > LOG_RECORDS)
+        return fault(BAD_SIZE + (log->size > LOG_RECORDS + 1));
+    if (log->switches & ~LOG_SWITCHES)
+        return fault(BAD_LOG_SWITCHES + (log->switches & 3u) - 1);
+    for (unsigned i = 0; i < setup->profiles; i++) {
+        if (*at > 1)
+            return fault(BAD_LOG_ON + i);
+        setup->profile[i].log = *at++;
+    }
+    for (unsigned whose = OF_FIRST; whose <= OF_SECOND; whose++)
+        if (!read_table(&log->table[whose], whose, &at, end))
+            return false;
+    *place = at;
+    return true;
+}
+
 bool card_set_up(struct card *card, unsigned version, const uint8_t *body,
                  size_t length)
 {
@@ -344,9 +404,13 @@ bool card_set_up(struct card *card, unsigned version, const uint8_t *body,
     setup->scripts = false;
     if (version >= VERSION_SCRIPTS && !read_scripts(setup, &at, body + length))
         return false;
+    setup->log = (struct log_rule){0};
+    if (version >= VERSION_LOG && !read_log(setup, &at, body + length))
+        return false;
     if (at != body + length)
-        return fault(TAIL_LONG + setup_kind(version, setup->selection.on,
-                                            setup->cyclics > 0,
-                                            is_cpace(setup), setup->scripts));
+        return fault(TAIL_LONG
+                     + setup_kind(version, setup->selection.on,
+                                  setup->cyclics > 0, is_cpace(setup),
+                                  setup->scripts, setup->log.on));
     return true;
 }

@@ -1,5 +1,7 @@
 #include "sitting.h"
 
+#include <string.h>
+
 #include "bytes.h"
 #include "reached.h"
 
@@ -11,7 +13,8 @@ enum {
     CVM_BYTES = 3,
     CASHBACK_BYTES = 6,
     SECOND_BYTES = 8,
-    MESSAGING_BYTES = 1
+    MESSAGING_BYTES = 1,
+    ENTRY_BYTES = 3
 };
 
 static unsigned unreadable(unsigned cause)
@@ -55,6 +58,31 @@ static bool take(const struct setup *setup, const uint8_t **place,
     return true;
 }
 
+static size_t first_length(const struct setup *setup)
+{
+    return FIRST_BYTES + (setup->cyclics > 0 ? DATE_BYTES : 0)
+        + (is_cpace(setup) ? CVM_BYTES + CASHBACK_BYTES : 0);
+}
+
+/* Whether no entry of the log tables reaches past the data that it means. One
+ * at position 0 means none. */
+static bool tables_fit(const struct setup *setup)
+{
+    const size_t lengths[] = {first_length(setup), SECOND_BYTES};
+
+    for (unsigned whose = OF_FIRST; whose <= OF_SECOND; whose++) {
+        const struct log_table *table = &setup->log.table[whose];
+        const uint8_t *at = table->entry;
+        for (unsigned i = 0; i < table->entries; i++, at += ENTRY_BYTES) {
+            const unsigned source = at[0], position = at[1], length = at[2];
+            if (position > 0 && position - 1 + length > lengths[source])
+                return fault(PAST_DATA + past_data(whose, source,
+                                                   lengths[source]));
+        }
+    }
+    return true;
+}
+
 /* The paper's own faults, then record 0. */
 static unsigned set_up(struct sitting *sitting)
 {
@@ -75,6 +103,8 @@ static unsigned set_up(struct sitting *sitting)
         return unreadable(SETUP_MISSING + record.kind - KIND_START);
     if (!card_set_up(&sitting->card, version, record.body, record.length))
         return 1;
+    if (!tables_fit(&sitting->card.setup))
+        return 14;
     return 0;
 }
 
@@ -124,6 +154,8 @@ void sitting_open(struct sitting *sitting, const uint8_t *paper, size_t length)
     sitting->length = length;
     sitting->record = 0;
     sitting->over = false;
+    sitting->shown = 0;
+    log_open(&sitting->log);
 }
 
 struct start read_start(const struct record *record)
@@ -178,12 +210,6 @@ static bool fits_start(const struct setup *setup, size_t length)
     return length == before + PROFILE_BYTES;
 }
 
-static size_t first_length(const struct setup *setup)
-{
-    return FIRST_BYTES + (setup->cyclics > 0 ? DATE_BYTES : 0)
-        + (is_cpace(setup) ? CVM_BYTES + CASHBACK_BYTES : 0);
-}
-
 /* Whether a record is a command's, its body as long as the set-up has it. */
 static bool fits(const struct setup *setup, const struct record *record)
 {
@@ -214,9 +240,11 @@ bool take_command(const struct setup *setup, const uint8_t **place,
     return take(setup, place, end, command) && fits(setup, command);
 }
 
-unsigned answer_command(struct card *card, const struct record *command,
-                        struct reply *reply)
+unsigned answer_command(struct card *card, struct log *log,
+                        const struct record *command, struct reply *reply)
 {
+    unsigned refusal;
+
     switch (command->kind) {
     case KIND_START: {
         const struct start start = read_start(command);
@@ -224,11 +252,18 @@ unsigned answer_command(struct card *card, const struct record *command,
     }
     case KIND_FIRST: {
         const struct first first = read_first(command);
-        return card_first(card, &first, &reply->answer);
+        refusal = card_first(card, &first, &reply->answer);
+        if (refusal == 0)
+            log_first(log, card, command->body, &reply->answer);
+        return refusal;
     }
     case KIND_SECOND: {
         const struct second second = read_second(command);
-        return card_second(card, &second, &reply->answer);
+        refusal = card_second(card, &second, &reply->answer);
+        if (refusal == 0)
+            log_second(log, card, command->body, is_unable(second.code),
+                       &reply->answer);
+        return refusal;
     }
     default: {
         const struct script script = read_script(command);
@@ -265,7 +300,8 @@ static unsigned answer_next(struct sitting *sitting, char **rest)
 
     if (!take_command(&card->setup, &sitting->at, sitting->end, &command))
         return 9;
-    const unsigned refusal = answer_command(card, &command, &reply);
+    const unsigned refusal =
+        answer_command(card, &sitting->log, &command, &reply);
     if (refusal == 0)
         *rest = put_reply(*rest, card, command.kind, &reply);
     return refusal;
@@ -291,6 +327,67 @@ size_t sitting_line(struct sitting *sitting, char *line)
     *rest++ = '\n';
 
     sitting->record++;
-    sitting->over = refusal == 1 || refusal == 9;
+    sitting->over = refusal == 1 || refusal == 9 || refusal == 14;
     return (size_t)(rest - line);
+}
+
+/* Twelve decimal digits. */
+static char *put_amount(char *at, uint64_t amount)
+{
+    for (unsigned i = 12; i > 0; i--) {
+        at[i - 1] = (char)('0' + amount % 10);
+        amount /= 10;
+    }
+    return at + 12;
+}
+
+/* CPA Tables 15-11 and 17-14: what every record has, what the switches ask for,
+ * and the fields of the table of the command that closed the transaction. */
+static char *put_record(char *at, const struct setup *setup,
+                        const struct log_record *record)
+{
+    static const uint8_t no_date[DATE_BYTES];
+    const uint8_t *first = record->first;
+    const struct log_table *table =
+        &setup->log.table[record->second ? OF_SECOND : OF_FIRST];
+    const uint8_t *entry = table->entry;
+    uint8_t atc[2];
+
+    at = put_amount(at, get64(first + 1));
+    at = put_hex(at, first + 9, 2);
+    at = put_hex(at, setup->cyclics > 0 ? first + FIRST_BYTES : no_date,
+                 DATE_BYTES);
+    if (setup->log.switches & LOG_CVR)
+        at = put_hex(at, record->cvr, sizeof record->cvr);
+    put16(atc, record->atc);
+    if (setup->log.switches & LOG_ATC)
+        at = put_hex(at, atc, sizeof atc);
+    if (setup->log.switches & LOG_CID)
+        at = put_hex(at, &record->cid, 1);
+    for (unsigned i = 0; i < table->entries; i++, entry += ENTRY_BYTES) {
+        const struct stretch field = log_field(first, record->second, entry[0],
+                                               entry[1], entry[2]);
+        at = put_hex(at, field.at, field.length);
+    }
+    return at;
+}
+
+size_t sitting_log_line(struct sitting *sitting, char *line)
+{
+    const struct setup *setup = &sitting->card.setup;
+    const unsigned number = sitting->shown + 1;
+
+    if (sitting->over)
+        return 0;
+    const struct log_record *record =
+        log_record(&sitting->log, setup, number);
+    if (!record)
+        return 0;
+    memcpy(line, "log ", 4);
+    char *at = put_number(line + 4, number);
+    *at++ = ' ';
+    at = put_record(at, setup, record);
+    *at++ = '\n';
+    sitting->shown = number;
+    return (size_t)(at - line);
 }

@@ -27,10 +27,10 @@ static void write_out(void)
     used = 0;
 }
 
-/* Room for one more line. */
-static char *room(void)
+/* Room for one more line, which may be so long. */
+static char *room(size_t longest)
 {
-    if (OUT_BYTES - used < LINE_MAX_BYTES)
+    if (OUT_BYTES - used < longest)
         write_out();
     return out + used;
 }
@@ -38,8 +38,20 @@ static char *room(void)
 static void put(const char *text)
 {
     const size_t length = strlen(text);
-    memcpy(room(), text, length);
+    memcpy(room(length), text, length);
     used += length;
+}
+
+static void answer(const uint8_t *paper, size_t length)
+{
+    size_t line;
+
+    sitting_open(&sitting, paper, length);
+    while ((line = sitting_line(&sitting, room(LINE_MAX_BYTES))) > 0)
+        used += line;
+    while ((line = sitting_log_line(&sitting, room(LOG_LINE_MAX_BYTES))) > 0)
+        used += line;
+    put("\n");
 }
 
 int main(int argc, char **argv)
@@ -60,10 +72,7 @@ int main(int argc, char **argv)
     for (;;) {
         switch (bundle_next(&bundle, &paper, &length)) {
         case BUNDLE_PAPER:
-            sitting_open(&sitting, paper, length);
-            for (size_t line; (line = sitting_line(&sitting, room())) > 0;)
-                used += line;
-            put("\n");
+            answer(paper, length);
             break;
         case BUNDLE_TOO_LONG:
             put("0 9\n\n");

@@ -9,7 +9,8 @@ use native.Mathlib.Omega.{arith}
 use lib.ListN.{length, length-append}
 use lib.Seq.{take-append-seam, drop-append-seam}
 use borrow.Author.Tests.{lt-ltb, le-leb, eq-eqb, ne-eqb}
-use Rattle.object.specs.Object.{readTemplate, commandsOf}
+use Rattle.object.specs.Object.{readTemplate}
+use Rattle.cursor.specs.Cursor.{commandsOf}
 use Rattle.object.specs.declared.Reading.the-variants.{Sound}
 use Rattle.trees.specs.Tree.{Tag, short, long, Form, plain, with81, with82, Objects, end, filler, primitive, constructed, tree}
 use Rattle.trees.specs.Tree.{lengthBytes, objectBytes, written, is86, ifCommand, commands, limit, Tagged, Good}

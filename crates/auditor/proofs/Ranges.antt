@@ -4,7 +4,7 @@ use mathlib.Core.List.{List, [], _∷_, map}
 use mathlib.Core.Option.{some}
 use Prim.Native.Nat.{ℕ}
 use lib.ListN.{drop}
-use Rattle.object.specs.Object.{Place, placesFrom, cut, commandsOf}
+use Rattle.cursor.specs.Cursor.{Place, placesFrom, cut, commandsOf}
 use Rattle.trees.proofs.Octets.{drop-bytes, take-bytes}
 use Rattle.element.specs.declared.Write.{Write}
 use Rattle.element.specs.declared.Write.the-variants.{Value, AccumulatorLimits, CounterLimits}

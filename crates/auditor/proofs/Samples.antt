@@ -8,7 +8,8 @@ use lib.ListN.{replicate}
 use lib.Dec.{T, eqb}
 use Rattle.wire.specs.Wire.{number}
 use Rattle.digits.specs.Digits.{arePairs, pairsValue}
-use Rattle.object.specs.Object.{lengthSize, lengthAt, valueSize, headSize, headFormed, headRight, placesBehind, placesFrom, cut, commandsOf}
+use Rattle.object.specs.Object.{lengthSize, lengthAt, valueSize, headSize, headFormed, headRight}
+use Rattle.cursor.specs.Cursor.{placesBehind, placesFrom, cut, commandsOf}
 use Rattle.element.specs.declared.Write.{Write}
 use Rattle.element.specs.declared.Write.the-variants.{Value, AccumulatorLimits, CounterLimits}
 use Rattle.element.specs.Element.{lengthSize as putSize, lengthAt as putAt, valueWritten, limitsWritten, countsWritten, meaningOf, headSize as putHead}

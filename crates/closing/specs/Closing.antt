@@ -22,7 +22,7 @@ use Rattle.cryptogram.specs.declared.Later.the-variants.{Aac as LaterAac, Tc as
 use Rattle.state.specs.declared.Pending.{Pending}
 use Rattle.state.specs.declared.Phase.the-variants.{Idle}
 use Rattle.state.specs.declared.Outcome.{Outcome}
-use Rattle.script.specs.declared.Scripts.{Scripts}
+use Rattle.marks.specs.declared.Scripts.{Scripts}
 use Rattle.cryptogram.specs.Cryptogram.{verification, sentIad}
 
 abbrev pub closingKind : Bool → Kind

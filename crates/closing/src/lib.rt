@@ -5,13 +5,13 @@ ghost use Rattle.closing.specs.Closing.{closingKind, laterKind, closed, 
 use calendar::Date;
 use cryptogram::Issuer;
 use cryptogram::Later;
+use marks::Scripts;
 use meters::Change;
 use purchase::Purchase;
 use purchase::Timing;
 use rules::Place;
 use rules::Values;
 use rules::Words;
-use script::Scripts;
 use state::Answer;
 use state::History;
 use state::Kind;

@@ -12,8 +12,8 @@ use Rattle.rules.specs.declared.Values.{Values}
 use Rattle.rules.specs.Rules.{Rules, profileAt}
 use Rattle.limits.specs.Limits.{bit}
 use Rattle.checks.specs.Checks.{meetsMask, accumulatorsLowerGroup, accumulatorsUpperGroup, dateError, countersLowerGroup, countersUpperGroup}
-use Rattle.script.specs.declared.Scripts.{Scripts}
-use Rattle.script.specs.Script.{marksOf}
+use Rattle.marks.specs.declared.Scripts.{Scripts}
+use Rattle.marks.specs.Marks.{marksOf}
 use Rattle.state.specs.declared.History.{History}
 use Rattle.cryptogram.specs.declared.Issuer.{Issuer}
 use Rattle.state.specs.declared.Kind.{Kind}

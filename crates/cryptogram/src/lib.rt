@@ -6,11 +6,11 @@ ghost use Rattle.cryptogram.specs.Cryptogram.{kindCode, laterCode, limit
 use iad::Cvr;
 use iad::Iad;
 use limits::bit;
+use marks::Scripts;
 use money::AccumulatorAmount;
 use rules::Place;
 use rules::Values;
 use rules::Words;
-use script::Scripts;
 use state::History;
 use state::Kind;
 

@@ -24,7 +24,7 @@ use Rattle.command.specs.declared.Second.{Second}
 use Rattle.card.specs.Message.{Message, StartCommand, FirstCommand, SecondCommand, ScriptCommand}
 use Rattle.purchase.specs.declared.Timing.{Timing}
 use Rattle.purchase.specs.declared.Purchase.{Purchase}
-use Rattle.script.specs.declared.Scripts.{Scripts}
+use Rattle.marks.specs.declared.Scripts.{Scripts}
 use Rattle.state.specs.declared.History.{History}
 use Rattle.checks.specs.Checks.{meetsMask}
 use Rattle.state.specs.declared.Answer.{Answer}

@@ -25,12 +25,13 @@ use Rattle.rules.specs.Limits.{withAccumulatorLimits, withCounterLimits}
 use Rattle.digits.specs.Digits.{arePairs, pairsValue}
 use Rattle.object.specs.declared.Reading.{Reading}
 use Rattle.object.specs.Object.{lengthSize, lengthAt, headSize, valueSize, headFormed, headRight, valueOf, readObject, readBehind, readList, isTemplate}
-use Rattle.object.specs.Object.{readTemplate, placesBehind, placesFrom, cut, commandsOf}
+use Rattle.object.specs.Object.{readTemplate}
+use Rattle.cursor.specs.Cursor.{placesBehind, placesFrom, cut, commandsOf}
 use Rattle.element.specs.declared.Write.{Write}
 use Rattle.element.specs.Element.{lengthSize as putSize, lengthAt as putAt, headSize as putHead, valueWritten, limitsWritten, countsWritten, meaningOf}
 use Rattle.element.specs.Element.{elementSize, elementMeaning}
 use Rattle.put_data.specs.PutData.{writesBy, isPutData, listPlace, macPlace, isSecured, elementsOf, writesOf}
-use Rattle.script.specs.declared.Scripts.{Scripts}
+use Rattle.marks.specs.declared.Scripts.{Scripts}
 use Rattle.script.specs.declared.Ran.{Ran}
 use Rattle.script.specs.Script.{valueIn, kept, freshScripts, oneDone, oneFailed, started, heard, marksOf, done, tried, templateTried, ranOf}
 use Rattle.auditor.specs.Template.{shortIn, valueIn as valueRead, commandsBy, digitsIn, areDigits, decimal, isAmount, amountIn, ofAccumulator, ofCounter}

@@ -29,7 +29,7 @@ use Rattle.purchase.specs.declared.Purchase.{Purchase}
 use Rattle.purchase.specs.Meter.{Meter, IsMeter, valueOf}
 use Rattle.element.specs.declared.Write.{Write}
 use Rattle.meters.specs.Meters.{moved}
-use Rattle.script.specs.declared.Scripts.{Scripts}
+use Rattle.marks.specs.declared.Scripts.{Scripts}
 use Rattle.state.specs.declared.History.{History}
 use Rattle.cryptogram.specs.declared.Issuer.{Issuer}
 use Rattle.state.specs.declared.Kind.{Kind}

@@ -28,7 +28,7 @@ use Rattle.purchase.specs.Meter.{takesUp as cardTakesUp}
 use Rattle.meters.specs.declared.Change.the-variants.{Approve}
 use Rattle.meters.specs.Meters.{add, moved, addition, offline, applied, entered as entriesOf}
 use Rattle.meters.proofs.Ledger.{applied-moves}
-use Rattle.script.specs.declared.Scripts.{Scripts}
+use Rattle.marks.specs.declared.Scripts.{Scripts}
 use Rattle.state.specs.declared.History.{History}
 use Rattle.limits.specs.Limits.{bit, exceedsUpper}
 use Rattle.checks.specs.Checks.{decisionBits, meetsMask, upperBit as upperFlag}

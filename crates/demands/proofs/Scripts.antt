@@ -11,16 +11,17 @@ use Rattle.iad.specs.declared.Cvr.{Cvr}
 use Rattle.rules.specs.declared.Place.{Place}
 use Rattle.rules.specs.Rules.{Rules}
 use Rattle.object.specs.declared.Reading.the-variants.{Sound}
-use Rattle.object.specs.Object.{readTemplate, commandsOf}
+use Rattle.object.specs.Object.{readTemplate}
+use Rattle.cursor.specs.Cursor.{commandsOf}
 use Rattle.element.specs.declared.Write.{Write}
 use Rattle.put_data.specs.PutData.{writesOf}
 use Rattle.auditor.specs.Template.{writesIn, Bytes, EachBytes, InRange}
 use Rattle.auditor.proofs.Commands.{same-commands}
 use Rattle.auditor.proofs.Writes.{same-writes}
 use Rattle.auditor.proofs.Ranges.{commands-bytes, writes-in-range}
-use Rattle.script.specs.declared.Scripts.{Scripts}
+use Rattle.marks.specs.declared.Scripts.{Scripts}
 use Rattle.script.specs.Script.{hasFailedHere, freshScripts, started, heard, done, oneDone, oneFailed, Tried, triedNext, tried, templateTried, ranOf}
-use Rattle.script.proofs.Marks.{Says, fresh-says, done-says, failed-says, started-says, heard-says}
+use Rattle.marks.proofs.Marks.{Says, fresh-says, done-says, failed-says, started-says, heard-says}
 use Rattle.command.specs.declared.First.{First}
 use Rattle.command.specs.declared.Second.{Second}
 use Rattle.purchase.specs.declared.Purchase.{Purchase}

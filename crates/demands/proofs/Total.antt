@@ -31,7 +31,7 @@ use Rattle.object.specs.Object.{readTemplate}
 use Rattle.element.specs.declared.Write.{Write}
 use Rattle.element.specs.declared.Write.the-variants.{Value, AccumulatorLimits, CounterLimits}
 use Rattle.auditor.specs.Template.{Bytes, InRange}
-use Rattle.script.specs.declared.Scripts.{Scripts}
+use Rattle.marks.specs.declared.Scripts.{Scripts}
 use Rattle.script.specs.Script.{valuesAfter, ranOf}
 use Rattle.state.specs.declared.History.{History}
 use Rattle.checks.specs.Checks.{meetsMask}

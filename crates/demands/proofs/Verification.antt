@@ -13,9 +13,9 @@ use Rattle.rules.specs.declared.Values.{Values}
 use Rattle.rules.specs.Rules.{Rules, indexOf}
 use Rattle.setup.specs.Setup.{profileIn, rulesIn}
 use Rattle.purchase.specs.declared.Purchase.{Purchase}
-use Rattle.script.specs.declared.Scripts.{Scripts}
+use Rattle.marks.specs.declared.Scripts.{Scripts}
 use Rattle.script.specs.Script.{marksOf}
-use Rattle.script.proofs.Marks.{marks-say, marks-low}
+use Rattle.marks.proofs.Marks.{marks-say, marks-low}
 use Rattle.state.specs.declared.History.{History}
 use Rattle.limits.specs.Limits.{bit}
 use Rattle.checks.specs.Checks.{decisionBits, accumulatorsLowerGroup, accumulatorsUpperGroup, countersLowerGroup, countersUpperGroup}

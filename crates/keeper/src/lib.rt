@@ -6,44 +6,14 @@ ghost use Rattle.script.specs.Script.{rulesAfter, wordsAfter};
 ghost use Rattle.records.specs.Records.{recordTaken, recordWrites};
 ghost use Rattle.conversation.specs.Conversation.{takenOf, takenWrites};
 ghost use Rattle.opening.specs.Opening.{begunOf, wordsBegun};
-ghost use Rattle.keeper.specs.Keeper.{isScripted, roomsAfter, roomsRecorded, roomsTaken, roomsBegun};
+ghost use Rattle.keeper.specs.Keeper.{roomsRecorded, roomsTaken, roomsBegun};
 use opening::Begun;
 use records::Event;
 use records::Taken;
 use rooms::Rooms;
-use rules::Values;
 use rules::Words;
 use shape::Shape;
-use state::Answer;
 use state::State;
-
-// Whether a script was carried out.
-fn is_scripted(event: Event) -> bool
-    ensures { λ r. ⌜ r ≡ isScripted event ⌝ }
-{
-    let Event::Answered { answer, .. } = event else {
-        return false;
-    };
-    match answer {
-        Answer::Done => true,
-        _ => false,
-    }
-}
-
-// The room left after a record, by the values before and after it. A script may have written limits:
-// then all are worked out anew.
-fn keep(words: &Words, before: Values, taken: Taken, rooms: &mut Rooms)
-    ensures { λ _. ⌜ now (rooms .exit) ≡ roomsAfter (rulesOf (now (words .entry))) before (taken .state .values) (taken .event) (now (rooms .entry)) ⌝ }
-{
-    let state = taken.state;
-    let after = state.values;
-    let event = taken.event;
-    if is_scripted(event) {
-        rooms::fill(words, after, rooms);
-    } else {
-        rooms::refresh(words, before, after, rooms);
-    }
-}
 
 // The paper is opened and its set-up read, or refused. There is room left once there is a card.
 pub fn begin(paper: &[u8], words: &mut Words, rooms: &mut Rooms) -> Begun
@@ -79,7 +49,7 @@ pub fn take_record(
 {
     let taken = records::take(words, shape, state, paper, kind, body, end);
     let before = state.values;
-    keep(words, before, taken, rooms);
+    upkeep::keep(words, before, taken, rooms);
     taken
 }
 
@@ -99,6 +69,6 @@ pub fn take(
 {
     let taken = conversation::take(words, shape, state, paper, at);
     let before = state.values;
-    keep(words, before, taken, rooms);
+    upkeep::keep(words, before, taken, rooms);
     taken
 }

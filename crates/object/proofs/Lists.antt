@@ -10,8 +10,9 @@ use borrow.Author.Tests.{eq-eqb, ne-eqb}
 use Rattle.wire.specs.Wire.{byte}
 use Rattle.object.specs.declared.Reading.{Reading}
 use Rattle.object.specs.declared.Reading.the-variants.{Sound, Malformed, TooDeep}
-use Rattle.object.specs.Object.{headRight, isConstructed, objectSize, valueOf, firstFault, readObject, readBehind, readList, readingNumber}
-use Rattle.object.proofs.Heads.{first-byte, rest-some, head-some}
+use Rattle.head.specs.Head.{headRight, isConstructed, objectSize}
+use Rattle.object.specs.Object.{valueOf, firstFault, readObject, readBehind, readList, readingNumber}
+use Rattle.head.proofs.Heads.{first-byte, rest-some, head-some}
 
 -- ---- one object
 pub object-constructed : (f : List ℕ → Reading) (s : List ℕ) → headRight s ≡ true → isConstructed (byte s 0) ≡ true → readObject f s ≡ f (valueOf s)

@@ -1,12 +1,15 @@
 // The objects of an issuer's template, by EMV Book 3 Annex B: each has a tag, a length and a value,
 // and the value of a constructed object is a list of objects. `read_template` says whether a template
-// is sound; then `next_command` leads from command to command, by places in the same bytes.
+// is sound.
+use head::Head;
+use head::is_constructed;
+use head::read_head;
 use wire::byte_at;
-use wire::u16_at;
 ghost use mathlib.Core.Path.{_≡_};
-ghost use Prim.Native.Nat.{_+_, _≤_};
-ghost use Rattle.object.specs.Object.{isConstructed, headWithin, headBehind, headOf, readObject, readList, readTemplate, nextCommand};
-ghost use Rattle.object.specs.declared.Head.the-variants.{Right};
+ghost use Prim.Native.Nat.{_≤_};
+ghost use Rattle.object.specs.Object.{readObject, readList, readTemplate};
+ghost use Rattle.head.specs.declared.Head.the-variants.{Right};
+ghost use Rattle.head.specs.Head.{headOf};
 
 // A template and its first fault in reading order.
 pub enum Reading {
@@ -16,69 +19,6 @@ pub enum Reading {
     Malformed,
     // Refusal 19: an object constructed at a depth above 4.
     TooDeep,
-}
-
-// A command is the value of an object 86.
-pub enum Next {
-    Command { start: usize, size: usize },
-    End,
-}
-
-// The tag and the length of an object: how many bytes they have, and how many its value.
-enum Head {
-    Right { size: usize, length: usize },
-    Wrong,
-}
-
-// Bit 6 of a tag's first byte.
-fn is_constructed(tag: u8) -> bool
-    ensures { λ r. ⌜ r ≡ isConstructed tag ⌝ }
-{
-    tag / 32 % 2 == 1
-}
-
-// The value ends within the bytes.
-fn head_within(s: &[u8], size: usize, length: usize) -> Head
-    requires { ⌜ size + length ≤ 65_540 ⌝ }
-    ensures { λ r. ⌜ r ≡ headWithin (now (s .entry)) size length ⌝ }
-{
-    if s.len() < size + length {
-        return Head::Wrong;
-    }
-    Head::Right { size, length }
-}
-
-// The head whose length stands at a place, behind a tag of one byte or two. A length is 00 to 7F, or
-// 81 and one byte, or 82 and two.
-fn read_length(s: &[u8], at: usize) -> Head
-    requires { ⌜ at ≤ 2 ⌝ }
-    ensures { λ r. ⌜ r ≡ headBehind (now (s .entry)) at ⌝ }
-{
-    let lead = byte_at(s, at);
-    if lead < 0x80 {
-        return head_within(s, at + 1, lead as usize);
-    }
-    if lead == 0x81 {
-        return head_within(s, at + 2, byte_at(s, at + 1) as usize);
-    }
-    if lead == 0x82 {
-        return head_within(s, at + 3, u16_at(s, at + 1) as usize);
-    }
-    Head::Wrong
-}
-
-// The head of the object with which the bytes begin. A tag has a second byte where the low five bits
-// of its first are all ones; a second byte of 80 or more would announce a third.
-fn read_head(s: &[u8]) -> Head
-    ensures { λ r. ⌜ r ≡ headOf (now (s .entry)) ⌝ }
-{
-    if byte_at(s, 0) % 32 != 31 {
-        return read_length(s, 1);
-    }
-    if 0x80 <= byte_at(s, 1) {
-        return Head::Wrong;
-    }
-    read_length(s, 2)
 }
 
 // The object with which the bytes begin, its head being right; `depths` more may be opened.
@@ -133,34 +73,4 @@ pub fn read_template(template: &[u8]) -> Reading
         return Reading::Malformed;
     }
     read_list(&template[size..], 4)
-}
-
-// The first command at or behind a place of a sound template: 0, or the end of a command. The objects
-// of a constructed one stand behind its head and end where it ends.
-pub fn next_command(template: &[u8], from: usize) -> Next
-    ensures { λ r. ⌜ r ≡ nextCommand (now (template .entry)) from ⌝ }
-{
-    let mut at = from;
-    while at < template.len() {
-        let tag = byte_at(template, at);
-        if tag == 0 {
-            at = at + 1;
-            continue;
-        }
-        let Head::Right { size, length } = read_head(&template[at..]) else {
-            return Next::End;
-        };
-        if is_constructed(tag) {
-            at = at + size;
-            continue;
-        }
-        if tag == 0x86 {
-            return Next::Command {
-                start: at + size,
-                size: length,
-            };
-        }
-        at = at + (size + length);
-    }
-    Next::End
 }

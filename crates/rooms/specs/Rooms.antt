@@ -1,5 +1,4 @@
--- The room left (request Seven): for each accumulator of each profile, active or not, the upper limit less the value, or zero if the value is at
--- or above the limit.
+-- The rooms left (request Seven): one for each accumulator of each profile, active or not.
 use Prim.Native.Nat.{ℕ, _+_, _*_, _-_}
 use mathlib.Core.Bool.{cond, _||_}
 use mathlib.Core.List.{List, _++_}
@@ -13,18 +12,12 @@ use Rattle.rules.specs.declared.Place.the-variants.{One, Two, Three, Four}
 use Rattle.rules.specs.declared.Found.{Found}
 use Rattle.rules.specs.declared.Found.the-variants.{At, Nothing}
 use Rattle.rules.specs.declared.Values.{Values}
-use Rattle.rules.specs.Rules.{Rules, four, indexOf, profileAt, accumulatorRule, findProfile}
+use Rattle.rules.specs.Rules.{Rules, four, indexOf, findProfile}
 use Rattle.purchase.specs.Meter.{amountAt}
+pub use Rattle.room.specs.Room.{leftOf}
+unfoldable pub use Rattle.room.specs.Room.{leftIn}
 use Rattle.rooms.specs.declared.RoomLeft.{RoomLeft}
 use Rattle.rooms.specs.declared.RoomLeft.the-variants.{Left, Refused}
-
-abbrev pub leftOf : (upper value : ℕ) → ℕ
-leftOf upper value = cond (ltb value upper) (upper - value) 0
-
--- of accumulator i + 1 with a value in the profile at a place; no profile has number 0, and a place without one has no room
-unfoldable pub leftIn : Rules → Place → (i : ℕ) → AccumulatorAmount → ℕ
-leftIn rules place i value =
-    cond (eqb (profileAt rules place .number) 0) 0 (leftOf (accumulatorRule rules place i .upper .0) (value .0))
 
 -- ALL OF THEM by the rules and the values, the four of the first place and so on
 unfoldable pub roomsAt : Rules → Values → Place → List ℕ

@@ -4,7 +4,7 @@ ghost use mathlib.Core.Path.{_≡_};
 ghost use Prim.Native.Nat.{_<_};
 ghost use lib.ListN.{length};
 ghost use Rattle.rules.specs.Rules.{rulesOf};
-ghost use Rattle.rooms.specs.Rooms.{cellCount, noRooms, cellOf, leftIn, cellSet, columnSet, columnRenewed, filled, renewed, storedAt, roomLeft};
+ghost use Rattle.rooms.specs.Rooms.{cellCount, noRooms, cellOf, cellSet, columnSet, columnRenewed, filled, renewed, storedAt, roomLeft};
 use money::AccumulatorAmount;
 use refusal::Refusal;
 use rules::Found;
@@ -41,23 +41,6 @@ fn cell(place: Place, i: usize) -> usize
     }
 }
 
-// What is left of accumulator i + 1 in the profile at a place: its upper limit less the value, 0
-// where the value is at or above it, and where there is no profile.
-fn left(words: &Words, place: Place, i: usize, value: AccumulatorAmount) -> u64
-    ensures { λ r. ⌜ r ≡ leftIn (rulesOf (now (words .entry))) place i value ⌝ }
-{
-    if rules::profile_number(words, place) == 0 {
-        return 0;
-    }
-    let rule = rules::accumulator_rule(words, place, i);
-    let upper = rule.upper;
-    if value.0 < upper.0 {
-        upper.0 - value.0
-    } else {
-        0
-    }
-}
-
 // The room of accumulator i + 1 in the profile at a place. The cells come as a slice, of which it is
 // known how long it is.
 fn put(words: &Words, place: Place, i: usize, value: AccumulatorAmount, rooms: &mut [u64])
@@ -65,7 +48,7 @@ fn put(words: &Words, place: Place, i: usize, value: AccumulatorAmount, rooms: &
     ensures { λ _. ⌜ now (rooms .exit) ≡ cellSet (rulesOf (now (words .entry))) place i value (now (rooms .entry)) ⌝ }
 {
     let at = cell(place, i);
-    rooms[at] = left(words, place, i, value);
+    rooms[at] = room::left(words, place, i, value);
 }
 
 // In every profile, active there or not.

@@ -8,11 +8,11 @@ use native.Mathlib.Omega.{arith}
 use lib.ListN.{take, drop}
 use Rattle.rules.specs.declared.Values.{Values}
 use Rattle.rules.specs.Rules.{rulesOf}
-use Rattle.object.specs.Object.{placesFrom, cut, commandsOf}
-use Rattle.object.proofs.Cursor.{Step}
+use Rattle.cursor.specs.Cursor.{placesFrom, cut, commandsOf}
+use Rattle.cursor.proofs.Cursor.{Step}
 use Rattle.element.specs.declared.Write.{Write}
 use Rattle.put_data.specs.PutData.{writesOf, isSome, isValid}
-use Rattle.script.specs.declared.Scripts.{Scripts}
+use Rattle.marks.specs.declared.Scripts.{Scripts}
 use Rattle.script.specs.Script.{hasFailedHere, done, given, oneDone, oneFailed, Tried, behind, triedNext, tried, templateTried, ranOf, rulesRun, wordsRun}
 use Rattle.script.proofs.Writes.{Left, Alike, at-first, passed, at-last}
 

@@ -10,9 +10,9 @@ use lib.Dec.{lit<}
 use lib.ListN.{length}
 use Rattle.element.specs.declared.Write.{Write}
 use Rattle.put_data.specs.PutData.{writesOf}
-use Rattle.script.specs.declared.Scripts.{Scripts}
+use Rattle.marks.specs.declared.Scripts.{Scripts}
 use Rattle.script.specs.Script.{countOf, hasFailed, hasFailedHere, restOf, kept, done, oneDone, oneFailed, Tried, behind, triedNext, tried}
-use Rattle.script.proofs.Marks.{Says, kept-says, itself, rest-small, done-says, failed-says}
+use Rattle.marks.proofs.Marks.{Says, kept-says, itself, rest-small, done-says, failed-says}
 
 -- ---- a command is done exactly if the result is "verified", none has failed here, and it is valid; it writes all its elements or none
 module _ (scripts : Scripts) (c : List ℕ) where

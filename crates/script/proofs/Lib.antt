@@ -1,5 +1,3 @@
-pub mod Marks
-pub mod Masks
 pub mod Writes
 pub mod Commands
 pub mod Laws

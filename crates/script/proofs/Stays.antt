@@ -19,8 +19,8 @@ use Rattle.rules.specs.Limits.{accumulatorWithin, counterWithin, withAccumulato
 use Rattle.rules.proofs.Limits.{Whole, Stays, accumulator-limited, counter-limited}
 use Rattle.element.specs.declared.Write.{Write}
 use Rattle.element.specs.declared.Write.the-variants.{Value, AccumulatorLimits, CounterLimits}
-use Rattle.object.specs.Object.{commandsOf}
-use Rattle.script.specs.declared.Scripts.{Scripts}
+use Rattle.cursor.specs.Cursor.{commandsOf}
+use Rattle.marks.specs.declared.Scripts.{Scripts}
 use Rattle.script.specs.Script.{valueIn, valuesWith, rulesWith, valuesAfter, rulesAfter, countOf, templateTried, ranOf, rulesRun}
 use Rattle.script.proofs.Laws.{count-below}
 

@@ -11,11 +11,12 @@ use Rattle.rules.specs.declared.Values.{Values}
 use Rattle.rules.specs.Rules.{Rules, profileOf, blankWords, rulesOf, accumulatorRule, counterRule}
 use Rattle.rules.specs.Limits.{withAccumulatorLimits, withCounterLimits}
 use Rattle.digits.specs.Digits.{arePairs, pairsValue}
-use Rattle.object.specs.Object as object
-use Rattle.object.specs.Object.{valueSize, headFormed, headRight, placesBehind, placesFrom, cut, commandsOf}
+use Rattle.head.specs.Head as head
+use Rattle.head.specs.Head.{valueSize, headFormed, headRight}
+use Rattle.cursor.specs.Cursor.{placesBehind, placesFrom, cut, commandsOf}
 use Rattle.element.specs.Element.{lengthSize, lengthAt, valueWritten, limitsWritten, countsWritten, meaningOf, headSize, elementSize, elementMeaning}
 use Rattle.put_data.specs.PutData.{writesBy, isPutData, listPlace, macPlace, isSecured, elementsOf, writesOf}
-use Rattle.script.specs.declared.Scripts.{Scripts}
+use Rattle.marks.specs.declared.Scripts.{Scripts}
 use Rattle.script.specs.Script.{valueIn, kept, freshScripts, oneDone, oneFailed, started, heard, marksOf, done, tried, templateTried, ranOf, rulesRun}
 use Rattle.script.proofs.Laws.{manyDone}
 
@@ -113,7 +114,7 @@ run r =
 
 pub as-run : map run table ≡ table
 unfolding run ranOf rulesRun templateTried tried done kept oneDone oneFailed valueIn commandsOf cut placesFrom placesBehind headRight headFormed valueSize
-    object.headSize object.lengthSize object.lengthAt number arePairs pairsValue lengthSize lengthAt valueWritten limitsWritten countsWritten meaningOf headSize elementSize
+    head.headSize head.lengthSize head.lengthAt number arePairs pairsValue lengthSize lengthAt valueWritten limitsWritten countsWritten meaningOf headSize elementSize
     elementMeaning writesBy isPutData listPlace macPlace isSecured elementsOf writesOf rulesOf profileOf withAccumulatorLimits withCounterLimits
 as-run = refl
 

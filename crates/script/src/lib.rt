@@ -3,124 +3,20 @@ ghost use mathlib.Core.Path.{_≡_};
 ghost use mathlib.Core.Bool.{true};
 ghost use Rattle.rules.specs.Rules.{rulesOf};
 ghost use Rattle.put_data.specs.PutData.{writesOf, isSome, isValid};
-ghost use Rattle.script.specs.Script.{valueIn, valuesWith, rulesWith, wordsWith, valuesAfter, rulesAfter, wordsAfter};
+ghost use Rattle.script.specs.Script.{valuesAfter, rulesAfter, wordsAfter};
 ghost use Rattle.script.specs.Script.{done, given, ranOf, rulesRun, wordsRun};
-ghost use Rattle.script.specs.Script.{freshScripts, marksOf, hasFailedHere, started, heard, oneDone, oneFailed};
-use element::Write;
-use money::AccumulatorAmount;
-use object::Next;
-use object::next_command;
+use cursor::Next;
+use cursor::next_command;
+use marks::Scripts;
 use put_data::is_valid;
 use put_data::next_write;
 use rules::Values;
 use rules::Words;
-use std::num::wrapping_add_u8;
-
-// What a card keeps of issuer scripts. As CVR byte 4 shows it: b8 to b5 count the commands done,
-// modulo 16, b4 says whether one failed. Not shown: b1, whether one failed since the last accepted
-// Start. b3 and b2 are 0.
-pub struct Scripts(pub u8);
-
-// One command, in the count.
-const DONE: u8 = 0x10;
-
-// b4: one failed.
-const FAILED: u8 = 0x08;
-
-// b1: one failed since the last accepted Start.
-const HERE: u8 = 0x01;
-
-// The count and b4.
-const SHOWN: u8 = 0xF8;
-
-impl Scripts {
-    // A fresh card's.
-    pub fn fresh() -> Scripts
-        ensures { λ r. ⌜ r ≡ freshScripts ⌝ }
-    {
-        Scripts(0)
-    }
-
-    // What CVR byte 4 shows of it.
-    pub fn marks(self) -> u8
-        ensures { λ r. ⌜ r ≡ marksOf self ⌝ }
-    {
-        self.0 & SHOWN
-    }
-
-    // Whether a command failed since the last accepted Start.
-    pub fn is_failed_here(self) -> bool
-        ensures { λ r. ⌜ r ≡ hasFailedHere self ⌝ }
-    {
-        self.0 & HERE != 0
-    }
-
-    // After an accepted Start: none has failed since.
-    pub fn started(self) -> Scripts
-        ensures { λ r. ⌜ r ≡ started self ⌝ }
-    {
-        Scripts(self.0 & !HERE)
-    }
-
-    // After a Second that verified, or whose data were absent where authentication is not required:
-    // the failure of an earlier transaction is forgotten.
-    pub fn heard(self) -> Scripts
-        ensures { λ r. ⌜ r ≡ heard self ⌝ }
-    {
-        if self.is_failed_here() {
-            return self;
-        }
-        Scripts(self.0 & !FAILED)
-    }
-
-    // One more command done.
-    fn with_done(self) -> Scripts
-        ensures { λ r. ⌜ r ≡ oneDone self ⌝ }
-    {
-        Scripts(wrapping_add_u8(self.0, DONE))
-    }
-
-    // A command failed.
-    fn with_failure(self) -> Scripts
-        ensures { λ r. ⌜ r ≡ oneFailed self ⌝ }
-    {
-        Scripts(self.0 | FAILED | HERE)
-    }
-}
 
 // What a template leaves, beside the lent words.
 pub struct Ran {
     pub values: Values,
     pub scripts: Scripts,
-}
-
-// The values with that of accumulator slot + 1, active or not.
-fn put_value(mut values: Values, slot: usize, amount: AccumulatorAmount) -> Values
-    ensures { λ r. ⌜ r ≡ valueIn values slot amount ⌝ }
-{
-    if slot < 4 {
-        values.accumulators[slot] = amount;
-    }
-    values
-}
-
-// What one element writes.
-fn apply(words: &mut Words, values: Values, write: Write) -> Values
-    ensures { λ r. ⌜ (r ≡ valuesWith values write)
-        × (now (words .exit) ≡ wordsWith (now (words .entry)) write)
-        × (rulesOf (now (words .exit)) ≡ rulesWith (rulesOf (now (words .entry))) write) ⌝ }
-{
-    match write {
-        Write::Value { slot, amount } => put_value(values, slot, amount),
-        Write::AccumulatorLimits { slot, lower, upper } => {
-            rules::set_accumulator_limits(words, slot, lower, upper);
-            values
-        }
-        Write::CounterLimits { slot, lower, upper } => {
-            rules::set_counter_limits(words, slot, lower, upper);
-            values
-        }
-    }
 }
 
 // What the elements of a valid command write, in order.
@@ -135,7 +31,7 @@ fn write_elements(words: &mut Words, mut values: Values, command: &[u8]) -> Valu
         let put_data::Next::Element { write, end } = next_write(command, at) else {
             return values;
         };
-        values = apply(words, values, write);
+        values = writes::apply(words, values, write);
         at = end;
     }
 }

@@ -14,7 +14,7 @@ use Rattle.object.specs.declared.Reading.{Reading}
 use Rattle.object.specs.declared.Reading.the-variants.{Sound, Malformed as NoTemplate, TooDeep as DeepTemplate}
 use Rattle.object.specs.Object.{readTemplate}
 use Rattle.element.specs.declared.Write.{Write}
-use Rattle.script.specs.declared.Scripts.{Scripts}
+use Rattle.marks.specs.declared.Scripts.{Scripts}
 use Rattle.script.specs.Script.{templateTried, ranOf}
 
 -- 2 where First is due, 6 for a secure messaging result above 1, then 18 or 19 by its template. It goes on with whether the result is

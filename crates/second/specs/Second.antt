@@ -12,7 +12,7 @@ use Rattle.cryptogram.specs.declared.Issuer.{Issuer}
 use Rattle.state.specs.declared.Pending.{Pending}
 use Rattle.state.specs.declared.State.{State}
 use Rattle.state.specs.declared.Outcome.{Outcome}
-use Rattle.script.specs.Script.{heard}
+use Rattle.marks.specs.Marks.{heard}
 use Rattle.cryptogram.specs.Cryptogram.{issuerBefore}
 use Rattle.closing.specs.Closing.{closed, recovered, ordered}
 

@@ -2,16 +2,16 @@
 ghost use mathlib.Core.Path.{_≡_};
 ghost use mathlib.Core.Bool.{cond};
 ghost use Rattle.rules.specs.Rules.{rulesOf};
-ghost use Rattle.script.specs.Script.{heard};
+ghost use Rattle.marks.specs.Marks.{heard};
 ghost use Rattle.second.specs.Second.{isUnable, unablePerformed, verifiedPerformed, failedPerformed, absentPerformed, secondPerformed};
 use closing::close;
 use closing::order;
 use closing::recover;
 use command::Second;
 use cryptogram::Issuer;
+use marks::Scripts;
 use meters::Change;
 use rules::Words;
-use script::Scripts;
 use state::History;
 use state::Outcome;
 use state::Pending;

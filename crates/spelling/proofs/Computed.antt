@@ -23,7 +23,8 @@ use Rattle.paper.specs.Paper.{nextAt, openPaper}
 use Rattle.command.specs.declared.Command.{Command}
 use Rattle.command.specs.Command.{startOf, firstOf, secondOf, commandOf, commandIn}
 use Rattle.object.specs.Object.{lengthSize, lengthAt, valueSize, headSize, headFormed, headRight, valueOf, readObject, readBehind, readList, isTemplate}
-use Rattle.object.specs.Object.{readTemplate, placesBehind, placesFrom, cut, commandsOf}
+use Rattle.object.specs.Object.{readTemplate}
+use Rattle.cursor.specs.Cursor.{placesBehind, placesFrom, cut, commandsOf}
 use Rattle.element.specs.declared.Write.{Write}
 use Rattle.element.specs.Element.{lengthSize as putSize, lengthAt as putAt, valueWritten, limitsWritten, meaningOf, headSize as putHead}
 use Rattle.element.specs.Element.{elementSize, elementMeaning}

@@ -4,11 +4,11 @@ ghost use Rattle.state.specs.State.{cidOf, uncompletedIn, failedIn, unab
 ghost use Rattle.state.specs.Ruling.{refused};
 use calendar::Date;
 use iad::Iad;
+use marks::Scripts;
 use purchase::Purchase;
 use refusal::Refusal;
 use rules::Place;
 use rules::Values;
-use script::Scripts;
 
 // The previous transactions: last online not completed, go online next, issuer authentication
 // failed, unable to go online, issuer data not received.

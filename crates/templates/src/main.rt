@@ -5,10 +5,10 @@
 ghost use mathlib.Core.Path.{_≡_};
 ghost use Prim.Native.Nat.{_+_, _≤_, _<_};
 ghost use lib.ListN.{length};
+use cursor::Next;
+use cursor::next_command;
 use element::Write;
-use object::Next;
 use object::Reading;
-use object::next_command;
 use object::read_template;
 use put_data::is_valid;
 use put_data::next_write;

@@ -11,10 +11,11 @@ use lib.Dec.{eqb}
 use borrow.Author.Tests.{eqb-true, eqb-false}
 use Rattle.wire.specs.Wire.{byte}
 use Rattle.wire.proofs.Pairs.{both}
-use Rattle.object.specs.Object.{headRight, isConstructed, objectSize, valueOf, firstFault, readObject, readList, isRoot, isTemplate, readTemplate, commandsOf}
+use Rattle.object.specs.Object.{headRight, isConstructed, objectSize, valueOf, firstFault, readObject, readList, isRoot, isTemplate, readTemplate}
+use Rattle.cursor.specs.Cursor.{commandsOf}
 use Rattle.object.specs.declared.Reading.{Reading}
 use Rattle.object.specs.declared.Reading.the-variants.{Sound, Malformed, TooDeep}
-use Rattle.object.proofs.Heads.{right-fits, head-some}
+use Rattle.head.proofs.Heads.{right-fits, head-some}
 use Rattle.object.proofs.Lists.{object-constructed, object-malformed, list-filler, list-object, not-malformed, not-deep}
 use Rattle.trees.specs.Tree.{Tag, short, long, Form, Objects, end, filler, primitive, constructed, tree, objectBytes, written, depth, commands}
 use Rattle.trees.specs.Tree.{limit, Tagged, Bytes, Good, Written, Framed}

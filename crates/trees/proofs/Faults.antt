@@ -13,7 +13,7 @@ use Rattle.wire.specs.Wire.{byte}
 use Rattle.object.specs.Object.{headRight, isConstructed, objectSize, valueOf, firstFault, readBehind, readList, isTemplate, readTemplate, readingNumber}
 use Rattle.object.specs.declared.Reading.{Reading}
 use Rattle.object.specs.declared.Reading.the-variants.{Sound, Malformed, TooDeep}
-use Rattle.object.proofs.Heads.{right-fits, head-some}
+use Rattle.head.proofs.Heads.{right-fits, head-some}
 use Rattle.object.proofs.Lists.{object-malformed, list-object, not-malformed, not-deep, first-fault}
 use Rattle.trees.specs.Tree.{Tag, Form, Objects, end, filler, primitive, constructed, head, objectBytes, written, depth, limit, Bytes, Good}
 use Rattle.trees.specs.Tree.{NoObject, Fault, malformed, tooDeep, inside, Framed, TemplateFault, unframed, framed}

@@ -11,7 +11,7 @@ use borrow.Author.Tests.{ltb-true, eqb-true, eqb-false}
 use Rattle.wire.specs.Wire.{byte}
 use Rattle.wire.proofs.Pairs.{both}
 use Rattle.object.specs.Object.{tagSize, tagRight, lead, lengthRight, lengthSize, lengthAt, valueSize, headSize, headFormed, headRight, isConstructed, objectSize, valueOf}
-use Rattle.object.proofs.Heads.{right-fits, head-some, part-length}
+use Rattle.head.proofs.Heads.{right-fits, head-some, part-length}
 use Rattle.trees.specs.Tree.{Tag, short, long, Form, plain, with81, with82, tagBytes, lengthBytes, head, objectBytes, limit, Tagged, Bytes}
 use Rattle.trees.proofs.Octets.{drop-bytes, take-bytes}
 

@@ -7,7 +7,7 @@ use Prim.Native.Nat.{ℕ}
 use lib.Dec.{T, eqb}
 use lib.ListN.{replicate}
 use Rattle.object.specs.Object.{lengthSize, lengthAt, valueSize, headSize, headFormed, headRight, valueOf, readObject, readBehind, readList, isTemplate, readTemplate, readingNumber}
-use Rattle.object.specs.Object.{placesBehind, placesFrom, cut, commandsOf}
+use Rattle.cursor.specs.Cursor.{placesBehind, placesFrom, cut, commandsOf}
 use Rattle.trees.specs.Tree.{short, long, plain, with81, with82, Objects, end, filler, primitive, constructed, Template, tree, written, commands}
 
 abbrev same : List ℕ → List ℕ → Bool

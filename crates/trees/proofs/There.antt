@@ -10,10 +10,10 @@ use lib.Seq.{drop-append-seam, drop-drop}
 use lib.Dec.{ltb, eqb}
 use borrow.Author.Tests.{eq-eqb, eqb-true, eqb-false, ltb-true, ltb-false}
 use Rattle.object.specs.Object.{valueSize, headSize, objectSize, valueOf, firstFault, readBehind, readList, isTemplate, readTemplate}
-use Rattle.object.specs.Object.{placesBehind, placesFrom, cut, commandsOf}
+use Rattle.cursor.specs.Cursor.{placesBehind, placesFrom, cut, commandsOf}
 use Rattle.object.specs.declared.Reading.{Reading}
 use Rattle.object.specs.declared.Reading.the-variants.{Sound, TooDeep}
-use Rattle.object.proofs.Places.{filler-first, constructed-first, command-first, other-first}
+use Rattle.cursor.proofs.Places.{filler-first, constructed-first, command-first, other-first}
 use Rattle.trees.specs.Tree.{Tag, short, long, Form, Objects, end, filler, primitive, constructed, Template, tree, objectBytes, written, depth}
 use Rattle.trees.specs.Tree.{is86, ifCommand, commands, limit, Tagged, Good, Root, Proper}
 use Rattle.trees.proofs.Laid.{laid, behind, filler-list, primitive-list, constructed-list}

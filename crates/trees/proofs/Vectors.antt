@@ -5,7 +5,7 @@ use mathlib.Core.Bool.{cond}
 use Prim.Native.Nat.{ℕ}
 use lib.Dec.{eqb}
 use Rattle.object.specs.Object.{lengthSize, lengthAt, valueSize, headSize, headFormed, headRight, valueOf, readObject, readBehind, readList, isTemplate, readTemplate, readingNumber}
-use Rattle.object.specs.Object.{placesBehind, placesFrom, cut, commandsOf}
+use Rattle.cursor.specs.Cursor.{placesBehind, placesFrom, cut, commandsOf}
 
 pub record Row : Type 0 where
   pub template : List ℕ

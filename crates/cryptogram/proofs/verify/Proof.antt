@@ -3,7 +3,7 @@ use native.Mathlib.Omega.{arith}
 use mathlib.Core.Path.{ap, _∙_}
 use Prim.Native.Nat.{_%_}
 use Rattle.rules.specs.Rules.{rulesOf}
-use Rattle.script.proofs.Marks.{marks-low}
+use Rattle.marks.proofs.Marks.{marks-low}
 use Rattle.cryptogram.specs.Cryptogram.{verification}
 use Rattle.cryptogram.proofs.verify.Statement.{statement}
 use Rattle.cryptogram.proofs.verify.Tie as tie

@@ -12,10 +12,11 @@ use Prim.Native.Nat.{ℕ, _+_, _-_, _≤_, _<_}
 use lib.ListN.{length, take, drop}
 use types.Run.{OneOf}
 use Rattle.wire.specs.Wire.{byte}
-use Rattle.object.specs.Object.{isConstructed, valueSize, valueOf, readObject, readList}
+use Rattle.head.specs.Head.{isConstructed, valueSize}
+use Rattle.object.specs.Object.{valueOf, readObject, readList}
 use Rattle.object.specs.declared.Reading.{Reading}
 use Rattle.object.specs.declared.Reading.the-variants.{Sound, Malformed, TooDeep}
-use Rattle.object.proofs.Heads.{rest-all, part-length, rest-length, right-fits, head-some, is-right, At, right-at, wrong-at}
+use Rattle.head.proofs.Heads.{rest-all, part-length, rest-length, right-fits, head-some, is-right, At, right-at, wrong-at}
 use Rattle.object.proofs.Lists.{object-constructed, object-primitive, object-malformed, object-deep}
 use Rattle.object.proofs.Lists.{list-end, list-pass, list-fault, list-more, not-malformed, not-deep}
 use Rattle.object.proofs.Reading as R
@@ -25,8 +26,8 @@ use Rattle.object.proofs.+read_list+read_object.Lts-read_list as read-l
 use Rattle.object.proofs.read_object.Reads as read-object
 use Rattle.object.proofs.read_object.Kinds as read-object-kinds
 use Rattle.object.proofs.+read_list+read_object.Lts-read_object as read-object-lts
-use Rattle.object.proofs.is_constructed.Reads as is-constructed-reads
-use Rattle.object.proofs.read_head.Reads as read-head-reads
+use Rattle.head.proofs.is_constructed.Reads as is-constructed-reads
+use Rattle.head.proofs.read_head.Reads as read-head-reads
 use Rattle.wire.proofs.byte_at.Reads as byte-at-reads
 use Rattle.object.proofs.+read_list+read_object.{statement}
 use Rattle.object.proofs.+read_list+read_object.Tie.{close}

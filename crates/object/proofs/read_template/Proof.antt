@@ -9,9 +9,10 @@ use Prim.Native.Nat.{ℕ, _+_, _-_}
 use lib.Dec.{eqb}
 use lib.ListN.{length, take, drop}
 use Rattle.wire.specs.Wire.{byte}
-use Rattle.object.specs.Object.{valueSize, headSize, objectSize, valueOf, isRoot, isTemplate, readList, readTemplate}
+use Rattle.head.specs.Head.{valueSize, headSize, objectSize}
+use Rattle.object.specs.Object.{valueOf, isRoot, isTemplate, readList, readTemplate}
 use Rattle.object.specs.declared.Reading.the-variants.{Malformed}
-use Rattle.object.proofs.Heads.{IsRight, is-right, is-wrong, right-fits}
+use Rattle.head.proofs.Heads.{IsRight, is-right, is-wrong, right-fits}
 use Rattle.object.proofs.read_template.Statement.{statement}
 use Rattle.object.proofs.read_template.Tie as tie
 

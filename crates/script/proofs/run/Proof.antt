@@ -5,7 +5,7 @@ use native.Mathlib.Omega.{arith}
 use mathlib.Core.Path.{sym, _∙_}
 use Prim.Native.Nat.{_-_}
 use lib.ListN.{length}
-use Rattle.object.proofs.Cursor.{Step, next-command, next-end}
+use Rattle.cursor.proofs.Cursor.{Step, next-command, next-end}
 use Rattle.script.proofs.Commands.{done-some, Going, starts, ends, fails, goes-on}
 use Rattle.script.proofs.run.Statement.{statement}
 use Rattle.script.proofs.run.Tie as tie

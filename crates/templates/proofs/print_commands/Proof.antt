@@ -5,7 +5,7 @@ use native.Mathlib.Omega.{arith}
 use mathlib.Core.Path.{_≡_, sym, _∙_}
 use Prim.Native.Nat.{_-_}
 use lib.ListN.{length}
-use Rattle.object.proofs.Cursor.{Step, next-command}
+use Rattle.cursor.proofs.Cursor.{Step, next-command}
 use Rattle.templates.proofs.print_commands.Statement.{statement}
 use Rattle.templates.proofs.print_commands.Tie as tie
 

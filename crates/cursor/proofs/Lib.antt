@@ -1,0 +1,3 @@
+-- What the proofs of several functions and of callers use.
+pub mod Places
+pub mod Cursor

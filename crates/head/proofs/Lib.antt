@@ -1,0 +1,2 @@
+-- What the proofs of several functions and of callers use.
+pub mod Heads
