@@ -2,13 +2,13 @@
 use mathlib.Core.Path.{_≡_, refl, sym, ap, subst, _∙_}
 use mathlib.Core.Bool.{Bool, true, false, cond}
 use mathlib.Core.List.{List, [], _∷_, _++_, append-assoc, append-nil}
-use Prim.Native.Nat.{ℕ, _+_, _-_, _*_, _^_, _≤_, _<_}
+use Prim.Native.Nat.{ℕ, suc, _+_, _-_, _*_, _^_, _≤_, _<_}
 use native.Mathlib.Nat.{add-zero}
 use native.Mathlib.Omega.{arith}
 use borrow.Author.Tests.{lt-leb, le-ltb, eq-eqb, eqb-true}
 use lib.Dec.{eqb, ltb}
 use lib.ListN.{length, take, drop, length-append, List·getD-append}
-use lib.Seq.{length-take-le, getD-take, getD-drop, take-at, drop-at, getD-at, getD-append-seam, getD-append-add, drop-append-add, drop-drop}
+use lib.Seq.{length-take-le, getD-take, getD-drop, take-at, drop-at, getD-at, getD-append-seam, getD-append-add, drop-append-add, drop-drop, take-all}
 use Rattle.wire.specs.Wire.{byte}
 use Rattle.selection.specs.Selection.{isFile}
 use Rattle.shape.specs.declared.Dating.the-variants.{Off as DatesOff}
@@ -19,15 +19,17 @@ use Rattle.shape.specs.declared.Tails.{Tails}
 use Rattle.shape.specs.declared.Tails.the-variants.{Ended, Wrong}
 use Rattle.shape.specs.declared.ReadShape.the-variants.{Taken}
 use Rattle.shape.specs.Shape.{based, baseTail, entriesEnd, selectionTail, follows, syllabusTail, dates, datingTail, cyclesPart, families, familyTail}
-use Rattle.shape.specs.Shape.{familyPart, scripts, scriptingTail, behind, tailsOf, whole, shapeOf}
+use Rattle.shape.specs.Shape.{familyPart, scripts, scriptingTail, logs, logEnd, loggingTail, logPart, behind, tailsOf, whole, shapeOf}
 use Rattle.shape.proofs.Files.{file-ends}
 use Rattle.rows.specs.Rows.{Dates, undated, dated, cyclesBytes, Families, cpa, cpace, controlsBytes}
 use Rattle.rows.specs.Tails.{Choosing, off, on, fileBytes, choosingBytes, datesBytes, familiesBytes, scriptsByte}
-use Rattle.rows.specs.Tails.{Tail, first, second, third, fourth, fifth, sixth, tailBytes, FineDates, FineFamilies, Fine, baseLength, Base, selecting, fileIn, fileOf, dating, datesAt, familyFrom}
-use Rattle.rows.specs.Tails.{familiesAt, TailSays}
+use Rattle.rows.specs.Tails.{Tail, first, second, third, fourth, fifth, sixth, seventh, tailBytes, FineDates, FineFamilies, Fine, baseLength, Base, selecting, fileIn, fileOf, dating, datesAt, familyFrom}
+use Rattle.rows.specs.Tails.{familiesAt, shapeSaid, TailSays, Log, Logs, unlogged, logged, tableBytes, logBytes, logsBytes, FineLogs, loggingFrom, logSaid}
+use Rattle.rows.specs.Tails.{tableLong, logLong}
 use Rattle.rows.proofs.Dated.{cycles-size, cycles-in-place}
 use Rattle.rows.proofs.Family.{controls-size, controls-in-place}
 use Rattle.rows.proofs.Entries.{file-read}
+use Rattle.rows.proofs.Logged.{log-says}
 
 file-there : (base : List ℕ) (c : Choosing) (rest : List ℕ) → fileIn (selecting c (length base)) (base ++ (choosingBytes c ++ rest)) ≡ fileOf c
 file-there base off rest = refl
@@ -119,6 +121,7 @@ first-says base sized =
       file = refl;
       cycles = refl;
       family = refl;
+      log = refl;
     }
 
 second-says : (base : List ℕ) (c : Choosing) → length base ≡ baseLength base → TailSays base (second c) (base ++ choosingBytes c)
@@ -137,6 +140,7 @@ second-says base c sized =
       file = rw nothing at (file-there base c []);
       cycles = refl;
       family = refl;
+      log = refl;
     }
 
 -- the syllabus behind it, whatever follows
@@ -197,6 +201,7 @@ module _ (base : List ℕ) (c : Choosing) (y : ℕ) (sized : length base ≡ bas
         file = file-there base c (y ∷ []);
         cycles = refl;
         family = refl;
+        log = refl;
       }
 
 -- ---- dates, whatever follows
@@ -284,6 +289,7 @@ module _ (base : List ℕ) (c : Choosing) (y : ℕ) (d : Dates) (sized : length 
         file = file-there base c (y ∷ datesBytes d ++ []);
         cycles = cycles-there base c y [] d;
         family = refl;
+        log = refl;
       })
 
 -- ---- the family, whatever follows
@@ -327,11 +333,20 @@ module _ (base : List ℕ) (c : Choosing) (y : ℕ) (d : Dates) (rest : List ℕ
       rw (size, end-there base c y (t ++ rest) d) (take-at t rest (length t) refl)
 
   -- what follows the family
-  last-byte : (f : Families) → byte (with-family f) (familyEnd f) ≡ byte rest 0
-  last-byte f =
+  byte-behind : (f : Families) (i : ℕ) → byte (with-family f) (familyEnd f + i) ≡ byte rest i
+  byte-behind f i =
       let t = familiesBytes f in
-      sym (getD-drop at (with-family f) (length t) 0) ∙ ap (λ (s : List ℕ). byte s (length t)) (end-there base c y (t ++ rest) d)
-      ∙ ap (byte (t ++ rest)) (sym (add-zero (length t))) ∙ getD-append-add t rest 0 0
+      let to : familyEnd f + i ≡ at + (length t + i) = omega arith in
+      ap (byte (with-family f)) to ∙ sym (getD-drop at (with-family f) (length t + i) 0)
+      ∙ ap (λ (s : List ℕ). byte s (length t + i)) (end-there base c y (t ++ rest) d) ∙ getD-append-add t rest i 0
+
+  last-byte : (f : Families) → byte (with-family f) (familyEnd f) ≡ byte rest 0
+  last-byte f = ap (byte (with-family f)) (sym (add-zero (familyEnd f))) ∙ byte-behind f 0
+
+  behind-family : (f : Families) → drop (familyEnd f) (with-family f) ≡ rest
+  behind-family f =
+      let t = familiesBytes f in
+      sym (drop-drop (length t) at (with-family f)) ∙ ap (drop (length t)) (end-there base c y (t ++ rest) d) ∙ drop-at t rest (length t) refl
 
   module _ (f : Families) (low : y ≤ 1) (fine-dates : FineDates (byte base 3) d) (fine : FineFamilies (byte base 3) f) where
     behind-4 : tailsOf 5 (with-family f) ≡ behind (tailsOf 4 (with-family f)) (familyTail (with-family f))
@@ -366,13 +381,14 @@ module _ (base : List ℕ) (c : Choosing) (y : ℕ) (d : Dates) (f : Families) (
         file = file-there base c (y ∷ datesBytes d ++ (familiesBytes f ++ []));
         cycles = cycles-there base c y (familiesBytes f ++ []) d;
         family = family-there base c y d [] sized f;
+        log = refl;
       })
 
   -- ---- the scripts' byte follows it
 
-  module _ (scripting : Bool) where
+  module _ (scripting : Bool) (log-bytes : List ℕ) where
     abbrev end-bytes : List ℕ
-    end-bytes = scriptsByte scripting ∷ []
+    end-bytes = scriptsByte scripting ∷ log-bytes
 
     abbrev scripts-body : List ℕ
     scripts-body = with-family base c y d end-bytes sized f
@@ -395,21 +411,128 @@ module _ (base : List ℕ) (c : Choosing) (y : ℕ) (d : Dates) (f : Families) (
     unfolding tailsOf
     behind-5 = refl
 
-    shape-read-6 : shapeOf 6 scripts-body ≡ Taken (scripts (shape-5 base c y d end-bytes sized f low fine-dates fine) scripting)
+    abbrev shape-6 : Shape
+    shape-6 = scripts (shape-5 base c y d end-bytes sized f low fine-dates fine) scripting
+
+    tails-6 : tailsOf 6 scripts-body ≡ Ended shape-6 (scriptsAt + 1)
+    tails-6 = behind-5 ∙ ap (λ (t : Tails). behind t (scriptingTail scripts-body)) (tails-5 base c y d end-bytes sized f low fine-dates fine) ∙ scripts-read _
+
+  -- nothing follows it
+  module _ (scripting : Bool) where
+    shape-read-6 : shapeOf 6 (scripts-body scripting []) ≡ Taken (shape-6 scripting [])
     unfolding shapeOf
     shape-read-6 =
-        ap (whole scripts-body)
-        (behind-5 ∙ ap (λ (t : Tails). behind t (scriptingTail scripts-body)) (tails-5 base c y d end-bytes sized f low fine-dates fine) ∙ scripts-read _)
-        ∙ rw (eq-eqb (scriptsAt + 1) (length scripts-body) (omega (arith, family-size base c y d end-bytes sized f)))
+        ap (whole (scripts-body scripting [])) (tails-6 scripting [])
+        ∙ rw (eq-eqb (scriptsAt scripting [] + 1) (length (scripts-body scripting [])) (omega (arith, family-size base c y d (end-bytes scripting []) sized f)))
 
-    sixth-says : TailSays base (sixth c y d f scripting) scripts-body
+    sixth-says : TailSays base (sixth c y d f scripting) (scripts-body scripting [])
     sixth-says =
         record {
           read = shape-read-6;
           base-is = base-there base sized (tailBytes (sixth c y d f scripting));
-          file = file-there base c (y ∷ datesBytes d ++ (familiesBytes f ++ end-bytes));
-          cycles = cycles-there base c y (familiesBytes f ++ end-bytes) d;
-          family = family-there base c y d end-bytes sized f;
+          file = file-there base c (y ∷ datesBytes d ++ (familiesBytes f ++ end-bytes scripting []));
+          cycles = cycles-there base c y (familiesBytes f ++ end-bytes scripting []) d;
+          family = family-there base c y d (end-bytes scripting []) sized f;
+          log = refl;
+        }
+
+  -- ---- the log follows it
+
+  module _ (scripting : Bool) (l : Logs) (fine-log : FineLogs (byte base 3) l) where
+    abbrev ends : List ℕ
+    ends = end-bytes scripting (logsBytes l)
+
+    abbrev log-body : List ℕ
+    log-body = scripts-body scripting (logsBytes l)
+
+    abbrev log-at : ℕ
+    log-at = scriptsAt scripting (logsBytes l) + 1
+
+    log-byte : (i : ℕ) → byte log-body (log-at + i) ≡ byte (logsBytes l) i
+    log-byte i =
+        let to : log-at + i ≡ scriptsAt scripting (logsBytes l) + suc i = omega arith in
+        ap (byte log-body) to ∙ byte-behind base c y d ends sized f (suc i)
+
+    log-length-is : length log-body ≡ log-at + length (logsBytes l)
+    log-length-is = omega (arith, family-size base c y d ends sized f)
+
+    profiles-kept : byte log-body 3 ≡ byte base 3
+    profiles-kept = byte-kept base sized (choosingBytes c ++ (y ∷ datesBytes d ++ (familiesBytes f ++ ends))) 3 (omega arith)
+
+  abbrev shape-of : Shape → Logs → (at : ℕ) → Shape
+  shape-of shape unlogged at = shape
+  shape-of shape (logged l) at = logs shape (loggingFrom (logged l) at)
+
+  module _ (scripting : Bool) where
+    log-read : (l : Logs) (fine-log : FineLogs (byte base 3) l) (shape : Shape)
+        → loggingTail (log-body scripting l fine-log) shape (log-at scripting l fine-log)
+        ≡ Ended (shape-of shape l (log-at scripting l fine-log)) (log-at scripting l fine-log + length (logsBytes l))
+    unfolding loggingTail
+    log-read unlogged fine-log shape =
+        let at = log-at scripting unlogged fine-log in
+        let zero : byte (log-body scripting unlogged fine-log) at ≡ 0 =
+        ap (byte (log-body scripting unlogged fine-log)) (sym (add-zero at)) ∙ log-byte scripting unlogged fine-log 0 in
+        rw (zero, lt-leb (length (log-body scripting unlogged fine-log)) at (omega (arith, log-length-is scripting unlogged fine-log)))
+    log-read (logged l) fine-log shape =
+        let body = log-body scripting (logged l) fine-log in
+        let at = log-at scripting (logged l) fine-log in
+        let there = log-byte scripting (logged l) fine-log in
+        let size = log-length-is scripting (logged l) fine-log in
+        let p = byte base 3 in
+        let one : byte body at ≡ 1 = ap (byte body) (sym (add-zero at)) ∙ there 0 in
+        let few = profiles-kept scripting (logged l) fine-log in
+        let says = log-says l p (fine-log .0) [] in
+        let same : logLong p (logBytes l) ≡ length (logBytes l) = subst (λ (t : List ℕ). logLong p t ≡ length (logBytes l)) (all-is l) says in
+        let to : at + 3 + byte body 3 ≡ at + (3 + p) = omega arith in
+        let n : byte body (at + 3 + byte body 3) ≡ byte (logBytes l) (3 + p) = ap (byte body) to ∙ there (3 + p) in
+        let next : at + 3 + byte body 3 + 1 + 3 * byte body (at + 3 + byte body 3) ≡ at + (3 + p + tableLong (logBytes l) (3 + p)) = omega arith in
+        let m : byte body (at + 3 + byte body 3 + 1 + 3 * byte body (at + 3 + byte body 3)) ≡ byte (logBytes l) (3 + p + tableLong (logBytes l) (3 + p)) =
+        ap (byte body) next ∙ there (3 + p + tableLong (logBytes l) (3 + p)) in
+        let end : logEnd body at ≡ at + length (logBytes l) = omega arith in
+        rw (one, end, lt-leb (length body) at (omega arith), le-ltb (length body) (at + length (logBytes l)) (omega arith))
+      where
+        all-is : (l : Log) → 1 ∷ l .size ∷ l .switches ∷ l .profiles ++ (tableBytes (l .firsts) ++ (tableBytes (l .seconds) ++ [])) ≡ logBytes l
+        all-is l =
+            ap (λ (t : List ℕ). 1 ∷ l .size ∷ l .switches ∷ l .profiles ++ (tableBytes (l .firsts) ++ t)) (append-nil (tableBytes (l .seconds)))
+
+    behind-6 : (body : List ℕ) → tailsOf 7 body ≡ behind (tailsOf 6 body) (loggingTail body)
+    unfolding tailsOf
+    behind-6 body = refl
+
+    shape-read-7 : (l : Logs) (fine-log : FineLogs (byte base 3) l) → shapeOf 7 (log-body scripting l fine-log)
+        ≡ Taken (shape-of (shape-6 scripting (logsBytes l)) l (log-at scripting l fine-log))
+    unfolding shapeOf
+    shape-read-7 l fine-log =
+        let body = log-body scripting l fine-log in
+        ap (whole body)
+        (behind-6 body ∙ ap (λ (t : Tails). behind t (loggingTail body)) (tails-6 scripting (logsBytes l)) ∙ log-read l fine-log _)
+        ∙ rw (eq-eqb (log-at scripting l fine-log + length (logsBytes l)) (length body) (omega (arith, log-length-is scripting l fine-log)))
+
+    log-there : (l : Logs) (fine-log : FineLogs (byte base 3) l)
+        → logPart (loggingFrom l (log-at scripting l fine-log)) (log-body scripting l fine-log) ≡ logSaid l
+    log-there unlogged fine-log = refl
+    log-there (logged l) fine-log =
+        let body = log-body scripting (logged l) fine-log in
+        let at = log-at scripting (logged l) fine-log in
+        let size : at + length (logBytes l) - at ≡ length (logBytes l) = omega arith in
+        let there : drop at body ≡ logBytes l =
+        sym (drop-drop 1 (scriptsAt scripting (logBytes l)) body) ∙ ap (drop 1) (behind-family base c y d (end-bytes scripting (logBytes l)) sized f) in
+        rw (size, there) (take-all (length (logBytes l)) (logBytes l) (omega arith))
+
+    shape-said : (l : Logs) (fine-log : FineLogs (byte base 3) l)
+        → shape-of (shape-6 scripting (logsBytes l)) l (log-at scripting l fine-log) ≡ shapeSaid base (seventh c y d f scripting l)
+    shape-said unlogged fine-log = refl
+    shape-said (logged l) fine-log = refl
+
+    seventh-says : (l : Logs) (fine-log : FineLogs (byte base 3) l) → TailSays base (seventh c y d f scripting l) (log-body scripting l fine-log)
+    seventh-says l fine-log =
+        record {
+          read = shape-read-7 l fine-log ∙ ap (λ (s : Shape). Taken s) (shape-said l fine-log);
+          base-is = base-there base sized (tailBytes (seventh c y d f scripting l));
+          file = file-there base c (y ∷ datesBytes d ++ (familiesBytes f ++ end-bytes scripting (logsBytes l)));
+          cycles = cycles-there base c y (familiesBytes f ++ end-bytes scripting (logsBytes l)) d;
+          family = family-there base c y d (end-bytes scripting (logsBytes l)) sized f;
+          log = log-there l fine-log;
         }
 
 -- THE STATEMENT: a base and the tail of a version are read as they were spelled
@@ -420,3 +543,4 @@ reads-tails base (third c y) sized fine = third-says base c y sized (fine .1)
 reads-tails base (fourth c y d) sized fine = fourth-says base c y d sized (fine .1) (fine .2)
 reads-tails base (fifth c y d f) sized fine = fifth-says base c y d f sized (fine .1) (fine .2) (fine .3)
 reads-tails base (sixth c y d f b) sized fine = sixth-says base c y d f sized (fine .1) (fine .2) (fine .3) b
+reads-tails base (seventh c y d f b l) sized fine = seventh-says base c y d f sized (fine .1) (fine .2) (fine .3) b l (fine .4)

@@ -23,11 +23,11 @@ use Rattle.shape.specs.Shape.{based, baseTail, fileEnd, selects, selectionTail,
 use Rattle.shape.specs.Shape as Sh
 use Rattle.shape.proofs.Files.{file-ends}
 use Rattle.shape.proofs.Inside.{not-before}
-use Rattle.rows.specs.Tails.{Choosing, off, on, choosingBytes, Tail, first, second, third, fourth, fifth, sixth, versionOf, tailBytes}
+use Rattle.rows.specs.Tails.{Choosing, off, on, choosingBytes, Tail, first, second, third, fourth, fifth, sixth, seventh, versionOf, tailBytes}
 use Rattle.rows.specs.Tails.{FineChoosing, Fine, baseLength, Base, IsSpelled, BadChoosing, missing, above, behind-off, no-number, entries, butLast}
 use Rattle.rows.specs.Tails.{BadTail, other-length, choosing, no-syllabus, syllabus-above, between, no-choosing, behind-choosing}
 use Rattle.rows.proofs.Entries.{file-read, Small, small-drop, small-take, more-than-one, only-one, file-spelled, file-bad, bad-file}
-use Rattle.rows.proofs.Later.{Late, four, five, six, late-settled}
+use Rattle.rows.proofs.Later.{Late, four, five, six, seven, late-settled}
 use Rattle.rows.proofs.LaterRefused.{late-refused}
 use Rattle.rows.proofs.Behind.{base-sized, some-bytes, length-kept, third-size, third-last, reads-tails}
 
@@ -249,7 +249,7 @@ module _ (body : List ℕ) (small : Small body) where
     by (inl s) = s
     by (inr b) = let n = ap shapeNumber e in absurd (omega (arith, late-refused late body b))
 
-  spelled-if-taken : (version : ℕ) → 1 ≤ version → version ≤ 6 → (shape : Shape) → shapeOf version body ≡ Taken shape → IsSpelled version body
+  spelled-if-taken : (version : ℕ) → 1 ≤ version → version ≤ 7 → (shape : Shape) → shapeOf version body ≡ Taken shape → IsSpelled version body
   spelled-if-taken zero l m = absurd (omega arith)
   spelled-if-taken (suc zero) l m = first-spelled
   spelled-if-taken (suc (suc zero)) l m = second-spelled
@@ -257,7 +257,8 @@ module _ (body : List ℕ) (small : Small body) where
   spelled-if-taken (suc (suc (suc (suc zero)))) l m = late-spelled 4 four
   spelled-if-taken (suc (suc (suc (suc (suc zero))))) l m = late-spelled 5 five
   spelled-if-taken (suc (suc (suc (suc (suc (suc zero)))))) l m = late-spelled 6 six
-  spelled-if-taken (suc (suc (suc (suc (suc (suc (suc n))))))) l m = absurd (omega arith)
+  spelled-if-taken (suc (suc (suc (suc (suc (suc (suc zero))))))) l m = late-spelled 7 seven
+  spelled-if-taken (suc (suc (suc (suc (suc (suc (suc (suc n)))))))) l m = absurd (omega arith)
 
   -- ---- spelled, or with a cause
 
@@ -317,7 +318,7 @@ module _ (body : List ℕ) (small : Small body) where
         inl (record { base = body; tail = first; version-is = refl; sized = eqb-true (length body) (baseLength body) e; fine = tt; joined = append-nil body })
     by false e = inr (other-length refl (eqb-false (length body) (baseLength body) e))
 
-  tail-settled : (version : ℕ) → 1 ≤ version → version ≤ 6 → IsSpelled version body ⊎ BadTail version body
+  tail-settled : (version : ℕ) → 1 ≤ version → version ≤ 7 → IsSpelled version body ⊎ BadTail version body
   tail-settled zero l m = absurd (omega arith)
   tail-settled (suc zero) l m = first-settled
   tail-settled (suc (suc zero)) l m = second-settled
@@ -325,7 +326,8 @@ module _ (body : List ℕ) (small : Small body) where
   tail-settled (suc (suc (suc (suc zero)))) l m = late-settled 4 four body small
   tail-settled (suc (suc (suc (suc (suc zero))))) l m = late-settled 5 five body small
   tail-settled (suc (suc (suc (suc (suc (suc zero)))))) l m = late-settled 6 six body small
-  tail-settled (suc (suc (suc (suc (suc (suc (suc n))))))) l m = absurd (omega arith)
+  tail-settled (suc (suc (suc (suc (suc (suc (suc zero))))))) l m = late-settled 7 seven body small
+  tail-settled (suc (suc (suc (suc (suc (suc (suc (suc n)))))))) l m = absurd (omega arith)
 
 -- no body is spelled and has a cause
 late-excluded : (base : List ℕ) (tail : Tail) → Late (versionOf tail) → Base base → Fine (byte base 3) tail
@@ -367,6 +369,7 @@ excluded base (third c y) sized fine (behind-choosing v d t e b) = omega arith
 excluded base (fourth c y d) sized fine b = late-excluded base (fourth c y d) four sized fine b
 excluded base (fifth c y d f) sized fine b = late-excluded base (fifth c y d f) five sized fine b
 excluded base (sixth c y d f s) sized fine b = late-excluded base (sixth c y d f s) six sized fine b
+excluded base (seventh c y d f s l) sized fine b = late-excluded base (seventh c y d f s l) seven sized fine b
 
 -- a shape is taken, or its number is 1
 data Ways (read : ReadShape) : Type 0 where
@@ -385,7 +388,7 @@ ways version body = by (tailsOf version body) where
   by (Ended shape at) = by-end shape (eqb at (length body))
 
 -- THE STATEMENTS: a tail is taken exactly if the body is spelled, and refusal 1 exactly if it has one of the causes
-module _ (version : ℕ) (body : List ℕ) (bytes : Bytes body) (least : 1 ≤ version) (most : version ≤ 6) where
+module _ (version : ℕ) (body : List ℕ) (bytes : Bytes body) (least : 1 ≤ version) (most : version ≤ 7) where
   pub tails-if-read : shapeNumber (shapeOf version body) ≡ 0 → IsSpelled version body
   tails-if-read z = by (ways version body) where
     by : Ways (shapeOf version body) → IsSpelled version body

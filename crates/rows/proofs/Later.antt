@@ -1,4 +1,4 @@
--- Of any body in versions 04 to 06: either it is a base and the version's tail, or one of the causes holds of it. Assumes nothing.
+-- Of any body in versions 04 to 07: either it is a base and the version's tail, or one of the causes holds of it. Assumes nothing.
 use mathlib.Core.Path.{_≡_, refl, sym, ap, ap₂, subst, _∙_}
 use mathlib.Core.Bool.{Bool, true, false}
 use mathlib.Core.List.{List, [], _∷_, _++_, append-assoc, append-nil}
@@ -13,10 +13,10 @@ use lib.Seq.{length-take-le, getD-take, drop-at}
 use Rattle.wire.specs.Wire.{byte}
 use Rattle.rows.specs.Rows.{Dates, undated, dated, Families, cpa, cpace}
 use Rattle.rows.specs.Tails.{Choosing, off, on, fileBytes, choosingBytes, datesBytes, familiesBytes, scriptsByte}
-use Rattle.rows.specs.Tails.{Tail, fourth, fifth, sixth, versionOf, tailBytes}
+use Rattle.rows.specs.Tails.{Tail, fourth, fifth, sixth, seventh, Logs, logsBytes, FineLogs, versionOf, tailBytes}
 use Rattle.rows.specs.Tails.{FineEntries, FineChoosing, FineDates, FineFamilies, Fine, baseLength, IsSpelled, CutFile, cut-here, cut-below}
 use Rattle.rows.specs.Tails.{NoChoosing, no-choice, choice-above, no-count, cut-file}
-use Rattle.rows.specs.Tails.{BadScripts, behind-family, no-scripts, scripts-above, behind-scripts}
+use Rattle.rows.specs.Tails.{BadLog, BadScripts, behind-family, no-scripts, scripts-above, behind-scripts, bad-log}
 use Rattle.rows.specs.Tails.{BadEnd, behind-dates, no-family, family-above, behind-cpa, cpace-short, behind-cpace}
 use Rattle.rows.specs.Tails.{BadDates, nothing-behind, follows-above, no-dated, dated-above, behind-undated, dated-short, behind-dated}
 use Rattle.rows.specs.Tails.{BadTail, no-choosing, behind-choosing}
@@ -24,6 +24,7 @@ use Rattle.rows.proofs.Dated.{cycles-if-sized}
 use Rattle.rows.proofs.Family.{controls-if-sized}
 use Rattle.rows.proofs.Entries.{Small, small-drop, small-take, more-than-one}
 use Rattle.rows.proofs.Behind.{base-sized, some-bytes}
+use Rattle.rows.proofs.Logged.{Ends, log-or-not}
 
 -- ---- what is spelled at the front, or a cause
 
@@ -156,7 +157,7 @@ record Named (p : ℕ) (tail : List ℕ) : Type 0 where
   rest : List ℕ
   joined : familiesBytes family ++ rest ≡ tail
   -- a cause behind the family
-  bad : (version : ℕ) → 5 ≤ version → BadScripts version rest → BadEnd version p tail
+  bad : (version : ℕ) → 5 ≤ version → BadScripts version p rest → BadEnd version p tail
 
 abbrev NotNamed : (p : ℕ) (tail : List ℕ) → Type 0
 NotNamed p tail = (version : ℕ) → 5 ≤ version → BadEnd version p tail
@@ -192,11 +193,13 @@ pub data Late : ℕ → Type 0 where
   four : Late 4
   five : Late 5
   six : Late 6
+  seven : Late 7
 
 pub from-four : {version : ℕ} → Late version → 4 ≤ version
 from-four four = omega arith
 from-four five = omega arith
 from-four six = omega arith
+from-four seven = omega arith
 
 -- the tail with this at its end
 record Close (version p : ℕ) (rest : List ℕ) : Type 0 where
@@ -223,32 +226,64 @@ with-scripts p f fine scripting =
       bytes = λ c y d. refl;
     }
 
-module _ (p : ℕ) (f : Families) (fine : FineFamilies p f) where
-  end-5 : (rest : List ℕ) → Close 5 p (familiesBytes f ++ rest) ⊎ BadScripts 5 rest
-  end-5 [] = inl (with-family p f fine)
-  end-5 (x ∷ more) = inr (behind-family refl (omega arith))
+with-log : (p : ℕ) (f : Families) → FineFamilies p f → (scripting : Bool) (logs : Logs) → FineLogs p logs
+    → Close 7 p (familiesBytes f ++ scriptsByte scripting ∷ logsBytes logs)
+with-log p f fine scripting logs kept =
+    record {
+      tail = λ c y d. seventh c y d f scripting logs;
+      version-is = λ c y d. refl;
+      fine = λ c y d chosen low dates. (chosen, low, dates, fine, kept);
+      bytes = λ c y d. refl;
+    }
 
-  end-6 : (rest : List ℕ) → Close 6 p (familiesBytes f ++ rest) ⊎ BadScripts 6 rest
-  end-6 [] = inr (no-scripts refl refl)
-  end-6 (x ∷ v ∷ more) = inr (behind-scripts refl (omega arith))
-  end-6 (x ∷ []) = by (eqb x 0) refl (eqb x 1) refl where
-    by : (none : Bool) → eqb x 0 ≡ none → (some : Bool) → eqb x 1 ≡ some → Close 6 p (familiesBytes f ++ x ∷ []) ⊎ BadScripts 6 (x ∷ [])
-    by true e some g = inl (subst (λ n. Close 6 p (familiesBytes f ++ n ∷ [])) (sym (eqb-true x 0 e)) (with-scripts p f fine false))
-    by false e true g = inl (subst (λ n. Close 6 p (familiesBytes f ++ n ∷ [])) (sym (eqb-true x 1 g)) (with-scripts p f fine true))
-    by false e false g = inr (scripts-above refl (more-than-one x e g))
+module _ (p : ℕ) (f : Families) (fine : FineFamilies p f) where
+  end-5 : (rest : List ℕ) → Small rest → Close 5 p (familiesBytes f ++ rest) ⊎ BadScripts 5 p rest
+  end-5 [] small = inl (with-family p f fine)
+  end-5 (x ∷ more) small = inr (behind-family refl (omega arith))
+
+  -- a byte of scripts, 0 or 1, and what stands behind it
+  scripted : (version : ℕ) → 6 ≤ version → (x : ℕ) (more : List ℕ)
+      → ((scripting : Bool) → Close version p (familiesBytes f ++ scriptsByte scripting ∷ more) ⊎ BadScripts version p (scriptsByte scripting ∷ more))
+      → Close version p (familiesBytes f ++ x ∷ more) ⊎ BadScripts version p (x ∷ more)
+  scripted version later x more end = by (eqb x 0) refl (eqb x 1) refl where
+    is : (n : ℕ) → n ≡ x → Close version p (familiesBytes f ++ n ∷ more) ⊎ BadScripts version p (n ∷ more)
+        → Close version p (familiesBytes f ++ x ∷ more) ⊎ BadScripts version p (x ∷ more)
+    is n e = subst (λ (k : ℕ). Close version p (familiesBytes f ++ k ∷ more) ⊎ BadScripts version p (k ∷ more)) e
+
+    by : (none : Bool) → eqb x 0 ≡ none → (some : Bool) → eqb x 1 ≡ some → Close version p (familiesBytes f ++ x ∷ more) ⊎ BadScripts version p (x ∷ more)
+    by true e some g = is 0 (sym (eqb-true x 0 e)) (end false)
+    by false e true g = is 1 (sym (eqb-true x 1 g)) (end true)
+    by false e false g = inr (scripts-above later (more-than-one x e g))
+
+  end-6 : (rest : List ℕ) → Small rest → Close 6 p (familiesBytes f ++ rest) ⊎ BadScripts 6 p rest
+  end-6 [] small = inr (no-scripts (omega arith) refl)
+  end-6 (x ∷ v ∷ more) small = inr (behind-scripts refl (omega arith))
+  end-6 (x ∷ []) small = scripted 6 (omega arith) x [] (λ scripting. inl (with-scripts p f fine scripting))
+
+  end-7 : (rest : List ℕ) → Small rest → Close 7 p (familiesBytes f ++ rest) ⊎ BadScripts 7 p rest
+  end-7 [] small = inr (no-scripts (omega arith) refl)
+  end-7 (x ∷ more) small = scripted 7 (omega arith) x more (λ scripting. by scripting (log-or-not p more (λ i. small (suc i)))) where
+    by : (scripting : Bool) → Ends p more ⊎ BadLog p more
+        → Close 7 p (familiesBytes f ++ scriptsByte scripting ∷ more) ⊎ BadScripts 7 p (scriptsByte scripting ∷ more)
+    by scripting (inl l) =
+        inl (subst (λ (t : List ℕ). Close 7 p (familiesBytes f ++ scriptsByte scripting ∷ t)) (l .joined) (with-log p f fine scripting (l .logs) (l .fine)))
+    by scripting (inr bad) = inr (bad-log refl bad)
 
 -- the family and what stands behind it
 closed-by : (version p : ℕ) → 5 ≤ version
-    → ((f : Families) → FineFamilies p f → (rest : List ℕ) → Close version p (familiesBytes f ++ rest) ⊎ BadScripts version rest)
+    → ((f : Families) → FineFamilies p f → (rest : List ℕ) → Small rest → Close version p (familiesBytes f ++ rest) ⊎ BadScripts version p rest)
     → (rest : List ℕ) → Small rest → Close version p rest ⊎ BadEnd version p rest
 closed-by version p later end rest small = by (named p rest small) where
-  ended : (n : Named p rest) → Close version p (familiesBytes (n .family) ++ n .rest) ⊎ BadScripts version (n .rest)
+  ended : (n : Named p rest) → Close version p (familiesBytes (n .family) ++ n .rest) ⊎ BadScripts version p (n .rest)
       → Close version p rest ⊎ BadEnd version p rest
   ended n (inl h) = inl (subst (Close version p) (n .joined) h)
   ended n (inr b) = inr (n .bad version later b)
 
   by : Named p rest ⊎ NotNamed p rest → Close version p rest ⊎ BadEnd version p rest
-  by (inl n) = ended n (end (n .family) (n .fine) (n .rest))
+  by (inl n) =
+      let front = familiesBytes (n .family) in
+      let behind : drop (length front) rest ≡ n .rest = ap (drop (length front)) (sym (n .joined)) ∙ drop-at front (n .rest) (length front) refl in
+      ended n (end (n .family) (n .fine) (n .rest) (subst Small behind (small-drop rest small (length front))))
   by (inr b) = inr (b version later)
 
 close : {version : ℕ} → Late version → (p : ℕ) (rest : List ℕ) → Small rest → Close version p rest ⊎ BadEnd version p rest
@@ -262,6 +297,7 @@ close four p [] small =
 close four p (x ∷ more) small = inr (behind-dates refl (omega arith))
 close five p rest small = closed-by 5 p (omega arith) (end-5 p) rest small
 close six p rest small = closed-by 6 p (omega arith) (end-6 p) rest small
+close seven p rest small = closed-by 7 p (omega arith) (end-7 p) rest small
 
 module _ (version : ℕ) (late : Late version) (body : List ℕ) (small : Small body) where
   abbrev base : List ℕ

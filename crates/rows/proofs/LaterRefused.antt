@@ -12,23 +12,25 @@ use lib.Seq.{getD-take, getD-drop, drop-drop}
 use Rattle.wire.specs.Wire.{byte}
 use Rattle.shape.specs.declared.Dating.the-variants.{Off as DatesOff, On as DatesOn}
 use Rattle.shape.specs.declared.Family.the-variants.{Cpa, Cpace}
+use Rattle.shape.specs.declared.Logging.the-variants.{On as LogOn}
 use Rattle.shape.specs.declared.Shape.{Shape}
 use Rattle.shape.specs.declared.Tails.{Tails}
 use Rattle.shape.specs.declared.Tails.the-variants.{Ended, Wrong}
 use Rattle.shape.specs.declared.ReadShape.{ReadShape}
 use Rattle.shape.specs.Shape.{based, baseTail, entriesEnd, fileEnd, selectionTail, follows, syllabusTail, dates, datesEnd, datingTail}
-use Rattle.shape.specs.Shape.{families, familyEnd, familyTail, scripts, scriptingTail, behind, tailsOf, whole, shapeOf, shapeNumber}
+use Rattle.shape.specs.Shape.{families, familyEnd, familyTail, scripts, scriptingTail, logs, logEnd, loggingTail, behind, tailsOf, whole, shapeOf, shapeNumber}
 use Rattle.shape.proofs.Files.{first-entry}
 use Rattle.shape.proofs.Inside.{not-before}
 use Rattle.rows.specs.Tails.{Choosing, choosingBytes, baseLength, Base, datesAt, CutFile, cut-here, cut-below, NoChoosing, no-choice, choice-above, no-count, cut-file}
-use Rattle.rows.specs.Tails.{BadScripts, behind-family, no-scripts, scripts-above, behind-scripts}
+use Rattle.rows.specs.Tails.{tableLong, logLong, BadLog, no-log, log-above, behind-unlogged, log-length}
+use Rattle.rows.specs.Tails.{BadScripts, behind-family, no-scripts, scripts-above, behind-scripts, bad-log}
 use Rattle.rows.specs.Tails.{BadEnd, behind-dates, no-family, family-above, behind-cpa, cpace-short, behind-cpace}
 use Rattle.rows.specs.Tails.{BadDates, nothing-behind, follows-above, no-dated, dated-above, behind-undated, dated-short, behind-dated}
 use Rattle.rows.specs.Tails.{BadTail, other-length, choosing, no-syllabus, syllabus-above, between, no-choosing, behind-choosing}
 use Rattle.rows.proofs.Entries.{only-one}
 use Rattle.rows.proofs.Behind.{byte-kept, base-sized, some-bytes, choosingEnd, chosen, selection-read}
 use Rattle.rows.proofs.Behind.{syllabus-byte, rest-size, syllabus-read, rest-there, rest-byte}
-use Rattle.rows.proofs.Later.{Late, four, five, six, from-four}
+use Rattle.rows.proofs.Later.{Late, four, five, six, seven, from-four}
 
 module _ (body : List ℕ) where
   -- entries that are cut short end past the body
@@ -90,6 +92,7 @@ abbrev closing : {version : ℕ} → Late version → (body : List ℕ) → Tail
 closing four body t = whole body t
 closing five body t = whole body (behind t (familyTail body))
 closing six body t = whole body (behind (behind t (familyTail body)) (scriptingTail body))
+closing seven body t = whole body (behind (behind (behind t (familyTail body)) (scriptingTail body)) (loggingTail body))
 
 abbrev number : {version : ℕ} → Late version → (body : List ℕ) → Tails → ℕ
 number late body t = shapeNumber (closing late body t)
@@ -100,11 +103,13 @@ unfolding shapeOf tailsOf
 closed four body = refl
 closed five body = refl
 closed six body = refl
+closed seven body = refl
 
 wrong : {version : ℕ} (late : Late version) (body : List ℕ) → number late body Wrong ≡ 1
 wrong four body = refl
 wrong five body = refl
 wrong six body = refl
+wrong seven body = refl
 
 module _ (body : List ℕ) where
   not-ended : (shape : Shape) (at : ℕ) → (at ≡ length body → ⊥) → shapeNumber (whole body (Ended shape at)) ≡ 1
@@ -139,36 +144,95 @@ module _ (body : List ℕ) where
     first-byte : byte rest 0 ≡ byte body at
     first-byte = ap (λ (t : List ℕ). byte t 0) (sym there) ∙ getD-drop at body 0 0 ∙ ap (byte body) (add-zero at)
 
-  -- what stands behind the family
-  scripts-refused : (at : ℕ) (rest : List ℕ) → drop at body ≡ rest → at ≤ length body → (shape : Shape) → BadScripts 6 rest
-      → shapeNumber (whole body (scriptingTail body shape at)) ≡ 1
+  -- what stands behind the byte of scripts
+  log-refused : (at : ℕ) (rest : List ℕ) → drop at body ≡ rest → at ≤ length body → (shape : Shape) → BadLog (byte body 3) rest
+      → shapeNumber (whole body (loggingTail body shape at)) ≡ 1
+  unfolding loggingTail
+  log-refused at rest there within shape bad =
+      switched-refused (λ t. shapeNumber (whole body t)) refl at shape (logs shape (LogOn at (logEnd body at))) (logEnd body at)
+      (λ l z. not-ended shape (at + 1) (off bad l z)) (λ l o h. not-ended _ (logEnd body at) (on bad l o))
+    where
+      off : BadLog (byte body 3) rest → at < length body → byte body at ≡ 0 → at + 1 ≡ length body → ⊥
+      off (no-log h) l z e = omega (arith, long at rest there within)
+      off (log-above h) l z e = omega (arith, first-byte at rest there within)
+      off (behind-unlogged o h) l z e = omega (arith, long at rest there within)
+      off (log-length o h) l z e = omega (arith, first-byte at rest there within)
+
+      there-byte : (i : ℕ) → byte body (at + i) ≡ byte rest i
+      there-byte i = sym (getD-drop at body i 0) ∙ ap (λ (t : List ℕ). byte t i) there
+
+      ends : logEnd body at ≡ at + logLong (byte body 3) rest
+      ends =
+          let p = byte body 3 in
+          let one : at + 3 + p ≡ at + (3 + p) = omega arith in
+          let n : byte body (at + 3 + p) ≡ byte rest (3 + p) = ap (byte body) one ∙ there-byte (3 + p) in
+          let two : at + 3 + p + 1 + 3 * byte body (at + 3 + p) ≡ at + (3 + p + tableLong rest (3 + p)) = omega arith in
+          let m : byte body (at + 3 + p + 1 + 3 * byte body (at + 3 + p)) ≡ byte rest (3 + p + tableLong rest (3 + p)) =
+          ap (byte body) two ∙ there-byte (3 + p + tableLong rest (3 + p)) in
+          omega arith
+
+      on : BadLog (byte body 3) rest → at < length body → byte body at ≡ 1 → logEnd body at ≡ length body → ⊥
+      on (no-log h) l o e = omega (arith, long at rest there within)
+      on (log-above h) l o e = omega (arith, first-byte at rest there within)
+      on (behind-unlogged z h) l o e = omega (arith, first-byte at rest there within)
+      on (log-length z h) l o e = h (omega (arith, ends, long at rest there within))
+
+  -- what stands behind the family, where the byte of scripts is followed by what is refused
+  byte-refused : (version : ℕ) → 6 ≤ version → (refused : Tails → ℕ) → refused Wrong ≡ 1 → (at : ℕ) (rest : List ℕ) → drop at body ≡ rest
+      → at ≤ length body → (shape : Shape) → BadScripts version (byte body 3) rest
+      → ((shape : Shape) → at < length body → BadScripts version (byte body 3) rest → byte body at ≤ 1 → refused (Ended shape (at + 1)) ≡ 1)
+      → refused (scriptingTail body shape at) ≡ 1
   unfolding scriptingTail
-  scripts-refused at rest there within shape bad = by (leb (length body) at) refl (ltb 1 (byte body at)) refl where
-    more : BadScripts 6 rest → at < length body → byte body at ≤ 1 → at + 1 ≡ length body → ⊥
-    more (behind-family v h) l low e = omega arith
-    more (no-scripts v h) l low e = omega (arith, long at rest there within)
-    more (scripts-above v h) l low e = omega (arith, first-byte at rest there within)
-    more (behind-scripts v h) l low e = omega (arith, long at rest there within)
-
+  byte-refused version later refused w at rest there within shape bad end = by (leb (length body) at) refl (ltb 1 (byte body at)) refl where
     by : (short : Bool) → leb (length body) at ≡ short → (high : Bool) → ltb 1 (byte body at) ≡ high
-        → shapeNumber (whole body (cond short Wrong (cond high Wrong (Ended (scripts shape (eqb (byte body at) 1)) (at + 1))))) ≡ 1
-    by true e high f = refl
-    by false e true f = refl
-    by false e false f = not-ended _ (at + 1) (more bad (leb-false (length body) at e) (ltb-false 1 (byte body at) f))
+        → refused (cond short Wrong (cond high Wrong (Ended (scripts shape (eqb (byte body at) 1)) (at + 1)))) ≡ 1
+    by true e high f = w
+    by false e true f = w
+    by false e false f = end _ (leb-false (length body) at e) bad (ltb-false 1 (byte body at) f)
 
-  nothing-refused : (at : ℕ) (rest : List ℕ) → drop at body ≡ rest → at ≤ length body → (shape : Shape) → BadScripts 5 rest
+  scripts-refused : (at : ℕ) (rest : List ℕ) → drop at body ≡ rest → at ≤ length body → (shape : Shape) → BadScripts 6 (byte body 3) rest
+      → shapeNumber (whole body (scriptingTail body shape at)) ≡ 1
+  scripts-refused at rest there within shape bad =
+      byte-refused 6 (omega arith) (λ t. shapeNumber (whole body t)) refl at rest there within shape bad
+      (λ s l b low. not-ended s (at + 1) (more b l low))
+    where
+      more : BadScripts 6 (byte body 3) rest → at < length body → byte body at ≤ 1 → at + 1 ≡ length body → ⊥
+      more (behind-family v h) l low e = omega arith
+      more (no-scripts v h) l low e = omega (arith, long at rest there within)
+      more (scripts-above v h) l low e = omega (arith, first-byte at rest there within)
+      more (behind-scripts v h) l low e = omega (arith, long at rest there within)
+      more (bad-log v h) l low e = omega arith
+
+  logged-refused : (at : ℕ) (rest : List ℕ) → drop at body ≡ rest → at ≤ length body → (shape : Shape) → BadScripts 7 (byte body 3) rest
+      → shapeNumber (whole body (behind (scriptingTail body shape at) (loggingTail body))) ≡ 1
+  logged-refused at rest there within shape bad =
+      byte-refused 7 (omega arith) (λ t. shapeNumber (whole body (behind t (loggingTail body)))) refl at rest there within shape bad more
+    where
+      more : (s : Shape) → at < length body → BadScripts 7 (byte body 3) rest → byte body at ≤ 1
+          → shapeNumber (whole body (loggingTail body s (at + 1))) ≡ 1
+      more s l (behind-family v h) low = absurd (omega arith)
+      more s l (no-scripts v h) low = absurd (omega (arith, long at rest there within))
+      more s l (scripts-above v h) low = absurd (omega (arith, first-byte at rest there within))
+      more s l (behind-scripts v h) low = absurd (omega arith)
+      more s l (bad-log v h) low =
+          let one : drop (at + 1) body ≡ drop 1 rest = sym (drop-drop 1 at body) ∙ ap (drop 1) there in
+          log-refused (at + 1) (drop 1 rest) one (omega arith) s h
+
+  nothing-refused : (at : ℕ) (rest : List ℕ) → drop at body ≡ rest → at ≤ length body → (shape : Shape) → BadScripts 5 (byte body 3) rest
       → shapeNumber (whole body (Ended shape at)) ≡ 1
   nothing-refused at rest there within shape (behind-family v h) = not-ended shape at (λ e. omega (arith, long at rest there within))
   nothing-refused at rest there within shape (no-scripts v h) = absurd (omega arith)
   nothing-refused at rest there within shape (scripts-above v h) = absurd (omega arith)
   nothing-refused at rest there within shape (behind-scripts v h) = absurd (omega arith)
+  nothing-refused at rest there within shape (bad-log v h) = absurd (omega arith)
 
   -- what stands behind the dates
   module _ (at : ℕ) (rest : List ℕ) (there : drop at body ≡ rest) (within : at ≤ length body) where
     -- the family is refused where what stands behind it is
     module _ (version : ℕ) (later : 5 ≤ version) (refused : Tails → ℕ) (w : refused Wrong ≡ 1)
-        (end : (at : ℕ) (rest : List ℕ) → drop at body ≡ rest → at ≤ length body → (shape : Shape) → BadScripts version rest → refused (Ended shape at) ≡ 1) where
-      rest-refused : (n : ℕ) → at + n ≤ length body → (shape : Shape) → BadScripts version (drop n rest) → refused (Ended shape (at + n)) ≡ 1
+        (end : (at : ℕ) (rest : List ℕ) → drop at body ≡ rest → at ≤ length body → (shape : Shape) → BadScripts version (byte body 3) rest
+        → refused (Ended shape at) ≡ 1) where
+      rest-refused : (n : ℕ) → at + n ≤ length body → (shape : Shape) → BadScripts version (byte body 3) (drop n rest) → refused (Ended shape (at + n)) ≡ 1
       rest-refused n h shape bad = end (at + n) (drop n rest) (sym (drop-drop n at body) ∙ ap (drop n) there) h shape bad
 
       when-cpa : (shape : Shape) → BadEnd version (byte body 3) rest → at < length body → byte body at ≡ 0 → refused (Ended shape (at + 1)) ≡ 1
@@ -203,6 +267,8 @@ module _ (body : List ℕ) where
     end-refused four shape (behind-cpace v o h) = absurd (omega arith)
     end-refused five shape bad = family-refused 5 (omega arith) (λ t. shapeNumber (whole body t)) refl nothing-refused shape bad
     end-refused six shape bad = family-refused 6 (omega arith) (λ t. shapeNumber (whole body (behind t (scriptingTail body)))) refl scripts-refused shape bad
+    end-refused seven shape bad =
+        family-refused 7 (omega arith) (λ t. shapeNumber (whole body (behind (behind t (scriptingTail body)) (loggingTail body)))) refl logged-refused shape bad
 
   -- no selection behind the base
   no-selection : {version : ℕ} → Late version → NoChoosing (drop (baseLength body) body) → shapeNumber (shapeOf version body) ≡ 1

@@ -9,6 +9,7 @@ pub mod Ranges
 pub mod DatedRanges
 pub mod FamilyRanges
 pub mod Entries
+pub mod Logged
 pub mod Behind
 pub mod Later
 pub mod LaterRefused

@@ -16,7 +16,7 @@ use Rattle.shape.specs.declared.ReadShape.the-variants.{Taken as ShapeTaken}
 use Rattle.shape.specs.Shape.{basePart, cyclesPart, familyPart, shapeOf, shapeNumber}
 use Rattle.rows.specs.Rows.{Setup, Fits, setupRow, body, cyclesBytes, controlsBytes}
 use Rattle.rows.specs.InRange.{InRange, DatesRange, FamiliesRange}
-use Rattle.rows.specs.Tails.{Tail, first, second, third, fourth, fifth, sixth, syllabusOf, datesOf, familiesOf, unnamedOf}
+use Rattle.rows.specs.Tails.{Tail, first, second, third, fourth, fifth, sixth, seventh, syllabusOf, datesOf, familiesOf, unnamedOf}
 use Rattle.rows.specs.Tails.{versionOf, tailBytes, Base, FineDates, FineFamilies, Fine, shapeSaid, TailSays, IsSpelled}
 use Rattle.rows.specs.Whole.{wholeBody, IsSetup, readWhole, IsTaken, WholeSays}
 use Rattle.rows.proofs.Placed.{body-size, in-place}
@@ -41,6 +41,7 @@ fine-dates p (third choosing syllabus) fine = tt
 fine-dates p (fourth choosing syllabus dates) fine = fine .2
 fine-dates p (fifth choosing syllabus dates families) fine = fine .2
 fine-dates p (sixth choosing syllabus dates families scripting) fine = fine .2
+fine-dates p (seventh choosing syllabus dates families scripting logs) fine = fine .2
 
 fine-families : (p : ℕ) (tail : Tail) → Fine p tail → FineFamilies p (familiesOf tail)
 fine-families p first fine = tt
@@ -49,6 +50,7 @@ fine-families p (third choosing syllabus) fine = tt
 fine-families p (fourth choosing syllabus dates) fine = tt
 fine-families p (fifth choosing syllabus dates families) fine = fine .3
 fine-families p (sixth choosing syllabus dates families scripting) fine = fine .3
+fine-families p (seventh choosing syllabus dates families scripting logs) fine = fine .3
 
 -- a base, a tail of version 04 and one of version 05, and what is made of them
 same-read : {A : Type 0} (made : (s t u : List ℕ) → A) {s s′ t t′ u u′ : List ℕ} → s ≡ s′ → t ≡ t′ → u ≡ u′ → made s t u ≡ made s′ t′ u′
@@ -100,7 +102,7 @@ module _ (x : Setup) (tail : Tail) (fits : Fits (setupRow x)) (fine : Fine (leng
             ∙ says .loaded (syllabusOf tail) unnamed words size good;
       }
 
-module _ (version : ℕ) (s : List ℕ) (bytes : Bytes s) (least : 1 ≤ version) (most : version ≤ 6) where
+module _ (version : ℕ) (s : List ℕ) (bytes : Bytes s) (least : 1 ≤ version) (most : version ≤ 7) where
   -- a shape that was taken is the one that was spelled
   record Kept (t : IsSpelled version s) (shape : Shape) : Type 0 where
     shape-is : shapeSaid (t .base) (t .tail) ≡ shape
