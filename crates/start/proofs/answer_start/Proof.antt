@@ -1,8 +1,8 @@
 use borrow.Author.Needs.{needs}
 use borrow.Author.Tests.{lt-ltb, le-ltb}
-use Rattle.card.specs.Card.{openingStep, startStep}
-use Rattle.card.proofs.answer_start.Statement.{statement}
-use Rattle.card.proofs.answer_start.Tie as tie
+use Rattle.start.specs.Start.{openingStep, startStep}
+use Rattle.start.proofs.answer_start.Statement.{statement}
+use Rattle.start.proofs.answer_start.Tie as tie
 
 returns : tie.Need-returns
 unfolding startStep

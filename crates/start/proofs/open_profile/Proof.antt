@@ -1,9 +1,9 @@
 use borrow.Author.Needs.{needs}
 use borrow.Author.Tests.{eq-eqb, ne-eqb}
 use mathlib.Core.Path.{sym, _∙_}
-use Rattle.card.specs.Card.{openingStep}
-use Rattle.card.proofs.open_profile.Statement.{statement}
-use Rattle.card.proofs.open_profile.Tie as tie
+use Rattle.start.specs.Start.{openingStep}
+use Rattle.start.proofs.open_profile.Statement.{statement}
+use Rattle.start.proofs.open_profile.Tie as tie
 
 returns : tie.Need-returns
 unfolding openingStep
