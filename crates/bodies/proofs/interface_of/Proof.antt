@@ -1,6 +1,6 @@
 use borrow.Author.Needs.{needs}
-use Rattle.command.proofs.interface_of.Statement.{statement}
-use Rattle.command.proofs.interface_of.Tie as tie
+use Rattle.bodies.proofs.interface_of.Statement.{statement}
+use Rattle.bodies.proofs.interface_of.Tie as tie
 
 returns : tie.Need-returns
 returns c = simp (c .enum-told .given .1)

@@ -1,7 +1,7 @@
 use borrow.Author.Needs.{needs}
-use Rattle.command.specs.Command.{slotsOf}
-use Rattle.command.proofs.slots_of.Statement.{statement}
-use Rattle.command.proofs.slots_of.Tie as tie
+use Rattle.choice.specs.Choice.{slotsOf}
+use Rattle.choice.proofs.slots_of.Statement.{statement}
+use Rattle.choice.proofs.slots_of.Tie as tie
 
 returns : tie.Need-returns
 unfolding slotsOf

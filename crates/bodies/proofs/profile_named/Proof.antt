@@ -1,6 +1,6 @@
 use borrow.Author.Needs.{needs}
-use Rattle.command.proofs.profile_named.Statement.{statement}
-use Rattle.command.proofs.profile_named.Tie as tie
+use Rattle.bodies.proofs.profile_named.Statement.{statement}
+use Rattle.bodies.proofs.profile_named.Tie as tie
 
 returns : tie.Need-returns
 returns c = simp (c .before .enum-told .given .1, c .byte-at .ensures)

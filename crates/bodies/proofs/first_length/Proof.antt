@@ -1,6 +1,6 @@
 use borrow.Author.Needs.{needs}
-use Rattle.command.proofs.first_length.Statement.{statement}
-use Rattle.command.proofs.first_length.Tie as tie
+use Rattle.bodies.proofs.first_length.Statement.{statement}
+use Rattle.bodies.proofs.first_length.Tie as tie
 
 returns : tie.Need-returns
 returns c = simp (← c .before .is-cpace .ensures, c .if1 .taken, c .before .before .plain-length .ensures .0)

@@ -1,9 +1,9 @@
 use borrow.Author.Needs.{needs}
 use denote.Ref.{now}
 use lib.ListN.{length}
-use Rattle.command.proofs.Selecting.{both}
-use Rattle.command.proofs.select_profile.Statement.{statement}
-use Rattle.command.proofs.select_profile.Tie as tie
+use Rattle.choice.proofs.Tests.{both}
+use Rattle.choice.proofs.select_profile.Statement.{statement}
+use Rattle.choice.proofs.select_profile.Tie as tie
 
 sub-select : tie.Need-sub-select
 sub-select c =
