@@ -1,20 +1,15 @@
 -- The card: a ruling, then a performance (document 01, "Refusal numbers", "Start and the checks"; document 02, Three, Five and Thirteen).
-use Prim.Native.Nat.{ℕ, _+_}
+use Prim.Native.Nat.{ℕ}
 use mathlib.Core.Bool.{Bool, true, false, cond, _&&_}
-use lib.Dec.{eqb, ltb, leb}
+use lib.Dec.{ltb, leb}
 use Rattle.wire.specs.Wire.{isCurrency}
 use Rattle.money.specs.Money.{max}
 use Rattle.calendar.specs.Calendar.{isDay}
-use Rattle.refusal.specs.declared.Refusal.the-variants.{OutOfTurn, UnknownProfile, AtcUsedUp, BadType, OutOfRange, NotSelected, NotADay}
+use Rattle.refusal.specs.declared.Refusal.the-variants.{OutOfTurn, BadType, OutOfRange, NotADay}
 use Rattle.refusal.specs.Refusal.{refusalNumber}
 use Rattle.rules.specs.declared.Place.{Place}
-use Rattle.rules.specs.declared.Found.{Found}
-use Rattle.rules.specs.declared.Found.the-variants.{At, Nothing}
-use Rattle.rules.specs.Rules.{Rules, findProfile}
+use Rattle.rules.specs.Rules.{Rules}
 use Rattle.setup.specs.declared.Fresh.{Fresh}
-use Rattle.selection.specs.declared.Selection.{Selection}
-use Rattle.selection.specs.declared.Selection.the-variants.{Selected, NotSelected as NoneSelected}
-use Rattle.selection.specs.Selection.{visitsOf}
 use Rattle.command.specs.declared.Start.{Start}
 use Rattle.command.specs.declared.When.{When}
 use Rattle.command.specs.declared.When.the-variants.{Undated, On}
@@ -30,7 +25,9 @@ use Rattle.state.specs.declared.Phase.the-variants.{Idle, Opened, Asked}
 use Rattle.state.specs.declared.State.{State}
 use Rattle.state.specs.declared.Outcome.{Outcome}
 use Rattle.state.specs.Ruling.{Ruling, refuse, take, carried}
-use Rattle.script.specs.Script.{freshScripts, started}
+use Rattle.marks.specs.Marks.{freshScripts}
+pub use Rattle.start.specs.Start.{ruleOpening, ruleChosen, ruleStart, startPerformed}
+unfoldable pub use Rattle.start.specs.Start.{openingStep, startStep}
 use Rattle.first.specs.First.{firstPerformed}
 use Rattle.second.specs.Second.{secondPerformed}
 
@@ -45,18 +42,6 @@ freshState fresh =
       history = record { uncompleted = false; online = fresh .online; failed = false; unable = false; missing = false };
       scripts = freshScripts;
     }
-
--- Start: 6 for an interface above 1, then 12, then 3, then 4
-abbrev pub ruleOpening : ℕ → Found → Ruling Place
-ruleOpening atc Nothing = refuse UnknownProfile
-ruleOpening atc (At place) = cond (eqb atc 65535) (refuse AtcUsedUp) (take place)
-
-abbrev pub ruleChosen : Rules → ℕ → Selection → Ruling Place
-ruleChosen rules atc NoneSelected = refuse NotSelected
-ruleChosen rules atc (Selected profile visits) = ruleOpening atc (findProfile rules profile)
-
-abbrev pub ruleStart : Rules → ℕ → Start → Ruling Place
-ruleStart rules atc start = cond (ltb 1 (start .interface)) (refuse OutOfRange) (ruleChosen rules atc (start .chosen))
 
 -- First: 2, 5, 6, and 13 for a date that isn't a calendar day
 abbrev pub isDated : When → Bool
@@ -84,30 +69,6 @@ abbrev pub ruleSecond : Phase → Second → Ruling Pending
 ruleSecond Idle second = refuse OutOfTurn
 ruleSecond (Opened place) second = refuse OutOfTurn
 ruleSecond (Asked pending) second = ruleSecondFields second pending
-
--- Start drops an unfinished transaction, adds 1 to ATC and opens the profile; the answer also says how many entries were visited
-abbrev pub startPerformed : State → (visits : ℕ) → Place → Outcome
-startPerformed state visits place =
-    record {
-      state =
-          record {
-            values = state .values;
-            phase = Opened place;
-            atc = state .atc + 1;
-            last = state .last;
-            history = state .history;
-            scripts = started (state .scripts);
-          };
-      answer = Started (state .atc + 1) visits;
-    }
-
-unfoldable pub openingStep : Rules → State → (profile visits : ℕ) → Outcome
-openingStep rules state profile visits =
-    carried state (startPerformed state visits) (ruleOpening (state .atc) (findProfile rules profile))
-
-unfoldable pub startStep : Rules → State → Start → Outcome
-startStep rules state start =
-    carried state (startPerformed state (visitsOf (start .chosen))) (ruleStart rules (state .atc) start)
 
 unfoldable pub firstTaken : Rules → State → First → Place → Outcome
 firstTaken rules state first place = carried state (firstPerformed rules state first) (ruleFirstFields first place)

@@ -1,20 +1,17 @@
 // The card: which commands it takes, and what each comes to.
 ghost use mathlib.Core.Path.{_≡_};
 ghost use Rattle.rules.specs.Rules.{rulesOf};
-ghost use Rattle.card.specs.Card.{freshState, openingStep, startStep, isDated, firstTaken, firstStep, secondTaken, secondStep, stepOf};
+ghost use Rattle.card.specs.Card.{freshState, isDated, firstTaken, firstStep, secondTaken, secondStep, stepOf};
 use command::Command;
 use command::First;
 use command::Second;
-use command::Start;
 use command::When;
 use marks::Scripts;
 use refusal::Refusal;
-use rules::Found;
 use rules::Place;
 use rules::Words;
-use selection::Selection;
 use setup::Fresh;
-use state::Answer;
+use start::answer_start;
 use state::History;
 use state::Outcome;
 use state::Pending;
@@ -41,47 +38,6 @@ pub fn fresh_card(fresh: Fresh) -> State
             missing: false,
         },
         scripts: Scripts::fresh(),
-    }
-}
-
-// Opens a profile, dropping what was unfinished, and adds 1 to the ATC.
-fn open_profile(words: &Words, state: State, profile: u8, visits: u8) -> Outcome
-    ensures { λ r. ⌜ r ≡ openingStep (rulesOf (now (words .entry))) state profile visits ⌝ }
-{
-    let Found::At(place) = rules::find_profile(words, profile) else {
-        return refuse(state, Refusal::UnknownProfile);
-    };
-    if state.atc == 65_535 {
-        return refuse(state, Refusal::AtcUsedUp);
-    }
-    let values = state.values;
-    let history = state.history;
-    let last = state.last;
-    let scripts = state.scripts.started();
-    let atc = state.atc + 1;
-    Outcome {
-        state: State {
-            values,
-            phase: Phase::Opened(place),
-            atc,
-            last,
-            history,
-            scripts,
-        },
-        answer: Answer::Started { atc, visits },
-    }
-}
-
-fn answer_start(words: &Words, state: State, start: Start) -> Outcome
-    ensures { λ r. ⌜ r ≡ startStep (rulesOf (now (words .entry))) state start ⌝ }
-{
-    if 1 < start.interface {
-        return refuse(state, Refusal::OutOfRange);
-    }
-    let chosen = start.chosen;
-    match chosen {
-        Selection::NotSelected => refuse(state, Refusal::NotSelected),
-        Selection::Selected { profile, visits } => open_profile(words, state, profile, visits),
     }
 }
 

@@ -1,29 +1,27 @@
 -- The commands of a paper (document 01, "The paper" and "Refusal numbers"; document 02, Three, Five and Thirteen).
-use Prim.Native.Nat.{ℕ, _+_, _-_}
-use mathlib.Core.Bool.{Bool, true, false, cond, not, _&&_, _||_}
-use mathlib.Core.List.{List, [], _∷_}
-use lib.ListN.{length, getD, take, drop}
-use lib.Dec.{eqb, leb, ltb}
+use Prim.Native.Nat.{ℕ}
+use mathlib.Core.Bool.{Bool, false, cond, not, _&&_, _||_}
+use mathlib.Core.List.{List}
+use lib.ListN.{length}
+use lib.Dec.{eqb, ltb}
 use Rattle.wire.specs.Wire.{byte, number}
 use Rattle.calendar.specs.Calendar.{dateAt}
-use Rattle.cpace.specs.declared.Cvm.{Cvm}
-use Rattle.cpace.specs.declared.Cvm.the-variants.{NoCvm}
-use Rattle.cpace.specs.Cpace.{cvmAt, cashbackAt}
 use Rattle.refusal.specs.declared.Refusal.the-variants.{Unreadable}
 use Rattle.refusal.specs.Refusal.{refusalNumber}
-use Rattle.money.specs.declared.AccumulatorAmount.{AccumulatorAmount}
 use Rattle.rules.specs.declared.Values.{Values}
 use Rattle.slot.specs.declared.Slots.{Slots}
 use Rattle.selection.specs.declared.Selection.{Selection}
-use Rattle.selection.specs.declared.Selection.the-variants.{Selected, NotSelected}
+use Rattle.selection.specs.declared.Selection.the-variants.{Selected}
 use Rattle.selection.specs.Selection.{selectionOf}
 use Rattle.shape.specs.declared.Selecting.{Selecting}
 use Rattle.shape.specs.declared.Selecting.the-variants.{Off, On}
 use Rattle.shape.specs.declared.Dating.{Dating}
 use Rattle.shape.specs.declared.Dating.the-variants.{Off as DatesOff, On as DatesOn}
 use Rattle.shape.specs.declared.Family.{Family}
-use Rattle.shape.specs.declared.Family.the-variants.{Cpa, Cpace}
 use Rattle.shape.specs.declared.Shape.{Shape}
+pub use Rattle.bodies.specs.Bodies.{isCpace, interfaceOf, startLength, profileNamed, plainLength, firstLength, cvmOf, cashbackOf}
+pub use Rattle.choice.specs.Choice.{fileIn, selectedIn, amountAt}
+unfoldable pub use Rattle.choice.specs.Choice.{slotsOf}
 use Rattle.command.specs.declared.Start.{Start}
 use Rattle.command.specs.declared.When.{When}
 use Rattle.command.specs.declared.When.the-variants.{Undated, On as DatedOn}
@@ -33,45 +31,12 @@ use Rattle.command.specs.declared.Command.the-variants.{Start as StartCo
 use Rattle.command.specs.declared.ReadCommand.{ReadCommand}
 use Rattle.command.specs.declared.ReadCommand.the-variants.{Taken, Refused}
 
-abbrev pub isCpace : Family → Bool
-isCpace Cpa = false
-isCpace (Cpace start end) = true
-
--- the interface: a CPACE Start's first byte; a CPA card does not ask it
-abbrev pub interfaceOf : Family → List ℕ → ℕ
-interfaceOf Cpa body = 0
-interfaceOf (Cpace start end) body = byte body 0
-
--- profile (1), to a CPACE card interface (1) and profile (1): named, with no entry visited
-abbrev pub startLength : Family → ℕ
-startLength Cpa = 1
-startLength (Cpace start end) = 2
-
-abbrev pub profileNamed : Family → List ℕ → ℕ
-profileNamed Cpa body = byte body 0
-profileNamed (Cpace start end) body = byte body 1
-
 unfoldable pub startOf : Family → List ℕ → Start
 startOf family body = record { interface = interfaceOf family body; chosen = Selected (profileNamed family body) 0 }
-
--- type (1), amount (8), currency (2), terminal type (1); where the paper is dated, the date (3); to a CPACE card, CVM results (3) and cashback (6)
-abbrev pub plainLength : Dating → ℕ
-plainLength DatesOff = 12
-plainLength (DatesOn start end) = 15
-
-abbrev pub firstLength : Dating → Family → ℕ
-firstLength dating family = cond (isCpace family) (plainLength dating + 9) (plainLength dating)
 
 abbrev pub whenOf : Dating → List ℕ → When
 whenOf DatesOff body = Undated
 whenOf (DatesOn start end) body = DatedOn (dateAt body 12)
-
--- to a CPA card every transaction is one with no CVM and no cashback
-abbrev pub cvmOf : Dating → Family → List ℕ → Cvm
-cvmOf dating family body = cond (isCpace family) (cvmAt body (plainLength dating)) NoCvm
-
-abbrev pub cashbackOf : Dating → Family → List ℕ → Bool
-cashbackOf dating family body = cond (isCpace family) (cashbackAt body (plainLength dating + 3)) false
 
 unfoldable pub firstOf : Dating → Family → List ℕ → First
 firstOf dating family body =
@@ -107,31 +72,10 @@ unfoldable pub selectingOf : Dating → Family → Slots → (file : List ℕ) (
 selectingOf dating family slots file entries kind body =
     cond (eqb kind 2) (startSelected family (selectionOf file entries body slots) body) (commandOf dating family kind body)
 
--- a file that does not lie in the paper is empty
-abbrev pub fileIn : (paper : List ℕ) (start end : ℕ) → List ℕ
-fileIn paper start end = cond (leb start end && leb end (length paper)) (take (end - start) (drop start paper)) []
-
--- a record of a kind is a Start that selects its profile, and what the paper's file selects
+-- a record of a kind is a Start that selects its profile
 abbrev pub isSelecting : Selecting → (kind : ℕ) → Bool
 isSelecting Off kind = false
 isSelecting (On start end entries) kind = eqb kind 2
-
-abbrev pub selectedIn : Selecting → Slots → (paper terminal : List ℕ) → Selection
-selectedIn Off slots paper terminal = NotSelected
-selectedIn (On start end entries) slots paper terminal = selectionOf (fileIn paper start end) entries terminal slots
-
--- what the file's entries may test: a CPACE card's accumulators and counters, as they are
-abbrev pub amountAt : List AccumulatorAmount → ℕ → ℕ
-amountAt amounts i = getD amounts i (record { 0 = 0 }) .0
-
-unfoldable pub slotsOf : Family → Values → Slots
-slotsOf family values =
-    let amounts = values .accumulators in
-    record {
-      testable = isCpace family;
-      amounts = amountAt amounts 0 ∷ amountAt amounts 1 ∷ amountAt amounts 2 ∷ amountAt amounts 3 ∷ [];
-      counts = values .counters;
-    }
 
 -- THE COMMAND IN A RECORD OF A PAPER, by the paper's shape and the card's present values
 abbrev pub readBy : Selecting → Dating → Family → Slots → (paper : List ℕ) (kind : ℕ) (body : List ℕ) → ReadCommand

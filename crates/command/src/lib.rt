@@ -1,9 +1,17 @@
 // Commands out of record bodies. What a command says is judged by the card.
 ghost use mathlib.Core.Path.{_≡_};
-ghost use Prim.Native.Nat.{_≤_};
-ghost use Rattle.command.specs.Command.{isCpace, interfaceOf, startLength, profileNamed, startOf, plainLength, firstLength, whenOf, cvmOf, cashbackOf};
+ghost use Rattle.command.specs.Command.{startOf, whenOf};
 ghost use Rattle.command.specs.Command.{firstOf, secondOf, commandOf, slotsOf, isSelecting, selectedIn, startSelected, commandIn, isCommand};
+use bodies::first_length;
+use bodies::interface_of;
+use bodies::is_cpace;
+use bodies::profile_named;
+use bodies::read_cashback;
+use bodies::read_cvm;
+use bodies::start_length;
 use calendar::Date;
+use choice::select_profile;
+use choice::slots_of;
 use cpace::Cvm;
 use money::TransactionAmount;
 use refusal::Refusal;
@@ -13,7 +21,6 @@ use shape::Dating;
 use shape::Family;
 use shape::Selecting;
 use shape::Shape;
-use slot::Slots;
 
 const START: u8 = 2;
 
@@ -65,45 +72,6 @@ pub enum ReadCommand {
     Refused(Refusal),
 }
 
-fn is_cpace(family: Family) -> bool
-    ensures { λ r. ⌜ r ≡ isCpace family ⌝ }
-{
-    match family {
-        Family::Cpa => false,
-        Family::Cpace { .. } => true,
-    }
-}
-
-// The interface, a CPACE Start's first byte.
-fn interface_of(family: Family, body: &[u8]) -> u8
-    ensures { λ r. ⌜ r ≡ interfaceOf family (now (body .entry)) ⌝ }
-{
-    match family {
-        Family::Cpa => 0,
-        Family::Cpace { .. } => wire::byte_at(body, 0),
-    }
-}
-
-// The profile, and before it a CPACE card's interface.
-fn start_length(family: Family) -> usize
-    ensures { λ r. ⌜ r ≡ startLength family ⌝ }
-{
-    match family {
-        Family::Cpa => 1,
-        Family::Cpace { .. } => 2,
-    }
-}
-
-// The profile, behind a CPACE card's interface.
-fn profile_named(family: Family, body: &[u8]) -> u8
-    ensures { λ r. ⌜ r ≡ profileNamed family (now (body .entry)) ⌝ }
-{
-    match family {
-        Family::Cpa => wire::byte_at(body, 0),
-        Family::Cpace { .. } => wire::byte_at(body, 1),
-    }
-}
-
 fn read_start(family: Family, body: &[u8]) -> Start
     ensures { λ r. ⌜ r ≡ startOf family (now (body .entry)) ⌝ }
 {
@@ -116,24 +84,6 @@ fn read_start(family: Family, body: &[u8]) -> Start
     }
 }
 
-// 12 bytes, and the date's 3 where the paper is dated.
-fn plain_length(dating: Dating) -> usize
-    ensures { λ r. ⌜ (r ≡ plainLength dating) × (r ≤ 15) ⌝ }
-{
-    match dating {
-        Dating::Off => 12,
-        Dating::On { .. } => 15,
-    }
-}
-
-// These, and the 9 bytes of a CPACE card's CVM results and cashback.
-pub fn first_length(dating: Dating, family: Family) -> usize
-    ensures { λ r. ⌜ r ≡ firstLength dating family ⌝ }
-{
-    let plain = plain_length(dating);
-    if is_cpace(family) { plain + 9 } else { plain }
-}
-
 fn read_when(dating: Dating, body: &[u8]) -> When
     ensures { λ r. ⌜ r ≡ whenOf dating (now (body .entry)) ⌝ }
 {
@@ -141,24 +91,6 @@ fn read_when(dating: Dating, body: &[u8]) -> When
         Dating::Off => When::Undated,
         Dating::On { .. } => When::On(calendar::date_at(body, 12)),
     }
-}
-
-fn read_cvm(dating: Dating, family: Family, body: &[u8]) -> Cvm
-    ensures { λ r. ⌜ r ≡ cvmOf dating family (now (body .entry)) ⌝ }
-{
-    if is_cpace(family) {
-        return cpace::cvm_at(body, plain_length(dating));
-    }
-    Cvm::NoCvm
-}
-
-fn read_cashback(dating: Dating, family: Family, body: &[u8]) -> bool
-    ensures { λ r. ⌜ r ≡ cashbackOf dating family (now (body .entry)) ⌝ }
-{
-    if is_cpace(family) {
-        return cpace::has_cashback(body, plain_length(dating) + 3);
-    }
-    false
 }
 
 // Type, amount (8), currency (2), terminal type, the date (3) where the paper is dated, and CVM
@@ -213,39 +145,6 @@ fn selects(selecting: Selecting, kind: u8) -> bool
     match selecting {
         Selecting::Off => false,
         Selecting::On { .. } => kind == START,
-    }
-}
-
-// What the file's entries may test: a CPACE card's accumulators and counters, as they are.
-fn slots_of(family: Family, values: Values) -> Slots
-    ensures { λ r. ⌜ r ≡ slotsOf family values ⌝ }
-{
-    let amounts = values.accumulators;
-    let counts = values.counters;
-    Slots {
-        testable: is_cpace(family),
-        amounts: [amounts[0].0, amounts[1].0, amounts[2].0, amounts[3].0],
-        counts,
-    }
-}
-
-// What the paper's file selects for the terminal's data. A file that does not lie in the paper is
-// empty.
-fn select_profile(selecting: Selecting, slots: Slots, paper: &[u8], data: &[u8]) -> Selection
-    ensures { λ r. ⌜ r ≡ selectedIn selecting slots (now (paper .entry)) (now («data» .entry)) ⌝ }
-{
-    match selecting {
-        Selecting::Off => Selection::NotSelected,
-        Selecting::On {
-            start,
-            end,
-            entries,
-        } => {
-            if (start <= end) & (end <= paper.len()) {
-                return selection::select(&paper[start..end], entries, data, slots);
-            }
-            selection::select(&paper[..0], entries, data, slots)
-        }
     }
 }
 

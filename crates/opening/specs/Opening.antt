@@ -11,7 +11,7 @@ use Rattle.setup.specs.Setup.{isAccepted, readSetup, noCard, wordsAfter}
 use Rattle.log_tail.specs.declared.Judged.{Judged}
 use Rattle.log_tail.specs.declared.Judged.the-variants.{Sound, Wrong, PastData as TableFault}
 use Rattle.log_tail.specs.LogTail.{judged}
-use Rattle.command.specs.Command.{firstLength}
+use Rattle.bodies.specs.Bodies.{firstLength}
 use Rattle.shape.specs.declared.Logging.{Logging}
 use Rattle.shape.specs.declared.Logging.the-variants.{Off, On}
 use Rattle.shape.specs.declared.Shape.{Shape}

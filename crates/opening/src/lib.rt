@@ -205,7 +205,7 @@ fn judge_log(shape: Shape, body: &[u8]) -> Judged
     };
     let dating = shape.dating;
     let family = shape.family;
-    let first = command::first_length(dating, family);
+    let first = bodies::first_length(dating, family);
     log_tail::judge(
         &body[start..end],
         wire::byte_at(body, layout::PROFILES),

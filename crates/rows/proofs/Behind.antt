@@ -23,7 +23,8 @@ use Rattle.shape.specs.Shape.{familyPart, scripts, scriptingTail, logs, logEnd,
 use Rattle.shape.proofs.Files.{file-ends}
 use Rattle.rows.specs.Rows.{Dates, undated, dated, cyclesBytes, Families, cpa, cpace, controlsBytes}
 use Rattle.rows.specs.Tails.{Choosing, off, on, fileBytes, choosingBytes, datesBytes, familiesBytes, scriptsByte}
-use Rattle.rows.specs.Tails.{Tail, first, second, third, fourth, fifth, sixth, seventh, tailBytes, FineDates, FineFamilies, Fine, baseLength, Base, selecting, fileIn, fileOf, dating, datesAt, familyFrom}
+use Rattle.rows.specs.Tails.{Tail, first, second, third, fourth, fifth, sixth, seventh, tailBytes, FineDates}
+use Rattle.rows.specs.Tails.{FineFamilies, Fine, baseLength, Base, selecting, fileIn, fileOf, dating, datesAt, familyFrom}
 use Rattle.rows.specs.Tails.{familiesAt, shapeSaid, TailSays, Log, Logs, unlogged, logged, tableBytes, logBytes, logsBytes, FineLogs, loggingFrom, logSaid}
 use Rattle.rows.specs.Tails.{tableLong, logLong}
 use Rattle.rows.proofs.Dated.{cycles-size, cycles-in-place}
