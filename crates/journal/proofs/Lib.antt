@@ -1,0 +1,4 @@
+pub mod Given
+pub mod Newest
+pub mod Requirements
+pub mod Samples
