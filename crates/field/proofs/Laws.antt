@@ -1,6 +1,6 @@
--- How long a stretch is. Assumes nothing.
+-- How long a stretch is, and where a field lies. Assumes nothing.
 use mathlib.Core.Path.{_≡_, refl}
-use mathlib.Core.Bool.{Bool, true, false, not, _&&_}
+use mathlib.Core.Bool.{Bool, true, false, cond, not, _&&_}
 use mathlib.Core.List.{List}
 use Prim.Native.Nat.{ℕ, _+_, _-_, _≤_}
 use native.Mathlib.Omega.{arith}
@@ -8,7 +8,8 @@ use borrow.Author.Tests.{leb-true}
 use lib.Dec.{leb, eqb}
 use lib.ListN.{length, drop, length-drop}
 use lib.Seq.{length-take-le}
-use Rattle.field.specs.Field.{isWithin, stretchOf}
+use denote.Ref.{RefT, now}
+use Rattle.field.specs.Field.{isWithin, stretchOf, stretchPlace, fieldPlace}
 
 module _ (s : List ℕ) (position long : ℕ) where
   fits : isWithin (length s) position long ≡ true → position - 1 + long ≤ length s
@@ -36,3 +37,12 @@ module _ (s : List ℕ) (position long : ℕ) where
         let within = fits e in
         (omega arith, omega arith)
     by false e = rw e (omega arith, omega arith)
+
+-- the place is told by the data's bytes and their place
+pub same-place : (f f′ s s′ : RefT (List ℕ)) → now f ≡ now f′ → f .ptr ≡ f′ .ptr → now s ≡ now s′ → s .ptr ≡ s′ .ptr → (source position long : ℕ)
+    → fieldPlace f s source position long ≡ fieldPlace f′ s′ source position long
+unfolding fieldPlace stretchPlace
+same-place f f′ s s′ bytes place bytes′ place′ source position long = by (eqb source 0) where
+  by : (b : Bool) → stretchPlace (cond b f s) position long ≡ stretchPlace (cond b f′ s′) position long
+  by true = rw (bytes, place)
+  by false = rw (bytes′, place′)
