@@ -73,15 +73,15 @@ abbrev cvr : ℕ → ℕ
 cvr byte1 = byte1 * 4294967296 + 0x30200100
 
 pub record Samples : Type 0 where
-  -- sitting E: of three the newest two; and sitting F: approvals, offline ones only
+  -- sitting E, with the places of its bodies in the paper: of three the newest two; and sitting F: approvals, offline ones only
   pub sitting-e : shown (set-up 2 0xDC) 3
-      (start 190 1 ∷ first 194 Tc 1 0x90 ∷ start 209 2 ∷ first 213 Arqc 2 0xA0 ∷ second 228 0x5933 Tc 2 0x62 ∷ start 239 3 ∷ first 243 Aac 3 0x82
-      ∷ refused (Second 0x5933) 258 ∷ [])
-      ≡ (243 ∷ 0 ∷ cvr 0x82 ∷ 3 ∷ 0x00 ∷ []) ∷ (213 ∷ 228 ∷ cvr 0x62 ∷ 2 ∷ 0x40 ∷ []) ∷ [] ∷ []
+      (start 189 1 ∷ first 193 Tc 1 0x90 ∷ start 208 2 ∷ first 212 Arqc 2 0xA0 ∷ second 227 0x5933 Tc 2 0x62 ∷ start 238 3 ∷ first 242 Aac 3 0x82
+      ∷ refused (Second 0x5933) 257 ∷ [])
+      ≡ (242 ∷ 0 ∷ cvr 0x82 ∷ 3 ∷ 0x00 ∷ []) ∷ (212 ∷ 227 ∷ cvr 0x62 ∷ 2 ∷ 0x40 ∷ []) ∷ [] ∷ []
   pub sitting-f : shown (set-up 20 0x78) 3
-      (start 190 1 ∷ first 194 Tc 1 0x90 ∷ start 209 2 ∷ first 213 Arqc 2 0xA0 ∷ second 228 0x3030 Tc 2 0x60 ∷ start 239 3 ∷ first 243 Arqc 3 0xA0
-      ∷ second 258 0x5A33 Tc 3 0x62 ∷ start 269 4 ∷ first 273 Aac 4 0x82 ∷ [])
-      ≡ (243 ∷ 258 ∷ cvr 0x62 ∷ 3 ∷ 0x40 ∷ []) ∷ (194 ∷ 0 ∷ cvr 0x90 ∷ 1 ∷ 0x40 ∷ []) ∷ [] ∷ []
+      (start 180 1 ∷ first 184 Tc 1 0x90 ∷ start 199 2 ∷ first 203 Arqc 2 0xA0 ∷ second 218 0x3030 Tc 2 0x60 ∷ start 229 3 ∷ first 233 Arqc 3 0xA0
+      ∷ second 248 0x5A33 Tc 3 0x62 ∷ start 259 4 ∷ first 263 Aac 4 0x82 ∷ [])
+      ≡ (233 ∷ 248 ∷ cvr 0x62 ∷ 3 ∷ 0x40 ∷ []) ∷ (184 ∷ 0 ∷ cvr 0x90 ∷ 1 ∷ 0x40 ∷ []) ∷ [] ∷ []
   -- a refused First is not the one that Second closes, a dropped one neither
   pub refused-first : shown (set-up 1 0xE0) 1 (first 30 Arqc 1 0xA0 ∷ refused First 50 ∷ second 70 0x5933 Tc 1 0x62 ∷ [])
       ≡ (30 ∷ 70 ∷ cvr 0x62 ∷ 1 ∷ 0x40 ∷ []) ∷ []
