@@ -8,13 +8,13 @@ use Rattle.state.specs.declared.Kind.{Kind}
 use Rattle.state.specs.declared.Answer.{Answer}
 use Rattle.state.specs.declared.Answer.the-variants.{Refused, Started, Given, Done}
 use Rattle.ring.specs.declared.Record.{Record}
-use Rattle.ring.specs.Ring.{slotsOf, firstPlace, firstOpened, added}
+use Rattle.ring.specs.Ring.{slotsOf, noRecords, firstPlace, firstOpened, added}
 use Rattle.ring.proofs.Newest.{Holds, none-held, opened-held, added-kept, first-stays, first-opened, Newest, read}
 use Rattle.journal.specs.declared.Logging.{Logging}
 use Rattle.journal.specs.declared.Said.{Said}
 use Rattle.journal.specs.declared.Said.the-variants.{First, Second, Other}
 use Rattle.journal.specs.Journal.{isLogged, closedBy, noted, watchedGiven, watched}
-use Rattle.journal.specs.Logged.{Seen, isFirst, isGiven, firstIn, closedAs, loggedBy, loggedIn, ringAfter}
+use Rattle.journal.specs.Logged.{Seen, isFirst, isGiven, firstIn, closedAs, loggedBy, loggedIn, ringAfter, ringThrough, turned}
 
 module _ (logging : Logging) where
   abbrev slots : ℕ
@@ -82,3 +82,13 @@ module _ (logging : Logging) where
   -- THE RING: so many records as were logged, or as it has slots; record k is the k-th newest of those logged, and there is no further one
   pub logged-newest : (seen : List Seen) → Newest (logging .size) (loggedIn logging seen) (ringAfter logging seen)
   logged-newest seen = read (logging .size) (loggedIn logging seen) (ringAfter logging seen) (all-kept seen .held)
+
+  -- told from the beginning
+  through : (before seen : List Seen) → ringThrough logging (ringAfter logging before) seen ≡ ringAfter logging (turned before seen)
+  unfolding ringThrough ringAfter
+  through before [] = refl
+  through before (one ∷ more) = through (one ∷ before) more
+
+  pub through-newest : (seen : List Seen) → Newest (logging .size) (loggedIn logging (turned [] seen)) (ringThrough logging noRecords seen)
+  unfolding ringAfter
+  through-newest seen = rw (through [] seen) (logged-newest (turned [] seen))

@@ -11,12 +11,12 @@ use Rattle.state.specs.declared.Answer.{Answer}
 use Rattle.state.specs.declared.Answer.the-variants.{Refused, Started, Given, Done}
 use Rattle.ring.specs.declared.Found.{Found}
 use Rattle.ring.specs.declared.Found.the-variants.{Record as Kept, Nothing}
-use Rattle.ring.specs.Ring.{recordIn, recordPut, addedIn, added, countIn, found}
+use Rattle.ring.specs.Ring.{noRecords, recordIn, recordPut, addedIn, added, countIn, found}
 use Rattle.journal.specs.declared.Logging.{Logging}
 use Rattle.journal.specs.declared.Said.{Said}
 use Rattle.journal.specs.declared.Said.the-variants.{First, Second, Other}
 use Rattle.journal.specs.Journal.{isLogging, cvrNumber, closedBy, noted, watchedGiven, watched}
-use Rattle.journal.specs.Logged.{Seen, ringAfter}
+use Rattle.journal.specs.Logged.{Seen, ringThrough}
 
 -- profiles 1 and 2, of which the first logs
 abbrev set-up : (size switches : ℕ) → Logging
@@ -60,13 +60,9 @@ abbrev shownFrom : (ring : List ℕ) (size k n : ℕ) → List (List ℕ)
 shownFrom ring size k zero = []
 shownFrom ring size k (suc n) = cells (found ring size (k + 1)) ∷ shownFrom ring size (k + 1) n
 
-abbrev turned : List Seen → List Seen → List Seen
-turned before [] = before
-turned before (seen ∷ more) = turned (seen ∷ before) more
-
 -- the first n records of the log after a conversation, told from its beginning
 abbrev shown : Logging → (n : ℕ) → List Seen → List (List ℕ)
-shown logging n seen = shownFrom (ringAfter logging (turned [] seen)) (logging .size) 0 n
+shown logging n seen = shownFrom (ringThrough logging noRecords seen) (logging .size) 0 n
 
 -- the CVR with a first byte
 abbrev cvr : ℕ → ℕ
@@ -105,7 +101,7 @@ pub record Samples : Type 0 where
   pub no-slot : shown (set-up 0 0xC0) 1 (first 30 Tc 1 0x90 ∷ []) ≡ [] ∷ []
 
 pub samples : Samples
-unfolding number cvrNumber isLogging closedBy noted watchedGiven watched ringAfter recordIn recordPut addedIn added countIn found
+unfolding number cvrNumber isLogging closedBy noted watchedGiven watched ringThrough recordIn recordPut addedIn added countIn found
 samples =
     record {
       sitting-e = refl;

@@ -58,3 +58,12 @@ loggedIn logging (seen ∷ before) = loggedBy logging (seen .said) (seen .at) (f
 unfoldable pub ringAfter : Logging → List Seen → List ℕ
 ringAfter logging [] = noRecords
 ringAfter logging (seen ∷ before) = watched logging (seen .said) (seen .at) (seen .answer) (ringAfter logging before)
+
+-- and the same told from the beginning, the oldest first
+unfoldable pub ringThrough : Logging → (ring : List ℕ) → List Seen → List ℕ
+ringThrough logging ring [] = ring
+ringThrough logging ring (seen ∷ more) = ringThrough logging (watched logging (seen .said) (seen .at) (seen .answer) ring) more
+
+abbrev pub turned : (before : List Seen) → List Seen → List Seen
+turned before [] = before
+turned before (seen ∷ more) = turned (seen ∷ before) more
