@@ -3,6 +3,7 @@ use mathlib.Core.Path.{_≡_, refl, sym, ap, _∙_}
 use mathlib.Core.Bool.{Bool, true, false, cond, _&&_}
 use mathlib.Core.List.{List, [], _∷_, _++_}
 use Prim.Native.Nat.{ℕ}
+use native.Mathlib.Omega.{arith}
 use Rattle.iad.specs.declared.Iad.{Iad}
 use Rattle.state.specs.declared.Kind.{Kind}
 use Rattle.state.specs.declared.Answer.{Answer}
@@ -92,3 +93,13 @@ module _ (logging : Logging) where
   pub through-newest : (seen : List Seen) → Newest (logging .size) (loggedIn logging (turned [] seen)) (ringThrough logging noRecords seen)
   unfolding ringAfter
   through-newest seen = rw (through [] seen) (logged-newest (turned [] seen))
+
+  -- a record that no cryptogram answers logs nothing: a refused command, a Start, a script
+  pub adds-none : (seen : Seen) (before : List Seen) → isGiven (seen .answer) ≡ false → loggedIn logging (seen ∷ before) ≡ loggedIn logging before
+  unfolding loggedIn
+  adds-none seen before e = by (seen .answer) e where
+    by : (answer : Answer) → isGiven answer ≡ false → loggedBy logging (seen .said) (seen .at) (firstIn before) answer ++ loggedIn logging before ≡ loggedIn logging before
+    by (Refused refusal) q = refl
+    by (Started atc visits) q = refl
+    by (Given kind atc iad) q = let z : _≡_ {A = ℕ} 0 1 = cc in absurd (omega arith)
+    by Done q = refl
