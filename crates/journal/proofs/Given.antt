@@ -10,10 +10,10 @@ use Rattle.state.specs.declared.Answer.{Answer}
 use Rattle.state.specs.declared.Answer.the-variants.{Refused, Started, Given, Done}
 use Rattle.state.proofs.Answer as A
 use Rattle.journal.specs.declared.Logging.{Logging}
-use Rattle.journal.specs.declared.Said.{Said}
+use Rattle.journal.specs.declared.Heard.{Heard}
 use Rattle.journal.specs.Journal.{watched}
 
-pub not-given : (logging : Logging) (said : Said) (at : ℕ) (answer : Answer) (ring : List ℕ) → OneOf (0 ∷ 1 ∷ 3 ∷ []) (tagOf A.the-type answer)
+pub not-given : (logging : Logging) (said : Heard) (at : ℕ) (answer : Answer) (ring : List ℕ) → OneOf (0 ∷ 1 ∷ 3 ∷ []) (tagOf A.the-type answer)
     → ring ≡ watched logging said at answer ring
 unfolding watched
 not-given logging said at (Refused refusal) ring k = refl

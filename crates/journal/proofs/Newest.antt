@@ -12,8 +12,8 @@ use Rattle.ring.specs.declared.Record.{Record}
 use Rattle.ring.specs.Ring.{slotsOf, noRecords, firstPlace, firstOpened, added}
 use Rattle.ring.proofs.Newest.{Holds, none-held, opened-held, added-kept, first-stays, first-opened, Newest, read}
 use Rattle.journal.specs.declared.Logging.{Logging}
-use Rattle.journal.specs.declared.Said.{Said}
-use Rattle.journal.specs.declared.Said.the-variants.{First, Second, Other}
+use Rattle.journal.specs.declared.Heard.{Heard}
+use Rattle.journal.specs.declared.Heard.the-variants.{First, Second, Other}
 use Rattle.journal.specs.Journal.{isLogged, closedBy, noted, watchedGiven, watched}
 use Rattle.journal.specs.Logged.{Seen, isFirst, isGiven, firstIn, closedAs, loggedBy, loggedIn, ringAfter, ringThrough, turned}
 
@@ -26,7 +26,7 @@ module _ (logging : Logging) where
     held : Holds slots logged ring
     place : firstPlace ring ≡ first
 
-  noted-kept : (said : Said) (kind : Kind) (profile first : ℕ) (closed : Record) (logged : List Record) (ring : List ℕ) → Kept first logged ring
+  noted-kept : (said : Heard) (kind : Kind) (profile first : ℕ) (closed : Record) (logged : List Record) (ring : List ℕ) → Kept first logged ring
       → Kept first (cond (isLogged logging said kind profile) (closed ∷ []) [] ++ logged) (noted logging said kind profile closed ring)
   unfolding noted
   noted-kept said kind profile first closed logged ring kept = by (isLogged logging said kind profile) where
@@ -38,7 +38,7 @@ module _ (logging : Logging) where
         }
     by false = kept
 
-  given-kept : (said : Said) (at first : ℕ) (kind : Kind) (atc : ℕ) (iad : Iad) (logged : List Record) (ring : List ℕ) → Kept first logged ring
+  given-kept : (said : Heard) (at first : ℕ) (kind : Kind) (atc : ℕ) (iad : Iad) (logged : List Record) (ring : List ℕ) → Kept first logged ring
       → Kept (cond (isFirst said) at first)
       (cond (isLogged logging said kind (iad .profile)) (closedAs said at first kind atc iad) [] ++ logged)
       (watchedGiven logging said at kind atc iad ring)
@@ -59,7 +59,7 @@ module _ (logging : Logging) where
       → Kept (firstIn (seen ∷ before)) (loggedIn logging (seen ∷ before)) (watched logging (seen .said) (seen .at) (seen .answer) ring)
   unfolding firstIn loggedIn watched
   seen-kept seen before ring kept = by (seen .said) (seen .answer) where
-    by : (said : Said) (answer : Answer)
+    by : (said : Heard) (answer : Answer)
         → Kept (cond (isFirst said && isGiven answer) (seen .at) (firstIn before))
         (loggedBy logging said (seen .at) (firstIn before) answer ++ loggedIn logging before) (watched logging said (seen .at) answer ring)
     by First (Refused refusal) = kept

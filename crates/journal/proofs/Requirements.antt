@@ -7,7 +7,7 @@ use borrow.Author.Tests.{eqb-true, eqb-false, eq-eqb, ne-eqb}
 use lib.Dec.{eqb}
 use Rattle.state.specs.declared.Kind.{Kind}
 use Rattle.state.specs.declared.Kind.the-variants.{Aac, Tc, Arqc}
-use Rattle.journal.specs.declared.Said.the-variants.{First, Second}
+use Rattle.journal.specs.declared.Heard.the-variants.{First, Second}
 use Rattle.journal.specs.Journal.{isWanted}
 
 -- the response is a TC, or an AAC

@@ -13,8 +13,8 @@ use Rattle.ring.specs.declared.Found.{Found}
 use Rattle.ring.specs.declared.Found.the-variants.{Record as Kept, Nothing}
 use Rattle.ring.specs.Ring.{noRecords, recordIn, recordPut, addedIn, added, countIn, found}
 use Rattle.journal.specs.declared.Logging.{Logging}
-use Rattle.journal.specs.declared.Said.{Said}
-use Rattle.journal.specs.declared.Said.the-variants.{First, Second, Other}
+use Rattle.journal.specs.declared.Heard.{Heard}
+use Rattle.journal.specs.declared.Heard.the-variants.{First, Second, Other}
 use Rattle.journal.specs.Journal.{isLogging, cvrNumber, closedBy, noted, watchedGiven, watched}
 use Rattle.journal.specs.Logged.{Seen, ringThrough}
 
@@ -48,7 +48,7 @@ first at kind atc cvr = record { said = First; at = at; answer = given kind atc 
 abbrev second : (at code : ℕ) → Kind → (atc cvr : ℕ) → Seen
 second at code kind atc cvr = record { said = Second code; at = at; answer = given kind atc cvr 1 }
 
-abbrev refused : Said → (at : ℕ) → Seen
+abbrev refused : Heard → (at : ℕ) → Seen
 refused said at = record { said = said; at = at; answer = Refused OutOfTurn }
 
 -- each record, the newest first: First's place, Second's, the CVR, ATC, CID

@@ -10,13 +10,13 @@ use Rattle.state.specs.declared.Answer.the-variants.{Refused, Started, Given, D
 use Rattle.ring.specs.declared.Record.{Record}
 use Rattle.ring.specs.Ring.{noRecords}
 use Rattle.journal.specs.declared.Logging.{Logging}
-use Rattle.journal.specs.declared.Said.{Said}
-use Rattle.journal.specs.declared.Said.the-variants.{First, Second, Other}
+use Rattle.journal.specs.declared.Heard.{Heard}
+use Rattle.journal.specs.declared.Heard.the-variants.{First, Second, Other}
 use Rattle.journal.specs.Journal.{isLogged, closedBy, watched}
 
 -- a record that was answered, and where its body stood
 pub record Seen : Type 0 where
-  pub said : Said
+  pub said : Heard
   pub at : ℕ
   pub answer : Answer
 
@@ -27,7 +27,7 @@ isGiven (Started atc visits) = false
 isGiven (Given kind atc iad) = true
 isGiven Done = false
 
-abbrev pub isFirst : Said → Bool
+abbrev pub isFirst : Heard → Bool
 isFirst First = true
 isFirst (Second code) = false
 isFirst Other = false
@@ -38,12 +38,12 @@ firstIn [] = 0
 firstIn (seen ∷ before) = cond (isFirst (seen .said) && isGiven (seen .answer)) (seen .at) (firstIn before)
 
 -- what one record logs, First having stood at a place
-abbrev pub closedAs : Said → (at first : ℕ) → Kind → (atc : ℕ) → Iad → List Record
+abbrev pub closedAs : Heard → (at first : ℕ) → Kind → (atc : ℕ) → Iad → List Record
 closedAs First at first kind atc iad = closedBy at 0 kind atc iad ∷ []
 closedAs (Second code) at first kind atc iad = closedBy first at kind atc iad ∷ []
 closedAs Other at first kind atc iad = []
 
-abbrev pub loggedBy : Logging → Said → (at first : ℕ) → Answer → List Record
+abbrev pub loggedBy : Logging → Heard → (at first : ℕ) → Answer → List Record
 loggedBy logging said at first (Refused refusal) = []
 loggedBy logging said at first (Started atc visits) = []
 loggedBy logging said at first (Given kind atc iad) = cond (isLogged logging said kind (iad .profile)) (closedAs said at first kind atc iad) []

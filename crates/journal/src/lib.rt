@@ -30,26 +30,26 @@ pub struct Logging {
     pub logs: [bool; 4],
 }
 
-// What was said, as far as a log asks.
-pub enum Said {
+// What was said, as far as a log listens.
+pub enum Heard {
     First,
     Second { code: u32 },
     Other,
 }
 
 // Whether an approval is one that was given offline: at First, and at Second after Y3 or Z3.
-fn is_offline(said: Said) -> bool
+fn is_offline(said: Heard) -> bool
     ensures { λ r. ⌜ r ≡ isOffline said ⌝ }
 {
     match said {
-        Said::First => true,
-        Said::Second { code } => (code == Y3) | (code == Z3),
-        Said::Other => false,
+        Heard::First => true,
+        Heard::Second { code } => (code == Y3) | (code == Z3),
+        Heard::Other => false,
     }
 }
 
 // Whether the switches ask for a transaction that such an answer closes.
-fn is_wanted(switches: u8, said: Said, kind: Kind) -> bool
+fn is_wanted(switches: u8, said: Heard, kind: Kind) -> bool
     ensures { λ r. ⌜ r ≡ isWanted switches said kind ⌝ }
 {
     match kind {
@@ -101,7 +101,7 @@ fn closed_by(first: u64, second: u64, kind: Kind, atc: u16, iad: Iad) -> Record
 }
 
 // The record of a transaction that was closed under a profile is added, if it is logged.
-fn note(ring: &mut Ring, logging: Logging, said: Said, kind: Kind, profile: u8, closed: Record)
+fn note(ring: &mut Ring, logging: Logging, said: Heard, kind: Kind, profile: u8, closed: Record)
     ensures { λ _. ⌜ now (ring .exit) ≡ noted logging said kind profile closed (now (ring .entry)) ⌝ }
 {
     if is_wanted(logging.switches, said, kind) & is_logging(logging, profile) {
@@ -110,7 +110,7 @@ fn note(ring: &mut Ring, logging: Logging, said: Said, kind: Kind, profile: u8, 
 }
 
 // After an answered record, whose body lies at a place. A refused command leaves all as it is.
-pub fn watch(ring: &mut Ring, logging: Logging, said: Said, at: usize, answer: Answer)
+pub fn watch(ring: &mut Ring, logging: Logging, said: Heard, at: usize, answer: Answer)
     ensures { λ _. ⌜ now (ring .exit) ≡ watched logging said at answer (now (ring .entry)) ⌝ }
 {
     let Answer::Given { kind, atc, iad } = answer else {
@@ -118,15 +118,15 @@ pub fn watch(ring: &mut Ring, logging: Logging, said: Said, at: usize, answer: A
     };
     let place = at as u64;
     match said {
-        Said::First => {
+        Heard::First => {
             ring::open_first(ring, place);
             let closed = closed_by(place, 0, kind, atc, iad);
             note(ring, logging, said, kind, iad.profile, closed);
         }
-        Said::Second { .. } => {
+        Heard::Second { .. } => {
             let closed = closed_by(ring::first_place(ring), place, kind, atc, iad);
             note(ring, logging, said, kind, iad.profile, closed);
         }
-        Said::Other => {}
+        Heard::Other => {}
     }
 }
