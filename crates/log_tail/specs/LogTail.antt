@@ -19,6 +19,9 @@ switchesIn tail = byte tail 2
 abbrev pub flagIn : (tail : List ℕ) (i : ℕ) → ℕ
 flagIn tail i = byte tail (3 + i)
 
+abbrev pub logsIn : (tail : List ℕ) (i : ℕ) → Bool
+logsIn tail i = eqb (flagIn tail i) 1
+
 abbrev pub firstTable : (profiles : ℕ) → ℕ
 firstTable profiles = 3 + profiles
 
@@ -32,6 +35,16 @@ unfoldable pub entryIn : (tail : List ℕ) (table i : ℕ) → Entry
 entryIn tail table i =
     let at = table + 1 + 3 * i in
     record { source = byte tail at; position = byte tail (at + 1); length = byte tail (at + 2) }
+
+-- a transaction that a First closes is logged by First's table, one that a Second closes by Second's
+abbrev pub tableOf : (tail : List ℕ) (profiles : ℕ) (second : Bool) → ℕ
+tableOf tail profiles second = cond second (secondTable tail profiles) (firstTable profiles)
+
+abbrev pub entryCount : (tail : List ℕ) (profiles : ℕ) (second : Bool) → ℕ
+entryCount tail profiles second = byte tail (tableOf tail profiles second)
+
+abbrev pub entryAt : (tail : List ℕ) (profiles : ℕ) (second : Bool) (i : ℕ) → Entry
+entryAt tail profiles second i = entryIn tail (tableOf tail profiles second) i
 
 -- First's data, of so many bytes, is source 0; Second's has 8
 abbrev pub dataOf : Entry → (first : ℕ) → ℕ

@@ -2,7 +2,8 @@
 // ring's size, the switches, whether each profile logs, and two tables, First's and Second's.
 ghost use mathlib.Core.Path.{_≡_};
 ghost use Prim.Native.Nat.{_≤_, _<_};
-ghost use Rattle.log_tail.specs.LogTail.{firstTable, secondTable, entryIn, dataOf, reachesPast, areFlags, areSources, areWithin, isInRange, isWithin, judged};
+ghost use Rattle.log_tail.specs.LogTail.{sizeIn, switchesIn, logsIn, firstTable, secondTable, tableOf, entryIn, entryCount, entryAt, dataOf};
+ghost use Rattle.log_tail.specs.LogTail.{reachesPast, areFlags, areSources, areWithin, isInRange, isWithin, judged};
 
 // The most records of a ring.
 pub const MOST: u8 = 20;
@@ -51,6 +52,36 @@ pub fn second_table(tail: &[u8], profiles: u8) -> usize
     first + 1 + ENTRY * wire::byte_at(tail, first) as usize
 }
 
+// The ring's size.
+pub fn size(tail: &[u8]) -> u8
+    ensures { λ r. ⌜ r ≡ sizeIn (now (tail .entry)) ⌝ }
+{
+    wire::byte_at(tail, SIZE)
+}
+
+pub fn switches(tail: &[u8]) -> u8
+    ensures { λ r. ⌜ r ≡ switchesIn (now (tail .entry)) ⌝ }
+{
+    wire::byte_at(tail, SWITCHES)
+}
+
+// Whether profile i + 1 logs.
+pub fn logs(tail: &[u8], i: u8) -> bool
+    ensures { λ r. ⌜ r ≡ logsIn (now (tail .entry)) i ⌝ }
+{
+    wire::byte_at(tail, PROFILES + i as usize) == 1
+}
+
+// Where the table stands by which a First, or a Second, is logged.
+fn table_of(tail: &[u8], profiles: u8, second: bool) -> usize
+    ensures { λ r. ⌜ (r ≡ tableOf (now (tail .entry)) profiles second) × (r ≤ 1024) ⌝ }
+{
+    if second {
+        return second_table(tail, profiles);
+    }
+    first_table(profiles)
+}
+
 // Entry i + 1 of the table at a place.
 fn read_entry(tail: &[u8], table: usize, i: usize) -> Entry
     requires { ⌜ (table ≤ 1024) × (i < 256) ⌝ }
@@ -62,6 +93,20 @@ fn read_entry(tail: &[u8], table: usize, i: usize) -> Entry
         position: wire::byte_at(tail, at + 1),
         length: wire::byte_at(tail, at + 2),
     }
+}
+
+// The number of entries of the table by which a First, or a Second, is logged.
+pub fn entry_count(tail: &[u8], profiles: u8, second: bool) -> u8
+    ensures { λ r. ⌜ r ≡ entryCount (now (tail .entry)) profiles second ⌝ }
+{
+    wire::byte_at(tail, table_of(tail, profiles, second))
+}
+
+// Its entry i + 1.
+pub fn entry_at(tail: &[u8], profiles: u8, second: bool, i: u8) -> Entry
+    ensures { λ r. ⌜ r ≡ entryAt (now (tail .entry)) profiles second i ⌝ }
+{
+    read_entry(tail, table_of(tail, profiles, second), i as usize)
 }
 
 // The bytes of an entry's source, First's data having so many.

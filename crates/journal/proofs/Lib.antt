@@ -1,0 +1,5 @@
+pub mod Given
+pub mod Newest
+pub mod Requirements
+pub mod Profiles
+pub mod Samples

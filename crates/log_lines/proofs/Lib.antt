@@ -1,0 +1,4 @@
+pub mod Stores
+pub mod Octets
+pub mod Longest
+pub mod Samples

@@ -1,0 +1,3 @@
+pub mod Cells
+pub mod Newest
+pub mod Samples

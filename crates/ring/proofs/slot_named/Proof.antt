@@ -1,0 +1,13 @@
+use borrow.Author.Tests.{lt-ltb, le-ltb}
+use native.Mathlib.Omega.{arith}
+use Rattle.ring.proofs.slot_named.Statement.{statement}
+use Rattle.ring.proofs.slot_named.Tie as tie
+
+returns : tie.Need-returns
+returns c = (simp (lt-ltb _ _ (c .if1 .taken)), omega arith)
+
+returns-2 : tie.Need-returns-2
+returns-2 c = (simp (le-ltb _ _ (c .if1 .left)), omega arith)
+
+pub slot-named-spec : {M : Type 1} → statement M
+slot-named-spec = tie.close (tie.spec returns returns-2)
