@@ -12,6 +12,7 @@ use Rattle.conversation.specs.Conversation.{takenOf, takenWrites}
 use Rattle.opening.specs.Opening.{begunOf, wordsBegun}
 use Rattle.keeper.specs.Keeper.{roomsTaken, roomsBegun}
 use Rattle.lines.specs.Stored.{Stored}
+use Rattle.display.specs.declared.Showing.{Showing}
 use Rattle.display.specs.declared.Wants.{Wants}
 use Rattle.display.specs.declared.Shown.{Shown}
 use Rattle.display.specs.Text.{longest, hasRoom, setUpText, recordText}
@@ -20,12 +21,12 @@ use Rattle.display.specs.Shown.{nextRules, nextRooms, nextText, nextShow
 
 -- ---- the set-up
 
-module _ (words rooms paper room : List ℕ) (to : ℕ) where
+module _ (showing : Showing) (words rooms paper room : List ℕ) (to : ℕ) where
   abbrev SetUp : Shown → (words rooms room : List ℕ) → Type 0
   SetUp shown words′ rooms′ room′ =
-      (shown ≡ setUpShown words rooms paper (length room) to) × (words′ ≡ setUpWords words paper (length room) to)
+      (shown ≡ setUpShown showing words rooms paper (length room) to) × (words′ ≡ setUpWords words paper (length room) to)
       × (rooms′ ≡ setUpRooms words rooms paper (length room) to)
-      × (room′ ≡ setUpRoom words rooms paper room to)
+      × (room′ ≡ setUpRoom showing words rooms paper room to)
 
   pub no-set-up : {shown : Shown} → hasRoom (length room) to ≡ false → shown ≡ unshown to → SetUp shown words rooms room
   unfolding setUpShown setUpWords setUpRooms setUpRoom
@@ -33,23 +34,23 @@ module _ (words rooms paper room : List ℕ) (to : ℕ) where
 
   pub set-up : {begun : Begun} {words′ rooms′ room′ : List ℕ} {end : ℕ} {wants : Wants} → hasRoom (length room) to ≡ true
       → begun ≡ begunOf paper → words′ ≡ wordsBegun words paper → rooms′ ≡ roomsBegun words rooms paper
-      → Stored room to (setUpText (rulesOf words′) rooms′ (begun .event)) longest end room′ → wants ≡ wantsAfter (begun .event)
+      → Stored room to (setUpText showing (rulesOf words′) rooms′ (begun .event)) longest end room′ → wants ≡ wantsAfter (begun .event)
       → SetUp (record { shape = begun .shape; state = begun .state; at = begun .at; number = 1; end = end; wants = wants }) words′ rooms′ room′
   unfolding setUpShown setUpWords setUpRooms setUpRoom begunShown begunText
   set-up {begun} {words′} {rooms′} {room′} {end} {wants} fits b w r s n =
-      let text : setUpText (rulesOf words′) rooms′ (begun .event) ≡ begunText words rooms paper = rw (w, r, b) in
-      let ends : end ≡ to + length (begunText words rooms paper) = rw (← text) (s .behind) in
+      let text : setUpText showing (rulesOf words′) rooms′ (begun .event) ≡ begunText showing words rooms paper = rw (w, r, b) in
+      let ends : end ≡ to + length (begunText showing words rooms paper) = rw (← text) (s .behind) in
       (rw (fits, n, ends, b), rw fits w, rw fits r, rw (fits, ← text) (s .is))
 
 -- ---- a record
 
-module _ (words rooms : List ℕ) (shown : Shown) (paper room : List ℕ) (to : ℕ) where
+module _ (showing : Showing) (words rooms : List ℕ) (shown : Shown) (paper room : List ℕ) (to : ℕ) where
   abbrev Recorded : Shown → (words rooms room : List ℕ) → Type 0
   Recorded shown′ words′ rooms′ room′ =
-      (shown′ ≡ recordShown (rulesOf words) rooms shown paper (length room) to) × (words′ ≡ recordWords words shown paper (length room) to)
+      (shown′ ≡ recordShown showing (rulesOf words) rooms shown paper (length room) to) × (words′ ≡ recordWords words shown paper (length room) to)
       × (rulesOf words′ ≡ recordRules (rulesOf words) shown paper (length room) to)
       × (rooms′ ≡ recordRooms (rulesOf words) rooms shown paper (length room) to)
-      × (room′ ≡ recordRoom (rulesOf words) rooms shown paper room to)
+      × (room′ ≡ recordRoom showing (rulesOf words) rooms shown paper room to)
 
   pub no-record : {shown′ : Shown} → hasRoom (length room) to ≡ false → shown′ ≡ stillShown shown to → Recorded shown′ words rooms room
   unfolding recordShown recordWords recordRules recordRooms recordRoom
@@ -60,12 +61,12 @@ module _ (words rooms : List ℕ) (shown : Shown) (paper room : List ℕ) (to : 
       → words′ ≡ wordsAfter words (takenWrites (shown .shape) (shown .state) paper (shown .at))
       → rulesOf words′ ≡ rulesAfter (rulesOf words) (takenWrites (shown .shape) (shown .state) paper (shown .at))
       → rooms′ ≡ roomsTaken (rulesOf words) (shown .shape) (shown .state) paper (shown .at) rooms
-      → Stored room to (recordText (rulesOf words′) rooms′ (shown .number) (taken .event)) longest end room′
+      → Stored room to (recordText showing (rulesOf words′) rooms′ (shown .number) (taken .event)) longest end room′
       → number ≡ (shown .number + 1) % 65536
       → wants ≡ wantsAfter (taken .event)
       → Recorded (record { shape = shown .shape; state = taken .state; at = taken .at; number = number; end = end; wants = wants }) words′ rooms′ room′
   unfolding recordShown recordWords recordRules recordRooms recordRoom nextShown nextText nextRules nextRooms
   recorded {taken} {words′} {rooms′} {room′} {number} {end} {wants} fits t w u r s k n =
-      let text : recordText (rulesOf words′) rooms′ (shown .number) (taken .event) ≡ nextText (rulesOf words) shown paper rooms = rw (u, r, t) in
-      let ends : end ≡ to + length (nextText (rulesOf words) shown paper rooms) = rw (← text) (s .behind) in
+      let text : recordText showing (rulesOf words′) rooms′ (shown .number) (taken .event) ≡ nextText (rulesOf words) shown paper showing rooms = rw (u, r, t) in
+      let ends : end ≡ to + length (nextText (rulesOf words) shown paper showing rooms) = rw (← text) (s .behind) in
       (rw (fits, n, ends, k, t), rw fits w, rw fits u, rw fits r, rw (fits, ← text) (s .is))

@@ -7,7 +7,7 @@ use denote.Enum.Declared.{tagOf}
 use Prim.Native.Nat.{ℕ, _+_, _-_, _≤_}
 use native.Mathlib.Omega.{arith}
 use lib.ListN.{length, take, drop, length-drop, drop-of-length-le}
-use lib.Seq.{sets, sets-eq, length-sets, take-length, take-all, drop-drop}
+use lib.Seq.{sets, sets-eq, take-length, take-all, drop-drop}
 use borrow.Rule.Slice.PartMut.{putMid, midOf}
 use Rattle.rules.specs.Rules.{Rules}
 use Rattle.records.specs.declared.Event.{Event}
@@ -17,10 +17,9 @@ use Rattle.lines.specs.Lines.{placed, placeBehind}
 use Rattle.lines.specs.Stored.{Stored}
 use Rattle.lines.specs.Sitting.{eventLine}
 use Rattle.lines.proofs.Stores.{next, within}
-use Rattle.numerals.specs.Numeral.{numeral, numberPlaced, numberBehind}
-use Rattle.numerals.proofs.Numerals.{size, stored}
 use Rattle.transcript.proofs.Going.{behind-is, placed-is}
-use Rattle.display.specs.Text.{longest, roomLines, setUpText, recordText}
+use Rattle.display.specs.declared.Showing.{Showing}
+use Rattle.display.specs.Text.{longest, roomLines, shownLines, setUpText, recordText}
 
 -- a text copied into the part of the room from a place on
 pub copied : (room text : List ℕ) (at : ℕ) → at + length text ≤ length room → {part : List ℕ}
@@ -32,13 +31,6 @@ copied room text at fits e =
     let none = drop-of-length-le (drop at room) {i = length room - at} (omega arith) in
     rw (e, take-length text, part, none, append-nil, drop-drop (length text) at room)
     (sym (sets-eq text room at fits ∙ append-assoc (take at room) text (drop (at + length text) room)))
-
--- a number
-pub number : (room : List ℕ) (at n : ℕ) → at + 21 ≤ length room → {after : List ℕ} {end : ℕ} → end ≡ numberBehind (length room) at n
-    → after ≡ numberPlaced room at n → Stored room at (numeral n) 20 end after × (length after ≡ length room)
-number room at n fits e p =
-    let digits = stored room at n (omega arith) e p in
-    (within digits (size n), ap length (digits .is) ∙ length-sets room at (numeral n))
 
 -- a line that lines wrote
 pub line : {room after text : List ℕ} {at end : ℕ} → at + 82 ≤ length room → length text ≤ 82 → end ≡ placeBehind (length room) at text
@@ -54,18 +46,18 @@ as-long p h = record { is = p .is; behind = p .behind; short = omega (arith, p .
 
 -- ---- behind the set-up's line
 
-module _ {room between : List ℕ} {at middle : ℕ} (rules : Rules) (rooms : List ℕ) (event : Event) where
+module _ {room between : List ℕ} {at middle : ℕ} (showing : Showing) (rules : Rules) (rooms : List ℕ) (event : Event) where
   pub set-up : {after : List ℕ} {end : ℕ} → event ≡ SetUp → Stored room at (eventLine 0 event) 82 middle between
-      → Stored between middle (roomLines rules rooms) 372 end after → Stored room at (setUpText rules rooms event) longest end after
+      → Stored between middle (shownLines showing (roomLines rules rooms)) 372 end after → Stored room at (setUpText showing rules rooms event) longest end after
   unfolding setUpText
   set-up e p q = rw e (next (rw e at p) q)
 
   pub not-set-up : OneOf (1 ∷ 2 ∷ 3 ∷ []) (tagOf E.the-type event) → Stored room at (eventLine 0 event) 82 middle between
-      → Stored room at (setUpText rules rooms event) longest middle between
+      → Stored room at (setUpText showing rules rooms event) longest middle between
   unfolding setUpText
   not-set-up k p = by event k (within p (omega arith)) where
     by : (v : Event) → OneOf (1 ∷ 2 ∷ 3 ∷ []) (tagOf E.the-type v) → Stored room at (eventLine 0 v) longest middle between
-        → Stored room at (setUpText rules rooms v) longest middle between
+        → Stored room at (setUpText showing rules rooms v) longest middle between
     by SetUp (inl z) q = absurd (omega arith)
     by SetUp (inr (inl z)) q = absurd (omega arith)
     by SetUp (inr (inr z)) q = absurd (omega arith)
@@ -77,17 +69,17 @@ module _ {room between : List ℕ} {at middle : ℕ} (rules : Rules) (rooms : Li
 
   module _ (number : ℕ) where
     pub at-end : event ≡ End → Stored room at (eventLine number event) 82 middle between
-        → Stored room at (recordText rules rooms number event) longest middle between
+        → Stored room at (recordText showing rules rooms number event) longest middle between
     unfolding recordText
     at-end e p = rw e (within (rw e at p) (omega arith))
 
     pub recorded : {after : List ℕ} {end : ℕ} → OneOf (0 ∷ 2 ∷ 3 ∷ []) (tagOf E.the-type event)
-        → Stored room at (eventLine number event) 82 middle between → Stored between middle (roomLines rules rooms) 372 end after
-        → Stored room at (recordText rules rooms number event) longest end after
+        → Stored room at (eventLine number event) 82 middle between → Stored between middle (shownLines showing (roomLines rules rooms)) 372 end after
+        → Stored room at (recordText showing rules rooms number event) longest end after
     unfolding recordText
     recorded {after} {end} k p q = by event k p where
       by : (v : Event) → OneOf (0 ∷ 2 ∷ 3 ∷ []) (tagOf E.the-type v) → Stored room at (eventLine number v) 82 middle between
-          → Stored room at (recordText rules rooms number v) longest end after
+          → Stored room at (recordText showing rules rooms number v) longest end after
       by SetUp k s = next s q
       by End (inl z) s = absurd (omega arith)
       by End (inr (inl z)) s = absurd (omega arith)

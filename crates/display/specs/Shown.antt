@@ -15,21 +15,22 @@ use Rattle.records.specs.declared.Taken.{Taken}
 use Rattle.conversation.specs.Conversation.{takenOf, takenWrites}
 use Rattle.opening.specs.Opening.{begunOf, wordsBegun}
 use Rattle.keeper.specs.Keeper.{roomsTaken, roomsBegun}
+use Rattle.display.specs.declared.Showing.{Showing}
 use Rattle.display.specs.declared.Wants.{Wants}
-use Rattle.display.specs.declared.Wants.the-variants.{Record, Room, Nothing}
+use Rattle.display.specs.declared.Wants.the-variants.{Record, Room, Run, Nothing}
 use Rattle.display.specs.declared.Shown.{Shown}
 use Rattle.display.specs.Text.{setUpText, recordText, hasRoom}
 
--- a refusal that ends the paper, and its end, want nothing more
+-- at a paper's end a run may follow; a refusal that ends the paper wants nothing more
 abbrev pub wantsAfter : Event → Wants
 wantsAfter SetUp = Record
-wantsAfter End = Nothing
+wantsAfter End = Run
 wantsAfter (Refused refusal) = Nothing
 wantsAfter (Answered said answer) = Record
 
 -- THE SET-UP: its text, and where the paper then is
-unfoldable pub begunText : (words rooms paper : List ℕ) → List ℕ
-begunText words rooms paper = setUpText (rulesOf (wordsBegun words paper)) (roomsBegun words rooms paper) (begunOf paper .event)
+unfoldable pub begunText : Showing → (words rooms paper : List ℕ) → List ℕ
+begunText showing words rooms paper = setUpText showing (rulesOf (wordsBegun words paper)) (roomsBegun words rooms paper) (begunOf paper .event)
 
 unfoldable pub begunShown : (paper : List ℕ) (end : ℕ) → Shown
 begunShown paper end =
@@ -40,9 +41,9 @@ begunShown paper end =
 unfoldable pub unshown : (to : ℕ) → Shown
 unshown to = record { shape = based 0; state = freshState noCard; at = 0; number = 0; end = to; wants = Room }
 
-unfoldable pub setUpShown : (words rooms paper : List ℕ) (bytes to : ℕ) → Shown
-setUpShown words rooms paper bytes to =
-    cond (hasRoom bytes to) (begunShown paper (to + length (begunText words rooms paper))) (unshown to)
+unfoldable pub setUpShown : Showing → (words rooms paper : List ℕ) (bytes to : ℕ) → Shown
+setUpShown showing words rooms paper bytes to =
+    cond (hasRoom bytes to) (begunShown paper (to + length (begunText showing words rooms paper))) (unshown to)
 
 unfoldable pub setUpWords : (words paper : List ℕ) (bytes to : ℕ) → List ℕ
 setUpWords words paper bytes to = cond (hasRoom bytes to) (wordsBegun words paper) words
@@ -50,8 +51,9 @@ setUpWords words paper bytes to = cond (hasRoom bytes to) (wordsBegun words pape
 unfoldable pub setUpRooms : (words rooms paper : List ℕ) (bytes to : ℕ) → List ℕ
 setUpRooms words rooms paper bytes to = cond (hasRoom bytes to) (roomsBegun words rooms paper) rooms
 
-unfoldable pub setUpRoom : (words rooms paper room : List ℕ) (to : ℕ) → List ℕ
-setUpRoom words rooms paper room to = cond (hasRoom (length room) to) (sets room to (begunText words rooms paper)) room
+unfoldable pub setUpRoom : Showing → (words rooms paper room : List ℕ) (to : ℕ) → List ℕ
+setUpRoom showing words rooms paper room to =
+    cond (hasRoom (length room) to) (sets room to (begunText showing words rooms paper)) room
 
 -- THE NEXT RECORD: what it comes to, the rules and the cells that it leaves, its text, and where the paper then is
 module _ (rules : Rules) (shown : Shown) (paper : List ℕ) where
@@ -64,8 +66,8 @@ module _ (rules : Rules) (shown : Shown) (paper : List ℕ) where
   unfoldable pub nextRooms : (rooms : List ℕ) → List ℕ
   nextRooms rooms = roomsTaken rules (shown .shape) (shown .state) paper (shown .at) rooms
 
-  unfoldable pub nextText : (rooms : List ℕ) → List ℕ
-  nextText rooms = recordText nextRules (nextRooms rooms) (shown .number) (takenNext .event)
+  unfoldable pub nextText : Showing → (rooms : List ℕ) → List ℕ
+  nextText showing rooms = recordText showing nextRules (nextRooms rooms) (shown .number) (takenNext .event)
 
   unfoldable pub nextShown : (end : ℕ) → Shown
   nextShown end =
@@ -83,9 +85,9 @@ unfoldable pub stillShown : Shown → (to : ℕ) → Shown
 stillShown shown to =
     record { shape = shown .shape; state = shown .state; at = shown .at; number = shown .number; end = to; wants = Room }
 
-unfoldable pub recordShown : Rules → (rooms : List ℕ) → Shown → (paper : List ℕ) (bytes to : ℕ) → Shown
-recordShown rules rooms shown paper bytes to =
-    cond (hasRoom bytes to) (nextShown rules shown paper (to + length (nextText rules shown paper rooms))) (stillShown shown to)
+unfoldable pub recordShown : Showing → Rules → (rooms : List ℕ) → Shown → (paper : List ℕ) (bytes to : ℕ) → Shown
+recordShown showing rules rooms shown paper bytes to =
+    cond (hasRoom bytes to) (nextShown rules shown paper (to + length (nextText rules shown paper showing rooms))) (stillShown shown to)
 
 unfoldable pub recordWords : (words : List ℕ) → Shown → (paper : List ℕ) (bytes to : ℕ) → List ℕ
 recordWords words shown paper bytes to =
@@ -97,5 +99,6 @@ recordRules rules shown paper bytes to = cond (hasRoom bytes to) (nextRules rule
 unfoldable pub recordRooms : Rules → (rooms : List ℕ) → Shown → (paper : List ℕ) (bytes to : ℕ) → List ℕ
 recordRooms rules rooms shown paper bytes to = cond (hasRoom bytes to) (nextRooms rules shown paper rooms) rooms
 
-unfoldable pub recordRoom : Rules → (rooms : List ℕ) → Shown → (paper room : List ℕ) (to : ℕ) → List ℕ
-recordRoom rules rooms shown paper room to = cond (hasRoom (length room) to) (sets room to (nextText rules shown paper rooms)) room
+unfoldable pub recordRoom : Showing → Rules → (rooms : List ℕ) → Shown → (paper room : List ℕ) (to : ℕ) → List ℕ
+recordRoom showing rules rooms shown paper room to =
+    cond (hasRoom (length room) to) (sets room to (nextText rules shown paper showing rooms)) room

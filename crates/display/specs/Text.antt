@@ -1,5 +1,5 @@
 -- The text of request Seven's display: each line of a sitting, and behind it, while there is a card, one line for each profile in the set-up's
--- order.
+-- order. The lines may be shown without the rooms.
 use mathlib.Core.Bool.{Bool, cond}
 use mathlib.Core.List.{List, [], _∷_, _++_}
 use Prim.Native.Nat.{ℕ, _+_}
@@ -14,6 +14,8 @@ use Rattle.records.specs.declared.Event.the-variants.{SetUp, End, Refused, Answ
 use Rattle.lines.specs.Lines.{line}
 use Rattle.lines.specs.Sitting.{eventLine}
 use Rattle.numerals.specs.Numeral.{numeral}
+use Rattle.display.specs.declared.Showing.{Showing}
+use Rattle.display.specs.declared.Showing.the-variants.{Lines, Rooms}
 
 -- "room"
 abbrev pub word : List ℕ
@@ -35,25 +37,30 @@ placeLine rules rooms place =
 unfoldable pub roomLines : Rules → (rooms : List ℕ) → List ℕ
 roomLines rules rooms = placeLine rules rooms One ++ placeLine rules rooms Two ++ placeLine rules rooms Three ++ placeLine rules rooms Four
 
--- behind the set-up's line there are rooms if it is not refused: then there is a card
-abbrev pub setUpLines : Rules → (rooms : List ℕ) → Event → List ℕ
-setUpLines rules rooms SetUp = roomLines rules rooms
-setUpLines rules rooms End = []
-setUpLines rules rooms (Refused refusal) = []
-setUpLines rules rooms (Answered said answer) = []
+-- what is shown of the rooms' lines
+abbrev pub shownLines : Showing → List ℕ → List ℕ
+shownLines Lines lines = []
+shownLines Rooms lines = lines
 
-unfoldable pub setUpText : Rules → (rooms : List ℕ) → Event → List ℕ
-setUpText rules rooms event = eventLine 0 event ++ setUpLines rules rooms event
+-- behind the set-up's line there are rooms if it is not refused: then there is a card
+abbrev pub setUpLines : Showing → Rules → (rooms : List ℕ) → Event → List ℕ
+setUpLines showing rules rooms SetUp = shownLines showing (roomLines rules rooms)
+setUpLines showing rules rooms End = []
+setUpLines showing rules rooms (Refused refusal) = []
+setUpLines showing rules rooms (Answered said answer) = []
+
+unfoldable pub setUpText : Showing → Rules → (rooms : List ℕ) → Event → List ℕ
+setUpText showing rules rooms event = eventLine 0 event ++ setUpLines showing rules rooms event
 
 -- behind a record's line always, also where a refusal ends the paper: the card is as it was. A paper's end has no line
-abbrev pub recordLines : Rules → (rooms : List ℕ) → Event → List ℕ
-recordLines rules rooms SetUp = roomLines rules rooms
-recordLines rules rooms End = []
-recordLines rules rooms (Refused refusal) = roomLines rules rooms
-recordLines rules rooms (Answered said answer) = roomLines rules rooms
+abbrev pub recordLines : Showing → Rules → (rooms : List ℕ) → Event → List ℕ
+recordLines showing rules rooms SetUp = shownLines showing (roomLines rules rooms)
+recordLines showing rules rooms End = []
+recordLines showing rules rooms (Refused refusal) = shownLines showing (roomLines rules rooms)
+recordLines showing rules rooms (Answered said answer) = shownLines showing (roomLines rules rooms)
 
-unfoldable pub recordText : Rules → (rooms : List ℕ) → (record-number : ℕ) → Event → List ℕ
-recordText rules rooms record-number event = eventLine record-number event ++ recordLines rules rooms event
+unfoldable pub recordText : Showing → Rules → (rooms : List ℕ) → (record-number : ℕ) → Event → List ℕ
+recordText showing rules rooms record-number event = eventLine record-number event ++ recordLines showing rules rooms event
 
 -- 82 for the line and 93 for each of four profiles: 4 + 1 + 3 + 1 + 20 + 1 + 20 + 1 + 20 + 1 + 20 + 1
 abbrev pub longest : ℕ

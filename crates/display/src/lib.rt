@@ -1,5 +1,5 @@
-// A paper shown record by record: the lines of its sitting and, while there is a card, the room left of
-// each profile behind each, in lent room.
+// A paper shown record by record, in lent room: the lines of its sitting and, where the rooms are shown
+// too, behind each the room left of each profile, while there is a card.
 ghost use mathlib.Core.Path.{_≡_};
 ghost use mathlib.Core.List.{[], _∷_, _++_};
 ghost use Prim.Native.Nat.{_+_, _≤_};
@@ -8,7 +8,7 @@ ghost use Rattle.rules.specs.Rules.{rulesOf};
 ghost use Rattle.lines.specs.Stored.{Stored};
 ghost use Rattle.lines.specs.Sitting.{eventLine};
 ghost use Rattle.numerals.specs.Numeral.{numeral};
-ghost use Rattle.display.specs.Text.{longest, hasRoom, heading, roomLine, placeLine, roomLines, setUpText, recordText};
+ghost use Rattle.display.specs.Text.{longest, hasRoom, heading, roomLine, placeLine, roomLines, shownLines, setUpText, recordText};
 ghost use Rattle.display.specs.Shown.{wantsAfter, unshown, setUpShown, setUpWords, setUpRooms, setUpRoom};
 ghost use Rattle.display.specs.Shown.{recordShown, recordWords, recordRules, recordRooms, recordRoom};
 use records::Event;
@@ -26,10 +26,18 @@ use std::num::wrapping_add_u16;
 // The most bytes of a record's line and the lines of four profiles' rooms.
 pub const LONGEST: usize = 454;
 
-// What is wanted next: a further record, room, or nothing, as the paper is at its end.
+// What is shown: the sitting's lines alone, or behind them the rooms.
+pub enum Showing {
+    Lines,
+    Rooms,
+}
+
+// What is wanted next: a further record; room; a run, as the paper is at its end and the card stands;
+// or nothing, as a refusal has ended the paper.
 pub enum Wants {
     Record,
     Room,
+    Run,
     Nothing,
 }
 
@@ -115,6 +123,17 @@ fn put_rooms(words: &Words, rooms: &Rooms, room: &mut [u8], at: usize) -> usize
     put_place(words, rooms, Place::Four, room, at)
 }
 
+// The same, where rooms are shown.
+fn put_shown(words: &Words, rooms: &Rooms, showing: Showing, room: &mut [u8], at: usize) -> usize
+    requires { ⌜ at + 372 ≤ length (now room) ⌝ }
+    ensures { λ r. ⌜ Stored (now (room .entry)) at (shownLines showing (roomLines (rulesOf (now (words .entry))) (now (rooms .entry)))) 372 r (now (room .exit)) ⌝ }
+{
+    match showing {
+        Showing::Lines => at,
+        Showing::Rooms => put_rooms(words, rooms, room, at),
+    }
+}
+
 // The line of an event; a paper's end has none.
 fn put_event(room: &mut [u8], at: usize, number: u16, event: Event) -> usize
     requires { ⌜ at + 82 ≤ length (now room) ⌝ }
@@ -129,13 +148,20 @@ fn put_event(room: &mut [u8], at: usize, number: u16, event: Event) -> usize
 }
 
 // The set-up's line, and the rooms of a card that is set up.
-fn put_set_up(words: &Words, rooms: &Rooms, event: Event, room: &mut [u8], at: usize) -> usize
+fn put_set_up(
+    words: &Words,
+    rooms: &Rooms,
+    showing: Showing,
+    event: Event,
+    room: &mut [u8],
+    at: usize,
+) -> usize
     requires { ⌜ at + longest ≤ length (now room) ⌝ }
-    ensures { λ r. ⌜ Stored (now (room .entry)) at (setUpText (rulesOf (now (words .entry))) (now (rooms .entry)) event) longest r (now (room .exit)) ⌝ }
+    ensures { λ r. ⌜ Stored (now (room .entry)) at (setUpText showing (rulesOf (now (words .entry))) (now (rooms .entry)) event) longest r (now (room .exit)) ⌝ }
 {
     let end = put_event(room, at, 0, event);
     if let Event::SetUp = event {
-        return put_rooms(words, rooms, room, end);
+        return put_shown(words, rooms, showing, room, end);
     }
     end
 }
@@ -144,28 +170,29 @@ fn put_set_up(words: &Words, rooms: &Rooms, event: Event, room: &mut [u8], at: u
 fn put_record(
     words: &Words,
     rooms: &Rooms,
+    showing: Showing,
     number: u16,
     event: Event,
     room: &mut [u8],
     at: usize,
 ) -> usize
     requires { ⌜ at + longest ≤ length (now room) ⌝ }
-    ensures { λ r. ⌜ Stored (now (room .entry)) at (recordText (rulesOf (now (words .entry))) (now (rooms .entry)) number event) longest r (now (room .exit)) ⌝ }
+    ensures { λ r. ⌜ Stored (now (room .entry)) at (recordText showing (rulesOf (now (words .entry))) (now (rooms .entry)) number event) longest r (now (room .exit)) ⌝ }
 {
     let end = put_event(room, at, number, event);
     if let Event::End = event {
         return end;
     }
-    put_rooms(words, rooms, room, end)
+    put_shown(words, rooms, showing, room, end)
 }
 
-// Behind a refusal that ends the paper, and its end, nothing more is wanted.
+// At a paper's end a run may follow; behind a refusal that ends the paper nothing does.
 fn wanted(event: Event) -> Wants
     ensures { λ r. ⌜ r ≡ wantsAfter event ⌝ }
 {
     match event {
         Event::SetUp => Wants::Record,
-        Event::End => Wants::Nothing,
+        Event::End => Wants::Run,
         Event::Refused(_) => Wants::Nothing,
         Event::Answered { .. } => Wants::Record,
     }
@@ -200,20 +227,21 @@ pub fn show_set_up(
     paper: &[u8],
     words: &mut Words,
     rooms: &mut Rooms,
+    showing: Showing,
     room: &mut [u8],
     to: usize,
 ) -> Shown
-    ensures { λ r. ⌜ (r ≡ setUpShown (now (words .entry)) (now (rooms .entry)) (now (paper .entry)) (length (now (room .entry))) to)
+    ensures { λ r. ⌜ (r ≡ setUpShown showing (now (words .entry)) (now (rooms .entry)) (now (paper .entry)) (length (now (room .entry))) to)
         × (now (words .exit) ≡ setUpWords (now (words .entry)) (now (paper .entry)) (length (now (room .entry))) to)
         × (now (rooms .exit) ≡ setUpRooms (now (words .entry)) (now (rooms .entry)) (now (paper .entry)) (length (now (room .entry))) to)
-        × (now (room .exit) ≡ setUpRoom (now (words .entry)) (now (rooms .entry)) (now (paper .entry)) (now (room .entry)) to) ⌝ }
+        × (now (room .exit) ≡ setUpRoom showing (now (words .entry)) (now (rooms .entry)) (now (paper .entry)) (now (room .entry)) to) ⌝ }
 {
     if !has_room(room.len(), to) {
         return show_nothing(to);
     }
     let begun = keeper::begin(paper, words, rooms);
     let event = begun.event;
-    let end = put_set_up(words, rooms, event, room, to);
+    let end = put_set_up(words, rooms, showing, event, room, to);
     let shape = begun.shape;
     let state = begun.state;
     Shown {
@@ -230,16 +258,17 @@ pub fn show_set_up(
 pub fn show_record(
     words: &mut Words,
     rooms: &mut Rooms,
+    showing: Showing,
     shown: Shown,
     paper: &[u8],
     room: &mut [u8],
     to: usize,
 ) -> Shown
-    ensures { λ r. ⌜ (r ≡ recordShown (rulesOf (now (words .entry))) (now (rooms .entry)) shown (now (paper .entry)) (length (now (room .entry))) to)
+    ensures { λ r. ⌜ (r ≡ recordShown showing (rulesOf (now (words .entry))) (now (rooms .entry)) shown (now (paper .entry)) (length (now (room .entry))) to)
         × (now (words .exit) ≡ recordWords (now (words .entry)) shown (now (paper .entry)) (length (now (room .entry))) to)
         × (rulesOf (now (words .exit)) ≡ recordRules (rulesOf (now (words .entry))) shown (now (paper .entry)) (length (now (room .entry))) to)
         × (now (rooms .exit) ≡ recordRooms (rulesOf (now (words .entry))) (now (rooms .entry)) shown (now (paper .entry)) (length (now (room .entry))) to)
-        × (now (room .exit) ≡ recordRoom (rulesOf (now (words .entry))) (now (rooms .entry)) shown (now (paper .entry)) (now (room .entry)) to) ⌝ }
+        × (now (room .exit) ≡ recordRoom showing (rulesOf (now (words .entry))) (now (rooms .entry)) shown (now (paper .entry)) (now (room .entry)) to) ⌝ }
 {
     let shape = shown.shape;
     let state = shown.state;
@@ -257,7 +286,7 @@ pub fn show_record(
     }
     let taken = keeper::take(words, rooms, shape, state, paper, at);
     let event = taken.event;
-    let end = put_record(words, rooms, number, event, room, to);
+    let end = put_record(words, rooms, showing, number, event, room, to);
     let after = taken.state;
     Shown {
         shape,

@@ -14,6 +14,7 @@ use Rattle.opening.specs.Opening.{begunOf, wordsBegun}
 use Rattle.conversation.specs.Events.{following, eventsFrom, eventsOf}
 use Rattle.keeper.specs.Keeper.{roomsTaken, roomsBegun}
 use Rattle.lines.specs.Sitting.{eventLine, linesOf, sittingLines}
+use Rattle.display.specs.declared.Showing.the-variants.{Rooms}
 use Rattle.display.specs.Text.{roomLines, setUpLines}
 use Rattle.display_laws.specs.Display.{Entry, entered, entriesFrom, entriesOf}
 
@@ -47,6 +48,6 @@ lines-same words rooms paper =
     let begun = begunOf paper in
     let then = rulesOf (wordsBegun words paper) in
     let left = roomsBegun words rooms paper in
-    one (begun .event) 0 (setUpLines then left (begun .event)) (entriesFrom (length paper) then left (begun .shape) (begun .state) paper (begun .at) 1)
+    one (begun .event) 0 (setUpLines Rooms then left (begun .event)) (entriesFrom (length paper) then left (begun .shape) (begun .state) paper (begun .at) 1)
     (eventsFrom (length paper) then (begun .shape) (begun .state) paper (begun .at))
     (from (begun .shape) paper (length paper) then left (begun .state) (begun .at) 1)

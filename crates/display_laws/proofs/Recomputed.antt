@@ -16,6 +16,7 @@ use Rattle.keeper.specs.Keeper.{roomsTaken, roomsBegun}
 use Rattle.room_laws.proofs.Taken.{begun-right, taken-right}
 use Rattle.lines.specs.Sitting.{eventLine}
 use Rattle.transcript.proofs.Steps.{Beginning, accepted, refused, begins}
+use Rattle.display.specs.declared.Showing.the-variants.{Rooms}
 use Rattle.display.specs.Text.{roomLines, setUpLines}
 use Rattle.display_laws.specs.Display.{Entry, entered, entriesFrom, entriesOf}
 use Rattle.display_laws.specs.Recomputed.{recomputedFrom, recomputedOf}
@@ -40,6 +41,6 @@ recomputed words rooms paper size = by (begins paper) where
       let begun = begunOf paper in
       let then = rulesOf (wordsBegun words paper) in
       let right = begun-right words rooms paper size e in
-      ap₂ (λ r more. entered (begun .event) (record { line = eventLine 0 (begun .event); rooms = setUpLines then r (begun .event) }) more) right
+      ap₂ (λ r more. entered (begun .event) (record { line = eventLine 0 (begun .event); rooms = setUpLines Rooms then r (begun .event) }) more) right
       (from (begun .shape) paper (length paper) then (roomsBegun words rooms paper) (begun .state) (begun .at) 1 right)
   by (refused refusal e) = rw e

@@ -13,9 +13,11 @@ use Rattle.opening.specs.Opening.{begunOf, wordsBegun}
 use Rattle.keeper.specs.Keeper.{roomsTaken, roomsBegun}
 use Rattle.lines.specs.Sitting.{eventLine}
 use Rattle.display.specs.declared.Wants.{Wants}
-use Rattle.display.specs.declared.Wants.the-variants.{Record, Room, Nothing}
+use Rattle.display.specs.declared.Wants.the-variants.{Record, Room, Run, Nothing}
+use Rattle.display.specs.declared.Showing.{Showing}
+use Rattle.display.specs.declared.Showing.the-variants.{Rooms}
 use Rattle.display.specs.declared.Shown.{Shown}
-use Rattle.display.specs.Text.{roomLines, setUpLines}
+use Rattle.display.specs.Text.{roomLines, shownLines, setUpLines}
 use Rattle.display.specs.Shown.{begunText, begunShown, nextText, nextRules, nextRooms, nextShown}
 
 pub record Entry : Type 0 where
@@ -45,32 +47,33 @@ entriesOf words rooms paper =
     let begun = begunOf paper in
     let then = rulesOf (wordsBegun words paper) in
     let left = roomsBegun words rooms paper in
-    entered (begun .event) (record { line = eventLine 0 (begun .event); rooms = setUpLines then left (begun .event) })
+    entered (begun .event) (record { line = eventLine 0 (begun .event); rooms = setUpLines Rooms then left (begun .event) })
     (entriesFrom (length paper) then left (begun .shape) (begun .state) paper (begun .at) 1)
 
--- one behind the other
-unfoldable pub textOf : List Entry → List ℕ
-textOf [] = []
-textOf (entry ∷ more) = (entry .line ++ entry .rooms) ++ textOf more
+-- one behind the other, with the rooms or without
+unfoldable pub textOf : Showing → List Entry → List ℕ
+textOf showing [] = []
+textOf showing (entry ∷ more) = (entry .line ++ shownLines showing (entry .rooms)) ++ textOf showing more
 
 unfoldable pub displayOf : (words rooms paper : List ℕ) → List ℕ
-displayOf words rooms paper = textOf (entriesOf words rooms paper)
+displayOf words rooms paper = textOf Rooms (entriesOf words rooms paper)
 
 -- STEP BY STEP: the text of the steps, while a further record is wanted
 abbrev pub goesOn : Wants → List ℕ → List ℕ
 goesOn Record more = more
 goesOn Room more = []
+goesOn Run more = []
 goesOn Nothing more = []
 
-unfoldable pub stepsFrom : ℕ → Rules → (rooms : List ℕ) → Shown → (paper : List ℕ) → List ℕ
-stepsFrom zero rules rooms shown paper = []
-stepsFrom (suc n) rules rooms shown paper =
+unfoldable pub stepsFrom : ℕ → Showing → Rules → (rooms : List ℕ) → Shown → (paper : List ℕ) → List ℕ
+stepsFrom zero showing rules rooms shown paper = []
+stepsFrom (suc n) showing rules rooms shown paper =
     let next = nextShown rules shown paper 0 in
-    nextText rules shown paper rooms
-    ++ goesOn (next .wants) (stepsFrom n (nextRules rules shown paper) (nextRooms rules shown paper rooms) next paper)
+    nextText rules shown paper showing rooms
+    ++ goesOn (next .wants) (stepsFrom n showing (nextRules rules shown paper) (nextRooms rules shown paper rooms) next paper)
 
-unfoldable pub stepsOf : (words rooms paper : List ℕ) → List ℕ
-stepsOf words rooms paper =
+unfoldable pub stepsOf : Showing → (words rooms paper : List ℕ) → List ℕ
+stepsOf showing words rooms paper =
     let begun = begunShown paper 0 in
-    begunText words rooms paper
-    ++ goesOn (begun .wants) (stepsFrom (length paper) (rulesOf (wordsBegun words paper)) (roomsBegun words rooms paper) begun paper)
+    begunText showing words rooms paper
+    ++ goesOn (begun .wants) (stepsFrom (length paper) showing (rulesOf (wordsBegun words paper)) (roomsBegun words rooms paper) begun paper)

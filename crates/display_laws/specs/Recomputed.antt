@@ -10,6 +10,7 @@ use Rattle.state.specs.declared.State.{State}
 use Rattle.conversation.specs.Conversation.{takenOf, takenWrites}
 use Rattle.opening.specs.Opening.{begunOf, wordsBegun}
 use Rattle.lines.specs.Sitting.{eventLine}
+use Rattle.display.specs.declared.Showing.the-variants.{Rooms}
 use Rattle.display.specs.Text.{roomLines, setUpLines}
 use Rattle.display_laws.specs.Display.{Entry, entered}
 
@@ -27,5 +28,5 @@ recomputedOf words paper =
     let begun = begunOf paper in
     let then = rulesOf (wordsBegun words paper) in
     entered (begun .event)
-    (record { line = eventLine 0 (begun .event); rooms = setUpLines then (roomsOf then (begun .state .values)) (begun .event) })
+    (record { line = eventLine 0 (begun .event); rooms = setUpLines Rooms then (roomsOf then (begun .state .values)) (begun .event) })
     (recomputedFrom (length paper) then (begun .shape) (begun .state) paper (begun .at) 1)

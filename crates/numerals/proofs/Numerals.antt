@@ -8,9 +8,9 @@ use native.Mathlib.Omega.{arith}
 use borrow.Author.Tests.{ltb-true, ltb-false, lt-ltb, le-ltb, le-leb, lt-leb}
 use lib.Dec.{ltb}
 use lib.ListN.{length, length-append}
-use lib.Seq.{sets}
+use lib.Seq.{sets, length-sets}
 use Rattle.lines.specs.Stored.{Stored}
-use Rattle.lines.proofs.Stores.{next}
+use Rattle.lines.proofs.Stores as store
 use Rattle.numerals.specs.Numeral.{digitsOf, numeral, longest, numberPlaced, numberBehind}
 
 -- the tenth has a digit less
@@ -59,7 +59,7 @@ pub one-more : {room between after : List ℕ} {at middle end : ℕ} (n : ℕ) �
 one-more n h small p q =
     let left : n - n / 10 * 10 ≡ n % 10 = omega arith in
     let both : numeral (n / 10) ++ (48 + (n - n / 10 * 10)) ∷ [] ≡ numeral n = rw left (tens n h small) in
-    rw (← both, length-append (numeral (n / 10)) ((48 + (n - n / 10 * 10)) ∷ [])) (next p q)
+    rw (← both, length-append (numeral (n / 10)) ((48 + (n - n / 10 * 10)) ∷ [])) (store.next p q)
 
 -- what holds of either
 split : (P : List ℕ → Type 0) (most n : ℕ) → (n < 10 → P ((48 + n) ∷ [])) → (10 ≤ n → P (digitsOf most (n / 10) ++ (48 + n % 10) ∷ []))
@@ -127,3 +127,10 @@ module _ (room : List ℕ) (at n : ℕ) (fits : at + longest ≤ length room) wh
   pub stored : {after : List ℕ} {end : ℕ} → end ≡ numberBehind (length room) at n → after ≡ numberPlaced room at n
       → Stored room at (numeral n) (length (numeral n)) end after
   stored e p = let ends = e ∙ behind in record { is = p ∙ placed; behind = ends; short = omega arith }
+
+  -- by the most digits that it may have
+  pub fitted : {after : List ℕ} {end : ℕ} → end ≡ numberBehind (length room) at n → after ≡ numberPlaced room at n
+      → Stored room at (numeral n) longest end after × (length after ≡ length room)
+  fitted e p =
+      let digits = stored e p in
+      (store.within digits (size n), ap length (digits .is) ∙ length-sets room at (numeral n))

@@ -2,7 +2,7 @@ use borrow.Author.Needs.{needs}
 use denote.Ref.{now}
 use native.Mathlib.Omega.{arith}
 use Rattle.lines.proofs.Stores.{next}
-use Rattle.display.proofs.Stores.{number}
+use Rattle.numerals.proofs.Numerals.{fitted}
 use Rattle.display.proofs.put_field.Statement.{statement}
 use Rattle.display.proofs.put_field.Tie as tie
 
@@ -11,7 +11,7 @@ put-text-requires c κs =
     let put = c .before .before .before in
     let start = put .before .before .before in
     let a = start .before .args in
-    let (digits, sized) = number (now (a .room)) (a .at) (a .n) (start .before .pre) (put .before .put-number .ensures .0) (put .before .put-number .ensures .1) in
+    let (digits, sized) = fitted (now (a .room)) (a .at) (a .n) (omega arith) (put .before .put-number .ensures .0) (put .before .put-number .ensures .1) in
     omega (arith, digits .short, sized, start .before .pre)
 
 returns : tie.Need-returns
@@ -21,7 +21,7 @@ returns c =
     let put = to-mark .before .before in
     let start = put .before .before in
     let a = start .before .args in
-    let (digits, sized) = number (now (a .room)) (a .at) (a .n) (start .before .pre) (put .put-number .ensures .0) (put .put-number .ensures .1) in
+    let (digits, sized) = fitted (now (a .room)) (a .at) (a .n) (omega arith) (put .put-number .ensures .0) (put .put-number .ensures .1) in
     next digits (mark .put-text .ensures)
 
 pub put-field-spec : {M : Type 1} → statement M

@@ -14,7 +14,7 @@ returns c =
     let shape = asked .before .before in
     let a = shape .before .before .before .args in
     let full = sym (asked .has-room .ensures) ∙ not-true _ (c .if1 .taken) in
-    no-record (now (a .words)) (now (a .rooms)) (a .shown) (now (a .paper)) (now (a .room)) (a .to) full refl
+    no-record (a .showing) (now (a .words)) (now (a .rooms)) (a .shown) (now (a .paper)) (now (a .room)) (a .to) full refl
 
 put-record-requires : tie.Need-put-record-requires
 put-record-requires c κs =
@@ -35,7 +35,7 @@ returns-2 c =
     let a = shape .before .before .before .args in
     let fits = sym (asked .has-room .ensures) ∙ not-false _ (tested .if1 .left) in
     let taken = read .take .ensures in
-    recorded (now (a .words)) (now (a .rooms)) (a .shown) (now (a .paper)) (now (a .room)) (a .to) fits (taken .0) (taken .1) (taken .2) (taken .3)
+    recorded (a .showing) (now (a .words)) (now (a .rooms)) (a .shown) (now (a .paper)) (now (a .room)) (a .to) fits (taken .0) (taken .1) (taken .2) (taken .3)
     (put .put-record .ensures)
     (counted .wrapping-add-u16 .ensures)
     (c .wanted .ensures)

@@ -11,7 +11,7 @@ returns c =
     let asked = c .before .before in
     let a = asked .before .before .before .args in
     let full = sym (asked .has-room .ensures) ∙ not-true _ (c .before .if1 .taken) in
-    no-set-up (now (a .words)) (now (a .rooms)) (now (a .paper)) (now (a .room)) (a .to) full (c .show-nothing .ensures)
+    no-set-up (a .showing) (now (a .words)) (now (a .rooms)) (now (a .paper)) (now (a .room)) (a .to) full (c .show-nothing .ensures)
 
 put-set-up-requires : tie.Need-put-set-up-requires
 put-set-up-requires c κs =
@@ -30,7 +30,7 @@ returns-2 c =
     let a = asked .before .before .before .args in
     let fits = sym (asked .has-room .ensures) ∙ not-false _ (tested .if1 .left) in
     let read = begun .begin .ensures in
-    set-up (now (a .words)) (now (a .rooms)) (now (a .paper)) (now (a .room)) (a .to) fits (read .0) (read .1) (read .2) (put .put-set-up .ensures)
+    set-up (a .showing) (now (a .words)) (now (a .rooms)) (now (a .paper)) (now (a .room)) (a .to) fits (read .0) (read .1) (read .2) (put .put-set-up .ensures)
     (c .wanted .ensures)
 
 pub show-set-up-spec : {M : Type 1} → statement M

@@ -1,8 +1,8 @@
-use borrow.Author.Needs.{needs}
 use mathlib.Core.Path.{sym}
 use lib.Seq.{length-take-le}
-use Rattle.tools.proofs.show_paper.Statement.{statement}
-use Rattle.tools.proofs.show_paper.Tie as tie
+use borrow.Author.Needs.{needs}
+use Rattle.toolbox.proofs.show_paper.Statement.{statement}
+use Rattle.toolbox.proofs.show_paper.Tie as tie
 
 slice-aggregate-show : tie.Need-slice-aggregate-show
 slice-aggregate-show c =
@@ -14,4 +14,4 @@ pub show-paper-spec : {M : Type 1} → statement M
 show-paper-spec =
     tie.close
     (tie.spec (search needs) (search needs) (search needs) (search needs) (search needs) (search needs) slice-aggregate-show (search needs)
-    (search needs) (search needs) (search needs))
+    (search needs) (search needs) (search needs) (search needs) (search needs) (search needs))

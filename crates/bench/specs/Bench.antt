@@ -1,0 +1,99 @@
+-- Runs as the blocks of a stack (request Eleven): the room that is lent, and the text of what became of the run.
+use mathlib.Core.Bool.{Bool, cond, _&&_, _||_}
+use mathlib.Core.List.{List, [], _∷_, _++_}
+use Prim.Native.Nat.{ℕ, zero, suc, _+_, _*_, _%_}
+use lib.Dec.{eqb, leb, ltb}
+use lib.ListN.{length, getD, drop, replicate}
+use lib.Seq.{sets}
+use Rattle.wire.specs.Wire.{number}
+use Rattle.refusal.specs.Refusal.{refusalNumber}
+use Rattle.shape.specs.declared.Shape.{Shape}
+use Rattle.state.specs.declared.State.{State}
+use Rattle.lines.specs.Lines.{hexByte, line}
+use Rattle.numerals.specs.Numeral.{numeral}
+use Rattle.runs.specs.declared.Ran.{Ran}
+use Rattle.runs.specs.declared.Ran.the-variants.{Done, Refused}
+use Rattle.runs.specs.Runs.{Card, cardRun, roomRun, ruledRun}
+use Rattle.bench.specs.declared.Page.{Page}
+use Rattle.bench.specs.declared.Page.the-variants.{Whole, NoRoom}
+use Rattle.bench.specs.declared.Turn.{Turn}
+
+-- A BLOCK: the size of the room, 4 bytes of which those missing are 0, and never above 65,536; behind it the records
+unfoldable pub sizeIn : (block : List ℕ) → ℕ
+sizeIn block = cond (ltb 65536 (number block 0 4)) 65536 (number block 0 4)
+
+abbrev pub recordsIn : (block : List ℕ) → List ℕ
+recordsIn block = drop 4 block
+
+-- the room is filled with AA and lent
+abbrev pub filler : ℕ
+filler = 170
+
+abbrev pub lent : (block : List ℕ) → List ℕ
+lent block = replicate (sizeIn block) filler
+
+-- THE TEXT: "run", the refusal, and the number of answers, which is 0 where it is refused
+abbrev pub refusalIn : Ran → ℕ
+refusalIn (Done answers) = 0
+refusalIn (Refused refusal) = refusalNumber refusal
+
+abbrev pub answersIn : Ran → ℕ
+answersIn (Done answers) = answers
+answersIn (Refused refusal) = 0
+
+abbrev pub word : List ℕ
+word = 114 ∷ 117 ∷ 110 ∷ []
+
+unfoldable pub ranLine : Ran → List ℕ
+ranLine ran = line word (numeral (refusalIn ran) ∷ numeral (answersIn ran) ∷ [])
+
+-- then the whole room in hex, 36 bytes to a line: a line feed stands behind each thirty-sixth byte, and behind the last
+abbrev pub feed : (last : Bool) → List ℕ
+feed last = cond last (10 ∷ []) []
+
+unfoldable pub hexFirst : ℕ → (room : List ℕ) → List ℕ
+hexFirst zero room = []
+hexFirst (suc n) room =
+    hexFirst n room ++ (hexByte (getD room n 0) ++ feed (eqb ((n + 1) % 36) 0 || eqb (n + 1) (length room)))
+
+unfoldable pub hexLines : (room : List ℕ) → List ℕ
+hexLines room = hexFirst (length room) room
+
+unfoldable pub pageOf : Ran → (room : List ℕ) → List ℕ
+pageOf ran room = ranLine ran ++ hexLines room
+
+-- the most bytes that it may have: 4 + 20 + 1 + 20 + 1, and 3 for each byte of the room
+abbrev pub pageSize : (room : ℕ) → ℕ
+pageSize room = 46 + 3 * room
+
+-- A BLOCK ANSWERED: so many bytes of room and of text are enough for a run in a room of some size
+abbrev pub hasRoom : (size room text : ℕ) → Bool
+hasRoom size room text = leb size room && leb (pageSize size) text
+
+abbrev pub turned : State → (page : List ℕ) → Turn
+turned state page = record { state = state; page = Whole (length page) }
+
+module _ (shape : Shape) (paper : List ℕ) (card : Card) (block : List ℕ) where
+  -- the card, the room and the text behind its run
+  unfoldable pub cardBehind : Card
+  cardBehind = cardRun shape paper card (recordsIn block) (sizeIn block)
+
+  unfoldable pub roomBehind : List ℕ
+  roomBehind = roomRun shape paper card (recordsIn block) (lent block)
+
+  unfoldable pub pageBehind : List ℕ
+  pageBehind = pageOf (ruledRun shape (recordsIn block) (sizeIn block)) roomBehind
+
+  -- without room nothing is run, and all stays
+  unfoldable pub turnOf : (room text : ℕ) → Turn
+  turnOf room text = cond (hasRoom (sizeIn block) room text) (turned (cardBehind .state) pageBehind) (record { state = card .state; page = NoRoom })
+
+  unfoldable pub cardTurned : (room text : ℕ) → Card
+  cardTurned room text = cond (hasRoom (sizeIn block) room text) cardBehind card
+
+  -- behind what was lent the room stays
+  unfoldable pub roomTurned : (room : List ℕ) (text : ℕ) → List ℕ
+  roomTurned room text = cond (hasRoom (sizeIn block) (length room) text) (roomBehind ++ drop (sizeIn block) room) room
+
+  unfoldable pub textTurned : (room : ℕ) (text : List ℕ) → List ℕ
+  textTurned room text = cond (hasRoom (sizeIn block) room (length text)) (sets text 0 pageBehind) text
