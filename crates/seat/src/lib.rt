@@ -159,9 +159,9 @@ pub extern "C" fn comblattice_run(
     let state = seating::state_in(&seat[VALUES..]);
     let end = run(&mut words, &mut rooms, shape, paper, state, records, room);
     let ran = end.ran;
-    let refusal = ran_number(ran);
-    if refusal != 0 {
-        return refusal;
+    let ruling = ran_number(ran);
+    if ruling != 0 {
+        return ruling;
     }
     let after = end.state;
     put_card(seat, &words, &rooms, shape, after);

@@ -46,11 +46,14 @@ returns : tie.Need-returns
 returns c =
     let marks = c .before .before in
     let marked = marks .before .before in
-    let phases = marked .before .before .before .before in
+    let behind2 = marked .before .before .before in
+    let phases = behind2 .before in
     let phased = phases .before .before in
-    let values = phased .before .before .before .before in
+    let behind1 = phased .before .before .before in
+    let values = behind1 .before in
     let valued = values .before .before in
-    let start = valued .before .before .before .before in
+    let known = valued .before .before .before in
+    let start = known .before in
     let l = now (start .args .seat) in
     let state = start .args .state in
     let run1 : Run l 228 (valueCells (state .values)) 10 _ =
