@@ -1,0 +1,3 @@
+-- What the proofs of several functions use, and that what is stored is read back.
+pub mod Spread
+pub mod Back

@@ -1,0 +1,4 @@
+pub mod Cells
+pub mod Shapes
+pub mod States
+pub mod Fits
