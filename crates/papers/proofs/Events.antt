@@ -116,7 +116,7 @@ every-paper words paper lent bytes = by (opens-or-faults paper bytes) where
   by-set-up o (inr (inl n)) =
       let i = one-event paper (o .version) (o .body) (o .rest) (o .opens) n in
       not-set-up (o .version) (o .body) (o .rest) (o .opens)
-      (λ s. taken-or-not (o .version) (o .body) (shape (o .version) (o .body) s) (set-up (o .version) (o .body) s) n)
+      (λ s. taken-or-not (o .version) (o .body) (shape (o .version) (o .body) s) (set-up (o .version) (o .body) s (omega (arith, o .opens .most))) n)
       (i .refusal) (i .one) (ended-at-once words paper (i .refusal) (i .is))
 
   by : OpenFault paper ⊎ Opening paper → Heard words paper

@@ -2,7 +2,7 @@
 use mathlib.Core.Path.{_≡_, refl, sym, ap, ap₂, subst, _∙_}
 use mathlib.Core.Bool.{true}
 use mathlib.Core.List.{List, [], _++_}
-use Prim.Native.Nat.{ℕ, _+_, _-_}
+use Prim.Native.Nat.{ℕ, _+_, _-_, _<_}
 use native.Mathlib.Omega.{arith}
 use lib.ListN.{length, drop, length-append}
 use lib.Seq.{take-at, drop-append-seam}
@@ -13,9 +13,11 @@ use Rattle.setup.specs.Setup.{isAccepted, rulesIn}
 use Rattle.setup.proofs.Faithful.{started}
 use Rattle.auditor.specs.Template.{InRange}
 use Rattle.shape.specs.declared.Shape.{Shape}
-use Rattle.shape.specs.Shape.{basePart, cyclesPart, familyPart, shapeAt}
+use Rattle.shape.specs.declared.ReadShape.the-variants.{Taken}
+use Rattle.shape.specs.Shape.{basePart, cyclesPart, familyPart, shapeOf, shapeAt}
 use Rattle.records.specs.declared.Event.the-variants.{SetUp}
-use Rattle.opening.specs.Opening.{logJudged, begunOf, baseBegun, setupBegun, setupWords, wordsBegun}
+use Rattle.opening.proofs.Unlogged.{sound-below}
+use Rattle.opening.specs.Opening.{begunOf, baseBegun, setupBegun, setupWords, wordsBegun}
 use Rattle.demands.specs.Setup.{Setup, AcceptedSetup}
 use Rattle.demands.specs.Conversation.{rulesBy}
 use Rattle.rows.specs.Rows.{body as spelledBase, cyclesBytes, controlsBytes}
@@ -121,13 +123,15 @@ module _ (version : ℕ) (body : List ℕ) (i : IsSetup version body) where
   good : isAccepted base cycles controls (shape .unnamed) ≡ true
   good = all-in-range (i .setup) (i .tail) (i .fits) (i .fine) .1 (i .in-range, i .dates-in-range, i .families-in-range)
 
-  pub set-up : Sp.SetUp version body shape
-  unfolding logJudged
-  set-up =
+  shape-read : shapeOf version body ≡ Taken shape
+  shape-read = rw (← i .version-is, ← i .spelled) (says .read)
+
+  pub set-up : version < 7 → Sp.SetUp version body shape
+  set-up unlogged =
       record {
-        shape-is = rw (← i .version-is, ← i .spelled) (says .read);
+        shape-is = shape-read;
         base = rw (base-is, cycles-are, controls-are, started base cycles controls (shape .unnamed) good);
-        log = refl;
+        log = sound-below version unlogged body shape shape-read;
       }
 
   -- what is read behind the base
@@ -243,7 +247,7 @@ begins words paper lent bytes a =
     let v = a .version in
     let b = a .body in
     let form = shape v b (a .set-up) in
-    let t = set-up v b (a .set-up) in
+    let t = set-up v b (a .set-up) (omega (arith, a .opens .most)) in
     let r = O.opens paper v b (a .rest) (a .opens) in
     let base = base-is v b (a .set-up) in
     let cycles = cycles-are v b (a .set-up) in

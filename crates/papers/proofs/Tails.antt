@@ -11,7 +11,7 @@ use Rattle.wire.specs.Wire.{byte}
 use Rattle.rows.specs.Rows.{spelled, written, cyclesRow, cyclesBytes, controlsRow, controlsBytes}
 use Rattle.rows.specs.Rows as R
 use Rattle.rows.specs.Tails.{Choosing, off, on, fileBytes, choosingBytes, datesBytes, familiesBytes, scriptsByte}
-use Rattle.rows.specs.Tails.{Tail, first, second, third, fourth, fifth, sixth, versionOf, tailBytes, choosingOf, syllabusOf, scriptingOf, unnamedOf}
+use Rattle.rows.specs.Tails.{Tail, first, second, third, fourth, fifth, sixth, seventh, logsBytes, versionOf, tailBytes, choosingOf, syllabusOf, scriptingOf, unnamedOf}
 use Rattle.rows.specs.Tails.{FineDates, FineFamilies, Fine}
 use Rattle.rows.specs.Tails as T
 use Rattle.rows.proofs.Dated.{cycles-size}
@@ -105,9 +105,9 @@ family-there p (R.cpace controls) rest fine =
     let size : length t ≡ 9 + p = controls-size controls ∙ ap (λ (n : ℕ). 9 + n) (fine .1) in
     (refl, take-at t rest (9 + p) size, drop-at t rest (9 + p) size)
 
-scripts-there : (scripting : Bool) → scriptsFrom (scriptsByte scripting ∷ []) ≡ scriptsSaid scripting
-scripts-there true = refl
-scripts-there false = refl
+scripts-there : (scripting : Bool) (rest : List ℕ) → scriptsFrom (scriptsByte scripting ∷ rest) ≡ scriptsSaid scripting
+scripts-there true rest = refl
+scripts-there false rest = refl
 
 -- ---- all of them
 
@@ -164,7 +164,15 @@ reads-as p (sixth c syllabus d f scripting) fine =
     let (dates, cycles, end) = dates-there p syllabus d tail (fine .2) in
     let (card, family, last) = family-there p f (scriptsByte scripting ∷ []) (fine .3) in
     reads-by p (sixth c syllabus d f scripting) (syllabus ∷ datesBytes d ++ tail) choice behind refl dates cycles (ap cardFrom end ∙ card)
-    (ap (familyFrom p) end ∙ family) (ap (λ (t : List ℕ). scriptsFrom (lastFrom p t)) end ∙ ap scriptsFrom last ∙ scripts-there scripting)
+    (ap (familyFrom p) end ∙ family) (ap (λ (t : List ℕ). scriptsFrom (lastFrom p t)) end ∙ ap scriptsFrom last ∙ scripts-there scripting [])
+reads-as p (seventh c syllabus d f scripting l) fine =
+    let rest = logsBytes l in
+    let tail = familiesBytes f ++ scriptsByte scripting ∷ rest in
+    let (choice, behind) = chosen c (syllabus ∷ datesBytes d ++ tail) in
+    let (dates, cycles, end) = dates-there p syllabus d tail (fine .2) in
+    let (card, family, last) = family-there p f (scriptsByte scripting ∷ rest) (fine .3) in
+    reads-by p (seventh c syllabus d f scripting l) (syllabus ∷ datesBytes d ++ tail) choice behind refl dates cycles (ap cardFrom end ∙ card)
+    (ap (familyFrom p) end ∙ family) (ap (λ (t : List ℕ). scriptsFrom (lastFrom p t)) end ∙ ap scriptsFrom last ∙ scripts-there scripting rest)
 
 pub unnamed-is : (tail : Tail) → unnamedIn (versionOf tail) ≡ unnamedOf tail
 unnamed-is first = refl
@@ -173,3 +181,4 @@ unnamed-is (third c syllabus) = refl
 unnamed-is (fourth c syllabus d) = refl
 unnamed-is (fifth c syllabus d f) = refl
 unnamed-is (sixth c syllabus d f scripting) = refl
+unnamed-is (seventh c syllabus d f scripting l) = refl
