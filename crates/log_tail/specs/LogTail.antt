@@ -1,6 +1,6 @@
 -- What a set-up says of its log: the tail of version 07, where it is on (document 02, Eight; Table L-10 for the switches).
 use Prim.Native.Nat.{ℕ, zero, suc, _+_, _-_, _*_, _%_}
-use mathlib.Core.Bool.{Bool, true, false, cond, not, _&&_}
+use mathlib.Core.Bool.{Bool, true, cond, not, _&&_}
 use mathlib.Core.List.{List}
 use lib.Dec.{leb, ltb, eqb}
 use Rattle.wire.specs.Wire.{byte}
