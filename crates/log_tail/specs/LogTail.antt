@@ -80,3 +80,8 @@ isWithin tail profiles first = areWithin tail (firstTable profiles) first && are
 -- THE JUDGEMENT: out of range before past its data
 unfoldable pub judged : (tail : List ℕ) (profiles first : ℕ) → Judged
 judged tail profiles first = cond (isInRange tail profiles) (cond (isWithin tail profiles first) Sound PastData) Wrong
+
+abbrev pub judgedNumber : Judged → ℕ
+judgedNumber Sound = 0
+judgedNumber Wrong = 1
+judgedNumber PastData = 14
