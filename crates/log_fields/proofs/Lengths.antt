@@ -1,14 +1,14 @@
 -- How long a field is: never above 24 bytes, and by a table that was judged sound as long as its entry says. Assumes nothing.
-use mathlib.Core.Path.{_≡_, refl, sym, ap, subst, _∙_}
+use mathlib.Core.Path.{_≡_, refl, ap, _∙_}
 use mathlib.Core.Bool.{Bool, true, false, cond, not, _&&_}
 use mathlib.Core.List.{List}
-use Prim.Native.Nat.{ℕ, _+_, _-_, _≤_, _<_}
+use Prim.Native.Nat.{ℕ, _+_, _-_, _≤_}
 use native.Mathlib.Omega.{arith}
 use borrow.Author.Tests.{le-leb, ltb-false}
-use lib.Dec.{leb, ltb, eqb}
+use lib.Dec.{ltb, eqb}
 use lib.ListN.{length, drop, length-take}
 use Rattle.log_tail.specs.declared.Entry.{Entry}
-use Rattle.log_tail.specs.LogTail.{dataOf, reachesPast}
+use Rattle.log_tail.specs.LogTail.{reachesPast}
 use Rattle.field.specs.Field.{isWithin, stretchOf, fieldOf}
 use Rattle.field.proofs.Laws.{whole, short}
 use Rattle.ring.specs.declared.Record.{Record}

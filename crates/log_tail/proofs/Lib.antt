@@ -1,2 +1,3 @@
 pub mod All
+pub mod Exactly
 pub mod Samples

@@ -3,21 +3,14 @@ use mathlib.Core.Bool.{Bool, not, _&&_}
 use mathlib.Core.List.{List, [], _∷_}
 use Prim.Native.Nat.{ℕ}
 use lib.Dec.{T, eqb}
-use Rattle.log_tail.specs.declared.Judged.{Judged}
-use Rattle.log_tail.specs.declared.Judged.the-variants.{Sound, Wrong, PastData}
-use Rattle.log_tail.specs.LogTail.{entryIn, reachesPast, areFlags, areSources, areWithin, isInRange, isWithin, judged}
+use Rattle.log_tail.specs.LogTail.{entryIn, reachesPast, areFlags, areSources, areWithin, isInRange, isWithin, judged, judgedNumber}
 
 abbrev past : (source position long : ℕ) → Bool
 past source position long = reachesPast (record { source = source; position = position; length = long }) 12
 
-abbrev number : Judged → ℕ
-number Sound = 0
-number Wrong = 1
-number PastData = 14
-
 -- size, switches, the profile's byte, and the two tables
 abbrev comes : (tail : List ℕ) (to : ℕ) → Bool
-comes tail to = eqb (number (judged (1 ∷ tail) 1 12)) to
+comes tail to = eqb (judgedNumber (judged (1 ∷ tail) 1 12)) to
 
 pub record Samples : Type 0 where
   pub whole-first : T (not (past 0 1 12) && past 0 1 13)

@@ -1,6 +1,6 @@
 -- What a set-up says of its log: the tail of version 07, where it is on (document 02, Eight; Table L-10 for the switches).
 use Prim.Native.Nat.{ℕ, zero, suc, _+_, _-_, _*_, _%_}
-use mathlib.Core.Bool.{Bool, true, false, cond, not, _&&_}
+use mathlib.Core.Bool.{Bool, true, cond, not, _&&_}
 use mathlib.Core.List.{List}
 use lib.Dec.{leb, ltb, eqb}
 use Rattle.wire.specs.Wire.{byte}
@@ -80,3 +80,8 @@ isWithin tail profiles first = areWithin tail (firstTable profiles) first && are
 -- THE JUDGEMENT: out of range before past its data
 unfoldable pub judged : (tail : List ℕ) (profiles first : ℕ) → Judged
 judged tail profiles first = cond (isInRange tail profiles) (cond (isWithin tail profiles first) Sound PastData) Wrong
+
+abbrev pub judgedNumber : Judged → ℕ
+judgedNumber Sound = 0
+judgedNumber Wrong = 1
+judgedNumber PastData = 14

@@ -1,5 +1,4 @@
 use borrow.Author.Needs.{needs}
-use mathlib.Core.Path.{sym, _∙_}
 use Rattle.journal.specs.Journal.{noted}
 use Rattle.journal.proofs.note.Statement.{statement}
 use Rattle.journal.proofs.note.Tie as tie

@@ -3,13 +3,12 @@ use borrow.Author.Needs.{needs}
 use borrow.Author.Tests.{lt-leb, le-leb}
 use denote.Ref.{now}
 use mathlib.Core.Path.{_≡_, refl, sym, ap, _∙_}
-use mathlib.Core.Bool.{true, not}
+use mathlib.Core.Bool.{true}
 use Prim.Native.Nat.{_-_, _≤_}
 use native.Mathlib.Omega.{arith}
 use native.Mathlib.Numerals.{add-one}
 use lib.Dec.{leb}
-use Rattle.wire.specs.Wire.{byte}
-use Rattle.log_tail.specs.LogTail.{all, flagIn, entryIn, reachesPast, areFlags}
+use Rattle.log_tail.specs.LogTail.{all, flagIn, areFlags}
 use Rattle.log_tail.proofs.All.{not-all, one-more}
 use Rattle.log_tail.proofs.are_flags.Statement.{statement}
 use Rattle.log_tail.proofs.are_flags.Tie as tie

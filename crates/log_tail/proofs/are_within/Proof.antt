@@ -1,13 +1,11 @@
 -- Those before i are all so.
 use borrow.Author.Needs.{needs}
-use borrow.Author.Tests.{lt-leb}
 use denote.Ref.{now}
 use mathlib.Core.Path.{_≡_, refl, sym, ap, _∙_}
 use mathlib.Core.Bool.{true, not}
 use Prim.Native.Nat.{_-_, _≤_}
 use native.Mathlib.Omega.{arith}
 use native.Mathlib.Numerals.{add-one}
-use lib.Dec.{leb}
 use Rattle.wire.specs.Wire.{byte}
 use Rattle.log_tail.specs.LogTail.{all, entryIn, reachesPast, areWithin}
 use Rattle.log_tail.proofs.All.{not-all, one-more}

@@ -1,5 +1,4 @@
 use borrow.Author.Needs.{needs}
-use native.Mathlib.Omega.{arith}
 use Rattle.log_tail.specs.LogTail.{entryIn}
 use Rattle.log_tail.proofs.read_entry.Statement.{statement}
 use Rattle.log_tail.proofs.read_entry.Tie as tie

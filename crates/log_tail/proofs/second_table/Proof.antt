@@ -1,5 +1,4 @@
 use borrow.Author.Needs.{needs}
-use mathlib.Core.Path.{ap}
 use native.Mathlib.Omega.{arith}
 use Rattle.log_tail.proofs.second_table.Statement.{statement}
 use Rattle.log_tail.proofs.second_table.Tie as tie
