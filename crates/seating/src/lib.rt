@@ -10,13 +10,13 @@ ghost use Rattle.seating.specs.Fits.{SelectingFits, ShapeFits, ValuesFit
 ghost use Rattle.seating.specs.States.{valueCells, valuesAt, timingCells, timingAt, purchaseAt, pendingAt, phaseCells, phaseAt, markCells, stateIn};
 use calendar::Date;
 use cpace::Cvm;
+use marks::Scripts;
 use money::AccumulatorAmount;
 use money::TransactionAmount;
 use purchase::Purchase;
 use purchase::Timing;
 use rules::Place;
 use rules::Values;
-use script::Scripts;
 use shape::Dating;
 use shape::Family;
 use shape::Logging;

@@ -14,7 +14,7 @@ returns c =
     let dates = log .before in
     let file = dates .before .before in
     let a = file .before .args .shape in
-    let unnamed : a .unnamed < 4294967296 = file .before .good .0 .1 .1 .1 .1 .1 .1 .1 .1 .0 .1 in (
+    let unnamed : a .unnamed < 4294967296 = file .before .good .0 .1 .1 .1 .1 .1 .1 .1 .1 .1 .0 .1 in (
       simp (
         c .before .flag .ensures,
         log .logging-cells .ensures,
