@@ -10,7 +10,7 @@ use lib.Seq.{sets, length-take-le}
 use Rattle.rules.specs.Rules.{rulesOf}
 use Rattle.shape.specs.declared.Shape.{Shape}
 use Rattle.state.specs.declared.State.{State}
-use Rattle.command.proofs.Selecting.{both}
+use Rattle.choice.proofs.Tests.{both}
 use Rattle.lines.specs.Stored.{Stored}
 use Rattle.runs.specs.declared.RunEnd.{RunEnd}
 use Rattle.runs.specs.Runs.{Card, cardOf, cardRun, roomRun, ruledRun, endOf}

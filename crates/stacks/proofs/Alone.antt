@@ -53,16 +53,19 @@ stored-length words s t f syllabus unnamed = by (isAccepted s t f unnamed) where
 begun-length : (words paper : List ℕ) → length (wordsBegun words paper) ≡ length words
 unfolding wordsBegun setupWords
 begun-length words paper = by (openPaper paper) where
-  by-log : (judged : Judged) {then : List ℕ} → length then ≡ length words → length (loggedWords judged words then) ≡ length words
-  by-log Sound same = same
-  by-log Wrong same = refl
-  by-log TableFault same = refl
+  by-log : (judged : Judged) (then : List ℕ) → length then ≡ length words → length (loggedWords judged words then) ≡ length words
+  by-log Sound then same = same
+  by-log Wrong then same = refl
+  by-log TableFault then same = refl
 
   by-shape : (body : List ℕ) (read : ReadShape) → length (shapedWords words body read) ≡ length words
   by-shape body (ShapeRefused refusal) = refl
   by-shape body (ShapeTaken shape) =
-      by-log (logJudged shape body)
-      (stored-length words (basePart shape body) (cyclesPart (shape .dating) body) (familyPart (shape .family) body) (shape .syllabus) (shape .unnamed))
+      let base = basePart shape body in
+      let cycles = cyclesPart (shape .dating) body in
+      let family = familyPart (shape .family) body in
+      by-log (logJudged shape body) (wordsAfter words base cycles family (shape .syllabus) (shape .unnamed))
+      (stored-length words base cycles family (shape .syllabus) (shape .unnamed))
 
   by : (opened : Opened) → length (openedWords words paper opened) ≡ length words
   by (OpenRefused refusal) = refl
@@ -116,11 +119,11 @@ module _ (words words′ paper : List ℕ) (lent : length words ≡ wordCount) (
     by-base shape s t f end false bad e =
         absurd (not-both _ (sym (ap (λ r. setUpEvent (r .answer)) (untouched words s t f (shape .syllabus) (shape .unnamed) bad .1)) ∙ e))
 
-    by-log : (judged : Judged) (good : Bool) (end : ℕ) (begun : Begun) {then then′ : List ℕ} → (begun .event ≡ SetUp → then ≡ then′)
+    by-log : (judged : Judged) (good : Bool) (end : ℕ) (begun : Begun) (then then′ : List ℕ) → (begun .event ≡ SetUp → then ≡ then′)
         → loggedBegun judged good end begun .event ≡ SetUp → loggedWords judged words then ≡ loggedWords judged words′ then′
-    by-log Sound good end begun same e = same e
-    by-log Wrong good end begun same e = absurd (not-both BadSetup e)
-    by-log TableFault good end begun same e = absurd (not-both (cond good PastData BadSetup) e)
+    by-log Sound good end begun then then′ same e = same e
+    by-log Wrong good end begun then then′ same e = absurd (not-both BadSetup e)
+    by-log TableFault good end begun then then′ same e = absurd (not-both (cond good PastData BadSetup) e)
 
     by-shape : (body : List ℕ) (place end : ℕ) (read : ReadShape) → shapedBegun body place end read .event ≡ SetUp
         → shapedWords words body read ≡ shapedWords words′ body read
@@ -131,6 +134,7 @@ module _ (words words′ paper : List ℕ) (lent : length words ≡ wordCount) (
         let family = familyPart (shape .family) body in
         let good = isAccepted base cycles family (shape .unnamed) in
         by-log (logJudged shape body) good end (baseBegun (shapeAt place shape) base cycles family end)
+        (wordsAfter words base cycles family (shape .syllabus) (shape .unnamed)) (wordsAfter words′ base cycles family (shape .syllabus) (shape .unnamed))
         (by-base (shapeAt place shape) base cycles family end good refl) e
 
     by : (opened : Opened) → openedBegun paper opened .event ≡ SetUp → openedWords words paper opened ≡ openedWords words′ paper opened
