@@ -1,7 +1,7 @@
 use borrow.Author.Needs.{needs}
-use Rattle.lines.proofs.Hex.{digit-sum}
-use Rattle.lines.proofs.hex_digit.Statement.{statement}
-use Rattle.lines.proofs.hex_digit.Tie as tie
+use Rattle.hex.proofs.Digits.{digit-sum}
+use Rattle.hex.proofs.hex_digit.Statement.{statement}
+use Rattle.hex.proofs.hex_digit.Tie as tie
 
 returns : tie.Need-returns
 returns c = digit-sum (c .args .n) (c .pre)
