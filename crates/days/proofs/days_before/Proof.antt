@@ -1,9 +1,9 @@
 use borrow.Author.Needs.{needs}
 use mathlib.Core.Path.{sym}
 use lib.ListN.{List·getD-eq-default}
-use Rattle.calendar.specs.Calendar.{beforeMonths}
-use Rattle.calendar.proofs.days_before.Statement.{statement}
-use Rattle.calendar.proofs.days_before.Tie as tie
+use Rattle.days.specs.Days.{beforeMonths}
+use Rattle.days.proofs.days_before.Statement.{statement}
+use Rattle.days.proofs.days_before.Tie as tie
 
 returns-2 : tie.Need-returns-2
 returns-2 c = sym (List·getD-eq-default beforeMonths 0 (c .if1 .left))

@@ -1,6 +1,6 @@
 use mathlib.Core.Path.{refl}
-use Rattle.calendar.proofs.is_leap.Statement.{statement}
-use Rattle.calendar.proofs.is_leap.Tie as tie
+use Rattle.days.proofs.is_leap.Statement.{statement}
+use Rattle.days.proofs.is_leap.Tie as tie
 
 returns : tie.Need-returns
 returns c = refl

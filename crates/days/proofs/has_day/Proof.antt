@@ -1,7 +1,7 @@
 use borrow.Author.Needs.{needs}
-use Rattle.calendar.specs.Calendar.{hasDay}
-use Rattle.calendar.proofs.has_day.Statement.{statement}
-use Rattle.calendar.proofs.has_day.Tie as tie
+use Rattle.days.specs.Days.{hasDay}
+use Rattle.days.proofs.has_day.Statement.{statement}
+use Rattle.days.proofs.has_day.Tie as tie
 
 returns : tie.Need-returns
 unfolding hasDay
