@@ -1,7 +1,7 @@
 use borrow.Author.Tests.{eq-eqb, ne-eqb}
-use Rattle.slot.specs.Slot.{slotOf}
-use Rattle.slot.proofs.slot_of.Statement.{statement}
-use Rattle.slot.proofs.slot_of.Tie as tie
+use Rattle.block.specs.Block.{slotOf}
+use Rattle.block.proofs.slot_of.Statement.{statement}
+use Rattle.block.proofs.slot_of.Tie as tie
 
 returns : tie.Need-returns
 unfolding slotOf

@@ -1,7 +1,7 @@
 use borrow.Author.Needs.{needs}
-use Rattle.slot.specs.Slot.{isSlotSound}
-use Rattle.slot.proofs.is_sound.Statement.{statement}
-use Rattle.slot.proofs.is_sound.Tie as tie
+use Rattle.block.specs.Block.{isSlotSound}
+use Rattle.block.proofs.is_sound.Statement.{statement}
+use Rattle.block.proofs.is_sound.Tie as tie
 
 returns : tie.Need-returns
 unfolding isSlotSound

@@ -4,8 +4,8 @@ use mathlib.Core.Bool.{Bool, true, false, cond}
 use Prim.Native.Nat.{ℕ, _/_, _%_, _≤_}
 use native.Mathlib.Omega.{arith}
 use lib.Dec.{eqb}
-use Rattle.slot.specs.Slot.{slotOf, numberOf}
-use Rattle.slot.specs.declared.Slot.the-variants.{Accumulator, Counter}
+use Rattle.block.specs.Block.{slotOf, numberOf}
+use Rattle.block.specs.declared.Slot.the-variants.{Accumulator, Counter}
 
 by-bits : (s t : Bool) (x : ℕ) → x ≤ 4 → numberOf (cond s (Accumulator x) (Counter (cond t 4 x))) ≤ 4
 by-bits true t x h = h

@@ -1,6 +1,6 @@
 use borrow.Author.Needs.{needs}
-use Rattle.slot.proofs.block_value.Statement.{statement}
-use Rattle.slot.proofs.block_value.Tie as tie
+use Rattle.block.proofs.block_value.Statement.{statement}
+use Rattle.block.proofs.block_value.Tie as tie
 
 returns : tie.Need-returns
 returns c = simp (c .pairs-value .ensures, c .before .enum-told .given .1)

@@ -1,6 +1,6 @@
 use borrow.Author.Needs.{needs}
-use Rattle.slot.proofs.block_fits.Statement.{statement}
-use Rattle.slot.proofs.block_fits.Tie as tie
+use Rattle.block.proofs.block_fits.Statement.{statement}
+use Rattle.block.proofs.block_fits.Tie as tie
 
 returns : tie.Need-returns
 returns c =
