@@ -1,7 +1,7 @@
 use borrow.Author.Needs.{needs}
-use Rattle.put_data.specs.PutData.{listPlace}
-use Rattle.put_data.proofs.list_place.Statement.{statement}
-use Rattle.put_data.proofs.list_place.Tie as tie
+use Rattle.frame.specs.Frame.{listPlace}
+use Rattle.frame.proofs.list_place.Statement.{statement}
+use Rattle.frame.proofs.list_place.Tie as tie
 
 returns : tie.Need-returns
 unfolding listPlace

@@ -1,7 +1,7 @@
 use borrow.Author.Needs.{needs}
-use Rattle.put_data.specs.PutData.{isSecured}
-use Rattle.put_data.proofs.is_secured.Statement.{statement}
-use Rattle.put_data.proofs.is_secured.Tie as tie
+use Rattle.frame.specs.Frame.{isSecured}
+use Rattle.frame.proofs.is_secured.Statement.{statement}
+use Rattle.frame.proofs.is_secured.Tie as tie
 
 returns : tie.Need-returns
 unfolding isSecured

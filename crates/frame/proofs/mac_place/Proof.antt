@@ -1,7 +1,7 @@
 use borrow.Author.Needs.{needs}
-use Rattle.put_data.specs.PutData.{macPlace}
-use Rattle.put_data.proofs.mac_place.Statement.{statement}
-use Rattle.put_data.proofs.mac_place.Tie as tie
+use Rattle.frame.specs.Frame.{macPlace}
+use Rattle.frame.proofs.mac_place.Statement.{statement}
+use Rattle.frame.proofs.mac_place.Tie as tie
 
 returns : tie.Need-returns
 unfolding macPlace

@@ -1,7 +1,7 @@
 use borrow.Author.Needs.{needs}
-use Rattle.put_data.specs.PutData.{isPutData}
-use Rattle.put_data.proofs.is_put_data.Statement.{statement}
-use Rattle.put_data.proofs.is_put_data.Tie as tie
+use Rattle.frame.specs.Frame.{isPutData}
+use Rattle.frame.proofs.is_put_data.Statement.{statement}
+use Rattle.frame.proofs.is_put_data.Tie as tie
 
 returns : tie.Need-returns
 unfolding isPutData
