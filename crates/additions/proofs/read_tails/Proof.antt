@@ -1,7 +1,7 @@
 use borrow.Author.Needs.{needs}
 use Rattle.shape.specs.Shape.{tailsOf}
-use Rattle.shape.proofs.read_tails.Statement.{statement}
-use Rattle.shape.proofs.read_tails.Tie as tie
+use Rattle.additions.proofs.read_tails.Statement.{statement}
+use Rattle.additions.proofs.read_tails.Tie as tie
 
 returns : tie.Need-returns
 unfolding tailsOf

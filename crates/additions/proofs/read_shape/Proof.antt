@@ -1,9 +1,9 @@
 use borrow.Author.Needs.{needs}
 use borrow.Author.Tests.{eq-eqb, ne-eqb}
 use mathlib.Core.Path.{sym, _∙_}
 use Rattle.shape.specs.Shape.{shapeOf}
-use Rattle.shape.proofs.read_shape.Statement.{statement}
-use Rattle.shape.proofs.read_shape.Tie as tie
+use Rattle.additions.proofs.read_shape.Statement.{statement}
+use Rattle.additions.proofs.read_shape.Tie as tie
 
 returns : tie.Need-returns
 unfolding shapeOf
