@@ -1,9 +1,9 @@
 use borrow.Author.Needs.{needs}
 use native.Mathlib.Omega.{arith}
 use lib.ListN.{length-set}
 use Rattle.rules.specs.Limits.{limitsPut}
-use Rattle.rules.proofs.put_limits.Statement.{statement}
-use Rattle.rules.proofs.put_limits.Tie as tie
+use Rattle.new_limits.proofs.put_limits.Statement.{statement}
+use Rattle.new_limits.proofs.put_limits.Tie as tie
 
 slice-write-words-2 : tie.Need-slice-write-words-2
 slice-write-words-2 c = simp length-set (omega arith)

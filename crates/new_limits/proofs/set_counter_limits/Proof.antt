@@ -4,13 +4,13 @@ use denote.Ref.{now}
 use mathlib.Core.Path.{_≡_, sym, ap, _∙_}
 use native.Mathlib.Omega.{arith}
 use lib.ListN.{length}
 use Rattle.rules.specs.Rules.{rulesOf}
 use Rattle.rules.specs.Limits.{counterLimitsPut}
 use Rattle.rules.specs.Word.{wordCount}
 use Rattle.rules.proofs.Limits.{words-whole, counter-limited}
-use Rattle.rules.proofs.Put.{counter-limits}
-use Rattle.rules.proofs.set_counter_limits.Statement.{statement}
-use Rattle.rules.proofs.set_counter_limits.Tie as tie
+use Rattle.new_limits.proofs.Put.{counter-limits}
+use Rattle.new_limits.proofs.set_counter_limits.Statement.{statement}
+use Rattle.new_limits.proofs.set_counter_limits.Tie as tie
 
 returns : tie.Need-returns
 unfolding counterLimitsPut

@@ -1,8 +1,8 @@
 use borrow.Author.Needs.{needs}
 use denote.Ref.{now}
-use Rattle.rules.proofs.Put.{in-all}
-use Rattle.rules.proofs.put_limits_in_all.Statement.{statement}
-use Rattle.rules.proofs.put_limits_in_all.Tie as tie
+use Rattle.new_limits.proofs.Put.{in-all}
+use Rattle.new_limits.proofs.put_limits_in_all.Statement.{statement}
+use Rattle.new_limits.proofs.put_limits_in_all.Tie as tie
 
 returns : tie.Need-returns
 returns c =

@@ -3,13 +3,13 @@ use borrow.Author.Tests.{lt-ltb, le-ltb}
 use denote.Ref.{now}
 use mathlib.Core.Path.{_≡_, sym, ap, _∙_}
 use lib.ListN.{length}
 use Rattle.rules.specs.Rules.{rulesOf}
 use Rattle.rules.specs.Limits.{accumulatorLimitsPut}
 use Rattle.rules.specs.Word.{wordCount}
 use Rattle.rules.proofs.Limits.{words-whole, accumulator-limited}
-use Rattle.rules.proofs.Put.{accumulator-limits}
-use Rattle.rules.proofs.set_accumulator_limits.Statement.{statement}
-use Rattle.rules.proofs.set_accumulator_limits.Tie as tie
+use Rattle.new_limits.proofs.Put.{accumulator-limits}
+use Rattle.new_limits.proofs.set_accumulator_limits.Statement.{statement}
+use Rattle.new_limits.proofs.set_accumulator_limits.Tie as tie
 
 returns : tie.Need-returns
 unfolding accumulatorLimitsPut
