@@ -16,7 +16,7 @@ use Rattle.fields.specs.Fields.{entryLength, position, blockLength, blocks, che
 use Rattle.ranges.proofs.Decides.{Decides, _and_, _with_, at-most, below, equal as equals, itself, stated, denied, each}
 use Rattle.slot.specs.Slot.{testsSlot, slotOf, blockFits, isSlotSound}
 use Rattle.slot.specs.declared.Slots.{Slots}
-use Rattle.slot.specs.declared.Slot.the-variants.{Accumulator, Counter}
+use Rattle.block.specs.declared.Slot.the-variants.{Accumulator, Counter}
 use Rattle.entry.specs.Entry.{isWellFormed}
 use Rattle.annex.specs.Annex.{Bytes, Digits, total, start, width, count, check, bit, OfAccumulator, OfCounter, OfSlot, IllFormed}
 use Rattle.annex.specs.Annex.{cut-short, below-six, unfit, below-two, no-width, no-start, unknown-check}

@@ -98,11 +98,7 @@ fn put_byte(room: &mut [u8], at: usize, byte: u8, last: bool) -> usize
     requires { ⌜ at + 3 ≤ length (now room) ⌝ }
     ensures { λ r. ⌜ Stored (now (room .entry)) at (hexByte byte ++ feed last) 3 r (now (room .exit)) ⌝ }
 {
-    let at = put_text(
-        room,
-        at,
-        &[lines::upper_digit(byte), lines::lower_digit(byte)],
-    );
+    let at = put_text(room, at, &[hex::upper_digit(byte), hex::lower_digit(byte)]);
     if last {
         return put_text(room, at, b"\n");
     }

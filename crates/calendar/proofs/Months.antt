@@ -1,29 +1,16 @@
 -- Where months and years begin and end. Assumes nothing.
 use mathlib.Core.Path.{_≡_, refl}
 use mathlib.Core.Bool.{Bool, true, false, cond, _&&_, _||_}
-use mathlib.Core.List.{List, [], _∷_}
 use Prim.Native.Nat.{ℕ, zero, suc, _+_, _*_, _/_, _%_, _≤_, _<_}
 use native.Mathlib.Omega.{arith}
 use borrow.Author.Tests.{ltb-true, ltb-false, eqb-true, eqb-false}
 use lib.Dec.{leb, ltb, eqb, leb→le, eqb→eq}
-use lib.ListN.{getD}
 use Rattle.calendar.specs.declared.Date.{Date}
-use Rattle.calendar.specs.Calendar.{yearOf, monthOf, dayOf, isLeap, beforeMonths, daysBefore, dayNumber, daysOf}
+use Rattle.calendar.specs.Calendar.{yearOf, monthOf, dayOf, isLeap, daysBefore, dayNumber, daysOf}
+use Rattle.days.proofs.Before.{before-most}
 use Rattle.calendar.proofs.Every.{every, at}
 
 -- ---- bounds of any month and any date
-
-abbrev Most : ℕ → List ℕ → Type 0
-Most n [] = Unit
-Most n (x ∷ xs) = (x ≤ n) × Most n xs
-
-most : (n : ℕ) (xs : List ℕ) (i : ℕ) → Most n xs → getD xs i 0 ≤ n
-most n [] i h = omega arith
-most n (x ∷ xs) zero h = h .0
-most n (x ∷ xs) (suc i) h = most n xs i (h .1)
-
-pub before-most : (month : ℕ) → daysBefore month ≤ 334
-before-most month = most 334 beforeMonths month (omega arith)
 
 bit-most : (b : Bool) → cond b 1 0 ≤ 1
 bit-most true = omega arith

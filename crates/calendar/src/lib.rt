@@ -1,7 +1,9 @@
 // The calendar of the years 2000 to 2099: which dates are calendar days, how days are counted, and
 // in which cycle a day falls.
 ghost use mathlib.Core.Path.{_≡_};
-ghost use Rattle.calendar.specs.Calendar.{dateAt, codeOf, isBefore, yearOf, monthOf, dayOf, isLeap, monthLength, hasDay, hasDigits, isDay, daysBefore, dayNumber, daysOf, cycleOf, begins};
+ghost use Rattle.calendar.specs.Calendar.{dateAt, codeOf, isBefore, yearOf, monthOf, dayOf, hasDigits, isDay, daysOf, cycleOf, begins};
+use days::day_number;
+use days::has_day;
 
 // YYMMDD as it is written, two decimal digits to a byte. The year is 2000 + YY.
 pub struct Date {
@@ -68,31 +70,6 @@ fn day_of(date: Date) -> u8
     wire::pair_value(date.day)
 }
 
-// Every fourth year from 2000 to 2099 is a leap year.
-fn is_leap(year: u8) -> bool
-    ensures { λ r. ⌜ r ≡ isLeap year ⌝ }
-{
-    year % 4 == 0
-}
-
-// The days of a month.
-fn month_length(year: u8, month: u8) -> u8
-    ensures { λ r. ⌜ r ≡ monthLength year month ⌝ }
-{
-    match month {
-        2 => { if is_leap(year) { 29 } else { 28 } }
-        4 | 6 | 9 | 11 => 30,
-        _ => 31,
-    }
-}
-
-// Whether there is such a month, and such a day in it.
-fn has_day(year: u8, month: u8, day: u8) -> bool
-    ensures { λ r. ⌜ r ≡ hasDay year month day ⌝ }
-{
-    (1 <= month) & (month <= 12) & (1 <= day) & (day <= month_length(year, month))
-}
-
 // Whether a date is written in six decimal digits.
 fn has_digits(date: Date) -> bool
     ensures { λ r. ⌜ r ≡ hasDigits date ⌝ }
@@ -105,30 +82,6 @@ pub fn is_day(date: Date) -> bool
     ensures { λ r. ⌜ r ≡ isDay date ⌝ }
 {
     has_digits(date) & has_day(year_of(date), month_of(date), day_of(date))
-}
-
-// The days of a common year before each month; there is no month 0.
-const DAYS_BEFORE: [u32; 13] = [0, 0, 31, 59, 90, 120, 151, 181, 212, 243, 273, 304, 334];
-
-fn days_before(month: u8) -> u32
-    ensures { λ r. ⌜ r ≡ daysBefore month ⌝ }
-{
-    let at = month as usize;
-    if at < 13 { DAYS_BEFORE[at] } else { 0 }
-}
-
-// The leap days of the years before this one are (year + 3) / 4, for 2000 has one; this year's
-// counts from March on.
-fn day_number(year: u8, month: u8, day: u8) -> u32
-    ensures { λ r. ⌜ r ≡ dayNumber year month day ⌝ }
-{
-    let years = 365 * year as u32 + (year as u32 + 3) / 4;
-    let days = years + days_before(month) + day as u32;
-    if (2 < month) & is_leap(year) {
-        days + 1
-    } else {
-        days
-    }
 }
 
 // The days from Friday 31 December 1999 to a date.

@@ -173,7 +173,7 @@ fn data_action(entry: &[u8], data: &[u8]) -> Action
 fn slot_action(entry: &[u8], data: &[u8], slots: Slots) -> Action
     ensures { λ r. ⌜ r ≡ slotAction (now (entry .entry)) (now («data» .entry)) slots ⌝ }
 {
-    if !slot::is_sound(entry) {
+    if !block::is_sound(entry) {
         return Action::Refused;
     }
     if slot::lacks_amount(entry, data) {

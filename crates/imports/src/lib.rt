@@ -47,8 +47,8 @@ fn hex_of(bytes: &[u8]) -> [u8; 30]
 {
     let mut text = [0u8; 30];
     for i in 0..15 {
-        text[2 * i] = lines::upper_digit(bytes[i]);
-        text[2 * i + 1] = lines::lower_digit(bytes[i]);
+        text[2 * i] = hex::upper_digit(bytes[i]);
+        text[2 * i + 1] = hex::lower_digit(bytes[i]);
     }
     text
 }

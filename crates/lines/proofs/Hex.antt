@@ -1,39 +1,14 @@
 -- Bytes in hex: one more at a time, how many digits they have, and that these read back. Assumes nothing.
 use mathlib.Core.Path.{_≡_, refl, sym}
-use mathlib.Core.Bool.{Bool, true, false, cond}
 use mathlib.Core.List.{List, [], _∷_, _++_, append-assoc}
-use Prim.Native.Nat.{ℕ, _+_, _*_, _-_, _/_, _%_, _≤_, _<_}
+use Prim.Native.Nat.{ℕ, _+_, _*_, _/_, _%_, _≤_, _<_}
 use native.Mathlib.Numerals.{add-one}
 use native.Mathlib.Omega.{arith}
-use borrow.Author.Tests.{ltb-true, ltb-false, lt-ltb, le-ltb}
-use lib.Dec.{ltb}
 use lib.ListN.{length, take, getD}
 use lib.Seq.{take-suc}
-use Rattle.lines.specs.Lines.{hexDigit, hexByte, hex}
+use Rattle.lines.specs.Lines.{hexByte, hex}
+use Rattle.hex.proofs.Digits.{unhex, one}
 use Rattle.lines.proofs.Each.{Each, none, more}
-
--- the number that a digit stands for
-abbrev unhex : ℕ → ℕ
-unhex d = cond (ltb d 58) (d - 48) (d - 55)
-
--- a digit: its code as a sum, its least code, and that it reads back
-record Digit (n d : ℕ) : Type 0 where
-  sum : n < 16 → 48 + n + n / 10 * 7 ≡ d
-  least : 48 ≤ d
-  back : unhex d ≡ n
-
-one : (n : ℕ) → Digit n (hexDigit n)
-one n = by (ltb n 10) refl where
-  by : (t : Bool) → ltb n 10 ≡ t → Digit n (hexDigit n)
-  by true e =
-      let small = ltb-true n 10 e in
-      rw e (record { sum = λ h. omega arith; least = omega arith; back = simp (lt-ltb (48 + n) 58 (omega arith)) (omega arith) })
-  by false e =
-      let large = ltb-false n 10 e in
-      rw e (record { sum = λ h. omega arith; least = omega arith; back = simp (le-ltb (55 + n) 58 (omega arith)) (omega arith) })
-
-pub digit-sum : (n : ℕ) → n < 16 → 48 + n + n / 10 * 7 ≡ hexDigit n
-digit-sum n = one n .sum
 
 append : (s t : List ℕ) → hex (s ++ t) ≡ hex s ++ hex t
 unfolding hex

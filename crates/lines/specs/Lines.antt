@@ -6,6 +6,8 @@ use lib.Dec.{leb, ltb}
 use lib.ListN.{length, take, drop, replicate}
 use Rattle.iad.specs.declared.Iad.{Iad}
 use Rattle.iad.specs.Iad.{written}
+pub use Rattle.hex.specs.Hex.{hexDigit, hexByte}
+unfoldable pub use Rattle.hex.specs.Hex.{hex}
 
 -- the digit of a unit (1, 10, 100, ..), none where the number is smaller
 unfoldable pub digit : ℕ → ℕ → List ℕ
@@ -14,17 +16,6 @@ digit n unit = cond (ltb n unit) [] ((48 + n / unit % 10) ∷ [])
 -- a number below 100,000: no zero in front, and 0 is "0"
 unfoldable pub decimal : ℕ → List ℕ
 decimal n = digit n 10_000 ++ digit n 1_000 ++ digit n 100 ++ digit n 10 ++ (48 + n % 10) ∷ []
-
--- "0" to "9", then "A" to "F"
-abbrev pub hexDigit : ℕ → ℕ
-hexDigit n = cond (ltb n 10) (48 + n) (55 + n)
-
-abbrev pub hexByte : ℕ → List ℕ
-hexByte byte = hexDigit (byte / 16) ∷ hexDigit (byte % 16) ∷ []
-
-unfoldable pub hex : List ℕ → List ℕ
-hex [] = []
-hex (byte ∷ bytes) = hexByte byte ++ hex bytes
 
 -- fields with one space between them, and a line feed at the end
 abbrev pub line : List ℕ → List (List ℕ) → List ℕ

@@ -2,14 +2,16 @@
 // returned.
 ghost use mathlib.Core.Path.{_≡_};
 ghost use mathlib.Core.List.{[], _∷_, _++_};
-ghost use Prim.Native.Nat.{_+_, _*_, _-_, _/_, _%_, _≤_, _<_};
+ghost use Prim.Native.Nat.{_+_, _*_, _-_, _≤_, _<_};
 ghost use lib.ListN.{length, replicate};
 ghost use Rattle.iad.specs.Iad.{written};
-ghost use Rattle.lines.specs.Lines.{decimal, hexDigit, hexByte, hex};
+ghost use Rattle.lines.specs.Lines.{decimal, hexByte, hex};
 ghost use Rattle.lines.specs.Lines.{refusalLine, cryptogramLine, placed, placeBehind};
 ghost use Rattle.lines.specs.Sitting.{startedLine, answerLine};
 ghost use Rattle.card.specs.Card.{answerNumber};
 ghost use Rattle.lines.specs.Stored.{Stored};
+use hex::lower_digit;
+use hex::upper_digit;
 use iad::Iad;
 use state::Answer;
 
@@ -87,28 +89,6 @@ fn put_decimal(room: &mut [u8], at: usize, n: u16, mark: u8) -> usize
     }
     let at = put_hundreds(room, at, n);
     put_byte(room, at, mark)
-}
-
-// "0" to "9", then "A" to "F", whose codes begin 7 further on.
-fn hex_digit(n: u8) -> u8
-    requires { ⌜ n < 16 ⌝ }
-    ensures { λ r. ⌜ r ≡ hexDigit n ⌝ }
-{
-    b'0' + n + n / 10 * 7
-}
-
-// The hex digit of a byte's upper half.
-pub fn upper_digit(byte: u8) -> u8
-    ensures { λ r. ⌜ r ≡ hexDigit (byte / 16) ⌝ }
-{
-    hex_digit(byte / 16)
-}
-
-// The hex digit of a byte's lower half.
-pub fn lower_digit(byte: u8) -> u8
-    ensures { λ r. ⌜ r ≡ hexDigit (byte % 16) ⌝ }
-{
-    hex_digit(byte % 16)
 }
 
 fn put_hex_byte(room: &mut [u8], at: usize, byte: u8) -> usize

@@ -31,7 +31,7 @@ fn put_hex_byte(room: &mut [u8], at: usize, value: u8) -> usize
     text::put(
         room,
         at,
-        &[lines::upper_digit(value), lines::lower_digit(value)],
+        &[hex::upper_digit(value), hex::lower_digit(value)],
     )
 }
 

@@ -9,8 +9,8 @@ use borrow.Author.Tests.{ltb-true, ltb-false, lt-ltb, le-ltb, le-leb, lt-leb}
 use lib.Dec.{ltb}
 use lib.ListN.{length, length-append}
 use lib.Seq.{sets, length-sets}
-use Rattle.lines.specs.Stored.{Stored}
-use Rattle.lines.proofs.Stores as store
+use Rattle.text.specs.Stored.{Stored}
+use Rattle.text.proofs.Stores as store
 use Rattle.numerals.specs.Numeral.{digitsOf, numeral, longest, numberPlaced, numberBehind}
 
 -- the tenth has a digit less

@@ -3,7 +3,7 @@ ghost use mathlib.Core.Path.{_≡_};
 ghost use mathlib.Core.List.{[], _∷_};
 ghost use Prim.Native.Nat.{_+_, _≤_, _<_};
 ghost use lib.ListN.{length};
-ghost use Rattle.lines.specs.Stored.{Stored};
+ghost use Rattle.text.specs.Stored.{Stored};
 ghost use Rattle.numerals.specs.Numeral.{numeral, numberPlaced, numberBehind};
 
 // The most digits that a number has.

@@ -249,7 +249,7 @@ fn take_setup(version: u8, body: &[u8], place: usize, end: usize, words: &mut Wo
     ensures { λ r. ⌜ (r ≡ setupBegun version (now (body .entry)) place end)
         × (now (words .exit) ≡ setupWords (now (words .entry)) version (now (body .entry))) ⌝ }
 {
-    match shape::read_shape(version, body) {
+    match additions::read_shape(version, body) {
         ReadShape::Refused(refusal) => refuse(refusal, end),
         ReadShape::Taken(shape) => take_shaped(shape, body, place, end, words),
     }

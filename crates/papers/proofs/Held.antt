@@ -11,11 +11,11 @@ use Rattle.wire.specs.Wire.{byte}
 use Rattle.rules.specs.declared.Values.{Values}
 use Rattle.purchase.specs.Meter.{Meter, accumulator, counter, IsMeter, valueOf}
 use Rattle.slot.specs.declared.Slots.{Slots}
-use Rattle.slot.specs.declared.Slot.{Slot}
-use Rattle.slot.specs.declared.Slot.the-variants.{Accumulator, Counter}
+use Rattle.block.specs.declared.Slot.{Slot}
+use Rattle.block.specs.declared.Slot.the-variants.{Accumulator, Counter}
 use Rattle.slot.specs.Slot.{numberOf}
 use Rattle.slot.specs.Slot as S
-use Rattle.slot.proofs.Facts.{to-four}
+use Rattle.block.proofs.Facts.{to-four}
 use Rattle.selection.specs.Selection.{selectionOf}
 use Rattle.selection.specs.Visits.{Tests}
 use Rattle.selection.proofs.Only.{only-tested}

@@ -1,13 +1,14 @@
 -- The PUT DATA command of an issuer script, and what it writes (request Twelve; CPA 18.8, Tables 18-6 and J-1). A command that fails writes nothing.
-use mathlib.Core.Bool.{Bool, true, false, cond, _&&_, _||_}
+use mathlib.Core.Bool.{Bool, true, false, cond, _&&_}
 use mathlib.Core.List.{List, [], _∷_}
 use mathlib.Core.Option.{Option, none, some}
 use Prim.Native.Nat.{ℕ, zero, suc, _+_, _-_}
 use lib.ListN.{length, take, drop}
 use lib.Dec.{leb, eqb}
-use Rattle.wire.specs.Wire.{byte, number}
 use Rattle.element.specs.declared.Write.{Write}
-use Rattle.element.specs.Element.{isLength, lengthSize, lengthAt, elementSize, elementMeaning}
+use Rattle.element.specs.Element.{lengthAt, elementSize, elementMeaning}
+pub use Rattle.frame.specs.Frame.{objectOf}
+unfoldable pub use Rattle.frame.specs.Frame.{isPutData, listPlace, macPlace, isSecured}
 use Rattle.put_data.specs.declared.Next.{Next}
 use Rattle.put_data.specs.declared.Next.the-variants.{Element, End, Fault}
 
@@ -28,26 +29,6 @@ writesBy object zero (b ∷ s) =
 
 abbrev pub writesIn : (object : ℕ) → List ℕ → Option (List Write)
 writesIn object s = writesBy object 0 s
-
--- THE COMMAND: 0C DA, P1 P2, Lc, and exactly Lc bytes
-abbrev pub objectOf : List ℕ → ℕ
-objectOf c = number c 2 2
-
-unfoldable pub isPutData : List ℕ → Bool
-isPutData c =
-    eqb (byte c 0) 0x0C && eqb (byte c 1) 0xDA && (eqb (objectOf c) 0xBF30 || eqb (objectOf c) 0xBF35) && eqb (length c) (5 + byte c 4)
-
--- these: 81, a length and the elements; 8E 04 and four bytes, which are not looked at
-unfoldable pub listPlace : List ℕ → ℕ
-listPlace c = 6 + lengthSize c 6
-
-unfoldable pub macPlace : List ℕ → ℕ
-macPlace c = listPlace c + lengthAt c 6
-
-unfoldable pub isSecured : List ℕ → Bool
-isSecured c =
-    eqb (byte c 5) 0x81 && isLength (byte c 6)
-    && eqb (byte c (macPlace c)) 0x8E && eqb (byte c (macPlace c + 1)) 4 && eqb (length c) (macPlace c + 6)
 
 -- the elements, none where the command ends before they do
 unfoldable pub elementsOf : List ℕ → List ℕ

@@ -17,8 +17,8 @@ use Rattle.fields.specs.Fields.{entryLength, position, blockLength, blocks, che
 use Rattle.slot.specs.Slot.{testsSlot, slotOf, addsTransaction, blockFits, isSlotSound, hasAmount, lacksAmount}
 use Rattle.slot.specs.Slot.{valueOf, slotValue, slotPasses}
 use Rattle.slot.specs.declared.Slots.{Slots}
-use Rattle.slot.specs.declared.Slot.{Slot}
-use Rattle.slot.specs.declared.Slot.the-variants.{Accumulator, Counter}
+use Rattle.block.specs.declared.Slot.{Slot}
+use Rattle.block.specs.declared.Slot.the-variants.{Accumulator, Counter}
 use Rattle.entry.specs.Entry.{isWellFormed, reachesPast, masked, passes, dataAction, slotAction, actionTaken}
 use Rattle.entry.proofs.Facts.{has-position, has-length, same-test}
 use Rattle.selection.specs.Visits.{stretch, looked, Names}

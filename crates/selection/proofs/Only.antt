@@ -9,9 +9,9 @@ use lib.ListN.{length, getD}
 use Rattle.fields.specs.Fields.{checkType}
 use Rattle.slot.specs.Slot.{testsSlot, valueOf}
 use Rattle.slot.specs.declared.Slots.{Slots}
-use Rattle.slot.specs.declared.Slot.{Slot}
-use Rattle.slot.specs.declared.Slot.the-variants.{Accumulator}
-use Rattle.slot.proofs.Facts.{to-three}
+use Rattle.block.specs.declared.Slot.{Slot}
+use Rattle.block.specs.declared.Slot.the-variants.{Accumulator}
+use Rattle.block.proofs.Facts.{to-three}
 use Rattle.entry.specs.Entry.{actionTaken}
 use Rattle.entry.specs.declared.Action.{Action}
 use Rattle.entry.specs.declared.Action.the-variants.{Profile, Move, Refused}

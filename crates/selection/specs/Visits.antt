@@ -7,7 +7,7 @@ use mathlib.Core.List.{List, [], _∷_, map}
 use lib.ListN.{getD, take, drop}
 use Rattle.fields.specs.Fields.{position, blockLength, checkType}
 use Rattle.slot.specs.declared.Slots.{Slots}
-use Rattle.slot.specs.declared.Slot.{Slot}
+use Rattle.block.specs.declared.Slot.{Slot}
 use Rattle.slot.specs.Slot.{testsSlot, slotOf, isSlotSound, asksAmount, valueOf}
 use Rattle.entry.specs.Entry.{actionTaken}
 use Rattle.entry.specs.declared.Action.{Action}

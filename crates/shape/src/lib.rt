@@ -1,26 +1,12 @@
 // The shape of a paper: what its version adds to a set-up's body. Behind the base stands a tail for
 // each addition, in the order of the versions, each beginning with a byte that can say "off". A
-// tail tells where it ends; the last one ends where the body does. No crate above knows a version.
+// tail tells where it ends; the last one ends where the body does.
 ghost use mathlib.Core.Path.{_≡_};
 ghost use Prim.Native.Nat.{_+_, _^_, _≤_, _<_};
 ghost use lib.ListN.{length};
 ghost use Rattle.shape.specs.Shape.{baseTail, entriesEnd, selectionTail, syllabusTail, dates, datingTail, families, familyTail, scriptingTail};
-ghost use Rattle.shape.specs.Shape.{tableEnd, logEnd, loggingTail, since, tailsOf, shapeOf};
+ghost use Rattle.shape.specs.Shape.{tableEnd, logEnd, loggingTail};
 use refusal::Refusal;
-
-// The first version with a tail that selects profiles, with a syllabus, with dates, with a card family,
-// with issuer scripts, and with a log.
-const SELECTION: u8 = 2;
-
-const SYLLABUS: u8 = 3;
-
-const DATES: u8 = 4;
-
-const FAMILY: u8 = 5;
-
-const SCRIPTS: u8 = 6;
-
-const LOG: u8 = 7;
 
 // The first mask bit without a name: 22, from version 04 on 25, and from version 05 on 26.
 const UNNAMED: u32 = 4_194_304;
@@ -83,7 +69,7 @@ pub enum ReadShape {
 }
 
 // The base, which is whole.
-fn read_base(body: &[u8]) -> Tails
+pub fn read_base(body: &[u8]) -> Tails
     ensures { λ r. ⌜ r ≡ baseTail (now (body .entry)) ⌝ }
 {
     let base = layout::base_length(body);
@@ -118,7 +104,7 @@ fn entries_end(body: &[u8], at: usize, entries: u8) -> usize
 }
 
 // Version 02's tail at a place: the switch; where it is on, the number of entries and the entries.
-fn read_selection(body: &[u8], shape: Shape, at: usize) -> Tails
+pub fn read_selection(body: &[u8], shape: Shape, at: usize) -> Tails
     ensures { λ r. ⌜ r ≡ selectionTail (now (body .entry)) shape at ⌝ }
 {
     if body.len() <= at {
@@ -160,7 +146,7 @@ fn read_selection(body: &[u8], shape: Shape, at: usize) -> Tails
 }
 
 // Version 03's tail at a place: the syllabus, 0 or 1.
-fn read_syllabus(body: &[u8], shape: Shape, at: usize) -> Tails
+pub fn read_syllabus(body: &[u8], shape: Shape, at: usize) -> Tails
     ensures { λ r. ⌜ r ≡ syllabusTail (now (body .entry)) shape at ⌝ }
 {
     if body.len() <= at {
@@ -209,7 +195,7 @@ fn with_dates(shape: Shape, dating: Dating) -> Shape
 }
 
 // Version 04's tail at a place: dated, 0 or 1; where it is on, 28 + 18p bytes in all.
-fn read_dating(body: &[u8], shape: Shape, at: usize) -> Tails
+pub fn read_dating(body: &[u8], shape: Shape, at: usize) -> Tails
     ensures { λ r. ⌜ r ≡ datingTail (now (body .entry)) shape at ⌝ }
 {
     if body.len() <= at {
@@ -255,7 +241,7 @@ fn with_family(shape: Shape, family: Family) -> Shape
 }
 
 // Version 05's tail at a place: the family, 0 CPA or 1 CPACE; for CPACE 9 + p bytes in all.
-fn read_family(body: &[u8], shape: Shape, at: usize) -> Tails
+pub fn read_family(body: &[u8], shape: Shape, at: usize) -> Tails
     ensures { λ r. ⌜ r ≡ familyTail (now (body .entry)) shape at ⌝ }
 {
     if body.len() <= at {
@@ -282,7 +268,7 @@ fn read_family(body: &[u8], shape: Shape, at: usize) -> Tails
 }
 
 // Version 06's tail at a place: scripts, 0 off or 1 on.
-fn read_scripting(body: &[u8], shape: Shape, at: usize) -> Tails
+pub fn read_scripting(body: &[u8], shape: Shape, at: usize) -> Tails
     ensures { λ r. ⌜ r ≡ scriptingTail (now (body .entry)) shape at ⌝ }
 {
     if body.len() <= at {
@@ -330,7 +316,7 @@ fn log_end(body: &[u8], at: usize) -> usize
 }
 
 // Version 07's tail at a place: the log, 0 off or 1 on; where it is on, its settings and two tables.
-fn read_logging(body: &[u8], shape: Shape, at: usize) -> Tails
+pub fn read_logging(body: &[u8], shape: Shape, at: usize) -> Tails
     ensures { λ r. ⌜ r ≡ loggingTail (now (body .entry)) shape at ⌝ }
 {
     if body.len() <= at {
@@ -363,108 +349,4 @@ fn read_logging(body: &[u8], shape: Shape, at: usize) -> Tails
         },
         at: end,
     }
-}
-
-// Version 02's tail behind the base; above the paper's version it is off and has no bytes.
-fn add_selection(version: u8, body: &[u8], tails: Tails) -> Tails
-    ensures { λ r. ⌜ r ≡ since 2 version tails (selectionTail (now (body .entry))) ⌝ }
-{
-    let Tails::Ended { shape, at } = tails else {
-        return Tails::Wrong;
-    };
-    if version < SELECTION {
-        return tails;
-    }
-    read_selection(body, shape, at)
-}
-
-// Version 03's tail behind that.
-fn add_syllabus(version: u8, body: &[u8], tails: Tails) -> Tails
-    ensures { λ r. ⌜ r ≡ since 3 version tails (syllabusTail (now (body .entry))) ⌝ }
-{
-    let Tails::Ended { shape, at } = tails else {
-        return Tails::Wrong;
-    };
-    if version < SYLLABUS {
-        return tails;
-    }
-    read_syllabus(body, shape, at)
-}
-
-// Version 04's tail behind that.
-fn add_dating(version: u8, body: &[u8], tails: Tails) -> Tails
-    ensures { λ r. ⌜ r ≡ since 4 version tails (datingTail (now (body .entry))) ⌝ }
-{
-    let Tails::Ended { shape, at } = tails else {
-        return Tails::Wrong;
-    };
-    if version < DATES {
-        return tails;
-    }
-    read_dating(body, shape, at)
-}
-
-// Version 05's tail behind that.
-fn add_family(version: u8, body: &[u8], tails: Tails) -> Tails
-    ensures { λ r. ⌜ r ≡ since 5 version tails (familyTail (now (body .entry))) ⌝ }
-{
-    let Tails::Ended { shape, at } = tails else {
-        return Tails::Wrong;
-    };
-    if version < FAMILY {
-        return tails;
-    }
-    read_family(body, shape, at)
-}
-
-// Version 06's tail behind that.
-fn add_scripting(version: u8, body: &[u8], tails: Tails) -> Tails
-    ensures { λ r. ⌜ r ≡ since 6 version tails (scriptingTail (now (body .entry))) ⌝ }
-{
-    let Tails::Ended { shape, at } = tails else {
-        return Tails::Wrong;
-    };
-    if version < SCRIPTS {
-        return tails;
-    }
-    read_scripting(body, shape, at)
-}
-
-// Version 07's tail behind that.
-fn add_logging(version: u8, body: &[u8], tails: Tails) -> Tails
-    ensures { λ r. ⌜ r ≡ since 7 version tails (loggingTail (now (body .entry))) ⌝ }
-{
-    let Tails::Ended { shape, at } = tails else {
-        return Tails::Wrong;
-    };
-    if version < LOG {
-        return tails;
-    }
-    read_logging(body, shape, at)
-}
-
-// The base and the tails of a version, one behind the other.
-fn read_tails(version: u8, body: &[u8]) -> Tails
-    ensures { λ r. ⌜ r ≡ tailsOf version (now (body .entry)) ⌝ }
-{
-    let base = read_base(body);
-    let selecting = add_selection(version, body, base);
-    let rounding = add_syllabus(version, body, selecting);
-    let dating = add_dating(version, body, rounding);
-    let family = add_family(version, body, dating);
-    let scripting = add_scripting(version, body, family);
-    add_logging(version, body, scripting)
-}
-
-// The shape of a body, or refusal 1 where bytes are missing or left over, or a tail is out of range.
-pub fn read_shape(version: u8, body: &[u8]) -> ReadShape
-    ensures { λ r. ⌜ r ≡ shapeOf version (now (body .entry)) ⌝ }
-{
-    let Tails::Ended { shape, at } = read_tails(version, body) else {
-        return ReadShape::Refused(Refusal::BadSetup);
-    };
-    if at == body.len() {
-        return ReadShape::Taken(shape);
-    }
-    ReadShape::Refused(Refusal::BadSetup)
 }

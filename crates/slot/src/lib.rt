@@ -1,5 +1,10 @@
-// An entry of a CPACE card's Profile Selection File that tests an accumulator or a counter, by CPACE
-// C.45 and Table 74. Its one block is what the value is compared with.
+// The test of an accumulator or a counter by an entry of a CPACE card's Profile Selection File: the value
+// against the entry's block, by CPACE C.45.
+use block::Slot;
+use block::adds_transaction;
+use block::asks_greater;
+use block::block_value;
+use block::slot_of;
 use digits::are_pairs;
 use digits::pairs_value;
 use fields::check_type;
@@ -7,8 +12,8 @@ use money::AccumulatorAmount;
 use wire::byte_at;
 ghost use mathlib.Core.Path.{_≡_};
 ghost use Prim.Native.Nat.{_-_, _≤_};
-ghost use Rattle.slot.specs.Slot.{testsSlot, slotOf, addsTransaction, asksGreater, blockFits, isSlotSound, asksAmount, hasAmount, lacksAmount};
-ghost use Rattle.slot.specs.Slot.{numberOf, valueOf, withTransaction, slotValue, blockValue, slotPasses};
+ghost use Rattle.slot.specs.Slot.{testsSlot, slotOf, asksAmount, hasAmount, lacksAmount};
+ghost use Rattle.slot.specs.Slot.{numberOf, valueOf, withTransaction, slotValue, slotPasses};
 
 // What a card's entries may test: of a CPA card nothing.
 pub struct Slots {
@@ -17,66 +22,11 @@ pub struct Slots {
     pub counts: [u8; 4],
 }
 
-// An accumulator or a counter, by its number.
-pub enum Slot {
-    Accumulator(u8),
-    Counter(u8),
-}
-
 // b8 of the check type. To a CPA card it says nothing.
 pub fn tests_slot(entry: &[u8], slots: Slots) -> bool
     ensures { λ r. ⌜ r ≡ testsSlot (now (entry .entry)) slots ⌝ }
 {
     slots.testable & (0x80 <= check_type(entry))
-}
-
-// b7 of a check type: an accumulator or a counter; b6 and b5: its number, and 00 is counter 4.
-fn slot_of(check: u8) -> Slot
-    ensures { λ r. ⌜ r ≡ slotOf check ⌝ }
-{
-    let number = check / 16 % 4;
-    if check / 64 % 2 == 1 {
-        return Slot::Accumulator(number);
-    }
-    if number == 0 {
-        return Slot::Counter(4);
-    }
-    Slot::Counter(number)
-}
-
-// b2: with the transaction.
-fn adds_transaction(check: u8) -> bool
-    ensures { λ r. ⌜ r ≡ addsTransaction check ⌝ }
-{
-    check / 2 % 2 == 1
-}
-
-// b1: greater than the block, or less.
-fn asks_greater(check: u8) -> bool
-    ensures { λ r. ⌜ r ≡ asksGreater check ⌝ }
-{
-    check % 2 == 1
-}
-
-// There is no accumulator 0. An accumulator's block is six bytes of digits, a counter's is one byte.
-fn block_fits(slot: Slot, entry: &[u8]) -> bool
-    ensures { λ r. ⌜ r ≡ blockFits slot (now (entry .entry)) ⌝ }
-{
-    match slot {
-        Slot::Accumulator(x) => (x != 0) & (byte_at(entry, 2) == 6) & are_pairs(entry, 4),
-        Slot::Counter(_) => byte_at(entry, 2) == 1,
-    }
-}
-
-// All of it is there, n is 1, and the block is one for its slot.
-pub fn is_sound(entry: &[u8]) -> bool
-    ensures { λ r. ⌜ r ≡ isSlotSound (now (entry .entry)) ⌝ }
-{
-    let length = byte_at(entry, 0) as usize;
-    (entry.len() == length + 1)
-        & (byte_at(entry, 3) == 1)
-        & (length == byte_at(entry, 2) as usize + 6)
-        & block_fits(slot_of(check_type(entry)), entry)
 }
 
 // The place of a number that counts from 1.
@@ -158,15 +108,6 @@ fn slot_value(entry: &[u8], data: &[u8], slots: Slots) -> u64
         return with_transaction(slot, value, data, byte_at(entry, 1));
     }
     value
-}
-
-fn block_value(slot: Slot, entry: &[u8]) -> u64
-    ensures { λ r. ⌜ r ≡ blockValue slot (now (entry .entry)) ⌝ }
-{
-    match slot {
-        Slot::Accumulator(_) => pairs_value(entry, 4),
-        Slot::Counter(_) => byte_at(entry, 4) as u64,
-    }
 }
 
 // Whether the value is greater than the block, or less.

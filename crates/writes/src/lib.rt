@@ -26,11 +26,11 @@ pub fn apply(words: &mut Words, values: Values, write: Write) -> Values
     match write {
         Write::Value { slot, amount } => put_value(values, slot, amount),
         Write::AccumulatorLimits { slot, lower, upper } => {
-            rules::set_accumulator_limits(words, slot, lower, upper);
+            new_limits::set_accumulator_limits(words, slot, lower, upper);
             values
         }
         Write::CounterLimits { slot, lower, upper } => {
-            rules::set_counter_limits(words, slot, lower, upper);
+            new_limits::set_counter_limits(words, slot, lower, upper);
             values
         }
     }

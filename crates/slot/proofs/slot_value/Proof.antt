@@ -1,7 +1,7 @@
 use borrow.Author.Needs.{needs}
 use mathlib.Core.Path.{sym, _∙_}
 use Rattle.slot.specs.Slot.{slotValue}
-use Rattle.slot.proofs.Facts.{to-four}
+use Rattle.block.proofs.Facts.{to-four}
 use Rattle.slot.proofs.slot_value.Statement.{statement}
 use Rattle.slot.proofs.slot_value.Tie as tie
 
