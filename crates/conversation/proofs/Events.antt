@@ -68,7 +68,8 @@ module _ (shape : Shape) (paper : List ℕ) where
         (record-end rules state end (commandIn shape (state .values) paper kind (part paper start end))) in
         (omega arith, omega arith)
 
-  at-end : (rules : Rules) (state : State) (at : ℕ) → length paper ≤ at → takenOf rules shape state paper at ≡ record { state = state; at = at; event = End }
+  pub at-end : (rules : Rules) (state : State) (at : ℕ) → length paper ≤ at
+      → takenOf rules shape state paper at ≡ record { state = state; at = at; event = End }
   unfolding takenOf nextAt
   at-end rules state at h = simp (le-leb (length paper) at h)
 

@@ -34,20 +34,21 @@ above f [] (more p r) = weaken (λ b h. omega arith) p
 above f (g ∷ fs) (more p r) = append (append (weaken (λ b h. omega arith) p) (more {a = 32} (omega arith) none)) (above g fs r)
 
 -- the last byte is the line feed, and no other is one
-pub record OneLine (s : List ℕ) : Type 0 where
+pub record Fed (s : List ℕ) : Type 0 where
   pub front : List ℕ
   pub ends : s ≡ front ++ 10 ∷ []
   pub alone : (i : ℕ) → i < length front → getD front i 0 ≡ 10 → ⊥
+
+pub fed-line : (f : List ℕ) (fs : List (List ℕ)) → Each Plain (f ∷ fs) → Fed (line f fs)
+fed-line f fs p = record { front = body f fs; ends = ended f fs; alone = λ i l e. let b = at (above f fs p) 0 i l in omega arith }
+
+-- and it is no longer than a sitting's longest line
+pub record OneLine (s : List ℕ) : Type 0 where
+  pub fed : Fed s
   pub short : length s ≤ longest
 
 pub one-line : (f : List ℕ) (fs : List (List ℕ)) → Each Plain (f ∷ fs) → length (line f fs) ≤ longest → OneLine (line f fs)
-one-line f fs p h =
-    record {
-      front = body f fs;
-      ends = ended f fs;
-      alone = λ i l e. let b = at (above f fs p) 0 i l in omega arith;
-      short = h;
-    }
+one-line f fs p h = record { fed = fed-line f fs p; short = h }
 
 -- where a field ends is told by the byte behind it
 cut : {a b : List ℕ} (c d : ℕ) (s t : List ℕ) → Plain a → Plain b → c ≤ 32 → d ≤ 32 → a ++ c ∷ s ≡ b ++ d ∷ t → (a ≡ b) × (c ≡ d) × (s ≡ t)

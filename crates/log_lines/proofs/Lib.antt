@@ -1,4 +1,5 @@
 pub mod Stores
 pub mod Octets
 pub mod Longest
+pub mod Plain
 pub mod Samples

@@ -31,12 +31,13 @@ as-long p h = record { is = p .is; behind = p .behind; short = omega (arith, p .
 
 -- a line, where the longest fits and where it does not
 pub place : {room after line : List ℕ} {at end : ℕ} → Stored room at line longest end after → at + longest ≤ length room
-    → (end ≡ placeBehind (length room) at line) × (after ≡ placed room at line)
+    → (end ≡ placeBehind (length room) at line) × (after ≡ placed room at line) × (end ≤ at + longest)
 unfolding placed placeBehind
 place {room} {after} {line} {at} p fits =
     let room-for = le-leb (at + longest) (length room) fits in
-    (simp room-for (p .behind), simp room-for (p .is))
+    (simp room-for (p .behind), simp room-for (p .is), p .short)
 
 pub stay : (room line : List ℕ) (at : ℕ) → length room < at + longest → (at ≡ placeBehind (length room) at line) × (room ≡ placed room at line)
+    × (at ≤ at + longest)
 unfolding placed placeBehind
-stay room line at full = let no-room = lt-leb (at + longest) (length room) full in (simp no-room, simp no-room)
+stay room line at full = let no-room = lt-leb (at + longest) (length room) full in (simp no-room, simp no-room, omega arith)

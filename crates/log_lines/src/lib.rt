@@ -212,7 +212,8 @@ pub fn put_line(
     kept: Record,
 ) -> usize
     ensures { λ r. ⌜ (r ≡ placeBehind (length (now (room .entry))) at (logLine k (now (paper .entry)) (now (tail .entry)) form kept))
-        × (now (room .exit) ≡ placed (now (room .entry)) at (logLine k (now (paper .entry)) (now (tail .entry)) form kept)) ⌝ }
+        × (now (room .exit) ≡ placed (now (room .entry)) at (logLine k (now (paper .entry)) (now (tail .entry)) form kept))
+        × (r ≤ at + longest) ⌝ }
 {
     if room.len() < at {
         return at;

@@ -223,7 +223,7 @@ line-told : (number : ℕ) (old text : List ℕ) → number < 10 ^ 20
     → allTold (linesRead (recordLine number old ++ text)) ≡ tellsOf number old ∷ allTold (linesRead text)
 unfolding allTold
 line-told number old text few =
-    ap allTold (line-first (recordLine number old) text (record-line number old))
+    ap allTold (line-first (recordLine number old) text (record-line number old .fed))
     ∙ ap (λ (t : Told). t ∷ allTold (linesRead text)) (record-told number old few)
 
 lines-told : (number : ℕ) {olds : List (List ℕ)} → Each Whole olds → (rest : List ℕ) → length rest < 20 → number + length olds < 10 ^ 20

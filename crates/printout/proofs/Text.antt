@@ -7,7 +7,7 @@ use borrow.Author.Tests.{ne-eqb}
 use lib.ListN.{length, take, drop, getD, length-append}
 use lib.Seq.{sets, sets-eq, length-take-le, take-at, drop-at}
 use Rattle.lines.proofs.Each.{Each, none, more}
-use Rattle.lines.proofs.Fields.{OneLine}
+use Rattle.lines.proofs.Fields.{Fed}
 use Rattle.transcript.specs.Transcript.{joined}
 use Rattle.printout.specs.Text.{linesRead, Holds}
 
@@ -17,13 +17,13 @@ unfolding linesRead
 up-to-feed [] text h = refl
 up-to-feed (c ∷ front) text h = rw (ne-eqb c 10 (h 0 (omega arith)), up-to-feed front text (λ i l. h (suc i) (omega arith)))
 
-pub line-first : (line text : List ℕ) → OneLine line → linesRead (line ++ text) ≡ line ∷ linesRead text
+pub line-first : (line text : List ℕ) → Fed line → linesRead (line ++ text) ≡ line ∷ linesRead text
 line-first line text o =
     ap (λ (l : List ℕ). linesRead (l ++ text)) (o .ends)
     ∙ up-to-feed (o .front) text (o .alone)
     ∙ ap (λ (l : List ℕ). l ∷ linesRead text) (sym (o .ends))
 
-pub lines-first : {lines : List (List ℕ)} → Each OneLine lines → (text : List ℕ) → linesRead (joined lines ++ text) ≡ lines ++ linesRead text
+pub lines-first : {lines : List (List ℕ)} → Each Fed lines → (text : List ℕ) → linesRead (joined lines ++ text) ≡ lines ++ linesRead text
 unfolding joined
 lines-first none text = refl
 lines-first (more {a = line} {s = lines} o r) text =
@@ -31,7 +31,7 @@ lines-first (more {a = line} {s = lines} o r) text =
     ∙ line-first line (joined lines ++ text) o
     ∙ ap (λ (l : List (List ℕ)). line ∷ l) (lines-first r text)
 
-pub only-lines : {lines : List (List ℕ)} → Each OneLine lines → linesRead (joined lines) ≡ lines
+pub only-lines : {lines : List (List ℕ)} → Each Fed lines → linesRead (joined lines) ≡ lines
 unfolding linesRead
 only-lines {lines} r = ap linesRead (sym (append-nil (joined lines))) ∙ lines-first r [] ∙ append-nil lines
 

@@ -1,7 +1,7 @@
 -- A text put into a room from a place on.
 use Prim.Native.Nat.{ℕ, _+_}
 use mathlib.Core.Bool.{Bool, cond}
-use mathlib.Core.List.{List}
+use mathlib.Core.List.{List, [], _∷_, _++_}
 use lib.Dec.{leb}
 use lib.ListN.{length}
 use lib.Seq.{sets}
@@ -17,3 +17,8 @@ placed room at text = cond (fits (length room) at (length text)) (sets room at t
 -- the place behind it
 unfoldable pub placeBehind : (room at : ℕ) (text : List ℕ) → ℕ
 placeBehind room at text = cond (fits room at (length text)) (at + length text) at
+
+-- lines, one behind the other
+unfoldable pub joined : (lines : List (List ℕ)) → List ℕ
+joined [] = []
+joined (line ∷ more) = line ++ joined more

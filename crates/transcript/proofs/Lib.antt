@@ -2,3 +2,4 @@ pub mod Short
 pub mod Steps
 pub mod Long
 pub mod Going
+pub mod Unlogged

@@ -1,15 +1,21 @@
 // A whole paper answered: its lines, one behind the other, in lent room.
 ghost use mathlib.Core.Path.{_≡_};
-ghost use Prim.Native.Nat.{_+_, _-_, _≤_};
+ghost use Prim.Native.Nat.{_+_, _-_, _≤_, _<_};
 ghost use lib.ListN.{length};
 ghost use lib.Seq.{sets};
 ghost use Rattle.rules.specs.Rules.{rulesOf};
 ghost use Rattle.conversation.specs.Events.{wordsFrom, wordsLeft};
-ghost use Rattle.transcript.specs.Transcript.{lastLine, restOf, transcriptOf, roomFor, hasRoom, transcribed, roomAfter, wordsAfter};
+ghost use Rattle.transcript.specs.Transcript.{lastLine, restOf, transcriptOf, roomFor, hasRoom};
+ghost use Rattle.transcript.specs.Transcript.{transcribed, roomAfter, wordsAfter, EndsIn};
+use log::Log;
 use records::Event;
+use ring::Ring;
 use rules::Words;
 use shape::Shape;
 use state::State;
+
+// The most bytes of the last line and of the log behind it.
+const LAST: usize = lines::LONGEST + log_text::LONGEST;
 
 // The lines end at a place of the room, or it is too small and nothing was written.
 pub enum Transcript {
@@ -17,7 +23,8 @@ pub enum Transcript {
     NoRoom,
 }
 
-// Whether from a place on there is room for 8 bytes of each byte of a paper and for one line more.
+// Whether from a place on there is room for 8 bytes of each byte of a paper, for one line more and for
+// its log.
 fn has_room(room: usize, at: usize, paper: usize) -> bool
     ensures { λ r. ⌜ r ≡ hasRoom room at paper ⌝ }
 {
@@ -25,10 +32,10 @@ fn has_room(room: usize, at: usize, paper: usize) -> bool
         return false;
     }
     let left = room - at;
-    if left < lines::LONGEST {
+    if left < LAST {
         return false;
     }
-    paper <= (left - lines::LONGEST) / 8
+    paper <= (left - LAST) / 8
 }
 
 // The line of a record that ends the paper.
@@ -42,20 +49,24 @@ fn put_last(room: &mut [u8], at: usize, number: u16, event: Event) -> usize
     lines::put_refusal(room, at, number, refusal.number())
 }
 
-// The lines of the records from a place of the paper on, from a place of the room on.
+// The lines of the records from a place of the paper on, and of the log behind them, from a place of the
+// room on.
 fn put_records(
     words: &mut Words,
     shape: Shape,
     fresh: State,
     paper: &[u8],
     start: usize,
+    log: Log,
+    ring: &mut Ring,
     room: &mut [u8],
     to: usize,
 ) -> usize
     requires { ⌜ (4 ≤ start) × (start ≤ length (now paper)) × (length (now paper) ≤ 65536) × (to + roomFor (length (now paper) - start) ≤ length (now room)) ⌝ }
-    ensures { λ r. ⌜ (r ≡ to + length (restOf (rulesOf (now (words .entry))) shape fresh (now (paper .entry)) start 1))
-        × (now (room .exit) ≡ sets (now (room .entry)) to (restOf (rulesOf (now (words .entry))) shape fresh (now (paper .entry)) start 1))
-        × (now (words .exit) ≡ wordsFrom (length (now (paper .entry))) (now (words .entry)) shape fresh (now (paper .entry)) start) ⌝ }
+    ensures { λ r. ⌜ (r ≡ to + length (restOf log (now (ring .entry)) (rulesOf (now (words .entry))) shape fresh (now (paper .entry)) start 1))
+        × (now (room .exit) ≡ sets (now (room .entry)) to (restOf log (now (ring .entry)) (rulesOf (now (words .entry))) shape fresh (now (paper .entry)) start 1))
+        × (now (words .exit) ≡ wordsFrom (length (now (paper .entry))) (now (words .entry)) shape fresh (now (paper .entry)) start)
+        × (r < length (now (room .entry))) ⌝ }
 {
     let mut state = fresh;
     let mut at = start;
@@ -64,21 +75,24 @@ fn put_records(
     while at < paper.len() {
         let taken = conversation::take(words, shape, state, paper, at);
         let event = taken.event;
+        let body = at + 3;
         state = taken.state;
         at = taken.at;
-        let Event::Answered { answer, .. } = event else {
+        let Event::Answered { said, answer } = event else {
             return put_last(room, end, number, event);
         };
         end = lines::put_answer(room, end, number, answer);
+        log::watch(ring, log, said, body, answer);
         number += 1;
     }
-    end
+    log_text::put_log(room, end, paper, log, ring)
 }
 
 // The lines of a paper, where there is room for them.
 fn put_paper(paper: &[u8], words: &mut Words, room: &mut [u8], at: usize) -> usize
     requires { ⌜ at + roomFor (length (now paper)) ≤ length (now room) ⌝ }
-    ensures { λ r. ⌜ (r ≡ at + length (transcriptOf (now (words .entry)) (now (paper .entry)))) × (now (room .exit) ≡ sets (now (room .entry)) at (transcriptOf (now (words .entry)) (now (paper .entry)))) × (now (words .exit) ≡ wordsLeft (now (words .entry)) (now (paper .entry))) ⌝ }
+    ensures { λ r. ⌜ (r ≡ at + length (transcriptOf (now (words .entry)) (now (paper .entry)))) × (now (room .exit) ≡ sets (now (room .entry)) at (transcriptOf (now (words .entry)) (now (paper .entry)))) × (now (words .exit) ≡ wordsLeft (now (words .entry)) (now (paper .entry)))
+        × (r < length (now (room .entry))) ⌝ }
 {
     let begun = opening::begin(paper, words);
     let event = begun.event;
@@ -88,12 +102,17 @@ fn put_paper(paper: &[u8], words: &mut Words, room: &mut [u8], at: usize) -> usi
     let end = lines::put_refusal(room, at, 0, 0);
     let shape = begun.shape;
     let fresh = begun.state;
-    put_records(words, shape, fresh, paper, begun.at, room, end)
+    let log = log::log_of(words, shape, paper);
+    let mut ring = ring::none();
+    put_records(
+        words, shape, fresh, paper, begun.at, log, &mut ring, room, end,
+    )
 }
 
 // The lines of a paper, from a place of the room on.
 pub fn transcribe(paper: &[u8], words: &mut Words, room: &mut [u8], at: usize) -> Transcript
-    ensures { λ r. ⌜ (r ≡ transcribed (now (words .entry)) (now (paper .entry)) (now (room .entry)) at) × (now (room .exit) ≡ roomAfter (now (words .entry)) (now (paper .entry)) (now (room .entry)) at) × (now (words .exit) ≡ wordsAfter (now (words .entry)) (now (paper .entry)) (now (room .entry)) at) ⌝ }
+    ensures { λ r. ⌜ (r ≡ transcribed (now (words .entry)) (now (paper .entry)) (now (room .entry)) at) × (now (room .exit) ≡ roomAfter (now (words .entry)) (now (paper .entry)) (now (room .entry)) at) × (now (words .exit) ≡ wordsAfter (now (words .entry)) (now (paper .entry)) (now (room .entry)) at)
+        × EndsIn r (length (now (room .entry))) ⌝ }
 {
     if !has_room(room.len(), at, paper.len()) {
         return Transcript::NoRoom;

@@ -13,17 +13,22 @@ use Rattle.transcript.proofs.put_records.Statement.{statement}
 use Rattle.transcript.proofs.put_records.Tie as tie
 
 abbrev Inv-loop : tie.InvT-loop
-Inv-loop words₀ shape paper start room₀ to state₀ at₀ end₀ number₀ words room state at end number =
-    Going words shape paper (restOf (rulesOf words₀) shape state₀ paper start 1) (wordsFrom (length paper) words₀ shape state₀ paper start) room₀ to room state
-    at end number
+Inv-loop words₀ shape paper start log ring₀ room₀ to state₀ at₀ end₀ number₀ words ring room state at end number =
+    Going log ring words shape paper (restOf log ring₀ (rulesOf words₀) shape state₀ paper start 1)
+    (wordsFrom (length paper) words₀ shape state₀ paper start) room₀ to room state at end number
 
 abbrev μ-loop : tie.MeasureT-loop
-μ-loop words₀ shape paper start room₀ to state₀ at₀ end₀ number₀ words room state at end number = length paper - at
+μ-loop words₀ shape paper start log ring₀ room₀ to state₀ at₀ end₀ number₀ words ring room state at end number = length paper - at
 
 loop-holds : tie.Need-loop-holds Inv-loop μ-loop
 loop-holds c =
     let pre = c .before .before .pre in
     record { inside = pre .1; counted = omega (arith, pre .0); fits = pre .3; text = refl; ends = refl; sized = refl; leaves = refl }
+
+add-body : tie.Need-add-body Inv-loop μ-loop
+add-body c =
+    let loop = c .before .before .before in
+    omega (arith, loop .loop .inv .inside, loop .before .before .before .pre .2)
 
 put-last-requires : tie.Need-put-last-requires Inv-loop μ-loop
 put-last-requires c κs =
@@ -39,15 +44,17 @@ returns c =
     let test = take .before .before in
     let loop = test .before .loop in
     let e = ap (λ t. t .event) (sym (take .take .ensures .0)) in
-    let rest = last-is (loop .inv) _ (take .take .ensures .1, take .take .ensures .2) _ (test .loop-test .taken) e (other .match .keys2) in (
-      put .put-last .ensures .0 ∙ ap (λ t. loop .end + length t) (sym (rest .line)) ∙ loop .inv .ends,
+    let rest = last-is (loop .inv) _ (take .take .ensures .1, take .take .ensures .2) _ (test .loop-test .taken) e (other .match .keys2) in
+    let behind = put .put-last .ensures .0 in (
+      behind ∙ ap (λ t. loop .end + length t) (sym (rest .line)) ∙ loop .inv .ends,
       put .put-last .ensures .1 ∙ ap (λ t. sets (loop .room) (loop .end) t) (sym (rest .line)) ∙ loop .inv .text,
       rest .leaves,
+      omega (arith, behind, rest .short),
     )
 
 add-number : tie.Need-add-number Inv-loop μ-loop
 add-number c =
-    let put = c .before .before in
+    let put = c .before .before .before .before in
     let told = put .before .before .before in
     let take = told .before .before .before in
     let loop = take .before .before .before in
@@ -56,7 +63,7 @@ add-number c =
 
 loop-less : tie.Need-loop-less Inv-loop μ-loop
 loop-less c =
-    let put = c .before .before in
+    let put = c .before .before .before .before in
     let told = put .before .before .before in
     let take = told .before .before .before in
     let test = take .before .before in
@@ -65,19 +72,22 @@ loop-less c =
 
 loop-again : tie.Need-loop-again Inv-loop μ-loop
 loop-again c =
-    let put = c .before .before in
+    let put = c .before .before .before .before in
     let told = put .before .before .before in
     let take = told .before .before .before in
     let test = take .before .before in
     let e = ap (λ t. t .event) (sym (take .take .ensures .0)) ∙ told .event .given .1 in
-    rw (put .put-answer .ensures .0, put .put-answer .ensures .1, take .take .ensures .0)
+    rw (c .watch .ensures, put .put-answer .ensures .0, put .put-answer .ensures .1, take .take .ensures .0)
     (go-on (test .before .loop .inv) _ (take .take .ensures .1, take .take .ensures .2) _ _ (test .loop-test .taken) e)
 
 returns-2 : tie.Need-returns-2 Inv-loop μ-loop
-returns-2 c = over (c .before .loop .inv) (c .loop-test .left)
+returns-2 c =
+    let put = c .before .before in
+    let test = put .before .before .before in
+    over (test .before .loop .inv) (test .loop-test .left) (put .put-log .ensures .0) (put .put-log .ensures .1) (put .put-log .ensures .2)
 
 pub put-records-spec : {M : Type 1} → statement M
 put-records-spec =
     tie.close
-    (tie.spec Inv-loop μ-loop loop-holds (search needs) (search needs) put-last-requires (search needs) returns (search needs) add-number
-    loop-less loop-again (search needs) returns-2)
+    (tie.spec Inv-loop μ-loop loop-holds (search needs) add-body (search needs) put-last-requires (search needs) returns (search needs)
+    (search needs) add-number loop-less loop-again (search needs) (search needs) returns-2)
