@@ -1,14 +1,12 @@
 -- What stands in the room behind each part of a text. Assumes nothing.
-use mathlib.Core.Path.{_≡_, refl, sym, ap, _∙_}
-use mathlib.Core.List.{List, [], _∷_, _++_, append-nil, append-assoc}
+use mathlib.Core.Path.{_≡_, _∙_}
+use mathlib.Core.List.{List, [], _∷_, append-nil}
 use mathlib.Core.Logic.{inl, inr}
 use types.Run.{OneOf}
 use denote.Enum.Declared.{tagOf}
-use Prim.Native.Nat.{ℕ, _+_, _-_, _≤_}
+use Prim.Native.Nat.{ℕ, _+_, _≤_}
 use native.Mathlib.Omega.{arith}
-use lib.ListN.{length, take, drop, length-drop, drop-of-length-le}
-use lib.Seq.{sets, sets-eq, take-length, take-all, drop-drop}
-use borrow.Rule.Slice.PartMut.{putMid, midOf}
+use lib.ListN.{length}
 use Rattle.rules.specs.Rules.{Rules}
 use Rattle.records.specs.declared.Event.{Event}
 use Rattle.records.specs.declared.Event.the-variants.{SetUp, End, Refused, Answered}
@@ -17,20 +15,10 @@ use Rattle.lines.specs.Lines.{placed, placeBehind}
 use Rattle.lines.specs.Stored.{Stored}
 use Rattle.lines.specs.Sitting.{eventLine}
 use Rattle.lines.proofs.Stores.{next, within}
+use Rattle.room_lines.specs.RoomLines.{roomLines}
 use Rattle.transcript.proofs.Going.{behind-is, placed-is}
 use Rattle.display.specs.declared.Showing.{Showing}
-use Rattle.display.specs.Text.{longest, roomLines, shownLines, setUpText, recordText}
-
--- a text copied into the part of the room from a place on
-pub copied : (room text : List ℕ) (at : ℕ) → at + length text ≤ length room → {part : List ℕ}
-    → part ≡ take (length text) text ++ drop (length text) (midOf at (length room - at) room)
-    → putMid at (length room - at) room part ≡ sets room at text
-copied room text at fits e =
-    let size = length-drop at room in
-    let part = take-all (length room - at) (drop at room) (omega arith) in
-    let none = drop-of-length-le (drop at room) {i = length room - at} (omega arith) in
-    rw (e, take-length text, part, none, append-nil, drop-drop (length text) at room)
-    (sym (sets-eq text room at fits ∙ append-assoc (take at room) text (drop (at + length text) room)))
+use Rattle.display.specs.Text.{longest, shownLines, setUpText, recordText}
 
 -- a line that lines wrote
 pub line : {room after text : List ℕ} {at end : ℕ} → at + 82 ≤ length room → length text ≤ 82 → end ≡ placeBehind (length room) at text
@@ -38,11 +26,6 @@ pub line : {room after text : List ℕ} {at end : ℕ} → at + 82 ≤ length ro
 line {room} {after} {text} {at} {end} fits short e p =
     let behind = e ∙ behind-is (length room) at text fits in
     record { is = p ∙ placed-is room at text fits short; behind = behind; short = omega arith }
-
--- it is no longer than what stands there
-pub as-long : {room after text : List ℕ} {at end most most′ : ℕ} → Stored room at text most end after → length text ≤ most′
-    → Stored room at text most′ end after
-as-long p h = record { is = p .is; behind = p .behind; short = omega (arith, p .behind) }
 
 -- ---- behind the set-up's line
 

@@ -1,41 +1,16 @@
 -- The text of request Seven's display: each line of a sitting, and behind it, while there is a card, one line for each profile in the set-up's
 -- order. The lines may be shown without the rooms.
-use mathlib.Core.Bool.{Bool, cond}
-use mathlib.Core.List.{List, [], _∷_, _++_}
+use mathlib.Core.Bool.{Bool}
+use mathlib.Core.List.{List, [], _++_}
 use Prim.Native.Nat.{ℕ, _+_}
-use lib.Dec.{eqb, leb}
-use lib.ListN.{getD}
-use Rattle.rules.specs.declared.Place.{Place}
-use Rattle.rules.specs.declared.Place.the-variants.{One, Two, Three, Four}
-use Rattle.rules.specs.Rules.{Rules, four, profileAt}
-use Rattle.rooms.specs.Rooms.{storedAt}
+use lib.Dec.{leb}
+use Rattle.rules.specs.Rules.{Rules}
 use Rattle.records.specs.declared.Event.{Event}
 use Rattle.records.specs.declared.Event.the-variants.{SetUp, End, Refused, Answered}
-use Rattle.lines.specs.Lines.{line}
 use Rattle.lines.specs.Sitting.{eventLine}
-use Rattle.numerals.specs.Numeral.{numeral}
+use Rattle.room_lines.specs.RoomLines.{roomLines}
 use Rattle.display.specs.declared.Showing.{Showing}
 use Rattle.display.specs.declared.Showing.the-variants.{Lines, Rooms}
-
--- "room"
-abbrev pub word : List ℕ
-word = 114 ∷ 111 ∷ 111 ∷ 109 ∷ []
-
--- the word, the profile's number, its four rooms
-unfoldable pub roomLine : (number : ℕ) (rooms : List ℕ) → List ℕ
-roomLine number rooms = line word (numeral number ∷ four (λ i. numeral (getD rooms i 0)))
-
--- its first two fields, a space behind each
-abbrev pub heading : (number : ℕ) → List ℕ
-heading number = (word ++ 32 ∷ []) ++ (numeral number ++ 32 ∷ [])
-
--- as they are stored for the profile at a place; no profile has number 0
-unfoldable pub placeLine : Rules → (rooms : List ℕ) → Place → List ℕ
-placeLine rules rooms place =
-    cond (eqb (profileAt rules place .number) 0) [] (roomLine (profileAt rules place .number) (storedAt rooms place))
-
-unfoldable pub roomLines : Rules → (rooms : List ℕ) → List ℕ
-roomLines rules rooms = placeLine rules rooms One ++ placeLine rules rooms Two ++ placeLine rules rooms Three ++ placeLine rules rooms Four
 
 -- what is shown of the rooms' lines
 abbrev pub shownLines : Showing → List ℕ → List ℕ
@@ -62,7 +37,7 @@ recordLines showing rules rooms (Answered said answer) = shownLines showing (roo
 unfoldable pub recordText : Showing → Rules → (rooms : List ℕ) → (record-number : ℕ) → Event → List ℕ
 recordText showing rules rooms record-number event = eventLine record-number event ++ recordLines showing rules rooms event
 
--- 82 for the line and 93 for each of four profiles: 4 + 1 + 3 + 1 + 20 + 1 + 20 + 1 + 20 + 1 + 20 + 1
+-- 82 for the line and 372 for those of the rooms
 abbrev pub longest : ℕ
 longest = 454
 

@@ -1,19 +1,17 @@
 // A paper shown record by record, in lent room: the lines of its sitting and, where the rooms are shown
 // too, behind each the room left of each profile, while there is a card.
 ghost use mathlib.Core.Path.{_≡_};
-ghost use mathlib.Core.List.{[], _∷_, _++_};
 ghost use Prim.Native.Nat.{_+_, _≤_};
 ghost use lib.ListN.{length};
 ghost use Rattle.rules.specs.Rules.{rulesOf};
 ghost use Rattle.lines.specs.Stored.{Stored};
 ghost use Rattle.lines.specs.Sitting.{eventLine};
-ghost use Rattle.numerals.specs.Numeral.{numeral};
-ghost use Rattle.display.specs.Text.{longest, hasRoom, heading, roomLine, placeLine, roomLines, shownLines, setUpText, recordText};
+ghost use Rattle.room_lines.specs.RoomLines.{roomLines};
+ghost use Rattle.display.specs.Text.{longest, hasRoom, shownLines, setUpText, recordText};
 ghost use Rattle.display.specs.Shown.{wantsAfter, unshown, setUpShown, setUpWords, setUpRooms, setUpRoom};
 ghost use Rattle.display.specs.Shown.{recordShown, recordWords, recordRules, recordRooms, recordRoom};
 use records::Event;
 use rooms::Rooms;
-use rules::Place;
 use rules::Words;
 use shape::Dating;
 use shape::Family;
@@ -62,75 +60,14 @@ fn has_room(bytes: usize, at: usize) -> bool
     LONGEST <= bytes - at
 }
 
-fn put_text(room: &mut [u8], at: usize, text: &[u8]) -> usize
-    requires { ⌜ at + length (now text) ≤ length (now room) ⌝ }
-    ensures { λ r. ⌜ Stored (now (room .entry)) at (now (text .entry)) (length (now (text .entry))) r (now (room .exit)) ⌝ }
-{
-    bytes::copy(text, &mut room[at..]);
-    at + text.len()
-}
-
-// A number, and the mark behind it.
-fn put_field(room: &mut [u8], at: usize, n: u64, mark: u8) -> usize
-    requires { ⌜ at + 21 ≤ length (now room) ⌝ }
-    ensures { λ r. ⌜ Stored (now (room .entry)) at (numeral n ++ mark ∷ []) 21 r (now (room .exit)) ⌝ }
-{
-    let at = numerals::put_number(room, at, n);
-    put_text(room, at, &[mark])
-}
-
-// The word, and a profile's number.
-fn put_heading(room: &mut [u8], at: usize, number: u8) -> usize
-    requires { ⌜ at + 26 ≤ length (now room) ⌝ }
-    ensures { λ r. ⌜ Stored (now (room .entry)) at (heading number) 9 r (now (room .exit)) ⌝ }
-{
-    let at = put_text(room, at, b"room ");
-    put_field(room, at, number as u64, b' ')
-}
-
-// The rooms of a profile, by its number.
-fn put_room_line(room: &mut [u8], at: usize, number: u8, rooms: [u64; 4]) -> usize
-    requires { ⌜ at + 93 ≤ length (now room) ⌝ }
-    ensures { λ r. ⌜ Stored (now (room .entry)) at (roomLine number rooms) 93 r (now (room .exit)) ⌝ }
-{
-    let at = put_heading(room, at, number);
-    let at = put_field(room, at, rooms[0], b' ');
-    let at = put_field(room, at, rooms[1], b' ');
-    let at = put_field(room, at, rooms[2], b' ');
-    put_field(room, at, rooms[3], b'\n')
-}
-
-// Those of the profile at a place, where there is one.
-fn put_place(words: &Words, rooms: &Rooms, place: Place, room: &mut [u8], at: usize) -> usize
-    requires { ⌜ at + 93 ≤ length (now room) ⌝ }
-    ensures { λ r. ⌜ Stored (now (room .entry)) at (placeLine (rulesOf (now (words .entry))) (now (rooms .entry)) place) 93 r (now (room .exit)) ⌝ }
-{
-    let number = rules::profile_number(words, place);
-    if number == 0 {
-        return at;
-    }
-    put_room_line(room, at, number, rooms::stored(rooms, place))
-}
-
-// The rooms of all profiles, in the set-up's order.
-fn put_rooms(words: &Words, rooms: &Rooms, room: &mut [u8], at: usize) -> usize
-    requires { ⌜ at + 372 ≤ length (now room) ⌝ }
-    ensures { λ r. ⌜ Stored (now (room .entry)) at (roomLines (rulesOf (now (words .entry))) (now (rooms .entry))) 372 r (now (room .exit)) ⌝ }
-{
-    let at = put_place(words, rooms, Place::One, room, at);
-    let at = put_place(words, rooms, Place::Two, room, at);
-    let at = put_place(words, rooms, Place::Three, room, at);
-    put_place(words, rooms, Place::Four, room, at)
-}
-
-// The same, where rooms are shown.
+// The rooms of all profiles, where rooms are shown.
 fn put_shown(words: &Words, rooms: &Rooms, showing: Showing, room: &mut [u8], at: usize) -> usize
     requires { ⌜ at + 372 ≤ length (now room) ⌝ }
     ensures { λ r. ⌜ Stored (now (room .entry)) at (shownLines showing (roomLines (rulesOf (now (words .entry))) (now (rooms .entry)))) 372 r (now (room .exit)) ⌝ }
 {
     match showing {
         Showing::Lines => at,
-        Showing::Rooms => put_rooms(words, rooms, room, at),
+        Showing::Rooms => room_lines::put_rooms(words, rooms, room, at),
     }
 }
 

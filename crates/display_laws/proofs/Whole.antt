@@ -22,7 +22,8 @@ use Rattle.transcript.proofs.Steps.{Beginning, accepted, refused, begins, never
 use Rattle.display.specs.declared.Showing.{Showing}
 use Rattle.display.specs.declared.Showing.the-variants.{Lines, Rooms}
 use Rattle.display.specs.declared.Shown.{Shown}
-use Rattle.display.specs.Text.{roomLines, shownLines, setUpLines, setUpText, recordText}
+use Rattle.room_lines.specs.RoomLines.{roomLines}
+use Rattle.display.specs.Text.{shownLines, setUpLines, setUpText, recordText}
 use Rattle.display.specs.Shown.{wantsAfter, begunText, begunShown, nextText, nextRules, nextRooms, nextShown}
 use Rattle.display_laws.specs.Display.{Entry, entered, entriesFrom, entriesOf, textOf, displayOf, goesOn, stepsFrom, stepsOf}
 use Rattle.display_laws.proofs.Lines.{lines-same}

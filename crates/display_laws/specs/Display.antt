@@ -17,7 +17,8 @@ use Rattle.display.specs.declared.Wants.the-variants.{Record, Room, Run, Nothin
 use Rattle.display.specs.declared.Showing.{Showing}
 use Rattle.display.specs.declared.Showing.the-variants.{Rooms}
 use Rattle.display.specs.declared.Shown.{Shown}
-use Rattle.display.specs.Text.{roomLines, shownLines, setUpLines}
+use Rattle.room_lines.specs.RoomLines.{roomLines}
+use Rattle.display.specs.Text.{shownLines, setUpLines}
 use Rattle.display.specs.Shown.{begunText, begunShown, nextText, nextRules, nextRooms, nextShown}
 
 pub record Entry : Type 0 where

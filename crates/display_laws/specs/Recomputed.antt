@@ -11,7 +11,8 @@ use Rattle.conversation.specs.Conversation.{takenOf, takenWrites}
 use Rattle.opening.specs.Opening.{begunOf, wordsBegun}
 use Rattle.lines.specs.Sitting.{eventLine}
 use Rattle.display.specs.declared.Showing.the-variants.{Rooms}
-use Rattle.display.specs.Text.{roomLines, setUpLines}
+use Rattle.room_lines.specs.RoomLines.{roomLines}
+use Rattle.display.specs.Text.{setUpLines}
 use Rattle.display_laws.specs.Display.{Entry, entered}
 
 unfoldable pub recomputedFrom : ℕ → Rules → Shape → State → (paper : List ℕ) (at record-number : ℕ) → List Entry

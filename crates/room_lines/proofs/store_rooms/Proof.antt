@@ -1,8 +1,8 @@
 use borrow.Author.Needs.{needs}
-use Rattle.lines.proofs.Stores.{next}
-use Rattle.display.specs.Text.{roomLines}
-use Rattle.display.proofs.put_rooms.Statement.{statement}
-use Rattle.display.proofs.put_rooms.Tie as tie
+use Rattle.text.proofs.Stores.{next}
+use Rattle.room_lines.specs.RoomLines.{roomLines}
+use Rattle.room_lines.proofs.store_rooms.Statement.{statement}
+use Rattle.room_lines.proofs.store_rooms.Tie as tie
 
 returns : tie.Need-returns
 unfolding roomLines
@@ -16,5 +16,5 @@ returns c =
     let first = to-second .before .before in
     next (next (next (first .put-place .ensures) (second .put-place2 .ensures)) (third .put-place3 .ensures)) (fourth .put-place4 .ensures)
 
-pub put-rooms-spec : {M : Type 1} → statement M
-put-rooms-spec = tie.close (tie.spec (search needs) (search needs) (search needs) (search needs) (search needs) returns)
+pub store-rooms-spec : {M : Type 1} → statement M
+store-rooms-spec = tie.close (tie.spec (search needs) (search needs) (search needs) (search needs) (search needs) returns)

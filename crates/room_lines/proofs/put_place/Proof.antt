@@ -2,9 +2,9 @@ use borrow.Author.Needs.{needs}
 use borrow.Author.Tests.{eq-eqb, ne-eqb}
 use mathlib.Core.Path.{refl}
 use native.Mathlib.Omega.{arith}
-use Rattle.display.specs.Text.{placeLine}
-use Rattle.display.proofs.put_place.Statement.{statement}
-use Rattle.display.proofs.put_place.Tie as tie
+use Rattle.room_lines.specs.RoomLines.{placeLine}
+use Rattle.room_lines.proofs.put_place.Statement.{statement}
+use Rattle.room_lines.proofs.put_place.Tie as tie
 
 returns : tie.Need-returns
 unfolding placeLine
