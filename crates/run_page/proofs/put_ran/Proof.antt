@@ -1,8 +1,9 @@
 use borrow.Author.Needs.{needs}
-use Rattle.lines.proofs.Stores.{next}
-use Rattle.bench.specs.Bench.{ranLine}
-use Rattle.bench.proofs.put_ran.Statement.{statement}
-use Rattle.bench.proofs.put_ran.Tie as tie
+use Rattle.text.proofs.Stores.{next}
+use Rattle.numerals.proofs.Numerals.{field-fitted}
+use Rattle.run_page.specs.RunPage.{ranLine}
+use Rattle.run_page.proofs.put_ran.Statement.{statement}
+use Rattle.run_page.proofs.put_ran.Tie as tie
 
 returns : tie.Need-returns
 unfolding ranLine
@@ -14,8 +15,10 @@ returns c =
     let number = refused .before in
     let to-number = number .before .before .before in
     let word = to-number .before in
+    let (first, as-first) = field-fitted _ _ _ _ (search needs) (refused .put-field .ensures .0) (refused .put-field .ensures .1) in
+    let (second, as-second) = field-fitted _ _ _ _ (search needs) (count .put-field2 .ensures .0) (count .put-field2 .ensures .1) in
     rw (← number .refusal-in .ensures, ← answers .answers-in .ensures)
-    (next (word .put-text .ensures) (next (refused .put-field .ensures) (count .put-field2 .ensures)))
+    (next (word .put-text .ensures) (next first second))
 
 pub put-ran-spec : {M : Type 1} → statement M
 put-ran-spec =

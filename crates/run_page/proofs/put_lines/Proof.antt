@@ -5,11 +5,11 @@ use Prim.Native.Nat.{_+_, _*_, _-_, _≤_}
 use native.Mathlib.Numerals.{add-one}
 use native.Mathlib.Omega.{arith}
 use lib.ListN.{length}
-use Rattle.lines.specs.Stored.{Stored}
-use Rattle.lines.proofs.Stores.{next}
-use Rattle.bench.specs.Bench.{hexFirst, hexLines}
-use Rattle.bench.proofs.put_lines.Statement.{statement}
-use Rattle.bench.proofs.put_lines.Tie as tie
+use Rattle.text.specs.Stored.{Stored}
+use Rattle.text.proofs.Stores.{next}
+use Rattle.run_page.specs.RunPage.{hexFirst, hexLines}
+use Rattle.run_page.proofs.put_lines.Statement.{statement}
+use Rattle.run_page.proofs.put_lines.Tie as tie
 
 abbrev Inv-loop : tie.InvT-loop
 Inv-loop room₀ at bytes end₀ i₀ i-end room end i =
