@@ -2,8 +2,8 @@ use borrow.Author.Needs.{needs}
 use mathlib.Core.Path.{refl}
 use native.Mathlib.Omega.{arith}
 use Rattle.room_lines.proofs.Placed.{stored}
-use Rattle.display.proofs.put_shown.Statement.{statement}
-use Rattle.display.proofs.put_shown.Tie as tie
+use Rattle.record_lines.proofs.put_shown.Statement.{statement}
+use Rattle.record_lines.proofs.put_shown.Tie as tie
 
 returns : tie.Need-returns
 returns c = simp (c .enum-told .given .1) (record { is = refl; behind = omega arith; short = omega arith })

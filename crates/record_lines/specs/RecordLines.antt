@@ -1,16 +1,18 @@
 -- The text of request Seven's display: each line of a sitting, and behind it, while there is a card, one line for each profile in the set-up's
 -- order. The lines may be shown without the rooms.
-use mathlib.Core.Bool.{Bool}
+use mathlib.Core.Bool.{Bool, cond}
 use mathlib.Core.List.{List, [], _++_}
 use Prim.Native.Nat.{ℕ, _+_}
 use lib.Dec.{leb}
+use lib.ListN.{length}
+use lib.Seq.{sets}
 use Rattle.rules.specs.Rules.{Rules}
 use Rattle.records.specs.declared.Event.{Event}
 use Rattle.records.specs.declared.Event.the-variants.{SetUp, End, Refused, Answered}
 use Rattle.lines.specs.Sitting.{eventLine}
 use Rattle.room_lines.specs.RoomLines.{roomLines}
-use Rattle.display.specs.declared.Showing.{Showing}
-use Rattle.display.specs.declared.Showing.the-variants.{Lines, Rooms}
+use Rattle.record_lines.specs.declared.Showing.{Showing}
+use Rattle.record_lines.specs.declared.Showing.the-variants.{Lines, Rooms}
 
 -- what is shown of the rooms' lines
 abbrev pub shownLines : Showing → List ℕ → List ℕ
@@ -44,3 +46,11 @@ longest = 454
 -- the longest text fits from a place on
 abbrev pub hasRoom : (bytes at : ℕ) → Bool
 hasRoom bytes at = leb (at + longest) bytes
+
+-- the text stands in the room from a place on, and all else stays; where the longest would not fit all stays
+unfoldable pub placed : (room : List ℕ) (at : ℕ) (text : List ℕ) → List ℕ
+placed room at text = cond (hasRoom (length room) at) (sets room at text) room
+
+-- the place behind it, or the same place
+unfoldable pub placeBehind : (bytes at : ℕ) (text : List ℕ) → ℕ
+placeBehind bytes at text = cond (hasRoom bytes at) (at + length text) at

@@ -4,9 +4,9 @@ use Prim.Native.Nat.{ℕ, _+_, _-_, _≤_}
 use native.Mathlib.Omega.{arith}
 use borrow.Author.Tests.{leb-true, leb-false, le-leb, lt-leb}
 use lib.Dec.{leb}
-use Rattle.display.specs.Text.{longest, hasRoom}
-use Rattle.display.proofs.has_room.Statement.{statement}
-use Rattle.display.proofs.has_room.Tie as tie
+use Rattle.record_lines.specs.RecordLines.{longest, hasRoom}
+use Rattle.record_lines.proofs.has_room.Statement.{statement}
+use Rattle.record_lines.proofs.has_room.Tie as tie
 
 left : (bytes at : ℕ) → at ≤ bytes → leb longest (bytes - at) ≡ hasRoom bytes at
 left bytes at h = by (leb longest (bytes - at)) refl where

@@ -3,9 +3,9 @@ use lib.Dec.{lit≤}
 use mathlib.Core.Path.{refl}
 use native.Mathlib.Omega.{arith}
 use Rattle.transcript.proofs.Short.{refusal-short, answer-short}
-use Rattle.display.proofs.Stores.{line}
-use Rattle.display.proofs.put_event.Statement.{statement}
-use Rattle.display.proofs.put_event.Tie as tie
+use Rattle.record_lines.proofs.Stores.{line}
+use Rattle.record_lines.proofs.put_event.Statement.{statement}
+use Rattle.record_lines.proofs.put_event.Tie as tie
 
 returns : tie.Need-returns
 returns c =
