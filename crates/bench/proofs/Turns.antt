@@ -11,12 +11,13 @@ use Rattle.rules.specs.Rules.{rulesOf}
 use Rattle.shape.specs.declared.Shape.{Shape}
 use Rattle.state.specs.declared.State.{State}
 use Rattle.choice.proofs.Tests.{both}
-use Rattle.lines.specs.Stored.{Stored}
+use Rattle.run_page.specs.RunPage.{pageOf, pageSize, pageText, pageEnd}
+use Rattle.run_page.proofs.Pages.{whole}
 use Rattle.runs.specs.declared.RunEnd.{RunEnd}
 use Rattle.runs.specs.Runs.{Card, cardOf, cardRun, roomRun, ruledRun, endOf}
 use Rattle.bench.specs.declared.Page.the-variants.{Whole, NoRoom}
 use Rattle.bench.specs.declared.Turn.{Turn}
-use Rattle.bench.specs.Bench.{filler, ranLine, hexLines, pageOf, pageSize, hasRoom, turned, sizeIn, recordsIn}
+use Rattle.bench.specs.Bench.{filler, hasRoom, turned, sizeIn, recordsIn}
 use Rattle.bench.specs.Bench.{cardBehind, roomBehind, pageBehind, turnOf, cardTurned, roomTurned, textTurned}
 
 -- room enough, as numbers
@@ -48,22 +49,21 @@ module _ (shape : Shape) (paper words rooms : List ℕ) (state : State) where
         × (text′ ≡ sets text 0 page)
         × (rulesOf words′ ≡ after .rules)
 
-    pub ran-in : {lent room′ words′ rooms′ text′ : List ℕ} {run : RunEnd} {end most : ℕ} → lent ≡ replicate size filler
+    pub ran-in : {lent room′ words′ rooms′ text′ : List ℕ} {run : RunEnd} {end : ℕ} → lent ≡ replicate size filler
         → run ≡ endOf shape paper card records (length lent) → words′ ≡ cardRun shape paper card records (length lent) .words
         → rooms′ ≡ cardRun shape paper card records (length lent) .rooms
         → room′ ≡ roomRun shape paper card records lent
         → rulesOf words′ ≡ cardRun shape paper card records (length lent) .rules
-        → Stored text 0 (ranLine (run .ran) ++ hexLines room′) most end text′
+        → pageSize (length room′) ≤ length text → end ≡ pageEnd (length text) (run .ran) room′ → text′ ≡ pageText text (run .ran) room′
         → RanIn (record { state = run .state; page = Whole end }) words′ rooms′ room′ text′
-    unfolding pageOf
-    ran-in {lent} {room′} {words′} {rooms′} {text′} {run} {end} {most} f r w o m u s =
+    ran-in {lent} {room′} {words′} {rooms′} {text′} {run} {end} f r w o m u fits e p =
         let sized : length lent ≡ size = ap length f ∙ length-replicate size filler in
         let run-is : run ≡ endOf shape paper card records size = rw sized at r in
         let room-is : room′ ≡ filled = rw f at m in
-        let text-is : ranLine (run .ran) ++ hexLines room′ ≡ page = rw (run-is, room-is) in
-        let long : end ≡ length (ranLine (run .ran) ++ hexLines room′) = omega (arith, s .behind) in
-        let ends : end ≡ length page = long ∙ ap length text-is in
-        (rw (run-is, ends), rw sized at w, rw sized at o, room-is, s .is ∙ ap (sets text 0) text-is, rw sized at u)
+        let page-is : pageOf (run .ran) room′ ≡ page = rw (run-is, room-is) in
+        let put = whole text (run .ran) room′ fits e p in
+        let ends : end ≡ length page = put .0 ∙ ap length page-is in
+        (rw (run-is, ends), rw sized at w, rw sized at o, room-is, put .1 ∙ ap (sets text 0) page-is, rw sized at u)
 
   -- ---- a block
 

@@ -1,19 +1,15 @@
 -- Runs as the blocks of a stack (request Eleven): the room that is lent, and the text of what became of the run.
-use mathlib.Core.Bool.{Bool, cond, _&&_, _||_}
-use mathlib.Core.List.{List, [], _∷_, _++_}
-use Prim.Native.Nat.{ℕ, zero, suc, _+_, _*_, _%_}
-use lib.Dec.{eqb, leb, ltb}
-use lib.ListN.{length, getD, drop, replicate}
+use mathlib.Core.Bool.{Bool, cond, _&&_}
+use mathlib.Core.List.{List, _++_}
+use Prim.Native.Nat.{ℕ}
+use lib.Dec.{leb, ltb}
+use lib.ListN.{length, drop, replicate}
 use lib.Seq.{sets}
 use Rattle.wire.specs.Wire.{number}
-use Rattle.refusal.specs.Refusal.{refusalNumber}
 use Rattle.shape.specs.declared.Shape.{Shape}
 use Rattle.state.specs.declared.State.{State}
-use Rattle.lines.specs.Lines.{hexByte, line}
-use Rattle.numerals.specs.Numeral.{numeral}
-use Rattle.runs.specs.declared.Ran.{Ran}
-use Rattle.runs.specs.declared.Ran.the-variants.{Done, Refused}
 use Rattle.runs.specs.Runs.{Card, cardRun, roomRun, ruledRun}
+use Rattle.run_page.specs.RunPage.{pageOf, pageSize}
 use Rattle.bench.specs.declared.Page.{Page}
 use Rattle.bench.specs.declared.Page.the-variants.{Whole, NoRoom}
 use Rattle.bench.specs.declared.Turn.{Turn}
@@ -31,40 +27,6 @@ filler = 170
 
 abbrev pub lent : (block : List ℕ) → List ℕ
 lent block = replicate (sizeIn block) filler
-
--- THE TEXT: "run", the refusal, and the number of answers, which is 0 where it is refused
-abbrev pub refusalIn : Ran → ℕ
-refusalIn (Done answers) = 0
-refusalIn (Refused refusal) = refusalNumber refusal
-
-abbrev pub answersIn : Ran → ℕ
-answersIn (Done answers) = answers
-answersIn (Refused refusal) = 0
-
-abbrev pub word : List ℕ
-word = 114 ∷ 117 ∷ 110 ∷ []
-
-unfoldable pub ranLine : Ran → List ℕ
-ranLine ran = line word (numeral (refusalIn ran) ∷ numeral (answersIn ran) ∷ [])
-
--- then the whole room in hex, 36 bytes to a line: a line feed stands behind each thirty-sixth byte, and behind the last
-abbrev pub feed : (last : Bool) → List ℕ
-feed last = cond last (10 ∷ []) []
-
-unfoldable pub hexFirst : ℕ → (room : List ℕ) → List ℕ
-hexFirst zero room = []
-hexFirst (suc n) room =
-    hexFirst n room ++ (hexByte (getD room n 0) ++ feed (eqb ((n + 1) % 36) 0 || eqb (n + 1) (length room)))
-
-unfoldable pub hexLines : (room : List ℕ) → List ℕ
-hexLines room = hexFirst (length room) room
-
-unfoldable pub pageOf : Ran → (room : List ℕ) → List ℕ
-pageOf ran room = ranLine ran ++ hexLines room
-
--- the most bytes that it may have: 4 + 20 + 1 + 20 + 1, and 3 for each byte of the room
-abbrev pub pageSize : (room : ℕ) → ℕ
-pageSize room = 46 + 3 * room
 
 -- A BLOCK ANSWERED: so many bytes of room and of text are enough for a run in a room of some size
 abbrev pub hasRoom : (size room text : ℕ) → Bool

@@ -1,18 +1,13 @@
 // A run as a block of a stack: the size of the room to lend, in 4 bytes, and the records. It is run in
-// such a room, and what became of it is told as text: the refusal, the number of answers, the room.
+// such a room, and what became of it is told as a page of text.
 ghost use mathlib.Core.Path.{_≡_};
-ghost use mathlib.Core.List.{[], _∷_, _++_};
-ghost use Prim.Native.Nat.{_+_, _*_, _≤_};
+ghost use Prim.Native.Nat.{_≤_};
 ghost use lib.ListN.{length, drop, replicate};
 ghost use lib.Seq.{sets};
 ghost use Rattle.rules.specs.Rules.{rulesOf};
-ghost use Rattle.lines.specs.Lines.{hexByte};
-ghost use Rattle.lines.specs.Stored.{Stored};
-ghost use Rattle.numerals.specs.Numeral.{numeral};
 ghost use Rattle.runs.specs.Runs.{cardOf, cardRun, roomRun, ruledRun};
-ghost use Rattle.bench.specs.Bench.{filler, refusalIn, answersIn, ranLine, feed, hexLines, pageOf, pageSize};
-ghost use Rattle.bench.specs.Bench.{sizeIn, recordsIn, lent, hasRoom, turnOf, cardTurned, roomTurned, textTurned, turned};
-use refusal::Refusal;
+ghost use Rattle.run_page.specs.RunPage.{pageOf, pageSize};
+ghost use Rattle.bench.specs.Bench.{filler, sizeIn, recordsIn, lent, hasRoom, turnOf, cardTurned, roomTurned, textTurned, turned};
 use rooms::Rooms;
 use rules::Words;
 use runs::Ran;
@@ -23,8 +18,6 @@ use state::State;
 const LARGEST_ROOM: usize = 65_536;
 // What the room holds before the run.
 const FILLER: u8 = 0xAA;
-// The bytes of the room in a line.
-const LINE: usize = 36;
 
 // Where a block's text ends, or that there was no room for it and nothing was run.
 pub enum Page {
@@ -45,82 +38,6 @@ fn fill(room: &mut [u8])
     for i in 0..room.len() {
         room[i] = FILLER;
     }
-}
-
-fn put_text(room: &mut [u8], at: usize, text: &[u8]) -> usize
-    requires { ⌜ at + length (now text) ≤ length (now room) ⌝ }
-    ensures { λ r. ⌜ Stored (now (room .entry)) at (now (text .entry)) (length (now (text .entry))) r (now (room .exit)) ⌝ }
-{
-    text::put(room, at, text)
-}
-
-// A number, and the mark behind it.
-fn put_field(room: &mut [u8], at: usize, n: u64, mark: u8) -> usize
-    requires { ⌜ at + 21 ≤ length (now room) ⌝ }
-    ensures { λ r. ⌜ Stored (now (room .entry)) at (numeral n ++ mark ∷ []) 21 r (now (room .exit)) ⌝ }
-{
-    let at = numerals::put_number(room, at, n);
-    put_text(room, at, &[mark])
-}
-
-// The refusal of a run, 0 where there is none.
-fn refusal_in(ran: Ran) -> u8
-    ensures { λ r. ⌜ r ≡ refusalIn ran ⌝ }
-{
-    match ran {
-        Ran::Done { .. } => 0,
-        Ran::Refused(refusal) => refusal.number(),
-    }
-}
-
-// How many records were answered.
-fn answers_in(ran: Ran) -> usize
-    ensures { λ r. ⌜ r ≡ answersIn ran ⌝ }
-{
-    match ran {
-        Ran::Done { answers } => answers,
-        Ran::Refused(_) => 0,
-    }
-}
-
-// What became of a run.
-fn put_ran(room: &mut [u8], at: usize, ran: Ran) -> usize
-    requires { ⌜ at + 46 ≤ length (now room) ⌝ }
-    ensures { λ r. ⌜ Stored (now (room .entry)) at (ranLine ran) 46 r (now (room .exit)) ⌝ }
-{
-    let at = put_text(room, at, b"run ");
-    let at = put_field(room, at, refusal_in(ran) as u64, b' ');
-    put_field(room, at, answers_in(ran) as u64, b'\n')
-}
-
-// A byte in hex, and a line feed where it ends a line.
-fn put_byte(room: &mut [u8], at: usize, byte: u8, last: bool) -> usize
-    requires { ⌜ at + 3 ≤ length (now room) ⌝ }
-    ensures { λ r. ⌜ Stored (now (room .entry)) at (hexByte byte ++ feed last) 3 r (now (room .exit)) ⌝ }
-{
-    let at = put_text(room, at, &[hex::upper_digit(byte), hex::lower_digit(byte)]);
-    if last {
-        return put_text(room, at, b"\n");
-    }
-    at
-}
-
-// All bytes in hex.
-fn put_lines(room: &mut [u8], at: usize, bytes: &[u8]) -> usize
-    requires { ⌜ at + 3 * length (now bytes) ≤ length (now room) ⌝ }
-    ensures { λ r. ⌜ Stored (now (room .entry)) at (hexLines (now (bytes .entry))) (3 * length (now (bytes .entry))) r (now (room .exit)) ⌝ }
-{
-    let mut end = at;
-    for i in 0..bytes.len() {
-        let count = i + 1;
-        end = put_byte(
-            room,
-            end,
-            bytes[i],
-            (count % LINE == 0) | (count == bytes.len()),
-        );
-    }
-    end
 }
 
 // Whether there is room for a run in a room of some size, and for its text.
@@ -154,12 +71,11 @@ fn run_in(
     fill(room);
     let run = runs::run(words, rooms, shape, paper, state, records, room);
     let ran = run.ran;
-    let at = put_ran(text, 0, ran);
     let state = run.state;
     Turn {
         state,
         page: Page::Whole {
-            end: put_lines(text, at, room),
+            end: run_page::put_page(text, ran, room),
         },
     }
 }

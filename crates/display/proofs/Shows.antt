@@ -11,11 +11,10 @@ use Rattle.records.specs.declared.Taken.{Taken}
 use Rattle.conversation.specs.Conversation.{takenOf, takenWrites}
 use Rattle.opening.specs.Opening.{begunOf, wordsBegun}
 use Rattle.keeper.specs.Keeper.{roomsTaken, roomsBegun}
-use Rattle.lines.specs.Stored.{Stored}
-use Rattle.display.specs.declared.Showing.{Showing}
+use Rattle.record_lines.specs.declared.Showing.{Showing}
+use Rattle.record_lines.specs.RecordLines.{hasRoom, setUpText, recordText, placed, placeBehind}
 use Rattle.display.specs.declared.Wants.{Wants}
 use Rattle.display.specs.declared.Shown.{Shown}
-use Rattle.display.specs.Text.{longest, hasRoom, setUpText, recordText}
 use Rattle.display.specs.Shown.{wantsAfter, begunText, begunShown, unshown, setUpShown, setUpWords, setUpRooms, setUpRoom}
 use Rattle.display.specs.Shown.{nextRules, nextRooms, nextText, nextShown, stillShown, recordShown, recordWords, recordRules, recordRooms, recordRoom}
 
@@ -34,13 +33,15 @@ module _ (showing : Showing) (words rooms paper room : List ℕ) (to : ℕ) wher
 
   pub set-up : {begun : Begun} {words′ rooms′ room′ : List ℕ} {end : ℕ} {wants : Wants} → hasRoom (length room) to ≡ true
       → begun ≡ begunOf paper → words′ ≡ wordsBegun words paper → rooms′ ≡ roomsBegun words rooms paper
-      → Stored room to (setUpText showing (rulesOf words′) rooms′ (begun .event)) longest end room′ → wants ≡ wantsAfter (begun .event)
+      → end ≡ placeBehind (length room) to (setUpText showing (rulesOf words′) rooms′ (begun .event))
+      → room′ ≡ placed room to (setUpText showing (rulesOf words′) rooms′ (begun .event))
+      → wants ≡ wantsAfter (begun .event)
       → SetUp (record { shape = begun .shape; state = begun .state; at = begun .at; number = 1; end = end; wants = wants }) words′ rooms′ room′
-  unfolding setUpShown setUpWords setUpRooms setUpRoom begunShown begunText
-  set-up {begun} {words′} {rooms′} {room′} {end} {wants} fits b w r s n =
+  unfolding setUpShown setUpWords setUpRooms setUpRoom begunShown begunText placed placeBehind
+  set-up {begun} {words′} {rooms′} {room′} {end} {wants} fits b w r e p n =
       let text : setUpText showing (rulesOf words′) rooms′ (begun .event) ≡ begunText showing words rooms paper = rw (w, r, b) in
-      let ends : end ≡ to + length (begunText showing words rooms paper) = rw (← text) (s .behind) in
-      (rw (fits, n, ends, b), rw fits w, rw fits r, rw (fits, ← text) (s .is))
+      let ends : end ≡ to + length (begunText showing words rooms paper) = rw (← text) (rw fits at e) in
+      (rw (fits, n, ends, b), rw fits w, rw fits r, rw (fits, ← text) (rw fits at p))
 
 -- ---- a record
 
@@ -61,12 +62,13 @@ module _ (showing : Showing) (words rooms : List ℕ) (shown : Shown) (paper roo
       → words′ ≡ wordsAfter words (takenWrites (shown .shape) (shown .state) paper (shown .at))
       → rulesOf words′ ≡ rulesAfter (rulesOf words) (takenWrites (shown .shape) (shown .state) paper (shown .at))
       → rooms′ ≡ roomsTaken (rulesOf words) (shown .shape) (shown .state) paper (shown .at) rooms
-      → Stored room to (recordText showing (rulesOf words′) rooms′ (shown .number) (taken .event)) longest end room′
+      → end ≡ placeBehind (length room) to (recordText showing (rulesOf words′) rooms′ (shown .number) (taken .event))
+      → room′ ≡ placed room to (recordText showing (rulesOf words′) rooms′ (shown .number) (taken .event))
       → number ≡ (shown .number + 1) % 65536
       → wants ≡ wantsAfter (taken .event)
       → Recorded (record { shape = shown .shape; state = taken .state; at = taken .at; number = number; end = end; wants = wants }) words′ rooms′ room′
-  unfolding recordShown recordWords recordRules recordRooms recordRoom nextShown nextText nextRules nextRooms
-  recorded {taken} {words′} {rooms′} {room′} {number} {end} {wants} fits t w u r s k n =
+  unfolding recordShown recordWords recordRules recordRooms recordRoom nextShown nextText nextRules nextRooms placed placeBehind
+  recorded {taken} {words′} {rooms′} {room′} {number} {end} {wants} fits t w u r e p k n =
       let text : recordText showing (rulesOf words′) rooms′ (shown .number) (taken .event) ≡ nextText (rulesOf words) shown paper showing rooms = rw (u, r, t) in
-      let ends : end ≡ to + length (nextText (rulesOf words) shown paper showing rooms) = rw (← text) (s .behind) in
-      (rw (fits, n, ends, k, t), rw fits w, rw fits u, rw fits r, rw (fits, ← text) (s .is))
+      let ends : end ≡ to + length (nextText (rulesOf words) shown paper showing rooms) = rw (← text) (rw fits at e) in
+      (rw (fits, n, ends, k, t), rw fits w, rw fits u, rw fits r, rw (fits, ← text) (rw fits at p))

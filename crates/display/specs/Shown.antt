@@ -15,11 +15,11 @@ use Rattle.records.specs.declared.Taken.{Taken}
 use Rattle.conversation.specs.Conversation.{takenOf, takenWrites}
 use Rattle.opening.specs.Opening.{begunOf, wordsBegun}
 use Rattle.keeper.specs.Keeper.{roomsTaken, roomsBegun}
-use Rattle.display.specs.declared.Showing.{Showing}
+use Rattle.record_lines.specs.declared.Showing.{Showing}
+use Rattle.record_lines.specs.RecordLines.{setUpText, recordText, hasRoom}
 use Rattle.display.specs.declared.Wants.{Wants}
 use Rattle.display.specs.declared.Wants.the-variants.{Record, Room, Run, Nothing}
 use Rattle.display.specs.declared.Shown.{Shown}
-use Rattle.display.specs.Text.{setUpText, recordText, hasRoom}
 
 -- at a paper's end a run may follow; a refusal that ends the paper wants nothing more
 abbrev pub wantsAfter : Event → Wants

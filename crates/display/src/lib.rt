@@ -1,19 +1,13 @@
 // A paper shown record by record, in lent room: the lines of its sitting and, where the rooms are shown
 // too, behind each the room left of each profile, while there is a card.
 ghost use mathlib.Core.Path.{_≡_};
-ghost use mathlib.Core.List.{[], _∷_, _++_};
-ghost use Prim.Native.Nat.{_+_, _≤_};
 ghost use lib.ListN.{length};
 ghost use Rattle.rules.specs.Rules.{rulesOf};
-ghost use Rattle.lines.specs.Stored.{Stored};
-ghost use Rattle.lines.specs.Sitting.{eventLine};
-ghost use Rattle.numerals.specs.Numeral.{numeral};
-ghost use Rattle.display.specs.Text.{longest, hasRoom, heading, roomLine, placeLine, roomLines, shownLines, setUpText, recordText};
 ghost use Rattle.display.specs.Shown.{wantsAfter, unshown, setUpShown, setUpWords, setUpRooms, setUpRoom};
 ghost use Rattle.display.specs.Shown.{recordShown, recordWords, recordRules, recordRooms, recordRoom};
+use record_lines::Showing;
 use records::Event;
 use rooms::Rooms;
-use rules::Place;
 use rules::Words;
 use shape::Dating;
 use shape::Family;
@@ -22,15 +16,6 @@ use shape::Selecting;
 use shape::Shape;
 use state::State;
 use std::num::wrapping_add_u16;
-
-// The most bytes of a record's line and the lines of four profiles' rooms.
-pub const LONGEST: usize = 454;
-
-// What is shown: the sitting's lines alone, or behind them the rooms.
-pub enum Showing {
-    Lines,
-    Rooms,
-}
 
 // What is wanted next: a further record; room; a run, as the paper is at its end and the card stands;
 // or nothing, as a refusal has ended the paper.
@@ -50,140 +35,6 @@ pub struct Shown {
     pub number: u16,
     pub end: usize,
     pub wants: Wants,
-}
-
-// Whether the longest text fits from a place on.
-fn has_room(bytes: usize, at: usize) -> bool
-    ensures { λ r. ⌜ r ≡ hasRoom bytes at ⌝ }
-{
-    if bytes < at {
-        return false;
-    }
-    LONGEST <= bytes - at
-}
-
-fn put_text(room: &mut [u8], at: usize, text: &[u8]) -> usize
-    requires { ⌜ at + length (now text) ≤ length (now room) ⌝ }
-    ensures { λ r. ⌜ Stored (now (room .entry)) at (now (text .entry)) (length (now (text .entry))) r (now (room .exit)) ⌝ }
-{
-    bytes::copy(text, &mut room[at..]);
-    at + text.len()
-}
-
-// A number, and the mark behind it.
-fn put_field(room: &mut [u8], at: usize, n: u64, mark: u8) -> usize
-    requires { ⌜ at + 21 ≤ length (now room) ⌝ }
-    ensures { λ r. ⌜ Stored (now (room .entry)) at (numeral n ++ mark ∷ []) 21 r (now (room .exit)) ⌝ }
-{
-    let at = numerals::put_number(room, at, n);
-    put_text(room, at, &[mark])
-}
-
-// The word, and a profile's number.
-fn put_heading(room: &mut [u8], at: usize, number: u8) -> usize
-    requires { ⌜ at + 26 ≤ length (now room) ⌝ }
-    ensures { λ r. ⌜ Stored (now (room .entry)) at (heading number) 9 r (now (room .exit)) ⌝ }
-{
-    let at = put_text(room, at, b"room ");
-    put_field(room, at, number as u64, b' ')
-}
-
-// The rooms of a profile, by its number.
-fn put_room_line(room: &mut [u8], at: usize, number: u8, rooms: [u64; 4]) -> usize
-    requires { ⌜ at + 93 ≤ length (now room) ⌝ }
-    ensures { λ r. ⌜ Stored (now (room .entry)) at (roomLine number rooms) 93 r (now (room .exit)) ⌝ }
-{
-    let at = put_heading(room, at, number);
-    let at = put_field(room, at, rooms[0], b' ');
-    let at = put_field(room, at, rooms[1], b' ');
-    let at = put_field(room, at, rooms[2], b' ');
-    put_field(room, at, rooms[3], b'\n')
-}
-
-// Those of the profile at a place, where there is one.
-fn put_place(words: &Words, rooms: &Rooms, place: Place, room: &mut [u8], at: usize) -> usize
-    requires { ⌜ at + 93 ≤ length (now room) ⌝ }
-    ensures { λ r. ⌜ Stored (now (room .entry)) at (placeLine (rulesOf (now (words .entry))) (now (rooms .entry)) place) 93 r (now (room .exit)) ⌝ }
-{
-    let number = rules::profile_number(words, place);
-    if number == 0 {
-        return at;
-    }
-    put_room_line(room, at, number, rooms::stored(rooms, place))
-}
-
-// The rooms of all profiles, in the set-up's order.
-fn put_rooms(words: &Words, rooms: &Rooms, room: &mut [u8], at: usize) -> usize
-    requires { ⌜ at + 372 ≤ length (now room) ⌝ }
-    ensures { λ r. ⌜ Stored (now (room .entry)) at (roomLines (rulesOf (now (words .entry))) (now (rooms .entry))) 372 r (now (room .exit)) ⌝ }
-{
-    let at = put_place(words, rooms, Place::One, room, at);
-    let at = put_place(words, rooms, Place::Two, room, at);
-    let at = put_place(words, rooms, Place::Three, room, at);
-    put_place(words, rooms, Place::Four, room, at)
-}
-
-// The same, where rooms are shown.
-fn put_shown(words: &Words, rooms: &Rooms, showing: Showing, room: &mut [u8], at: usize) -> usize
-    requires { ⌜ at + 372 ≤ length (now room) ⌝ }
-    ensures { λ r. ⌜ Stored (now (room .entry)) at (shownLines showing (roomLines (rulesOf (now (words .entry))) (now (rooms .entry)))) 372 r (now (room .exit)) ⌝ }
-{
-    match showing {
-        Showing::Lines => at,
-        Showing::Rooms => put_rooms(words, rooms, room, at),
-    }
-}
-
-// The line of an event; a paper's end has none.
-fn put_event(room: &mut [u8], at: usize, number: u16, event: Event) -> usize
-    requires { ⌜ at + 82 ≤ length (now room) ⌝ }
-    ensures { λ r. ⌜ Stored (now (room .entry)) at (eventLine number event) 82 r (now (room .exit)) ⌝ }
-{
-    match event {
-        Event::SetUp => lines::put_refusal(room, at, number, 0),
-        Event::End => at,
-        Event::Refused(refusal) => lines::put_refusal(room, at, number, refusal.number()),
-        Event::Answered { answer, .. } => lines::put_answer(room, at, number, answer),
-    }
-}
-
-// The set-up's line, and the rooms of a card that is set up.
-fn put_set_up(
-    words: &Words,
-    rooms: &Rooms,
-    showing: Showing,
-    event: Event,
-    room: &mut [u8],
-    at: usize,
-) -> usize
-    requires { ⌜ at + longest ≤ length (now room) ⌝ }
-    ensures { λ r. ⌜ Stored (now (room .entry)) at (setUpText showing (rulesOf (now (words .entry))) (now (rooms .entry)) event) longest r (now (room .exit)) ⌝ }
-{
-    let end = put_event(room, at, 0, event);
-    if let Event::SetUp = event {
-        return put_shown(words, rooms, showing, room, end);
-    }
-    end
-}
-
-// A record's line, and the rooms behind it.
-fn put_record(
-    words: &Words,
-    rooms: &Rooms,
-    showing: Showing,
-    number: u16,
-    event: Event,
-    room: &mut [u8],
-    at: usize,
-) -> usize
-    requires { ⌜ at + longest ≤ length (now room) ⌝ }
-    ensures { λ r. ⌜ Stored (now (room .entry)) at (recordText showing (rulesOf (now (words .entry))) (now (rooms .entry)) number event) longest r (now (room .exit)) ⌝ }
-{
-    let end = put_event(room, at, number, event);
-    if let Event::End = event {
-        return end;
-    }
-    put_shown(words, rooms, showing, room, end)
 }
 
 // At a paper's end a run may follow; behind a refusal that ends the paper nothing does.
@@ -236,12 +87,12 @@ pub fn show_set_up(
         × (now (rooms .exit) ≡ setUpRooms (now (words .entry)) (now (rooms .entry)) (now (paper .entry)) (length (now (room .entry))) to)
         × (now (room .exit) ≡ setUpRoom showing (now (words .entry)) (now (rooms .entry)) (now (paper .entry)) (now (room .entry)) to) ⌝ }
 {
-    if !has_room(room.len(), to) {
+    if !record_lines::has_room(room.len(), to) {
         return show_nothing(to);
     }
     let begun = keeper::begin(paper, words, rooms);
     let event = begun.event;
-    let end = put_set_up(words, rooms, showing, event, room, to);
+    let end = record_lines::put_set_up(words, rooms, showing, event, room, to);
     let shape = begun.shape;
     let state = begun.state;
     Shown {
@@ -274,7 +125,7 @@ pub fn show_record(
     let state = shown.state;
     let at = shown.at;
     let number = shown.number;
-    if !has_room(room.len(), to) {
+    if !record_lines::has_room(room.len(), to) {
         return Shown {
             shape,
             state,
@@ -286,7 +137,7 @@ pub fn show_record(
     }
     let taken = keeper::take(words, rooms, shape, state, paper, at);
     let event = taken.event;
-    let end = put_record(words, rooms, showing, number, event, room, to);
+    let end = record_lines::put_record(words, rooms, showing, number, event, room, to);
     let after = taken.state;
     Shown {
         shape,

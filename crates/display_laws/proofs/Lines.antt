@@ -14,8 +14,9 @@ use Rattle.opening.specs.Opening.{begunOf, wordsBegun}
 use Rattle.conversation.specs.Events.{following, eventsFrom, eventsOf}
 use Rattle.keeper.specs.Keeper.{roomsTaken, roomsBegun}
 use Rattle.lines.specs.Sitting.{eventLine, linesOf, sittingLines}
-use Rattle.display.specs.declared.Showing.the-variants.{Rooms}
-use Rattle.display.specs.Text.{roomLines, setUpLines}
+use Rattle.record_lines.specs.declared.Showing.the-variants.{Rooms}
+use Rattle.room_lines.specs.RoomLines.{roomLines}
+use Rattle.record_lines.specs.RecordLines.{setUpLines}
 use Rattle.display_laws.specs.Display.{Entry, entered, entriesFrom, entriesOf}
 
 abbrev linesIn : List Entry → List (List ℕ)

@@ -16,8 +16,9 @@ use Rattle.keeper.specs.Keeper.{roomsTaken, roomsBegun}
 use Rattle.room_laws.proofs.Taken.{begun-right, taken-right}
 use Rattle.lines.specs.Sitting.{eventLine}
 use Rattle.transcript.proofs.Steps.{Beginning, accepted, refused, begins}
-use Rattle.display.specs.declared.Showing.the-variants.{Rooms}
-use Rattle.display.specs.Text.{roomLines, setUpLines}
+use Rattle.record_lines.specs.declared.Showing.the-variants.{Rooms}
+use Rattle.room_lines.specs.RoomLines.{roomLines}
+use Rattle.record_lines.specs.RecordLines.{setUpLines}
 use Rattle.display_laws.specs.Display.{Entry, entered, entriesFrom, entriesOf}
 use Rattle.display_laws.specs.Recomputed.{recomputedFrom, recomputedOf}
 

@@ -20,10 +20,11 @@ use Rattle.lines.specs.Sitting.{sittingLines}
 use Rattle.transcript.specs.Transcript.{joined}
 use Rattle.transcript.proofs.Short.{LineOf, record-short}
 use Rattle.transcript.proofs.Steps.{Beginning, accepted, refused, begins, never-set-up}
-use Rattle.display.specs.declared.Showing.{Showing}
-use Rattle.display.specs.declared.Showing.the-variants.{Lines, Rooms}
+use Rattle.record_lines.specs.declared.Showing.{Showing}
+use Rattle.record_lines.specs.declared.Showing.the-variants.{Lines, Rooms}
 use Rattle.display.specs.declared.Shown.{Shown}
-use Rattle.display.specs.Text.{roomLines, shownLines, setUpLines, setUpText, recordText}
+use Rattle.room_lines.specs.RoomLines.{roomLines}
+use Rattle.record_lines.specs.RecordLines.{shownLines, setUpLines, setUpText, recordText}
 use Rattle.display.specs.Shown.{wantsAfter, begunText, begunShown, nextText, nextRules, nextRooms, nextShown}
 use Rattle.display_laws.specs.Display.{Entry, entered, entriesFrom, entriesOf, textOf, displayOf, goesOn, stepsFrom, stepsOf}
 use Rattle.display_laws.proofs.Lines.{lines-same}

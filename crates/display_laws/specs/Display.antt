@@ -14,10 +14,11 @@ use Rattle.keeper.specs.Keeper.{roomsTaken, roomsBegun}
 use Rattle.lines.specs.Sitting.{eventLine}
 use Rattle.display.specs.declared.Wants.{Wants}
 use Rattle.display.specs.declared.Wants.the-variants.{Record, Room, Run, Nothing}
-use Rattle.display.specs.declared.Showing.{Showing}
-use Rattle.display.specs.declared.Showing.the-variants.{Rooms}
+use Rattle.record_lines.specs.declared.Showing.{Showing}
+use Rattle.record_lines.specs.declared.Showing.the-variants.{Rooms}
 use Rattle.display.specs.declared.Shown.{Shown}
-use Rattle.display.specs.Text.{roomLines, shownLines, setUpLines}
+use Rattle.room_lines.specs.RoomLines.{roomLines}
+use Rattle.record_lines.specs.RecordLines.{shownLines, setUpLines}
 use Rattle.display.specs.Shown.{begunText, begunShown, nextText, nextRules, nextRooms, nextShown}
 
 pub record Entry : Type 0 where

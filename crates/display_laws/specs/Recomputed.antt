@@ -10,8 +10,9 @@ use Rattle.state.specs.declared.State.{State}
 use Rattle.conversation.specs.Conversation.{takenOf, takenWrites}
 use Rattle.opening.specs.Opening.{begunOf, wordsBegun}
 use Rattle.lines.specs.Sitting.{eventLine}
-use Rattle.display.specs.declared.Showing.the-variants.{Rooms}
-use Rattle.display.specs.Text.{roomLines, setUpLines}
+use Rattle.record_lines.specs.declared.Showing.the-variants.{Rooms}
+use Rattle.room_lines.specs.RoomLines.{roomLines}
+use Rattle.record_lines.specs.RecordLines.{setUpLines}
 use Rattle.display_laws.specs.Display.{Entry, entered}
 
 unfoldable pub recomputedFrom : ℕ → Rules → Shape → State → (paper : List ℕ) (at record-number : ℕ) → List Entry

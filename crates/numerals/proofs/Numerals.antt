@@ -11,7 +11,7 @@ use lib.ListN.{length, length-append}
 use lib.Seq.{sets, length-sets}
 use Rattle.text.specs.Stored.{Stored}
 use Rattle.text.proofs.Stores as store
-use Rattle.numerals.specs.Numeral.{digitsOf, numeral, longest, numberPlaced, numberBehind}
+use Rattle.numerals.specs.Numeral.{digitsOf, numeral, longest, numberPlaced, numberBehind, field, longestField, fieldPlaced, fieldBehind}
 
 -- the tenth has a digit less
 tenth : (k n : ℕ) → n < 10 ^ suc k → n / 10 < 10 ^ k
@@ -134,3 +134,28 @@ module _ (room : List ℕ) (at n : ℕ) (fits : at + longest ≤ length room) wh
   fitted e p =
       let digits = stored e p in
       (store.within digits (size n), ap length (digits .is) ∙ length-sets room at (numeral n))
+
+-- ---- with the mark behind it
+
+pub stay-field : (room : List ℕ) (at n mark : ℕ) → length room < at + longestField
+    → (at ≡ fieldBehind (length room) at n mark) × (room ≡ fieldPlaced room at n mark)
+unfolding fieldBehind fieldPlaced
+stay-field room at n mark full = let none = lt-leb (at + longestField) (length room) full in (rw none, rw none)
+
+module _ (room : List ℕ) (at n mark : ℕ) (fits : at + longestField ≤ length room) where
+  -- stored so
+  pub place-field : {after : List ℕ} {end most : ℕ} → Stored room at (field n mark) most end after
+      → (end ≡ fieldBehind (length room) at n mark) × (after ≡ fieldPlaced room at n mark)
+  unfolding fieldBehind fieldPlaced
+  place-field p = let room-for = le-leb (at + longestField) (length room) fits in (rw room-for (p .behind), rw room-for (p .is))
+
+  -- what is known where it fits
+  pub field-fitted : {after : List ℕ} {end : ℕ} → end ≡ fieldBehind (length room) at n mark → after ≡ fieldPlaced room at n mark
+      → Stored room at (field n mark) longestField end after × (length after ≡ length room)
+  unfolding fieldBehind fieldPlaced
+  field-fitted {after} {end} e p =
+      let room-for = le-leb (at + longestField) (length room) fits in
+      let ends : end ≡ at + length (field n mark) = rw room-for at e in
+      let is : after ≡ sets room at (field n mark) = rw room-for at p in
+      let long = length-append (numeral n) (mark ∷ []) in
+      (record { is = is; behind = ends; short = omega (arith, ends, long, size n) }, ap length is ∙ length-sets room at (field n mark))

@@ -25,3 +25,16 @@ numberPlaced room at n = cond (leb (at + longest) (length room)) (sets room at (
 -- the place behind it in a room of some bytes, or the same place
 unfoldable pub numberBehind : (bytes at n : ℕ) → ℕ
 numberBehind bytes at n = cond (leb (at + longest) bytes) (at + length (numeral n)) at
+
+-- the same of a number and the mark behind it
+abbrev pub field : (n mark : ℕ) → List ℕ
+field n mark = numeral n ++ mark ∷ []
+
+abbrev pub longestField : ℕ
+longestField = 21
+
+unfoldable pub fieldPlaced : (room : List ℕ) (at n mark : ℕ) → List ℕ
+fieldPlaced room at n mark = cond (leb (at + longestField) (length room)) (sets room at (field n mark)) room
+
+unfoldable pub fieldBehind : (bytes at n mark : ℕ) → ℕ
+fieldBehind bytes at n mark = cond (leb (at + longestField) bytes) (at + length (field n mark)) at

@@ -4,7 +4,7 @@ ghost use mathlib.Core.List.{[], _∷_};
 ghost use Prim.Native.Nat.{_+_, _≤_, _<_};
 ghost use lib.ListN.{length};
 ghost use Rattle.text.specs.Stored.{Stored};
-ghost use Rattle.numerals.specs.Numeral.{numeral, numberPlaced, numberBehind};
+ghost use Rattle.numerals.specs.Numeral.{numeral, numberPlaced, numberBehind, fieldPlaced, fieldBehind};
 
 // The most digits that a number has.
 pub const LONGEST: usize = 20;
@@ -42,4 +42,20 @@ pub fn put_number(room: &mut [u8], at: usize, n: u64) -> usize
         return at;
     }
     put_digits(room, at, n)
+}
+
+// A number and the mark behind it, where the longest fits with its mark.
+pub fn put_field(room: &mut [u8], at: usize, n: u64, mark: u8) -> usize
+    ensures { λ r. ⌜ (r ≡ fieldBehind (length (now (room .entry))) at n mark)
+        × (now (room .exit) ≡ fieldPlaced (now (room .entry)) at n mark) ⌝ }
+{
+    if room.len() < at {
+        return at;
+    }
+    if room.len() - at <= LONGEST {
+        return at;
+    }
+    let end = put_digits(room, at, n);
+    room[end] = mark;
+    end + 1
 }

@@ -4,9 +4,9 @@
 ghost use Prim.Native.Nat.{_≤_};
 ghost use lib.ListN.{length};
 use bench::Page;
-use display::Showing;
 use display::Shown;
 use display::Wants;
+use record_lines::Showing;
 use rooms::Rooms;
 use rules::Words;
 use shape::Shape;

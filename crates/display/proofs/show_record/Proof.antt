@@ -1,5 +1,5 @@
 use borrow.Author.Needs.{needs}
-use borrow.Author.Tests.{leb-true, not-true, not-false}
+use borrow.Author.Tests.{not-true, not-false}
 use denote.Ref.{now}
 use mathlib.Core.Path.{refl, sym, _∙_}
 use Rattle.display.specs.Shown.{stillShown}
@@ -16,12 +16,6 @@ returns c =
     let full = sym (asked .has-room .ensures) ∙ not-true _ (c .if1 .taken) in
     no-record (a .showing) (now (a .words)) (now (a .rooms)) (a .shown) (now (a .paper)) (now (a .room)) (a .to) full refl
 
-put-record-requires : tie.Need-put-record-requires
-put-record-requires c κs =
-    let taken = c .before .before .before in
-    let tested = taken .before .before .before in
-    leb-true _ _ (sym (tested .before .has-room .ensures) ∙ not-false _ (tested .if1 .left))
-
 returns-2 : tie.Need-returns-2
 returns-2 c =
     let counted = c .before in
@@ -36,11 +30,11 @@ returns-2 c =
     let fits = sym (asked .has-room .ensures) ∙ not-false _ (tested .if1 .left) in
     let taken = read .take .ensures in
     recorded (a .showing) (now (a .words)) (now (a .rooms)) (a .shown) (now (a .paper)) (now (a .room)) (a .to) fits (taken .0) (taken .1) (taken .2) (taken .3)
-    (put .put-record .ensures)
+    (put .put-record .ensures .0) (put .put-record .ensures .1)
     (counted .wrapping-add-u16 .ensures)
     (c .wanted .ensures)
 
 pub show-record-spec : {M : Type 1} → statement M
 show-record-spec =
     tie.close
-    (tie.spec (search needs) returns (search needs) put-record-requires (search needs) (search needs) (search needs) returns-2)
+    (tie.spec (search needs) returns (search needs) (search needs) (search needs) (search needs) (search needs) returns-2)

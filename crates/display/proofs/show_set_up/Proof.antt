@@ -1,5 +1,5 @@
 use borrow.Author.Needs.{needs}
-use borrow.Author.Tests.{leb-true, not-true, not-false}
+use borrow.Author.Tests.{not-true, not-false}
 use denote.Ref.{now}
 use mathlib.Core.Path.{sym, _∙_}
 use Rattle.display.proofs.Shows.{no-set-up, set-up}
@@ -13,12 +13,6 @@ returns c =
     let full = sym (asked .has-room .ensures) ∙ not-true _ (c .before .if1 .taken) in
     no-set-up (a .showing) (now (a .words)) (now (a .rooms)) (now (a .paper)) (now (a .room)) (a .to) full (c .show-nothing .ensures)
 
-put-set-up-requires : tie.Need-put-set-up-requires
-put-set-up-requires c κs =
-    let begun = c .before .before .before in
-    let tested = begun .before .before .before in
-    leb-true _ _ (sym (tested .before .has-room .ensures) ∙ not-false _ (tested .if1 .left))
-
 returns-2 : tie.Need-returns-2
 returns-2 c =
     let lent = c .before .before .before in
@@ -30,10 +24,10 @@ returns-2 c =
     let a = asked .before .before .before .args in
     let fits = sym (asked .has-room .ensures) ∙ not-false _ (tested .if1 .left) in
     let read = begun .begin .ensures in
-    set-up (a .showing) (now (a .words)) (now (a .rooms)) (now (a .paper)) (now (a .room)) (a .to) fits (read .0) (read .1) (read .2) (put .put-set-up .ensures)
+    set-up (a .showing) (now (a .words)) (now (a .rooms)) (now (a .paper)) (now (a .room)) (a .to) fits (read .0) (read .1) (read .2) (put .put-set-up .ensures .0) (put .put-set-up .ensures .1)
     (c .wanted .ensures)
 
 pub show-set-up-spec : {M : Type 1} → statement M
 show-set-up-spec =
     tie.close
-    (tie.spec (search needs) (search needs) returns (search needs) put-set-up-requires (search needs) (search needs) returns-2)
+    (tie.spec (search needs) (search needs) returns (search needs) (search needs) (search needs) (search needs) returns-2)
