@@ -1,8 +1,8 @@
 use borrow.Author.Needs.{needs}
 use borrow.Author.Tests.{lt-ltb, le-ltb}
 use Rattle.shape.specs.Shape.{baseTail}
-use Rattle.shape.proofs.read_base.Statement.{statement}
-use Rattle.shape.proofs.read_base.Tie as tie
+use Rattle.early_tails.proofs.read_base.Statement.{statement}
+use Rattle.early_tails.proofs.read_base.Tie as tie
 
 returns : tie.Need-returns
 unfolding baseTail

@@ -1,8 +1,8 @@
 use borrow.Author.Needs.{needs}
 use borrow.Author.Tests.{le-leb, lt-leb, lt-ltb, le-ltb}
 use Rattle.shape.specs.Shape.{scriptingTail}
-use Rattle.shape.proofs.read_scripting.Statement.{statement}
-use Rattle.shape.proofs.read_scripting.Tie as tie
+use Rattle.later_tails.proofs.read_scripting.Statement.{statement}
+use Rattle.later_tails.proofs.read_scripting.Tie as tie
 
 returns : tie.Need-returns
 unfolding scriptingTail

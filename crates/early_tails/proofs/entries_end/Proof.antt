@@ -5,9 +5,9 @@ use Prim.Native.Nat.{ℕ, _+_, _*_, _-_, _≤_}
 use native.Mathlib.Numerals.{add-one}
 use native.Mathlib.Omega.{arith}
 use denote.Ref.{now}
 use Rattle.shape.specs.Shape.{entriesEnd}
-use Rattle.shape.proofs.entries_end.Statement.{statement}
-use Rattle.shape.proofs.entries_end.Tie as tie
+use Rattle.early_tails.proofs.entries_end.Statement.{statement}
+use Rattle.early_tails.proofs.entries_end.Tie as tie
 
 abbrev Inv-loop : tie.InvT-loop
 Inv-loop body at entries end₀ counter₀ end counter =

@@ -1,6 +1,6 @@
 use borrow.Author.Needs.{needs}
-use Rattle.shape.proofs.log_end.Statement.{statement}
-use Rattle.shape.proofs.log_end.Tie as tie
+use Rattle.log_place.proofs.log_end.Statement.{statement}
+use Rattle.log_place.proofs.log_end.Tie as tie
 
 returns : tie.Need-returns
 returns c = simp (c .table-end2 .ensures .0, c .before .table-end .ensures .0, c .before .before .byte-at .ensures)

@@ -1,8 +1,8 @@
 use borrow.Author.Needs.{needs}
 use borrow.Author.Tests.{le-leb, lt-leb, eq-eqb, ne-eqb, lt-ltb, le-ltb}
 use Rattle.shape.specs.Shape.{datingTail}
-use Rattle.shape.proofs.read_dating.Statement.{statement}
-use Rattle.shape.proofs.read_dating.Tie as tie
+use Rattle.later_tails.proofs.read_dating.Statement.{statement}
+use Rattle.later_tails.proofs.read_dating.Tie as tie
 
 returns : tie.Need-returns
 unfolding datingTail

@@ -1,8 +1,8 @@
 use borrow.Author.Needs.{needs}
 use borrow.Author.Tests.{le-leb, lt-leb, lt-ltb, le-ltb}
 use Rattle.shape.specs.Shape.{syllabusTail}
-use Rattle.shape.proofs.read_syllabus.Statement.{statement}
-use Rattle.shape.proofs.read_syllabus.Tie as tie
+use Rattle.early_tails.proofs.read_syllabus.Statement.{statement}
+use Rattle.early_tails.proofs.read_syllabus.Tie as tie
 
 returns : tie.Need-returns
 unfolding syllabusTail

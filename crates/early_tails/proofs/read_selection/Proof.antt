@@ -1,8 +1,8 @@
 use borrow.Author.Needs.{needs}
 use borrow.Author.Tests.{le-leb, lt-leb, eq-eqb, ne-eqb, lt-ltb, le-ltb}
 use Rattle.shape.specs.Shape.{selectionTail}
-use Rattle.shape.proofs.read_selection.Statement.{statement}
-use Rattle.shape.proofs.read_selection.Tie as tie
+use Rattle.early_tails.proofs.read_selection.Statement.{statement}
+use Rattle.early_tails.proofs.read_selection.Tie as tie
 
 returns : tie.Need-returns
 unfolding selectionTail
