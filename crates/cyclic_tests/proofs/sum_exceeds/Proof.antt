@@ -3,9 +3,9 @@ use borrow.Author.Tests.{lt-ltb}
 use mathlib.Core.Path.{sym}
 use Prim.Native.Nat.{_+_}
 use native.Mathlib.Omega.{arith}
 use Rattle.limits.proofs.Exceeds.{left-to}
-use Rattle.limits.proofs.sum_exceeds.Statement.{statement}
-use Rattle.limits.proofs.sum_exceeds.Tie as tie
+use Rattle.cyclic_tests.proofs.sum_exceeds.Statement.{statement}
+use Rattle.cyclic_tests.proofs.sum_exceeds.Tie as tie
 
 returns : tie.Need-returns
 returns c = let a = c .before .args in sym (lt-ltb (a .limit) (a .value + a .more) (omega arith))

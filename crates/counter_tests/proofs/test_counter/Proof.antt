@@ -2,9 +2,9 @@
 use borrow.Author.Needs.{needs}
 use borrow.Author.Tests.{not-true, not-false}
 use native.Mathlib.Omega.{arith}
 use Rattle.limits.proofs.Exceeds.{exceeds-once}
-use Rattle.limits.proofs.test_counter.Statement.{statement}
-use Rattle.limits.proofs.test_counter.Tie as tie
+use Rattle.counter_tests.proofs.test_counter.Statement.{statement}
+use Rattle.counter_tests.proofs.test_counter.Tie as tie
 
 returns : tie.Need-returns
 returns c =

@@ -2,10 +2,10 @@ use native.Mathlib.Omega.{arith}
 use denote.Ref.{now}
 use Rattle.rules.specs.Rules.{rulesOf}
 use Rattle.purchase.specs.Meter.{counter}
 use Rattle.limits.specs.Limits.{countersLower, countersUpper}
 use Rattle.limits.proofs.Exceeds.{four-packed}
-use Rattle.limits.proofs.test_counters.Statement.{statement}
-use Rattle.limits.proofs.test_counters.Tie as tie
+use Rattle.counter_tests.proofs.test_counters.Statement.{statement}
+use Rattle.counter_tests.proofs.test_counters.Tie as tie
 
 returns : tie.Need-returns
 unfolding countersLower countersUpper

@@ -3,9 +3,9 @@ use borrow.Author.Needs.{needs}
 use borrow.Author.Tests.{not-true, not-false}
 use mathlib.Core.Bool.{or-true, or-false}
 use Rattle.rules.specs.Rules.{rulesOf}
 use Rattle.limits.proofs.Exceeds.{sum-alone}
-use Rattle.limits.proofs.test_cyclic.Statement.{statement}
-use Rattle.limits.proofs.test_cyclic.Tie as tie
+use Rattle.cyclic_tests.proofs.test_cyclic.Statement.{statement}
+use Rattle.cyclic_tests.proofs.test_cyclic.Tie as tie
 
 returns : tie.Need-returns
 returns c =

@@ -2,8 +2,8 @@ use borrow.Author.Needs.{needs}
 use borrow.Author.Tests.{not-true, not-false}
 use mathlib.Core.Bool.{and-false, and-true}
 use native.Mathlib.Omega.{arith}
-use Rattle.limits.proofs.one_included.Statement.{statement}
-use Rattle.limits.proofs.one_included.Tie as tie
+use Rattle.counter_tests.proofs.one_included.Statement.{statement}
+use Rattle.counter_tests.proofs.one_included.Tie as tie
 
 returns : tie.Need-returns
 returns c = (simp (not-true (c .before .args .include) (c .if1 .taken), and-false), omega arith)

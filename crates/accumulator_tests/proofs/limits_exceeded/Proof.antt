@@ -4,8 +4,8 @@ use borrow.Author.Tests.{lt-ltb}
 use mathlib.Core.Path.{_≡_}
 use native.Mathlib.Omega.{arith}
 use Prim.Native.Nat.{ℕ, _+_, _%_, _≤_, _<_}
-use Rattle.limits.proofs.limits_exceeded.Statement.{statement}
-use Rattle.limits.proofs.limits_exceeded.Tie as tie
+use Rattle.accumulator_tests.proofs.limits_exceeded.Statement.{statement}
+use Rattle.accumulator_tests.proofs.limits_exceeded.Tie as tie
 
 beyond : (value more sum : ℕ) → more < 18446744073709551616 → sum ≡ (value + more) % 18446744073709551616 → sum < value
     → 18446744073709551616 ≤ value + more

@@ -3,10 +3,10 @@ use native.Mathlib.Omega.{arith}
 use denote.Ref.{now}
 use Rattle.rules.specs.Rules.{rulesOf}
 use Rattle.purchase.specs.Meter.{accumulator}
 use Rattle.limits.specs.Limits.{accumulatorsLower, accumulatorsUpper}
 use Rattle.limits.proofs.Exceeds.{four-packed}
-use Rattle.limits.proofs.test_accumulators.Statement.{statement}
-use Rattle.limits.proofs.test_accumulators.Tie as tie
+use Rattle.accumulator_tests.proofs.test_accumulators.Statement.{statement}
+use Rattle.accumulator_tests.proofs.test_accumulators.Tie as tie
 
 returns : tie.Need-returns
 unfolding accumulatorsLower accumulatorsUpper

@@ -1,8 +1,8 @@
 use borrow.Author.Needs.{needs}
 use borrow.Author.Tests.{not-true, not-false}
 use mathlib.Core.Bool.{and-false}
-use Rattle.limits.proofs.included.Statement.{statement}
-use Rattle.limits.proofs.included.Tie as tie
+use Rattle.accumulator_tests.proofs.included.Statement.{statement}
+use Rattle.accumulator_tests.proofs.included.Tie as tie
 
 returns : tie.Need-returns
 returns c = simp (not-true (c .before .args .include) (c .if1 .taken), and-false)

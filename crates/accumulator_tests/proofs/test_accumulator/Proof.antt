@@ -3,9 +3,9 @@ use borrow.Author.Needs.{needs}
 use borrow.Author.Tests.{not-true, not-false}
 use native.Mathlib.Omega.{arith}
 use Rattle.rules.specs.Rules.{rulesOf}
 use Rattle.limits.proofs.Exceeds.{exceeds-sum}
-use Rattle.limits.proofs.test_accumulator.Statement.{statement}
-use Rattle.limits.proofs.test_accumulator.Tie as tie
+use Rattle.accumulator_tests.proofs.test_accumulator.Statement.{statement}
+use Rattle.accumulator_tests.proofs.test_accumulator.Tie as tie
 
 returns : tie.Need-returns
 returns c =

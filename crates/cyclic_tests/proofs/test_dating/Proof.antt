@@ -1,9 +1,9 @@
 -- The timing is told by its name.
 use borrow.Author.Needs.{needs}
 use native.Mathlib.Omega.{arith}
 use Rattle.limits.specs.Limits.{datingFlags}
-use Rattle.limits.proofs.test_dating.Statement.{statement}
-use Rattle.limits.proofs.test_dating.Tie as tie
+use Rattle.cyclic_tests.proofs.test_dating.Statement.{statement}
+use Rattle.cyclic_tests.proofs.test_dating.Tie as tie
 
 returns : tie.Need-returns
 unfolding datingFlags
