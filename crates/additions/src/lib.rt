@@ -2,16 +2,16 @@
 // No crate above knows a version.
 ghost use mathlib.Core.Path.{_≡_};
 ghost use Rattle.shape.specs.Shape.{selectionTail, syllabusTail, datingTail, familyTail, scriptingTail, loggingTail, since, tailsOf, shapeOf};
+use early_tails::read_base;
+use early_tails::read_selection;
+use early_tails::read_syllabus;
+use later_tails::read_dating;
+use later_tails::read_family;
+use later_tails::read_scripting;
+use log_place::read_logging;
 use refusal::Refusal;
 use shape::ReadShape;
 use shape::Tails;
-use shape::read_base;
-use shape::read_dating;
-use shape::read_family;
-use shape::read_logging;
-use shape::read_scripting;
-use shape::read_selection;
-use shape::read_syllabus;
 
 // The first version with a tail that selects profiles, with a syllabus, with dates, with a card family,
 // with issuer scripts, and with a log.

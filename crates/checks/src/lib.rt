@@ -83,9 +83,9 @@ pub fn decision_bits(
 {
     history as u32
         + bit(exceeds_maximum(words, place, purchase)) as u32 * MAXIMUM
-        + limits::test_accumulators(words, place, values, purchase) as u32 * ACCUMULATORS
-        + limits::test_counters(words, place, values, purchase) as u32 * COUNTERS
-        + limits::test_dating(words, place, values, purchase) as u32 * DATING
+        + accumulator_tests::test_accumulators(words, place, values, purchase) as u32 * ACCUMULATORS
+        + counter_tests::test_counters(words, place, values, purchase) as u32 * COUNTERS
+        + cyclic_tests::test_dating(words, place, values, purchase) as u32 * DATING
         + bit(finds_cashback(words, place, purchase)) as u32 * CASHBACK
 }
 

@@ -11,10 +11,12 @@ use lib.ListN.{length, take, drop, length-append, length-drop}
 use lib.Seq.{sets, sets-eq, take-at, drop-at, take-all, length-take-le}
 use Rattle.shape.specs.declared.Shape.{Shape}
 use Rattle.state.specs.declared.State.{State}
-use Rattle.seating.specs.Shapes.{shapeCells, shapeIn}
-use Rattle.seating.specs.States.{valueCells, phaseCells, markCells, stateCells, stateIn}
-use Rattle.seating.specs.Fits.{ShapeFits, StateFits}
-use Rattle.seating.proofs.Back.{shape-back, shape-size, state-back, value-size, phase-size, mark-size}
+use Rattle.shape_seat.specs.Shapes.{shapeCells, shapeIn, ShapeFits}
+use Rattle.shape_seat.proofs.Back.{shape-back, shape-size}
+use Rattle.phase_seat.specs.Phases.{phaseCells}
+use Rattle.phase_seat.proofs.Back.{phase-size}
+use Rattle.seating.specs.States.{valueCells, markCells, stateCells, stateIn, StateFits}
+use Rattle.seating.proofs.Back.{state-back, value-size, mark-size}
 use Rattle.seat.specs.Calls.{isShort, runCard, ruling}
 use Rattle.runs.specs.Runs as runs
 use Rattle.seat.specs.Seat.{Card, cardOf, size, seated, storedIn, wordsIn, roomsIn, cardIn}

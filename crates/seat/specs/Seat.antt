@@ -4,7 +4,7 @@ use mathlib.Core.List.{List, _++_}
 use lib.ListN.{take, drop}
 use Rattle.shape.specs.declared.Shape.{Shape}
 use Rattle.state.specs.declared.State.{State}
-use Rattle.seating.specs.Shapes.{shapeCells, shapeIn}
+use Rattle.shape_seat.specs.Shapes.{shapeCells, shapeIn}
 use Rattle.seating.specs.States.{stateCells, stateIn}
 
 pub record Card : Type 0 where

@@ -6,8 +6,7 @@ ghost use mathlib.Core.Path.{_≡_};
 ghost use Prim.Native.Nat.{_+_, _≤_};
 ghost use lib.ListN.{length};
 ghost use lib.Seq.{sets};
-ghost use Rattle.seating.specs.States.{stateCells};
-ghost use Rattle.seating.specs.Fits.{StateFits};
+ghost use Rattle.seating.specs.States.{stateCells, StateFits};
 ghost use Rattle.seat.specs.Seat.{size, cardIn, cardOf, storedIn, wordsIn, roomsIn};
 ghost use Rattle.seat.specs.Calls.{eventNumber, openNumber, openCells, freshCard, ranNumber, runNumber, runCells, runRoom, cardBehind};
 ghost use Rattle.seat.specs.Calls.{roomNumber, roomLeft};
@@ -30,11 +29,11 @@ const ROOMS: usize = word::COUNT;
 
 const SHAPE: usize = ROOMS + 16;
 
-const VALUES: usize = SHAPE + seating::SHAPE;
+const VALUES: usize = SHAPE + shape_seat::SHAPE;
 
 const PHASE: usize = VALUES + seating::VALUES;
 
-const MARKS: usize = PHASE + seating::PHASE;
+const MARKS: usize = PHASE + phase_seat::PHASE;
 
 const SIZE: usize = MARKS + seating::MARKS;
 
@@ -74,7 +73,7 @@ fn put_state(seat: &mut [u64], state: State)
     let values = state.values;
     let phase = state.phase;
     put(seat, VALUES, &seating::value_cells(values));
-    put(seat, PHASE, &seating::phase_cells(phase));
+    put(seat, PHASE, &phase_seat::phase_cells(phase));
     put(seat, MARKS, &seating::mark_cells(state));
 }
 
@@ -86,7 +85,7 @@ fn put_card(seat: &mut [u64], words: &Words, rooms: &Rooms, shape: Shape, state:
 {
     put(seat, 0, words);
     put(seat, ROOMS, rooms);
-    put(seat, SHAPE, &seating::shape_cells(shape));
+    put(seat, SHAPE, &shape_seat::shape_cells(shape));
     put_state(seat, state);
 }
 
@@ -155,7 +154,7 @@ pub extern "C" fn comblattice_run(
     }
     let mut words = words_in(seat);
     let mut rooms = rooms_in(seat);
-    let shape = seating::shape_in(&seat[SHAPE..]);
+    let shape = shape_seat::shape_in(&seat[SHAPE..]);
     let state = seating::state_in(&seat[VALUES..]);
     let end = run(&mut words, &mut rooms, shape, paper, state, records, room);
     let ran = end.ran;

@@ -1,3 +1,2 @@
--- What the proofs of several functions use, and that what is stored is read back.
-pub mod Spread
+-- That what is stored is read back.
 pub mod Back

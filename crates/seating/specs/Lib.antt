@@ -1,4 +1,1 @@
-pub mod Cells
-pub mod Shapes
 pub mod States
-pub mod Fits

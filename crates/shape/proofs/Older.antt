@@ -12,13 +12,14 @@ use Rattle.wire.specs.Wire.{byte}
 use Rattle.refusal.specs.declared.Refusal.the-variants.{BadSetup}
 use Rattle.shape.specs.declared.Dating.the-variants.{Off as DatesOff, On as DatesOn}
 use Rattle.shape.specs.declared.Family.the-variants.{Cpa, Cpace}
+use Rattle.shape.specs.declared.Logging.the-variants.{On as LogOn}
 use Rattle.shape.specs.declared.Shape.{Shape}
 use Rattle.shape.specs.declared.Tails.{Tails}
 use Rattle.shape.specs.declared.Tails.the-variants.{Ended, Wrong}
 use Rattle.shape.specs.declared.ReadShape.the-variants.{Taken, Refused}
 use Rattle.shape.specs.Shape.{baseLength, based, baseTail, entriesEnd, fileEnd, selects, selectionTail, follows, syllabusTail}
-use Rattle.shape.specs.Shape.{dates, datesEnd, datingTail, families, familyEnd, familyTail, scripts, scriptingTail, loggingTail}
-use Rattle.shape.specs.Shape.{behind, tailsOf, whole, shapeOf}
+use Rattle.shape.specs.Shape.{dates, datesEnd, datingTail, families, familyEnd, familyTail, scripts, scriptingTail}
+use Rattle.shape.specs.Shape.{logs, logEnd, loggingTail, behind, tailsOf, whole, shapeOf}
 use Rattle.shape.proofs.Ends.{Ends, behind-ends, end-ends, switched-ends}
 use Rattle.shape.proofs.Scripting.{off-before}
 
@@ -44,28 +45,7 @@ module _ (body : List ℕ) where
   same-file : (at : ℕ) → fileEnd newer at ≡ fileEnd body at
   same-file at = ap (entriesEnd newer (at + 2)) (same-byte body (at + 1)) ∙ same-entries (at + 2) (byte body (at + 1))
 
-  -- ---- selection: behind a base that is the body stands the switch
-
-  module _ (sized : length body ≡ baseLength body) where
-    base-older : baseTail body ≡ Ended (based (length body)) (length body)
-    unfolding baseTail
-    base-older = rw (← sized, le-ltb (length body) (length body) (omega arith))
-
-    base-newer : baseTail newer ≡ Ended (based (length body)) (length body)
-    unfolding baseTail
-    base-newer = rw (same-byte body 3, same-byte body 4, longer, ← sized, le-ltb (length body + 1) (length body) (omega arith))
-
-    switched-off : selectionTail newer (based (length body)) (length body) ≡ Ended (based (length body)) (length body + 1)
-    unfolding selectionTail
-    switched-off = rw (longer, lt-leb (length body + 1) (length body) (omega arith), getD-append-seam body 0 [] 0)
-
-    -- SELECTION OFF
-    pub selection-off : shapeOf 2 newer ≡ shapeOf 1 body
-    unfolding shapeOf tailsOf
-    selection-off =
-        rw (base-older, base-newer, switched-off, longer, eq-eqb (length body) (length body) refl, eq-eqb (length body + 1) (length body + 1) refl)
-
-  -- ---- the syllabus: the tails up to it are the same, or they end past the older body
+  -- ---- tails of the two are the same, or they end past the older body
 
   data Near : Tails → Tails → Type 0 where
     same : {t : Tails} → Near t t
@@ -88,52 +68,114 @@ module _ (body : List ℕ) where
   unfolding baseTail
   near-base = rw (same-byte body 3, same-byte body 4, longer) (near-end (based (baseLength body)) (baseLength body))
 
-  -- a tail at a place that is off, and ends behind its switch, or on, and ends elsewhere
-  near-switched : (at : ℕ) (off on : Shape) (end : ℕ)
-      → Near
-      (cond (leb (length body + 1) at) Wrong
-      (cond (eqb (byte body at) 0) (Ended off (at + 1))
-      (cond (ltb 1 (byte body at)) Wrong (cond (ltb (length body + 1) end) Wrong (Ended on end)))))
-      (cond (leb (length body) at) Wrong
-      (cond (eqb (byte body at) 0) (Ended off (at + 1)) (cond (ltb 1 (byte body at)) Wrong (cond (ltb (length body) end) Wrong (Ended on end)))))
-  near-switched at off on end =
-      by (near-end on end) (leb (length body) at) (leb (length body + 1) at) refl refl (eqb (byte body at) 0) refl (ltb 1 (byte body at))
-    where
-      by : {x y : Tails} → Near x y → (older later : Bool) → leb (length body) at ≡ older → leb (length body + 1) at ≡ later
-          → (clear : Bool) → eqb (byte body at) 0 ≡ clear → (above : Bool)
-          → Near (cond later Wrong (cond clear (Ended off (at + 1)) (cond above Wrong x)))
-          (cond older Wrong (cond clear (Ended off (at + 1)) (cond above Wrong y)))
-      by e true true h k clear z above = same
-      by e true false h k true z above =
-          let here : at ≡ length body = omega (arith, leb-true (length body) at h, leb-false (length body + 1) at k) in
-          rw here (past off)
-      by e true false h k false z above =
-          absurd (eqb-false (byte body at) 0 z (List·getD-eq-default body 0 (leb-true (length body) at h)))
-      by e false true h k clear z above = absurd (omega (arith, leb-false (length body) at h, leb-true (length body + 1) at k))
-      by e false false h k true z above = same
-      by e false false h k false z true = same
-      by e false false h k false z false = e
+  -- a tail that is near by itself, and missing where nothing is left
+  record Grows (tail : List ℕ → Shape → ℕ → Tails) : Type 0 where
+    near : (shape : Shape) (at : ℕ) → Near (tail newer shape at) (tail body shape at)
+    missing : (shape : Shape) → tail newer shape (length body + 1) ≡ Wrong
 
-  near-selection : (shape : Shape) (at : ℕ) → Near (selectionTail newer shape at) (selectionTail body shape at)
-  unfolding selectionTail
-  near-selection shape at =
-      rw (same-byte body at, same-byte body (at + 1), same-entries (at + 2) (byte body (at + 1)), longer)
-      (near-switched at shape (selects shape (at + 2) (fileEnd body at) (byte body (at + 1))) (fileEnd body at))
-
-  missing-selection : (shape : Shape) → selectionTail newer shape (length body + 1) ≡ Wrong
-  unfolding selectionTail
-  missing-selection shape = rw (longer, le-leb (length body + 1) (length body + 1) (omega arith))
-
-  -- a tail that is near by itself, and missing where nothing is left, is near behind what is near
-  near-behind : (tail : List ℕ → Shape → ℕ → Tails) → ((shape : Shape) (at : ℕ) → Near (tail newer shape at) (tail body shape at))
-      → ((shape : Shape) → tail newer shape (length body + 1) ≡ Wrong)
+  -- it is near behind what is near
+  near-behind : (tail : List ℕ → Shape → ℕ → Tails) → Grows tail
       → {later older : Tails} → Near later older → Near (behind later (tail newer)) (behind older (tail body))
-  near-behind tail near missing {older = Wrong} same = same
-  near-behind tail near missing {older = Ended shape at} same = near shape at
-  near-behind tail near missing (past shape) = rw (missing shape) same
+  near-behind tail grows {older = Wrong} same = same
+  near-behind tail grows {older = Ended shape at} same = grows .near shape at
+  near-behind tail grows (past shape) = rw (grows .missing shape) same
+
+  near-ended : {later older : Tails} → Near later older → (shape : Shape) (at : ℕ) → older ≡ Ended shape at → later ≡ Ended shape at
+  near-ended same shape at e = e
+  near-ended (past other) shape at e = cc
+
+  -- what is taken whole ends where the body does
+  taken-ended : (tails : Tails) (shape : Shape) → whole body tails ≡ Taken shape → tails ≡ Ended shape (length body)
+  taken-ended Wrong shape e = cc
+  taken-ended (Ended other at) shape e = by (eqb at (length body)) refl e where
+    by : (b : Bool) → eqb at (length body) ≡ b → cond b (Taken other) (Refused BadSetup) ≡ Taken shape → Ended other at ≡ Ended shape (length body)
+    by true h e = let here = eqb-true at (length body) h in cc
+    by false h e = cc
+
+  -- a tail with a switch: off, it ends behind the switch; on, as it says
+  module _ (off : Shape → Shape) (on : List ℕ → Shape → ℕ → Tails) where
+    abbrev switchTail : List ℕ → Shape → ℕ → Tails
+    switchTail s shape at =
+        cond (leb (length s) at) Wrong (cond (eqb (byte s at) 0) (Ended (off shape) (at + 1)) (cond (ltb 1 (byte s at)) Wrong (on s shape at)))
+
+    near-switch : (shape : Shape) (at : ℕ) → Near (on newer shape at) (on body shape at) → Near (switchTail newer shape at) (switchTail body shape at)
+    near-switch shape at near =
+        rw (same-byte body at, longer)
+        (by near (leb (length body) at) (leb (length body + 1) at) refl refl (eqb (byte body at) 0) refl (ltb 1 (byte body at)))
+      where
+        by : {x y : Tails} → Near x y → (older later : Bool) → leb (length body) at ≡ older → leb (length body + 1) at ≡ later
+            → (clear : Bool) → eqb (byte body at) 0 ≡ clear → (above : Bool)
+            → Near (cond later Wrong (cond clear (Ended (off shape) (at + 1)) (cond above Wrong x)))
+            (cond older Wrong (cond clear (Ended (off shape) (at + 1)) (cond above Wrong y)))
+        by e true true h k clear z above = same
+        by e true false h k true z above =
+            let here : at ≡ length body = omega (arith, leb-true (length body) at h, leb-false (length body + 1) at k) in
+            rw here (past (off shape))
+        by e true false h k false z above =
+            absurd (eqb-false (byte body at) 0 z (List·getD-eq-default body 0 (leb-true (length body) at h)))
+        by e false true h k clear z above = absurd (omega (arith, leb-false (length body) at h, leb-true (length body + 1) at k))
+        by e false false h k true z above = same
+        by e false false h k false z true = same
+        by e false false h k false z false = e
+
+    switch-grows : ((shape : Shape) (at : ℕ) → Near (on newer shape at) (on body shape at)) → Grows switchTail
+    switch-grows near =
+        record {
+          near = λ shape at. near-switch shape at (near shape at);
+          missing = λ shape. rw (longer, le-leb (length body + 1) (length body + 1) (omega arith));
+        }
+
+    -- where the older body ends, it is the byte 00
+    switch-clear : (shape : Shape) → switchTail newer shape (length body) ≡ Ended (off shape) (length body + 1)
+    switch-clear shape = rw (longer, lt-leb (length body + 1) (length body) (omega arith), getD-append-seam body 0 [] 0)
+
+    -- behind what was taken it is off
+    switch-off : (shape : Shape) {later older : Tails} → Near later older → whole body older ≡ Taken shape
+        → whole newer (behind later (switchTail newer)) ≡ Taken (off shape)
+    switch-off shape near e =
+        rw (near-ended near shape (length body) (taken-ended _ shape e), switch-clear shape, longer, eq-eqb (length body + 1) (length body + 1) refl)
+
+  -- the selection, dates, the family and the log, where they are on
+  abbrev fileOn : List ℕ → Shape → ℕ → Tails
+  fileOn s shape at = cond (ltb (length s) (fileEnd s at)) Wrong (Ended (selects shape (at + 2) (fileEnd s at) (byte s (at + 1))) (fileEnd s at))
+
+  abbrev datesOn : List ℕ → Shape → ℕ → Tails
+  datesOn s shape at = cond (ltb (length s) (datesEnd s at)) Wrong (Ended (dates shape (DatesOn at (datesEnd s at))) (datesEnd s at))
+
+  abbrev familyOn : List ℕ → Shape → ℕ → Tails
+  familyOn s shape at = cond (ltb (length s) (familyEnd s at)) Wrong (Ended (families shape (Cpace at (familyEnd s at))) (familyEnd s at))
+
+  abbrev logOn : List ℕ → Shape → ℕ → Tails
+  logOn s shape at = cond (ltb (length s) (logEnd s at)) Wrong (Ended (logs shape (LogOn at (logEnd s at))) (logEnd s at))
+
+  -- ---- selection: behind a base that is the body stands the switch
+
+  module _ (sized : length body ≡ baseLength body) where
+    base-older : baseTail body ≡ Ended (based (length body)) (length body)
+    unfolding baseTail
+    base-older = rw (← sized, le-ltb (length body) (length body) (omega arith))
+
+    base-newer : baseTail newer ≡ Ended (based (length body)) (length body)
+    unfolding baseTail
+    base-newer = rw (same-byte body 3, same-byte body 4, longer, ← sized, le-ltb (length body + 1) (length body) (omega arith))
+
+    -- SELECTION OFF
+    pub selection-off : shapeOf 2 newer ≡ shapeOf 1 body
+    unfolding shapeOf tailsOf selectionTail
+    selection-off =
+        rw (base-older, base-newer, switch-clear (λ shape. shape) fileOn (based (length body)), longer)
+        (rw (eq-eqb (length body) (length body) refl, eq-eqb (length body + 1) (length body + 1) refl))
+
+  -- ---- the syllabus: behind the tails up to version 02 stands its byte
+
+  near-selection : Grows selectionTail
+  unfolding selectionTail
+  near-selection =
+      switch-grows (λ shape. shape) fileOn
+      (λ shape at. rw (same-byte body (at + 1), same-entries (at + 2) (byte body (at + 1)), longer) (near-end _ _))
 
   near-2 : Near (behind (baseTail newer) (selectionTail newer)) (behind (baseTail body) (selectionTail body))
-  near-2 = near-behind selectionTail near-selection missing-selection near-base
+  near-2 = near-behind selectionTail near-selection near-base
 
   -- 0 sets nothing
   abbrev Unset : (Shape → ℕ → Shape) → Shape → Type 0
@@ -161,6 +203,9 @@ module _ (body : List ℕ) where
 
     missing-byte : (shape : Shape) → byteTail newer shape (length body + 1) ≡ Wrong
     missing-byte shape = rw (longer, le-leb (length body + 1) (length body + 1) (omega arith))
+
+    byte-grows : Grows byteTail
+    byte-grows = record { near = near-byte; missing = missing-byte }
 
     -- where the older body ends, it is the byte 00; elsewhere both are refused
     byte-last : (shape : Shape) (at : ℕ) → Unset sets shape → whole newer (byteTail newer shape at) ≡ whole body (Ended shape at)
@@ -206,93 +251,43 @@ module _ (body : List ℕ) where
 
   -- ---- dates: a body that is taken ends with its syllabus, and behind it stands the switch
 
-  near-syllabus : (shape : Shape) (at : ℕ) → Near (syllabusTail newer shape at) (syllabusTail body shape at)
+  near-syllabus : Grows syllabusTail
   unfolding syllabusTail
-  near-syllabus = near-byte follows
-
-  missing-syllabus : (shape : Shape) → syllabusTail newer shape (length body + 1) ≡ Wrong
-  unfolding syllabusTail
-  missing-syllabus = missing-byte follows
+  near-syllabus = byte-grows follows
 
   near-3 : Near (tailsOf 3 newer) (tailsOf 3 body)
   unfolding tailsOf
-  near-3 = near-behind syllabusTail near-syllabus missing-syllabus near-2
-
-  near-ended : {later older : Tails} → Near later older → (shape : Shape) (at : ℕ) → older ≡ Ended shape at → later ≡ Ended shape at
-  near-ended same shape at e = e
-  near-ended (past other) shape at e = cc
-
-  -- what is taken whole ends where the body does
-  taken-ended : (tails : Tails) (shape : Shape) → whole body tails ≡ Taken shape → tails ≡ Ended shape (length body)
-  taken-ended Wrong shape e = cc
-  taken-ended (Ended other at) shape e = by (eqb at (length body)) refl e where
-    by : (b : Bool) → eqb at (length body) ≡ b → cond b (Taken other) (Refused BadSetup) ≡ Taken shape → Ended other at ≡ Ended shape (length body)
-    by true h e = let here = eqb-true at (length body) h in cc
-    by false h e = cc
-
-  -- what is off and ends behind its switch, behind what was taken
-  added-off : (tail : Shape → ℕ → Tails) (shape off : Shape) {later older : Tails} → Near later older → whole body older ≡ Taken shape
-      → tail shape (length body) ≡ Ended off (length body + 1) → whole newer (behind later tail) ≡ Taken off
-  added-off tail shape off near e ended =
-      rw (near-ended near shape (length body) (taken-ended _ shape e), ended, longer, eq-eqb (length body + 1) (length body + 1) refl)
-
-  dated-off : (shape : Shape) → datingTail newer shape (length body) ≡ Ended (dates shape DatesOff) (length body + 1)
-  unfolding datingTail
-  dated-off shape = rw (longer, lt-leb (length body + 1) (length body) (omega arith), getD-append-seam body 0 [] 0)
-
-  behind-3 : tailsOf 4 newer ≡ behind (tailsOf 3 newer) (datingTail newer)
-  unfolding tailsOf
-  behind-3 = refl
+  near-3 = near-behind syllabusTail near-syllabus near-2
 
   -- DATES OFF: the older shape, but that mask bits 22 to 24 are named
   pub dates-off : (shape : Shape) → shapeOf 3 body ≡ Taken shape → shapeOf 4 newer ≡ Taken (dates shape DatesOff)
-  unfolding shapeOf
-  dates-off shape e = rw behind-3 (added-off (datingTail newer) shape (dates shape DatesOff) near-3 e (dated-off shape))
+  unfolding shapeOf tailsOf datingTail
+  dates-off shape e = switch-off (λ s. dates s DatesOff) datesOn shape near-3 e
 
   -- ---- the family: a body that is taken ends with its dates, and behind them stands the family
 
-  near-dating : (shape : Shape) (at : ℕ) → Near (datingTail newer shape at) (datingTail body shape at)
+  near-dating : Grows datingTail
   unfolding datingTail
-  near-dating shape at =
-      rw (same-byte body at, same-byte body 3, longer)
-      (near-switched at (dates shape DatesOff) (dates shape (DatesOn at (datesEnd body at))) (datesEnd body at))
-
-  missing-dating : (shape : Shape) → datingTail newer shape (length body + 1) ≡ Wrong
-  unfolding datingTail
-  missing-dating shape = rw (longer, le-leb (length body + 1) (length body + 1) (omega arith))
+  near-dating = switch-grows (λ s. dates s DatesOff) datesOn (λ shape at. rw (same-byte body 3, longer) (near-end _ _))
 
   near-4 : Near (tailsOf 4 newer) (tailsOf 4 body)
   unfolding tailsOf
-  near-4 = near-behind datingTail near-dating missing-dating near-3
-
-  family-cpa : (shape : Shape) → familyTail newer shape (length body) ≡ Ended (families shape Cpa) (length body + 1)
-  unfolding familyTail
-  family-cpa shape = rw (longer, lt-leb (length body + 1) (length body) (omega arith), getD-append-seam body 0 [] 0)
-
-  behind-4 : tailsOf 5 newer ≡ behind (tailsOf 4 newer) (familyTail newer)
-  unfolding tailsOf
-  behind-4 = refl
+  near-4 = near-behind datingTail near-dating near-3
 
   -- A CPA CARD: the older shape, but that mask bit 25 is named
   pub family-off : (shape : Shape) → shapeOf 4 body ≡ Taken shape → shapeOf 5 newer ≡ Taken (families shape Cpa)
-  unfolding shapeOf
-  family-off shape e = rw behind-4 (added-off (familyTail newer) shape (families shape Cpa) near-4 e (family-cpa shape))
+  unfolding shapeOf tailsOf familyTail
+  family-off shape e = switch-off (λ s. families s Cpa) familyOn shape near-4 e
 
-  -- ---- scripts: the tails up to them are the same, or they end past the older body
+  -- ---- scripts: behind the tails up to version 05 stands their byte
 
-  near-family : (shape : Shape) (at : ℕ) → Near (familyTail newer shape at) (familyTail body shape at)
+  near-family : Grows familyTail
   unfolding familyTail
-  near-family shape at =
-      rw (same-byte body at, same-byte body 3, longer)
-      (near-switched at (families shape Cpa) (families shape (Cpace at (familyEnd body at))) (familyEnd body at))
-
-  missing-family : (shape : Shape) → familyTail newer shape (length body + 1) ≡ Wrong
-  unfolding familyTail
-  missing-family shape = rw (longer, le-leb (length body + 1) (length body + 1) (omega arith))
+  near-family = switch-grows (λ s. families s Cpa) familyOn (λ shape at. rw (same-byte body 3, longer) (near-end _ _))
 
   near-5 : Near (tailsOf 5 newer) (tailsOf 5 body)
   unfolding tailsOf
-  near-5 = near-behind familyTail near-family missing-family near-4
+  near-5 = near-behind familyTail near-family near-4
 
   -- SCRIPTS OFF
   pub scripts-off : shapeOf 6 newer ≡ shapeOf 5 body
@@ -301,27 +296,15 @@ module _ (body : List ℕ) where
 
   -- ---- the log: a body that is taken ends with its scripts, and behind them stands the switch
 
-  near-scripting : (shape : Shape) (at : ℕ) → Near (scriptingTail newer shape at) (scriptingTail body shape at)
+  near-scripting : Grows scriptingTail
   unfolding scriptingTail
-  near-scripting = near-byte (λ shape b. scripts shape (eqb b 1))
-
-  missing-scripting : (shape : Shape) → scriptingTail newer shape (length body + 1) ≡ Wrong
-  unfolding scriptingTail
-  missing-scripting = missing-byte (λ shape b. scripts shape (eqb b 1))
+  near-scripting = byte-grows (λ shape b. scripts shape (eqb b 1))
 
   near-6 : Near (tailsOf 6 newer) (tailsOf 6 body)
   unfolding tailsOf
-  near-6 = near-behind scriptingTail near-scripting missing-scripting near-5
-
-  logged-off : (shape : Shape) → loggingTail newer shape (length body) ≡ Ended shape (length body + 1)
-  unfolding loggingTail
-  logged-off shape = rw (longer, lt-leb (length body + 1) (length body) (omega arith), getD-append-seam body 0 [] 0)
-
-  behind-6 : tailsOf 7 newer ≡ behind (tailsOf 6 newer) (loggingTail newer)
-  unfolding tailsOf
-  behind-6 = refl
+  near-6 = near-behind scriptingTail near-scripting near-5
 
   -- THE LOG OFF: the older shape
   pub log-off : (shape : Shape) → shapeOf 6 body ≡ Taken shape → shapeOf 7 newer ≡ Taken shape
-  unfolding shapeOf
-  log-off shape e = rw behind-6 (added-off (loggingTail newer) shape shape near-6 e (logged-off shape))
+  unfolding shapeOf tailsOf loggingTail
+  log-off shape e = switch-off (λ s. s) logOn shape near-6 e

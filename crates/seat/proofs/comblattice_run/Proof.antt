@@ -6,7 +6,7 @@ use mathlib.Core.List.{List}
 use Prim.Native.Nat.{ℕ, _≤_}
 use lib.ListN.{length, drop}
 use Rattle.shape.specs.declared.Shape.{Shape}
-use Rattle.seating.specs.Shapes.{shapeIn}
+use Rattle.shape_seat.specs.Shapes.{shapeIn}
 use Rattle.seating.specs.States.{stateIn}
 use Rattle.runs.specs.declared.RunEnd.{RunEnd}
 use Rattle.runs.specs.Runs as runs

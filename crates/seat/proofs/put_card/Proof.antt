@@ -5,9 +5,9 @@ use mathlib.Core.Path.{_≡_, refl, ap, _∙_}
 use lib.ListN.{length, drop}
 use lib.Seq.{sets}
 use Rattle.load.proofs.Stores.{Run, behind}
-use Rattle.seating.specs.Shapes.{shapeCells}
+use Rattle.shape_seat.specs.Shapes.{shapeCells}
 use Rattle.seating.specs.States.{stateCells}
-use Rattle.seating.proofs.Back.{shape-size}
+use Rattle.shape_seat.proofs.Back.{shape-size}
 use Rattle.seat.specs.Seat.{cardOf, size, seated, storedIn, cardIn}
 use Rattle.seat.proofs.Laws.{state-size, stored, seated-back}
 use Rattle.seat.proofs.put_card.Statement.{statement}

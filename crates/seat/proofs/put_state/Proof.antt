@@ -5,8 +5,10 @@ use mathlib.Core.Path.{_≡_, refl, ap, _∙_}
 use lib.ListN.{length}
 use lib.Seq.{sets}
 use Rattle.load.proofs.Stores.{Run, behind}
-use Rattle.seating.specs.States.{valueCells, phaseCells, markCells}
-use Rattle.seating.proofs.Back.{value-size, phase-size, mark-size}
+use Rattle.phase_seat.specs.Phases.{phaseCells}
+use Rattle.phase_seat.proofs.Back.{phase-size}
+use Rattle.seating.specs.States.{valueCells, markCells}
+use Rattle.seating.proofs.Back.{value-size, mark-size}
 use Rattle.seat.proofs.put_state.Statement.{statement}
 use Rattle.seat.proofs.put_state.Tie as tie
 

@@ -20,4 +20,4 @@ pub state-in-spec : {M : Type 1} → statement M
 state-in-spec =
     tie.close
     (tie.spec (search needs) (search needs) (search needs) (search needs) (search needs) (search needs) (search needs) (search needs) (search needs)
-    (search needs) (search needs) (search needs) (search needs) (search needs) (search needs) returns)
+    (search needs) (search needs) (search needs) (search needs) (search needs) (search needs) (search needs) returns)
