@@ -53,8 +53,8 @@ pub record Samples : Type 0 where
   pub rising-by-1 : T (eqb (firstOf records 1) 0x32)
 
 pub samples : Samples
-unfolding printed recordOf kindOf bodyOf answered logLinesOf logFrom logOf heardBy logLines linesUpTo countIn transcriptOf joined linesRead stackWith stackOf pagesIn number big importsFrom linesIn recordLine
-    importRecord digitsOf takeOver oldRecord
+unfolding printed recordOf kindOf bodyOf answered logLinesOf logFrom logOf heardBy logLines linesUpTo countIn transcriptOf joined linesRead stackWith
+    stackOf pagesIn number big importsFrom linesIn recordLine importRecord digitsOf takeOver oldRecord
 samples =
     record {
       one-line = tt;

@@ -105,7 +105,15 @@ fn put_paper(paper: &[u8], words: &mut Words, room: &mut [u8], at: usize) -> usi
     let log = log::log_of(words, shape, paper);
     let mut ring = ring::none();
     put_records(
-        words, shape, fresh, paper, begun.at, log, &mut ring, room, end,
+        words,
+        shape,
+        fresh,
+        paper,
+        begun.at,
+        log,
+        &mut ring,
+        room,
+        end,
     )
 }
 

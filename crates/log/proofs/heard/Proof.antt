@@ -4,9 +4,9 @@ use Rattle.log.proofs.heard.Tie as tie
 
 returns-4 : tie.Need-returns-4
 returns-4 c =
-    let told = c .before .command in
-    let said = c .before .before .before .before .said in
-    simp (said .given .1, told .given .1)
+    let told = c .before in
+    let said = told .before .before .before in
+    simp (said .said .given .1, told .command .given .1)
 
 pub heard-spec : {M : Type 1} → statement M
 heard-spec =

@@ -7,9 +7,11 @@ use Rattle.log_text.proofs.put_found.Tie as tie
 
 returns : tie.Need-returns
 returns c =
-    let put = c .before .before .put-line .ensures in
-    let found = c .before .before .before .before .before in
-    rw (found .found .given .1) (line-stored (found .before .before .before .before .before .pre) (put .0) (put .1) (put .2))
+    let call = c .before .before in
+    let found = call .before .before .before in
+    let known = found .before .before .before in
+    let put = call .put-line .ensures in
+    rw (found .found .given .1) (line-stored (known .before .before .pre) (put .0) (put .1) (put .2))
 
 returns-2 : tie.Need-returns-2
 returns-2 c = rw (c .enum-told .given .1) (record { is = refl; behind = omega arith; short = omega arith })

@@ -38,7 +38,8 @@ put-found-requires : tie.Need-put-found-requires Inv-loop μ-loop
 put-found-requires c κs =
     let test = c .before .before in
     let loop = test .before .loop .inv in
-    omega (arith, test .loop-test .taken, loop .0 .short, loop .2, loop .4, test .before .before .before .before .before .before .pre)
+    let known = test .before .before .before in
+    omega (arith, test .loop-test .taken, loop .0 .short, loop .2, loop .4, known .before .before .before .pre)
 
 loop-again : tie.Need-loop-again Inv-loop μ-loop
 unfolding linesUpTo
@@ -58,7 +59,9 @@ loop-again c =
 returns : tie.Need-returns Inv-loop μ-loop
 returns c =
     let loop = c .before .loop in
-    let a = c .before .before .before .before .before .before .args in
+    let counted = c .before .before in
+    let known = counted .before .before .before in
+    let a = known .before .args in
     let all : loop .i ≡ countIn (now (a .ring)) (a .size) = omega (arith, c .loop-test .left, loop .inv .1, loop .inv .3) in
     rw (← all) (within (loop .inv .0) (omega (arith, loop .inv .1, loop .inv .2)))
 

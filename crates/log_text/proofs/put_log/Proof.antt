@@ -14,14 +14,16 @@ returns c =
 
 returns-2 : tie.Need-returns-2
 returns-2 c =
-    let a = c .before .before .before .before .args in
+    let known = c .before .before .before in
+    let a = known .before .args in
     stay (now (a .room)) _ (a .at) (omega arith)
 
 returns-3 : tie.Need-returns-3
 unfolding logLines
 returns-3 c =
     let put = c .before .before in
-    let tail = put .before .before .before .before in
+    let logging = put .before .before in
+    let tail = logging .before .before in
     let tested = tail .before in
     rw (← tail .tail-at .ensures .0) (place (put .put-lines .ensures) (omega (arith, tested .if2 .left, tested .before .if1 .left)))
 

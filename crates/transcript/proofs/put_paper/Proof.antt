@@ -33,8 +33,10 @@ returns c =
 
 put-records-requires : tie.Need-put-records-requires
 put-records-requires c κs =
-    let log-of = c .before .before .before .before in
-    let put = log-of .before .before .before .before .before .before in
+    let none = c .before .before .before in
+    let fresh = none .before .before .before in
+    let known = fresh .before .before in
+    let put = known .before .before in
     let other = put .before .before in
     let begin = other .before in
     let start = begin .before .before .before in
@@ -54,9 +56,11 @@ put-records-requires c κs =
 returns-2 : tie.Need-returns-2
 returns-2 c =
     let records = c .before .before in
-    let none = records .before .before .before .before in
+    let ring-lent = records .before .before .before in
+    let none = ring-lent .before in
     let log-of = none .before in
-    let put = log-of .before .before .before .before .before .before in
+    let shape = log-of .before .before .before in
+    let put = shape .before .before .before in
     let other = put .before .before in
     let begin = other .before in
     let start = begin .before .before .before in

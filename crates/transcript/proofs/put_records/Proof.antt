@@ -54,7 +54,8 @@ returns c =
 
 add-number : tie.Need-add-number Inv-loop μ-loop
 add-number c =
-    let put = c .before .before .before .before in
+    let known = c .before .before .before in
+    let put = known .before in
     let told = put .before .before .before in
     let take = told .before .before .before in
     let loop = take .before .before .before in
@@ -63,7 +64,8 @@ add-number c =
 
 loop-less : tie.Need-loop-less Inv-loop μ-loop
 loop-less c =
-    let put = c .before .before .before .before in
+    let known = c .before .before .before in
+    let put = known .before in
     let told = put .before .before .before in
     let take = told .before .before .before in
     let test = take .before .before in
@@ -72,7 +74,8 @@ loop-less c =
 
 loop-again : tie.Need-loop-again Inv-loop μ-loop
 loop-again c =
-    let put = c .before .before .before .before in
+    let known = c .before .before .before in
+    let put = known .before in
     let told = put .before .before .before in
     let take = told .before .before .before in
     let test = take .before .before in

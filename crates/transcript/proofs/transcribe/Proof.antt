@@ -21,8 +21,7 @@ unfolding transcribed roomAfter wordsAfter
 returns-2 c =
     let put = c .before .before in
     let asked = put .before .before .before in
-    let fits = sym (asked .before .has-room .ensures) ∙ not-false _ (asked .if1 .left) in
-    (
+    let fits = sym (asked .before .has-room .ensures) ∙ not-false _ (asked .if1 .left) in (
       simp (fits, put .put-paper .ensures .0),
       simp (fits, put .put-paper .ensures .1),
       simp (fits, put .put-paper .ensures .2),
