@@ -15,7 +15,8 @@ use Rattle.shape.specs.declared.Logging.the-variants.{Off, On}
 use Rattle.shape.specs.declared.Shape.{Shape}
 use Rattle.bodies.specs.Bodies.{isCpace}
 use Rattle.command.specs.declared.Command.the-variants.{Start, First, Second}
-use Rattle.state.specs.declared.Answer.{Answer}
+use Rattle.records.specs.declared.Event.{Event}
+use Rattle.records.specs.declared.Event.the-variants.{SetUp, End, Refused, Answered}
 use Rattle.records.specs.declared.Said.{Said}
 use Rattle.records.specs.declared.Said.the-variants.{Command, Script}
 use Rattle.log_tail.specs.LogTail.{sizeIn, switchesIn, logsIn}
@@ -74,6 +75,13 @@ heardOf (Command (First first)) = HeardFirst
 heardOf (Command (Second second)) = HeardSecond (second .code)
 heardOf Script = Other
 
--- the ring after an answered record, whose body lies at a place
-unfoldable pub heardBy : Log → Said → (body : ℕ) → Answer → (ring : List ℕ) → List ℕ
-heardBy log said body answer ring = cond (log .on) (watched (log .logging) (heardOf said) body answer ring) ring
+-- the ring after a record, whose body lies at a place
+unfoldable pub heardEvent : Logging → Event → (body : ℕ) (ring : List ℕ) → List ℕ
+heardEvent logging SetUp body ring = ring
+heardEvent logging End body ring = ring
+heardEvent logging (Refused refusal) body ring = ring
+heardEvent logging (Answered said answer) body ring = watched logging (heardOf said) body answer ring
+
+-- where there is a log
+abbrev pub heardBy : Log → Event → (body : ℕ) (ring : List ℕ) → List ℕ
+heardBy log event body ring = cond (log .on) (heardEvent (log .logging) event body ring) ring

@@ -1,10 +1,11 @@
 // The log of a paper (request Eight): what its set-up says of it, and what it hears of each record.
 ghost use mathlib.Core.Path.{_≡_};
 ghost use Rattle.rules.specs.Rules.{rulesOf};
-ghost use Rattle.log.specs.Log.{tailAt, tailPlace, loggingIn, isDated, formOf, noLogging, heardOf, logOf, heardBy};
+ghost use Rattle.log.specs.Log.{tailAt, tailPlace, loggingIn, isDated, formOf, noLogging, heardOf, logOf, heardEvent};
 use command::Command;
 use journal::Heard;
 use log_fields::Form;
+use records::Event;
 use records::Said;
 use ring::Ring;
 use rules::Place;
@@ -12,7 +13,6 @@ use rules::Words;
 use shape::Dating;
 use shape::Logging;
 use shape::Shape;
-use state::Answer;
 
 // The number of profiles: the set-up's body begins at 4, behind the version, its length and its kind.
 const PROFILES: usize = 7;
@@ -128,12 +128,12 @@ fn heard(said: Said) -> Heard
     }
 }
 
-// After an answered record, whose body lies at a place of the paper.
-pub fn watch(ring: &mut Ring, log: Log, said: Said, body: usize, answer: Answer)
-    ensures { λ _. ⌜ now (ring .exit) ≡ heardBy log said body answer (now (ring .entry)) ⌝ }
+// After a record, whose body lies at a place of the paper.
+pub fn watch(ring: &mut Ring, logging: journal::Logging, event: Event, body: usize)
+    ensures { λ _. ⌜ now (ring .exit) ≡ heardEvent logging event body (now (ring .entry)) ⌝ }
 {
-    if log.on {
-        let logging = log.logging;
-        journal::watch(ring, logging, heard(said), body, answer);
-    }
+    let Event::Answered { said, answer } = event else {
+        return;
+    };
+    journal::watch(ring, logging, heard(said), body, answer);
 }

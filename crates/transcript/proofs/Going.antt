@@ -1,7 +1,8 @@
 -- A loop over the records: what stands in the room and what is still to come is the whole text. Assumes nothing.
 use mathlib.Core.Path.{_≡_, sym, ap, subst, _∙_}
 use mathlib.Core.List.{List, [], _∷_, _++_}
-use mathlib.Core.Logic.{inl, inr}
+use mathlib.Core.Bool.{Bool, true, false, cond}
+use mathlib.Core.Logic.{_⊎_, inl, inr}
 use types.Run.{OneOf}
 use denote.Enum.Declared.{tagOf}
 use Prim.Native.Nat.{ℕ, suc, _+_, _*_, _-_, _≤_, _<_}
@@ -53,6 +54,12 @@ sets-on room [] b at = ap (λ (k : ℕ). sets room k b) (add-zero at)
 sets-on room (v ∷ a) b at =
     ap (λ (k : ℕ). sets (sets room at (v ∷ a)) k b) (add-suc at (length a) ∙ sym (suc-add at (length a))) ∙ sets-on (set room at v) a b (suc at)
 
+-- what is one thing where a test holds, and another where it does not
+pub one-or-other : {Then Else : Type 0} {b : Bool} {then else after : List ℕ} → Then ⊎ Else → (Then → b ≡ true) → (Then → after ≡ then)
+    → (Else → b ≡ false) → (Else → after ≡ else) → after ≡ cond b then else
+one-or-other (inl on) holds is-then fails is-else = simp (holds on) (is-then on)
+one-or-other (inr off) holds is-then fails is-else = simp (fails off) (is-else off)
+
 -- ---- the loop
 
 -- by the words as they are: the text and the words that the records from the place on leave
@@ -79,7 +86,7 @@ module _ {log : Log} {ring words : List ℕ} {shape : Shape} {paper whole left b
 
   -- a record's line is written, and the next record is reached
   pub go-on : (words′ : List ℕ) → Written words′ → (said : Said) (answer : Answer) → at < length paper → taken .event ≡ Answered said answer
-      → Going log (heardBy log said (at + 3) answer ring) words′ shape paper whole left before to (placed room end (answerLine number answer))
+      → Going log (heardBy log (Answered said answer) (at + 3) ring) words′ shape paper whole left before to (placed room end (answerLine number answer))
       (taken .state) (taken .at) (placeBehind (length room) end (answerLine number answer)) (number + 1)
   go-on words′ w said answer h e =
       let line = answerLine number answer in
@@ -88,7 +95,7 @@ module _ {log : Log} {ring words : List ℕ} {shape : Shape} {paper whole left b
       let fits : end + longest ≤ length room = omega (arith, going .fits) in
       let here = placed-is room end line fits (answer-short number answer) in
       let there = behind-is (length room) end line fits in
-      let heard = heardBy log said (at + 3) answer ring in
+      let heard = heardBy log (Answered said answer) (at + 3) ring in
       let rest = restOf log heard (rulesOf words′) shape (taken .state) paper (taken .at) (number + 1) in
       let next : restOf log ring (rulesOf words) shape state paper at number ≡ line ++ rest =
       Steps.answered log ring (rulesOf words) shape state paper at number h said answer e

@@ -25,14 +25,7 @@ use Rattle.lines.specs.Sitting.{linesOf, sittingLines}
 use Rattle.transcript.specs.declared.Transcript.{Transcript}
 use Rattle.transcript.specs.declared.Transcript.the-variants.{Whole, NoRoom}
 
--- THE LOG'S LINES stand behind those of a paper that no refusal ended. What an event does to the ring, its body lying at a place
-abbrev pub heardEvent : Log → Event → (body : ℕ) (ring : List ℕ) → List ℕ
-heardEvent log SetUp body ring = ring
-heardEvent log End body ring = ring
-heardEvent log (Refused refusal) body ring = ring
-heardEvent log (Answered said answer) body ring = heardBy log said body answer ring
-
--- behind an event, with those of the records that follow
+-- THE LOG'S LINES stand behind those of a paper that no refusal ended: behind an event, with those of the records that follow
 abbrev pub logBehind : Log → (paper : List ℕ) → Event → (ring : List ℕ) (more : List (List ℕ)) → List (List ℕ)
 logBehind log paper SetUp ring more = more
 logBehind log paper End ring more = logLines log paper ring
@@ -45,7 +38,7 @@ logFrom zero log ring rules shape state paper at = logLines log paper ring
 logFrom (suc n) log ring rules shape state paper at =
     let taken = takenOf rules shape state paper at in
     logBehind log paper (taken .event) ring
-    (logFrom n log (heardEvent log (taken .event) (at + 3) ring) (rulesAfter rules (takenWrites shape state paper at)) shape (taken .state) paper
+    (logFrom n log (heardBy log (taken .event) (at + 3) ring) (rulesAfter rules (takenWrites shape state paper at)) shape (taken .state) paper
     (taken .at))
 
 unfoldable pub logLinesOf : (words paper : List ℕ) → List (List ℕ)

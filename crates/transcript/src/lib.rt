@@ -78,11 +78,14 @@ fn put_records(
         let body = at + 3;
         state = taken.state;
         at = taken.at;
-        let Event::Answered { said, answer } = event else {
+        let Event::Answered { answer, .. } = event else {
             return put_last(room, end, number, event);
         };
         end = lines::put_answer(room, end, number, answer);
-        log::watch(ring, log, said, body, answer);
+        if log.on {
+            let logging = log.logging;
+            log::watch(ring, logging, event, body);
+        }
         number += 1;
     }
     log_text::put_log(room, end, paper, log, ring)

@@ -8,7 +8,7 @@ use lib.Seq.{sets}
 use Rattle.rules.specs.Rules.{rulesOf}
 use Rattle.conversation.specs.Events.{wordsFrom}
 use Rattle.transcript.specs.Transcript.{restOf}
-use Rattle.transcript.proofs.Going.{Going, go-on, falls, last-is, over}
+use Rattle.transcript.proofs.Going.{Going, one-or-other, go-on, falls, last-is, over}
 use Rattle.transcript.proofs.put_records.Statement.{statement}
 use Rattle.transcript.proofs.put_records.Tie as tie
 
@@ -54,8 +54,7 @@ returns c =
 
 add-number : tie.Need-add-number Inv-loop μ-loop
 add-number c =
-    let known = c .before .before .before in
-    let put = known .before in
+    let put = c .before .before .before in
     let told = put .before .before .before in
     let take = told .before .before .before in
     let loop = take .before .before .before in
@@ -64,8 +63,7 @@ add-number c =
 
 loop-less : tie.Need-loop-less Inv-loop μ-loop
 loop-less c =
-    let known = c .before .before .before in
-    let put = known .before in
+    let put = c .before .before .before in
     let told = put .before .before .before in
     let take = told .before .before .before in
     let test = take .before .before in
@@ -74,13 +72,13 @@ loop-less c =
 
 loop-again : tie.Need-loop-again Inv-loop μ-loop
 loop-again c =
-    let known = c .before .before .before in
-    let put = known .before in
+    let put = c .before .before .before in
     let told = put .before .before .before in
     let take = told .before .before .before in
     let test = take .before .before in
     let e = ap (λ t. t .event) (sym (take .take .ensures .0)) ∙ told .event .given .1 in
-    rw (c .watch .ensures, put .put-answer .ensures .0, put .put-answer .ensures .1, take .take .ensures .0)
+    let heard = one-or-other (c .if1 .came) (λ on. on .0 .taken) (λ on. on .4 ∙ on .3 .ensures) (λ off. off .0 .left) (λ off. off .1) in
+    rw (heard, put .put-answer .ensures .0, put .put-answer .ensures .1, take .take .ensures .0)
     (go-on (test .before .loop .inv) _ (take .take .ensures .1, take .take .ensures .2) _ _ (test .loop-test .taken) e)
 
 returns-2 : tie.Need-returns-2 Inv-loop μ-loop
