@@ -2,10 +2,10 @@
 use Prim.Native.Nat.{ℕ, _+_, _-_}
 use mathlib.Core.Bool.{Bool, true, false, cond, _&&_}
 use mathlib.Core.List.{List, [], _∷_}
-use lib.Dec.{leb}
+use lib.Dec.{eqb, leb}
 use lib.ListN.{length, take, drop, replicate}
 use denote.Ref.{RefT, now}
-use Rattle.wire.specs.Wire.{byte}
+use Rattle.wire.specs.Wire.{byte, number}
 use Rattle.rules.specs.declared.Place.the-variants.{One, Two, Three, Four}
 use Rattle.rules.specs.Rules.{Rules, profileAt}
 use Rattle.shape.specs.declared.Dating.{Dating}
@@ -14,16 +14,12 @@ use Rattle.shape.specs.declared.Logging.{Logging as LogTail}
 use Rattle.shape.specs.declared.Logging.the-variants.{Off, On}
 use Rattle.shape.specs.declared.Shape.{Shape}
 use Rattle.bodies.specs.Bodies.{isCpace}
-use Rattle.command.specs.declared.Command.the-variants.{Start, First, Second}
-use Rattle.records.specs.declared.Event.{Event}
-use Rattle.records.specs.declared.Event.the-variants.{SetUp, End, Refused, Answered}
-use Rattle.records.specs.declared.Said.{Said}
-use Rattle.records.specs.declared.Said.the-variants.{Command, Script}
+use Rattle.state.specs.declared.Answer.{Answer}
 use Rattle.log_tail.specs.LogTail.{sizeIn, switchesIn, logsIn}
 use Rattle.log_fields.specs.declared.Form.{Form}
 use Rattle.journal.specs.declared.Logging.{Logging}
 use Rattle.journal.specs.declared.Heard.{Heard}
-use Rattle.journal.specs.declared.Heard.the-variants.{First as HeardFirst, Second as HeardSecond, Other}
+use Rattle.journal.specs.declared.Heard.the-variants.{First, Second, Other}
 use Rattle.journal.specs.Journal.{watched}
 use Rattle.log.specs.declared.Log.{Log}
 
@@ -68,20 +64,11 @@ tailed rules shape paper (On start end) =
 unfoldable pub logOf : Rules → Shape → (paper : List ℕ) → Log
 logOf rules shape paper = tailed rules shape paper (shape .logging)
 
--- WHAT IT HEARS: First, and Second with its response code; Start and scripts are nothing to it
-abbrev pub heardOf : Said → Heard
-heardOf (Command (Start start)) = Other
-heardOf (Command (First first)) = HeardFirst
-heardOf (Command (Second second)) = HeardSecond (second .code)
-heardOf Script = Other
+-- WHAT IT HEARS of a record that is answered, by its kind, which stands behind its length: First, and Second with its response code; Start and
+-- scripts are nothing to it
+abbrev pub heardIn : (bytes : List ℕ) → Heard
+heardIn bytes = cond (eqb (byte bytes 2) 3) First (cond (eqb (byte bytes 2) 4) (Second (number bytes 4 2)) Other)
 
--- the ring after a record, whose body lies at a place
-unfoldable pub heardEvent : Logging → Event → (body : ℕ) (ring : List ℕ) → List ℕ
-heardEvent logging SetUp body ring = ring
-heardEvent logging End body ring = ring
-heardEvent logging (Refused refusal) body ring = ring
-heardEvent logging (Answered said answer) body ring = watched logging (heardOf said) body answer ring
-
--- where there is a log
-abbrev pub heardBy : Log → Event → (body : ℕ) (ring : List ℕ) → List ℕ
-heardBy log event body ring = cond (log .on) (heardEvent (log .logging) event body ring) ring
+-- the ring after an answer to the record at a place of the paper, where there is a log
+unfoldable pub heardBy : Log → (paper : List ℕ) (at : ℕ) → Answer → (ring : List ℕ) → List ℕ
+heardBy log paper at answer ring = cond (log .on) (watched (log .logging) (heardIn (drop at paper)) (at + 3) answer ring) ring

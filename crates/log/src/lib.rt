@@ -1,13 +1,9 @@
 // The log of a paper (request Eight): what its set-up says of it, and what it hears of each record.
 ghost use mathlib.Core.Path.{_≡_};
 ghost use Rattle.rules.specs.Rules.{rulesOf};
-ghost use Rattle.log.specs.Log.{tailAt, tailPlace, loggingIn, isDated, formOf, noLogging, heardOf, logOf, heardEvent};
-use command::Command;
+ghost use Rattle.log.specs.Log.{tailAt, tailPlace, loggingIn, isDated, formOf, noLogging, logOf, heardIn};
 use journal::Heard;
 use log_fields::Form;
-use records::Event;
-use records::Said;
-use ring::Ring;
 use rules::Place;
 use rules::Words;
 use shape::Dating;
@@ -16,6 +12,13 @@ use shape::Shape;
 
 // The number of profiles: the set-up's body begins at 4, behind the version, its length and its kind.
 const PROFILES: usize = 7;
+
+const FIRST: u8 = 3;
+
+const SECOND: u8 = 4;
+
+// The response code, behind the length, the kind and the type.
+const CODE: usize = 4;
 
 // Whether there is a log, what goes in, what its lines must know of the paper, and where its tail lies.
 pub struct Log {
@@ -114,26 +117,18 @@ pub fn log_of(words: &Words, shape: Shape, paper: &[u8]) -> Log
     }
 }
 
-// What is heard of a record.
-fn heard(said: Said) -> Heard
-    ensures { λ r. ⌜ r ≡ heardOf said ⌝ }
+// What is heard of a record that is answered, its length and its kind in front.
+pub fn heard(record: &[u8]) -> Heard
+    ensures { λ r. ⌜ r ≡ heardIn (now («record» .entry)) ⌝ }
 {
-    let Said::Command(command) = said else {
-        return Heard::Other;
-    };
-    match command {
-        Command::Start(_) => Heard::Other,
-        Command::First(_) => Heard::First,
-        Command::Second(second) => Heard::Second { code: second.code },
+    let kind = wire::byte_at(record, 2);
+    if kind == FIRST {
+        return Heard::First;
     }
-}
-
-// After a record, whose body lies at a place of the paper.
-pub fn watch(ring: &mut Ring, logging: journal::Logging, event: Event, body: usize)
-    ensures { λ _. ⌜ now (ring .exit) ≡ heardEvent logging event body (now (ring .entry)) ⌝ }
-{
-    let Event::Answered { said, answer } = event else {
-        return;
-    };
-    journal::watch(ring, logging, heard(said), body, answer);
+    if kind == SECOND {
+        return Heard::Second {
+            code: wire::u16_at(record, CODE) as u32,
+        };
+    }
+    Heard::Other
 }

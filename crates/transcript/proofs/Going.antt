@@ -1,7 +1,7 @@
 -- A loop over the records: what stands in the room and what is still to come is the whole text. Assumes nothing.
 use mathlib.Core.Path.{_≡_, sym, ap, subst, _∙_}
 use mathlib.Core.List.{List, [], _∷_, _++_}
-use mathlib.Core.Bool.{Bool, true, false, cond}
+use mathlib.Core.Bool.{true, false}
 use mathlib.Core.Logic.{_⊎_, inl, inr}
 use types.Run.{OneOf}
 use denote.Enum.Declared.{tagOf}
@@ -9,7 +9,7 @@ use Prim.Native.Nat.{ℕ, suc, _+_, _*_, _-_, _≤_, _<_}
 use native.Mathlib.Nat.{add-zero, add-suc, suc-add}
 use native.Mathlib.Omega.{arith}
 use borrow.Author.Tests.{le-leb}
-use lib.ListN.{length, set, length-append}
+use lib.ListN.{length, drop, set, length-append}
 use lib.Seq.{sets, sets-eq, length-sets}
 use Rattle.refusal.specs.Refusal.{refusalNumber}
 use Rattle.rules.specs.Rules.{rulesOf}
@@ -30,8 +30,9 @@ use Rattle.records.proofs.Event as E
 use Rattle.lines.specs.Lines.{longest, refusalLine, placed, placeBehind}
 use Rattle.lines.specs.Sitting.{answerLine}
 use Rattle.ring.specs.Ring.{noRecords}
+use Rattle.journal.specs.Journal.{watched}
 use Rattle.log.specs.declared.Log.{Log}
-use Rattle.log.specs.Log.{logOf, heardBy}
+use Rattle.log.specs.Log.{logOf, heardIn, heardBy}
 use Rattle.log_text.specs.LogText.{logText, longest as longestLog, placed as log-placed, placeBehind as log-behind}
 use Rattle.transcript.specs.Transcript.{transcriptOf, restOf, lastLine, roomFor}
 use Rattle.transcript.proofs.Short.{answer-short, refusal-short, LineOf, record-short}
@@ -54,11 +55,15 @@ sets-on room [] b at = ap (λ (k : ℕ). sets room k b) (add-zero at)
 sets-on room (v ∷ a) b at =
     ap (λ (k : ℕ). sets (sets room at (v ∷ a)) k b) (add-suc at (length a) ∙ sym (suc-add at (length a))) ∙ sets-on (set room at v) a b (suc at)
 
--- what is one thing where a test holds, and another where it does not
-pub one-or-other : {Then Else : Type 0} {b : Bool} {then else after : List ℕ} → Then ⊎ Else → (Then → b ≡ true) → (Then → after ≡ then)
-    → (Else → b ≡ false) → (Else → after ≡ else) → after ≡ cond b then else
-one-or-other (inl on) holds is-then fails is-else = simp (holds on) (is-then on)
-one-or-other (inr off) holds is-then fails is-else = simp (fails off) (is-else off)
+-- ---- the log
+
+-- the ring where there is a log, and where there is none
+pub heard-if : {On Else : Type 0} (log : Log) (paper : List ℕ) (at : ℕ) (answer : Answer) (ring : List ℕ) {after : List ℕ} → On ⊎ Else
+    → (On → log .on ≡ true) → (On → after ≡ watched (log .logging) (heardIn (drop at paper)) (at + 3) answer ring)
+    → (Else → log .on ≡ false) → (Else → after ≡ ring) → after ≡ heardBy log paper at answer ring
+unfolding heardBy
+heard-if log paper at answer ring (inl on) is-on heard is-off kept = simp (is-on on) (heard on)
+heard-if log paper at answer ring (inr off) is-on heard is-off kept = simp (is-off off) (kept off)
 
 -- ---- the loop
 
@@ -86,7 +91,7 @@ module _ {log : Log} {ring words : List ℕ} {shape : Shape} {paper whole left b
 
   -- a record's line is written, and the next record is reached
   pub go-on : (words′ : List ℕ) → Written words′ → (said : Said) (answer : Answer) → at < length paper → taken .event ≡ Answered said answer
-      → Going log (heardBy log (Answered said answer) (at + 3) ring) words′ shape paper whole left before to (placed room end (answerLine number answer))
+      → Going log (heardBy log paper at answer ring) words′ shape paper whole left before to (placed room end (answerLine number answer))
       (taken .state) (taken .at) (placeBehind (length room) end (answerLine number answer)) (number + 1)
   go-on words′ w said answer h e =
       let line = answerLine number answer in
@@ -95,7 +100,7 @@ module _ {log : Log} {ring words : List ℕ} {shape : Shape} {paper whole left b
       let fits : end + longest ≤ length room = omega (arith, going .fits) in
       let here = placed-is room end line fits (answer-short number answer) in
       let there = behind-is (length room) end line fits in
-      let heard = heardBy log (Answered said answer) (at + 3) ring in
+      let heard = heardBy log paper at answer ring in
       let rest = restOf log heard (rulesOf words′) shape (taken .state) paper (taken .at) (number + 1) in
       let next : restOf log ring (rulesOf words) shape state paper at number ≡ line ++ rest =
       Steps.answered log ring (rulesOf words) shape state paper at number h said answer e

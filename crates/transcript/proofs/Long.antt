@@ -19,11 +19,11 @@ use Rattle.conversation.proofs.Events.{GoesOn, further}
 use Rattle.lines.specs.Sitting.{linesOf, sittingLines}
 use Rattle.ring.specs.Ring.{noRecords}
 use Rattle.log.specs.declared.Log.{Log}
-use Rattle.log.specs.Log.{logOf, heardBy}
+use Rattle.log.specs.Log.{logOf}
 use Rattle.log_text.specs.LogText.{longest as longestLog}
 use Rattle.log_text.proofs.Stores.{lines-behind}
 use Rattle.log_text.proofs.Lines.{text-short}
-use Rattle.transcript.specs.Transcript.{joined, transcriptOf, logBehind, logFrom, logLinesOf}
+use Rattle.transcript.specs.Transcript.{joined, transcriptOf, heardEvent, logBehind, logFrom, logLinesOf}
 use Rattle.transcript.proofs.Short.{refusal-short, LineOf, record-short}
 use Rattle.transcript.proofs.Steps.{Beginning, accepted, refused, begins, never-set-up}
 
@@ -86,7 +86,7 @@ module _ (paper : List ℕ) (small : (i : ℕ) → byte paper i < 256) where
   short-from (suc n) log ring rules shape state at =
       let taken = takenOf rules shape state paper at in
       short-behind log (taken .event) ring _
-      (short-from n log (heardBy log (taken .event) (at + 3) ring) (rulesAfter rules (takenWrites shape state paper at)) shape (taken .state)
+      (short-from n log (heardEvent log paper at (taken .event) ring) (rulesAfter rules (takenWrites shape state paper at)) shape (taken .state)
       (taken .at))
 
   pub text-long : (words : List ℕ) → length (transcriptOf words paper) ≤ 8 * length paper + 12 + longestLog

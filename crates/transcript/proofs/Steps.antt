@@ -56,7 +56,7 @@ use Rattle.ring.specs.Ring.{noRecords}
 use Rattle.log.specs.declared.Log.{Log}
 use Rattle.log.specs.Log.{logOf, heardBy}
 use Rattle.log_text.specs.LogText.{logText}
-use Rattle.transcript.specs.Transcript.{joined, transcriptOf, restOf, logBehind, logFrom, logLinesOf}
+use Rattle.transcript.specs.Transcript.{joined, transcriptOf, restOf, heardEvent, logBehind, logFrom, logLinesOf}
 
 -- ---- a record
 
@@ -131,7 +131,7 @@ module _ (log : Log) (ring : List ℕ) (rules : Rules) (shape : Shape) (state : 
   textBy m event =
       joined
       (linesOf number (following event (eventsFrom m then shape (taken .state) paper (taken .at)))
-      ++ logBehind log paper event ring (logFrom m log (heardBy log event (at + 3) ring) then shape (taken .state) paper (taken .at)))
+      ++ logBehind log paper event ring (logFrom m log (heardEvent log paper at event ring) then shape (taken .state) paper (taken .at)))
 
   event-first : (m : ℕ) (event : Event) → length paper ≡ suc m → taken .event ≡ event → restOf log ring rules shape state paper at number ≡ textBy m event
   unfolding restOf eventsFrom logFrom
@@ -141,12 +141,12 @@ module _ (log : Log) (ring : List ℕ) (rules : Rules) (shape : Shape) (state : 
   module _ (h : at < length paper) where
     pub answered : (said : Said) (answer : Answer) → taken .event ≡ Answered said answer
         → restOf log ring rules shape state paper at number
-        ≡ answerLine number answer ++ restOf log (heardBy log (Answered said answer) (at + 3) ring) then shape (taken .state) paper (taken .at) (number + 1)
+        ≡ answerLine number answer ++ restOf log (heardBy log paper at answer ring) then shape (taken .state) paper (taken .at) (number + 1)
     unfolding linesOf joined restOf
     answered said answer e =
         let m = length paper - 1 in
         let goes = further shape paper rules state at (subst GoesOn (sym e) tt) in
-        let heard = heardBy log (Answered said answer) (at + 3) ring in
+        let heard = heardBy log paper at answer ring in
         let line = answerLine number answer in
         event-first m (Answered said answer) (omega arith) e
         ∙ ap (λ more. line ++ joined (linesOf (number + 1) more ++ logFrom m log heard then shape (taken .state) paper (taken .at)))

@@ -35,10 +35,10 @@ use Rattle.opening.specs.Opening.{logJudged, baseBegun, pastBegun, loggedBegun,
 use Rattle.conversation.specs.Conversation.{takenOf, takenWrites}
 use Rattle.ring.specs.Ring.{noRecords}
 use Rattle.log.specs.declared.Log.{Log}
-use Rattle.log.specs.Log.{logOf, tailed, heardBy}
+use Rattle.log.specs.Log.{logOf, tailed}
 use Rattle.log_text.specs.LogText.{logLines}
 use Rattle.log_text.proofs.Lines.{none-of-0}
-use Rattle.transcript.specs.Transcript.{logBehind, logFrom, logLinesOf}
+use Rattle.transcript.specs.Transcript.{heardEvent, logBehind, logFrom, logLinesOf}
 
 module _ (log : Log) (empty : log .logging .size ≡ 0) (paper : List ℕ) where
   none-behind : (event : Event) (ring : List ℕ) (more : List (List ℕ)) → more ≡ [] → logBehind log paper event ring more ≡ []
@@ -53,7 +53,7 @@ module _ (log : Log) (empty : log .logging .size ≡ 0) (paper : List ℕ) where
   none-from (suc n) ring rules shape state at =
       let taken = takenOf rules shape state paper at in
       none-behind (taken .event) ring _
-      (none-from n (heardBy log (taken .event) (at + 3) ring) (rulesAfter rules (takenWrites shape state paper at)) shape (taken .state)
+      (none-from n (heardEvent log paper at (taken .event) ring) (rulesAfter rules (takenWrites shape state paper at)) shape (taken .state)
       (taken .at))
 
 -- WITHOUT A LOG

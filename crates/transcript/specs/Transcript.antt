@@ -25,20 +25,27 @@ use Rattle.lines.specs.Sitting.{linesOf, sittingLines}
 use Rattle.transcript.specs.declared.Transcript.{Transcript}
 use Rattle.transcript.specs.declared.Transcript.the-variants.{Whole, NoRoom}
 
--- THE LOG'S LINES stand behind those of a paper that no refusal ended: behind an event, with those of the records that follow
+-- THE LOG'S LINES stand behind those of a paper that no refusal ended. What the event of the record at a place does to the ring
+abbrev pub heardEvent : Log → (paper : List ℕ) (at : ℕ) → Event → (ring : List ℕ) → List ℕ
+heardEvent log paper at SetUp ring = ring
+heardEvent log paper at End ring = ring
+heardEvent log paper at (Refused refusal) ring = ring
+heardEvent log paper at (Answered said answer) ring = heardBy log paper at answer ring
+
+-- behind an event, with those of the records that follow
 abbrev pub logBehind : Log → (paper : List ℕ) → Event → (ring : List ℕ) (more : List (List ℕ)) → List (List ℕ)
 logBehind log paper SetUp ring more = more
 logBehind log paper End ring more = logLines log paper ring
 logBehind log paper (Refused refusal) ring more = []
 logBehind log paper (Answered said answer) ring more = more
 
--- behind n records from a place on; a record's body stands behind its length and its kind
+-- behind n records from a place on
 unfoldable pub logFrom : ℕ → Log → (ring : List ℕ) → Rules → Shape → State → (paper : List ℕ) (at : ℕ) → List (List ℕ)
 logFrom zero log ring rules shape state paper at = logLines log paper ring
 logFrom (suc n) log ring rules shape state paper at =
     let taken = takenOf rules shape state paper at in
     logBehind log paper (taken .event) ring
-    (logFrom n log (heardBy log (taken .event) (at + 3) ring) (rulesAfter rules (takenWrites shape state paper at)) shape (taken .state) paper
+    (logFrom n log (heardEvent log paper at (taken .event) ring) (rulesAfter rules (takenWrites shape state paper at)) shape (taken .state) paper
     (taken .at))
 
 unfoldable pub logLinesOf : (words paper : List ℕ) → List (List ℕ)

@@ -75,7 +75,7 @@ fn put_records(
     while at < paper.len() {
         let taken = conversation::take(words, shape, state, paper, at);
         let event = taken.event;
-        let body = at + 3;
+        let here = at;
         state = taken.state;
         at = taken.at;
         let Event::Answered { answer, .. } = event else {
@@ -84,7 +84,8 @@ fn put_records(
         end = lines::put_answer(room, end, number, answer);
         if log.on {
             let logging = log.logging;
-            log::watch(ring, logging, event, body);
+            let heard = log::heard(&paper[here..]);
+            journal::watch(ring, logging, heard, here + 3, answer);
         }
         number += 1;
     }
