@@ -116,14 +116,14 @@ fn turn_pages(buffer: &mut [u8], words: &mut Words, room: &mut [u8]) -> Ending {
 
 pub fn run_sitting() {
     let mut buffer = [0u8; 65_537];
-    let mut room = [0u8; 770_118];
+    let mut room = [0u8; 524_378];
     let mut words = rules::blank();
     streams::acknowledge(sit(&mut buffer, &mut words, &mut room));
 }
 
 pub fn run_stack() {
     let mut buffer = [0u8; 65_540];
-    let mut room = [0u8; 770_118];
+    let mut room = [0u8; 524_378];
     let mut words = rules::blank();
     streams::acknowledge(turn_pages(&mut buffer, &mut words, &mut room));
 }

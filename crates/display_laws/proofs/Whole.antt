@@ -16,8 +16,7 @@ use Rattle.opening.specs.Opening.{begunOf, wordsBegun}
 use Rattle.conversation.proofs.Events.{GoesOn, further}
 use Rattle.keeper.specs.Keeper.{roomsTaken, roomsBegun}
 use Rattle.lines.specs.Sitting.{eventLine, sittingLines}
-use Rattle.lines.specs.Sitting.{sittingLines}
-use Rattle.transcript.specs.Transcript.{joined}
+use Rattle.transcript.specs.Transcript.{joined, transcriptOf}
 use Rattle.transcript.proofs.Short.{LineOf, record-short}
 use Rattle.transcript.proofs.Steps.{Beginning, accepted, refused, begins, never-set-up}
 use Rattle.record_lines.specs.declared.Showing.{Showing}
@@ -124,6 +123,7 @@ unfolding textOf joined
 lines-alone [] = refl
 lines-alone (entry ∷ more) = rw (append-nil (entry .line), lines-alone more)
 
-pub steps-print : (words rooms paper : List ℕ) → stepsOf Lines words rooms paper ≡ joined (sittingLines words paper)
+pub steps-print : (words rooms paper : List ℕ) → stepsOf Lines words rooms paper ≡ transcriptOf words paper
+unfolding transcriptOf
 steps-print words rooms paper =
     steps-are-entries Lines words rooms paper ∙ lines-alone (entriesOf words rooms paper) ∙ ap joined (lines-same words rooms paper)

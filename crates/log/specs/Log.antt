@@ -1,4 +1,4 @@
--- The log of a paper (document 02, Eight): what its set-up says of it, and what it hears of each record.
+-- The log of a paper (document 02, Eight): what its set-up says of it, and what a record is to it.
 use Prim.Native.Nat.{ℕ, _+_, _-_}
 use mathlib.Core.Bool.{Bool, true, false, cond, _&&_}
 use mathlib.Core.List.{List, [], _∷_}
@@ -14,13 +14,11 @@ use Rattle.shape.specs.declared.Logging.{Logging as LogTail}
 use Rattle.shape.specs.declared.Logging.the-variants.{Off, On}
 use Rattle.shape.specs.declared.Shape.{Shape}
 use Rattle.bodies.specs.Bodies.{isCpace}
-use Rattle.state.specs.declared.Answer.{Answer}
 use Rattle.log_tail.specs.LogTail.{sizeIn, switchesIn, logsIn}
 use Rattle.log_fields.specs.declared.Form.{Form}
 use Rattle.journal.specs.declared.Logging.{Logging}
 use Rattle.journal.specs.declared.Heard.{Heard}
 use Rattle.journal.specs.declared.Heard.the-variants.{First, Second, Other}
-use Rattle.journal.specs.Journal.{watched}
 use Rattle.log.specs.declared.Log.{Log}
 
 -- the tail lies in the paper; what does not is empty
@@ -68,7 +66,3 @@ logOf rules shape paper = tailed rules shape paper (shape .logging)
 -- scripts are nothing to it
 abbrev pub heardIn : (bytes : List ℕ) → Heard
 heardIn bytes = cond (eqb (byte bytes 2) 3) First (cond (eqb (byte bytes 2) 4) (Second (number bytes 4 2)) Other)
-
--- the ring after an answer to the record at a place of the paper, where there is a log
-unfoldable pub heardBy : Log → (paper : List ℕ) (at : ℕ) → Answer → (ring : List ℕ) → List ℕ
-heardBy log paper at answer ring = cond (log .on) (watched (log .logging) (heardIn (drop at paper)) (at + 3) answer ring) ring

@@ -1,4 +1,4 @@
-// The log of a paper (request Eight): what its set-up says of it, and what it hears of each record.
+// The log of a paper (request Eight): what its set-up says of it, and what a record is to it.
 ghost use mathlib.Core.Path.{_≡_};
 ghost use Rattle.rules.specs.Rules.{rulesOf};
 ghost use Rattle.log.specs.Log.{tailAt, tailPlace, loggingIn, isDated, formOf, noLogging, logOf, heardIn};

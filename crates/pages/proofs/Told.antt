@@ -1,5 +1,5 @@
 -- What a transcript tells of the room. Assumes nothing.
-use mathlib.Core.Path.{_≡_, refl, sym, ap, subst, _∙_}
+use mathlib.Core.Path.{_≡_, refl, ap}
 use mathlib.Core.Bool.{Bool, true, false, cond}
 use mathlib.Core.List.{List, [], _∷_}
 use Prim.Native.Nat.{ℕ, _+_, _-_, _≤_, _<_}
@@ -8,10 +8,10 @@ use borrow.Author.Tests.{leb-true, le-leb, lt-leb}
 use lib.Dec.{leb, ltb}
 use lib.ListN.{length, set, length-append, length-set}
 use lib.Seq.{sets, length-sets}
-use Rattle.transcript.specs.declared.Transcript.{Transcript}
 use Rattle.transcript.specs.declared.Transcript.the-variants.{Whole, NoRoom}
-use Rattle.transcript.specs.Transcript.{transcriptOf, roomFor, transcribed, roomAfter, hasRoom, EndsIn}
+use Rattle.transcript.specs.Transcript.{transcriptOf, roomFor, transcribed, roomAfter, hasRoom}
 use Rattle.transcript.proofs.Going.{sets-on}
+use Rattle.transcript.proofs.Long.{long}
 use Rattle.pages.specs.declared.Wants.the-variants as Wants
 use Rattle.pages.specs.Stack.{pageOf}
 use Rattle.pages.specs.Turn.{placedText, textRoom, pagePut, pageRoom, turnedOver, tooLong, passing, saidBy, roomBy, wordsBy}
@@ -42,18 +42,18 @@ module _ (words paper room : List ℕ) (at : ℕ) where
   no-page e = let no = none e in (rw no, rw no)
 
   -- where there is room for it there is room for its page
-  pub page : {put : Transcript} {end : ℕ} → put ≡ transcribed words paper room at → EndsIn put (length room) → put ≡ Whole end
+  pub page : (end : ℕ) → transcribed words paper room at ≡ Whole end
       → (end < length (roomAfter words paper room at)) × (Whole (end + 1) ≡ pagePut words paper (length room) at)
       × (set (roomAfter words paper room at) end 10 ≡ pageRoom words paper room at) × (end + 1 ≤ length room)
   unfolding roomAfter
-  page {put} {end} e fits k =
-      let w = whole end (sym e ∙ k) in
-      let inside : end < length room = subst (λ t. EndsIn t (length room)) k fits in
+  page end e =
+      let w = whole end e in
       let text = transcriptOf words paper in
+      let fits = leb-true (at + roomFor (length paper)) (length room) (w .0) in
       let on = sets-on room text (10 ∷ []) at in
       let size = length-append text (10 ∷ []) in
       rw (w .0, length-sets room at text)
-      (inside, ap Whole (omega (arith, w .1, size)), rw (w .1) on, omega (arith, inside))
+      (omega (arith, long words paper, w .1), ap Whole (omega (arith, w .1, size)), rw (w .1) on, omega (arith, long words paper, w .1))
 
   pub after-length : (end byte : ℕ) → length (set (roomAfter words paper room at) end byte) ≡ length room
   unfolding roomAfter

@@ -1,7 +1,7 @@
 -- What is printed of a paper, read as text: its lines, each once and in order, and nothing more. Assumes nothing.
 use mathlib.Core.Path.{_≡_, refl, ap, subst₂, _∙_}
 use mathlib.Core.Bool.{Bool, true, false, cond}
-use mathlib.Core.List.{List, [], _∷_, _++_, append-nil}
+use mathlib.Core.List.{List, [], _∷_}
 use Prim.Native.Nat.{ℕ, zero, suc, _+_, _*_, _≤_, _<_}
 use native.Mathlib.Omega.{arith}
 use borrow.Author.Tests.{leb-true, leb-false, le-leb}
@@ -25,23 +25,17 @@ use Rattle.conversation.specs.Conversation.{takenOf, takenWrites}
 use Rattle.conversation.specs.Events.{following, eventsFrom, eventsOf, wordsLeft}
 use Rattle.lines.specs.Lines.{refusalLine, startLine, selectedLine}
 use Rattle.lines.specs.Sitting.{answerLine, eventLine, linesOf, sittingLines}
-use Rattle.lines.proofs.Each.{Each, none, more, append, weaken}
+use Rattle.lines.proofs.Each.{Each, none, more, weaken}
 use Rattle.lines.proofs.Fields.{OneLine, Fed}
 use Rattle.lines.proofs.Laws.{refusal-line, start-line, selected-line, cryptogram-line}
 use Rattle.transcript.specs.declared.Transcript.the-variants.{Whole, NoRoom}
-use Rattle.ring.specs.Ring.{noRecords}
-use Rattle.log.specs.declared.Log.{Log}
-use Rattle.log.specs.Log.{logOf}
-use Rattle.log_text.proofs.Lines.{log-fed}
-use Rattle.transcript.specs.Transcript.{logBehind, logFrom, logLinesOf, allLines, transcriptOf, hasRoom, transcribed, roomAfter, wordsAfter}
-use Rattle.transcript.proofs.Long.{text-long}
-use Rattle.transcript.proofs.Unlogged.{unlogged, none-yet}
+use Rattle.transcript.specs.Transcript.{transcriptOf, hasRoom, transcribed, roomAfter, wordsAfter}
+use Rattle.transcript.proofs.Long.{long}
 use Rattle.readback.specs.Fields.{fieldsIn}
 use Rattle.demands.specs.Conversation.{Exchange}
 use Rattle.spelling.specs.Spelling.{Bytes}
 use Rattle.spelling.specs.Shown.{shown, Sized}
 use Rattle.spelling.specs.Printed.{printed, printedLines}
-use Rattle.spelling.proofs.Numbers.{byte-small}
 use Rattle.spelling.proofs.Shown.{answer-shown}
 use Rattle.spelling.proofs.Text.{printed-text}
 use Rattle.papers.specs.Papers.{Accepted}
@@ -103,87 +97,52 @@ unfolding linesOf
 events-lines number none = none
 events-lines number (more {a = event} s r) = more (event-line number event s) (events-lines (number + 1) r)
 
-sitting-lines : (words paper : List ℕ) → Each OneLine (sittingLines words paper)
+pub paper-lines : (words paper : List ℕ) → Each Fed (sittingLines words paper)
 unfolding sittingLines
-sitting-lines words paper = events-lines 0 (paper-said words paper)
-
--- and so is each of its log
-
-fed-behind : (log : Log) (paper : List ℕ) (event : Event) (ring : List ℕ) {lines : List (List ℕ)} → Each Fed lines
-    → Each Fed (logBehind log paper event ring lines)
-fed-behind log paper SetUp ring r = r
-fed-behind log paper End ring r = log-fed log paper ring
-fed-behind log paper (Refused refusal) ring r = none
-fed-behind log paper (Answered said answer) ring r = r
-
-fed-from : (n : ℕ) (log : Log) (ring : List ℕ) (rules : Rules) (shape : Shape) (state : State) (paper : List ℕ) (at : ℕ)
-    → Each Fed (logFrom n log ring rules shape state paper at)
-unfolding logFrom
-fed-from zero log ring rules shape state paper at = log-fed log paper ring
-fed-from (suc n) log ring rules shape state paper at =
-    let taken = takenOf rules shape state paper at in
-    fed-behind log paper (taken .event) ring (fed-from n log _ (rulesAfter rules (takenWrites shape state paper at)) shape (taken .state) paper (taken .at))
-
-log-lines : (words paper : List ℕ) → Each Fed (logLinesOf words paper)
-unfolding logLinesOf
-log-lines words paper =
-    let begun = begunOf paper in
-    let rules = rulesOf (wordsBegun words paper) in
-    let log = logOf rules (begun .shape) paper in
-    fed-behind log paper (begun .event) noRecords (fed-from (length paper) log noRecords rules (begun .shape) (begun .state) paper (begun .at))
-
-pub paper-lines : (words paper : List ℕ) → Each Fed (allLines words paper)
-paper-lines words paper = append (weaken (λ line o. o .fed) (sitting-lines words paper)) (log-lines words paper)
+paper-lines words paper = weaken (λ line o. o .fed) (events-lines 0 (paper-said words paper))
 
 -- ---- its text
 
 module _ (words paper : List ℕ) where
-  -- THE TEXT OF A PAPER, TAKEN APART AT ITS LINE FEEDS, IS THE LINES OF ITS SITTING AND THOSE OF ITS LOG
-  pub printed-lines : linesRead (transcriptOf words paper) ≡ allLines words paper
+  -- THE TEXT OF A PAPER, TAKEN APART AT ITS LINE FEEDS, IS ITS LINES
+  pub printed-lines : linesRead (transcriptOf words paper) ≡ sittingLines words paper
   unfolding transcriptOf
   printed-lines = only-lines (paper-lines words paper)
 
   -- THE ROOM HOLDS THEM, AND ALL ELSE STAYS
-  pub room-holds : Bytes paper → (room : List ℕ) (at end : ℕ) → transcribed words paper room at ≡ Whole end
-      → Holds room at end (allLines words paper) (roomAfter words paper room at)
+  pub room-holds : (room : List ℕ) (at end : ℕ) → transcribed words paper room at ≡ Whole end
+      → Holds room at end (sittingLines words paper) (roomAfter words paper room at)
   unfolding transcribed roomAfter
-  room-holds bytes room at end = by (hasRoom (length room) at (length paper)) refl where
+  room-holds room at end = by (hasRoom (length room) at (length paper)) refl where
     by : (b : Bool) → hasRoom (length room) at (length paper) ≡ b → cond b (Whole (at + length (transcriptOf words paper))) NoRoom ≡ Whole end
-        → Holds room at end (allLines words paper) (cond b (sets room at (transcriptOf words paper)) room)
+        → Holds room at end (sittingLines words paper) (cond b (sets room at (transcriptOf words paper)) room)
     by false e w = absurd (let z : _≡_ {A = ℕ} 0 1 = cc in omega arith)
     by true e w =
         let text = transcriptOf words paper in
         let ends : at + length text ≡ end = cc in
-        let asked = leb-true (at + (8 * length paper + 82 + 245740)) (length room) e in
-        let there = held room text at (omega (arith, text-long paper (byte-small paper bytes) words)) in
+        let asked = leb-true (at + (8 * length paper + 82)) (length room) e in
+        let there = held room text at (omega (arith, long words paper)) in
         subst₂ (λ (k : ℕ) (lines : List (List ℕ)). Holds room at k lines (sets room at text)) ends printed-lines there
 
-  -- IT IS ANSWERED WHERE THE ROOM HAS 8 BYTES FOR EACH OF ITS BYTES, 82 MORE AND 245,740 FOR ITS LOG, AND ELSE NOTHING IS TOUCHED
-  pub room-asked : (room : List ℕ) (at : ℕ) → at + (8 * length paper + 82 + 245740) ≤ length room
+  -- IT IS ANSWERED WHERE THE ROOM HAS 8 BYTES FOR EACH OF ITS BYTES AND 82 MORE, AND ELSE NOTHING IS TOUCHED
+  pub room-asked : (room : List ℕ) (at : ℕ) → at + (8 * length paper + 82) ≤ length room
       → transcribed words paper room at ≡ Whole (at + length (transcriptOf words paper))
   unfolding transcribed
-  room-asked room at fits = rw (le-leb (at + (8 * length paper + 82 + 245740)) (length room) fits)
+  room-asked room at fits = rw (le-leb (at + (8 * length paper + 82)) (length room) fits)
 
   pub room-kept : (room : List ℕ) (at : ℕ) → transcribed words paper room at ≡ NoRoom
-      → (length room < at + (8 * length paper + 82 + 245740)) × (roomAfter words paper room at ≡ room) × (wordsAfter words paper room at ≡ words)
+      → (length room < at + (8 * length paper + 82)) × (roomAfter words paper room at ≡ room) × (wordsAfter words paper room at ≡ words)
   unfolding transcribed roomAfter wordsAfter
   room-kept room at = by (hasRoom (length room) at (length paper)) refl where
     by : (b : Bool) → hasRoom (length room) at (length paper) ≡ b → cond b (Whole (at + length (transcriptOf words paper))) NoRoom ≡ NoRoom
-        → (length room < at + (8 * length paper + 82 + 245740)) × (cond b (sets room at (transcriptOf words paper)) room ≡ room)
+        → (length room < at + (8 * length paper + 82)) × (cond b (sets room at (transcriptOf words paper)) room ≡ room)
         × (cond b (wordsLeft words paper) words ≡ words)
     by true e w = absurd (let z : _≡_ {A = ℕ} 0 1 = cc in omega arith)
-    by false e w = (leb-false (at + (8 * length paper + 82 + 245740)) (length room) e, refl, refl)
-
-  -- no paper that is read has a log
-  sitting-alone : linesRead (transcriptOf words paper) ≡ sittingLines words paper
-  sitting-alone =
-      printed-lines
-      ∙ ap (λ (lines : List (List ℕ)). sittingLines words paper ++ lines) (unlogged words paper (none-yet paper))
-      ∙ append-nil (sittingLines words paper)
+    by false e w = (leb-false (at + (8 * length paper + 82)) (length room) e, refl, refl)
 
   -- EVERY BYTE STRING
   pub every-text : length words ≡ wordCount → Bytes paper → Printed paper (linesRead (transcriptOf words paper))
-  every-text lent bytes = rw sitting-alone (by (every-paper words paper lent bytes)) where
+  every-text lent bytes = rw printed-lines (by (every-paper words paper lent bytes)) where
     by : Heard words paper → Printed paper (sittingLines words paper)
     by (Talk.unread fault e) = unread fault (unfold sittingLines linesOf in ap (linesOf 0) e)
     by (Talk.not-set-up version body rest o none-is refusal one e) =
@@ -193,7 +152,7 @@ module _ (words paper : List ℕ) where
 
 -- AND OF AN ACCEPTED ONE: the set-up's line, one for each command with its answer, and refusal 9 where a fault ends it
 pub accepted-text : (words paper : List ℕ) → length words ≡ wordCount → Bytes paper → Accepted paper → linesRead (transcriptOf words paper) ≡ linesBy paper
-accepted-text words paper lent bytes a = sitting-alone words paper ∙ lines-are words paper lent bytes a
+accepted-text words paper lent bytes a = printed-lines words paper ∙ lines-are words paper lent bytes a
 
 -- a command's line says its place and the fields of its answer
 pub line-says : (words paper : List ℕ) → length words ≡ wordCount → Bytes paper → Accepted paper
@@ -202,10 +161,10 @@ pub line-says : (words paper : List ℕ) → length words ≡ wordCount → Byte
     → fieldsIn (getD (linesRead (transcriptOf words paper)) (suc (length before)) []) ≡ shown (suc (length before)) answer
 line-says words paper lent bytes a before command answer behind e few sized =
     let n = suc (length before) in
-    ap (λ (lines : List (List ℕ)). fieldsIn (getD lines n [])) (sitting-alone words paper)
+    ap (λ (lines : List (List ℕ)). fieldsIn (getD lines n [])) (printed-lines words paper)
     ∙ ap fieldsIn (paper-line words paper lent bytes a before command answer behind e)
     ∙ answer-shown n few answer sized
 
 -- DOCUMENT 01'S SITTING
 pub printed-sitting : (words : List ℕ) → length words ≡ wordCount → linesRead (transcriptOf words printed) ≡ printedLines
-printed-sitting words lent = sitting-alone words printed ∙ printed-text words lent
+printed-sitting words lent = printed-lines words printed ∙ printed-text words lent

@@ -6,10 +6,7 @@ use lib.Dec.{T, eqb}
 use lib.ListN.{length, replicate, getD}
 use Rattle.wire.specs.Wire.{byte, number}
 use Rattle.rules.specs.Word.{wordCount}
-use Rattle.ring.specs.Ring.{countIn}
-use Rattle.log.specs.Log.{logOf, heardBy}
-use Rattle.log_text.specs.LogText.{linesUpTo, logLines}
-use Rattle.transcript.specs.Transcript.{joined, logFrom, logLinesOf, transcriptOf}
+use Rattle.transcript.specs.Transcript.{joined, transcriptOf}
 use Rattle.pages.specs.Stack.{pagesIn, stackOf}
 use Rattle.import.specs.Import.{importRecord, oldRecord, takeOver}
 use Rattle.imports.specs.Imports.{digitsOf, recordLine, linesIn, importsFrom, importsOf}
@@ -53,8 +50,8 @@ pub record Samples : Type 0 where
   pub rising-by-1 : T (eqb (firstOf records 1) 0x32)
 
 pub samples : Samples
-unfolding printed recordOf kindOf bodyOf answered logLinesOf logFrom logOf heardBy logLines linesUpTo countIn transcriptOf joined linesRead stackWith
-    stackOf pagesIn number big importsFrom linesIn recordLine importRecord digitsOf takeOver oldRecord
+unfolding printed recordOf kindOf bodyOf answered transcriptOf joined linesRead stackWith stackOf pagesIn number big importsFrom linesIn recordLine
+    importRecord digitsOf takeOver oldRecord
 samples =
     record {
       one-line = tt;

@@ -14,7 +14,7 @@ use Rattle.conversation.specs.Events.{wordsLeft}
 use Rattle.lines.specs.Lines.{digit, decimal, refusalLine}
 use Rattle.lines.specs.Sitting.{sittingLines}
 use Rattle.lines.proofs.Each.{Each, none, more}
-use Rattle.transcript.specs.Transcript.{allLines, transcriptOf}
+use Rattle.transcript.specs.Transcript.{transcriptOf}
 use Rattle.pages.specs.Stack.{pageOf, sizeOf, paperOf, behind, stackOf}
 use Rattle.stacks.proofs.Stack as Front
 use Rattle.stacks.proofs.Alone.{words-length, apart}
@@ -66,19 +66,19 @@ module _ (words : List ℕ) (lent : length words ≡ wordCount) where
       ∙ rw (paper-is paper rest fits, behind-is paper rest fits)
       (ap (λ (t : List ℕ). pageOf words paper ++ t) (any-words (wordsLeft words paper) rest (words-length words paper ∙ lent)))
 
-  page-lines : (paper rest : List ℕ) → linesRead (pageOf words paper ++ rest) ≡ allLines words paper ++ ((10 ∷ []) ∷ linesRead rest)
+  page-lines : (paper rest : List ℕ) → linesRead (pageOf words paper ++ rest) ≡ sittingLines words paper ++ ((10 ∷ []) ∷ linesRead rest)
   unfolding transcriptOf
   page-lines paper rest =
       ap linesRead (append-assoc (transcriptOf words paper) (10 ∷ []) rest)
       ∙ lines-first (paper-lines words paper) (10 ∷ rest)
-      ∙ ap (λ (l : List (List ℕ)). allLines words paper ++ l) (up-to-feed [] rest (λ i l. absurd (omega arith)))
+      ∙ ap (λ (l : List (List ℕ)). sittingLines words paper ++ l) (up-to-feed [] rest (λ i l. absurd (omega arith)))
 
   pages-first : {papers : List (List ℕ)} → Each Fits papers → (rest : List ℕ)
       → linesRead (stackOf words (stackWith papers ++ rest)) ≡ pagesOf words papers ++ linesRead (stackOf words rest)
   unfolding stackWith pagesOf
   pages-first none rest = refl
   pages-first (more {a = paper} {s = papers} fits r) rest =
-      let lines = allLines words paper in
+      let lines = sittingLines words paper in
       let behind = stackWith papers ++ rest in
       ap (λ (s : List ℕ). linesRead (stackOf words s)) (append-assoc (blockOf paper) (stackWith papers) rest)
       ∙ ap linesRead (page-first paper behind fits)

@@ -3,7 +3,7 @@ use mathlib.Core.Path.{_≡_}
 use mathlib.Core.List.{List, [], _∷_, _++_}
 use Prim.Native.Nat.{ℕ, _^_, _<_}
 use lib.ListN.{length, take}
-use Rattle.transcript.specs.Transcript.{allLines}
+use Rattle.lines.specs.Sitting.{sittingLines}
 use Rattle.lines.proofs.Each.{Each}
 use Rattle.spelling.specs.Spelling.{big}
 use Rattle.spelling.specs.Printed as Printed
@@ -19,10 +19,10 @@ stackWith (paper ∷ more) = blockOf paper ++ stackWith more
 abbrev pub Fits : (paper : List ℕ) → Type 0
 Fits paper = length paper < 256 ^ 4
 
--- the lines of each paper and of its log, as if it were alone with these words, and an empty line behind them
+-- the lines of each paper, as if it were alone with these words, and an empty line behind them
 unfoldable pub pagesOf : (words : List ℕ) (papers : List (List ℕ)) → List (List ℕ)
 pagesOf words [] = []
-pagesOf words (paper ∷ more) = allLines words paper ++ ((10 ∷ []) ∷ pagesOf words more)
+pagesOf words (paper ∷ more) = sittingLines words paper ++ ((10 ∷ []) ∷ pagesOf words more)
 
 -- the last line of a stack that ends before a block does
 abbrev pub cutLine : List ℕ

@@ -35,8 +35,6 @@ use Rattle.opening.specs.Opening.{shapedWords, setupWords, openedWords, wordsBe
 use Rattle.conversation.specs.Conversation.{takenOf, takenWrites}
 use Rattle.conversation.specs.Events.{ending, wordsFrom, wordsLeft}
 use Rattle.lines.specs.Lines.{refusalLine}
-use Rattle.ring.specs.Ring.{noRecords}
-use Rattle.log.specs.Log.{logOf}
 use Rattle.transcript.specs.Transcript.{transcriptOf, restOf}
 use Rattle.transcript.proofs.Steps.{Beginning, accepted, refused, begins, set-up, not-set-up}
 use Rattle.pages.specs.Stack.{paperOf, behind, pagesIn, stackOf}
@@ -148,11 +146,7 @@ module _ (words words′ paper : List ℕ) (lent : length words ≡ wordCount) (
     by : Beginning paper (begunOf paper) → transcriptOf words paper ≡ transcriptOf words′ paper
     by (accepted e o) =
         let begun = begunOf paper in
-        let rest =
-        ap
-        (λ w. refusalLine 0 0
-        ++ restOf (logOf (rulesOf w) (begun .shape) paper) noRecords (rulesOf w) (begun .shape) (begun .state) paper (begun .at) 1)
-        (same-words e) in
+        let rest = ap (λ w. refusalLine 0 0 ++ restOf (rulesOf w) (begun .shape) (begun .state) paper (begun .at) 1) (same-words e) in
         set-up words paper e ∙ rest ∙ sym (set-up words′ paper e)
     by (refused refusal e) = not-set-up words paper refusal e ∙ sym (not-set-up words′ paper refusal e)
 

@@ -1,17 +1,15 @@
 -- A loop over the records: what stands in the room and what is still to come is the whole text. Assumes nothing.
 use mathlib.Core.Path.{_≡_, sym, ap, subst, _∙_}
 use mathlib.Core.List.{List, [], _∷_, _++_}
-use mathlib.Core.Bool.{true, false}
-use mathlib.Core.Logic.{_⊎_, inl, inr}
+use mathlib.Core.Logic.{inl, inr}
 use types.Run.{OneOf}
 use denote.Enum.Declared.{tagOf}
 use Prim.Native.Nat.{ℕ, suc, _+_, _*_, _-_, _≤_, _<_}
 use native.Mathlib.Nat.{add-zero, add-suc, suc-add}
 use native.Mathlib.Omega.{arith}
 use borrow.Author.Tests.{le-leb}
-use lib.ListN.{length, drop, set, length-append}
+use lib.ListN.{length, set, length-append}
 use lib.Seq.{sets, sets-eq, length-sets}
-use Rattle.refusal.specs.Refusal.{refusalNumber}
 use Rattle.rules.specs.Rules.{rulesOf}
 use Rattle.shape.specs.declared.Shape.{Shape}
 use Rattle.script.specs.Script.{rulesAfter, wordsAfter}
@@ -29,13 +27,8 @@ use Rattle.conversation.proofs.Events.{GoesOn, further}
 use Rattle.records.proofs.Event as E
 use Rattle.lines.specs.Lines.{longest, refusalLine, placed, placeBehind}
 use Rattle.lines.specs.Sitting.{answerLine}
-use Rattle.ring.specs.Ring.{noRecords}
-use Rattle.journal.specs.Journal.{watched}
-use Rattle.log.specs.declared.Log.{Log}
-use Rattle.log.specs.Log.{logOf, heardIn, heardBy}
-use Rattle.log_text.specs.LogText.{logText, longest as longestLog, placed as log-placed, placeBehind as log-behind}
 use Rattle.transcript.specs.Transcript.{transcriptOf, restOf, lastLine, roomFor}
-use Rattle.transcript.proofs.Short.{answer-short, refusal-short, LineOf, record-short}
+use Rattle.transcript.proofs.Short.{answer-short, LineOf, record-short}
 use Rattle.transcript.proofs.Steps as Steps
 
 -- ---- the room
@@ -55,31 +48,21 @@ sets-on room [] b at = ap (λ (k : ℕ). sets room k b) (add-zero at)
 sets-on room (v ∷ a) b at =
     ap (λ (k : ℕ). sets (sets room at (v ∷ a)) k b) (add-suc at (length a) ∙ sym (suc-add at (length a))) ∙ sets-on (set room at v) a b (suc at)
 
--- ---- the log
-
--- the ring where there is a log, and where there is none
-pub heard-if : {On Else : Type 0} (log : Log) (paper : List ℕ) (at : ℕ) (answer : Answer) (ring : List ℕ) {after : List ℕ} → On ⊎ Else
-    → (On → log .on ≡ true) → (On → after ≡ watched (log .logging) (heardIn (drop at paper)) (at + 3) answer ring)
-    → (Else → log .on ≡ false) → (Else → after ≡ ring) → after ≡ heardBy log paper at answer ring
-unfolding heardBy
-heard-if log paper at answer ring (inl on) is-on heard is-off kept = simp (is-on on) (heard on)
-heard-if log paper at answer ring (inr off) is-on heard is-off kept = simp (is-off off) (kept off)
-
 -- ---- the loop
 
 -- by the words as they are: the text and the words that the records from the place on leave
-pub record Going (log : Log) (ring words : List ℕ) (shape : Shape) (paper whole left : List ℕ) (before : List ℕ) (to : ℕ) (room : List ℕ)
-    (state : State) (at end number : ℕ) : Type 0 where
+pub record Going (words : List ℕ) (shape : Shape) (paper whole left : List ℕ) (before : List ℕ) (to : ℕ) (room : List ℕ) (state : State)
+    (at end number : ℕ) : Type 0 where
   pub inside : at ≤ length paper
   pub counted : 3 * number + 1 ≤ at
   pub fits : end + roomFor (length paper - at) ≤ length room
-  pub text : sets room end (restOf log ring (rulesOf words) shape state paper at number) ≡ sets before to whole
-  pub ends : end + length (restOf log ring (rulesOf words) shape state paper at number) ≡ to + length whole
+  pub text : sets room end (restOf (rulesOf words) shape state paper at number) ≡ sets before to whole
+  pub ends : end + length (restOf (rulesOf words) shape state paper at number) ≡ to + length whole
   pub sized : length room ≡ length before
   pub leaves : wordsFrom (length paper) words shape state paper at ≡ left
 
-module _ {log : Log} {ring words : List ℕ} {shape : Shape} {paper whole left before room : List ℕ} {to at end number : ℕ} {state : State}
-    (going : Going log ring words shape paper whole left before to room state at end number) where
+module _ {words : List ℕ} {shape : Shape} {paper whole left before room : List ℕ} {to at end number : ℕ} {state : State}
+    (going : Going words shape paper whole left before to room state at end number) where
   abbrev taken : Taken
   taken = takenOf (rulesOf words) shape state paper at
 
@@ -91,8 +74,8 @@ module _ {log : Log} {ring words : List ℕ} {shape : Shape} {paper whole left b
 
   -- a record's line is written, and the next record is reached
   pub go-on : (words′ : List ℕ) → Written words′ → (said : Said) (answer : Answer) → at < length paper → taken .event ≡ Answered said answer
-      → Going log (heardBy log paper at answer ring) words′ shape paper whole left before to (placed room end (answerLine number answer))
-      (taken .state) (taken .at) (placeBehind (length room) end (answerLine number answer)) (number + 1)
+      → Going words′ shape paper whole left before to (placed room end (answerLine number answer)) (taken .state) (taken .at)
+      (placeBehind (length room) end (answerLine number answer)) (number + 1)
   go-on words′ w said answer h e =
       let line = answerLine number answer in
       let f = further shape paper (rulesOf words) state at (subst GoesOn (sym e) tt) in
@@ -100,11 +83,10 @@ module _ {log : Log} {ring words : List ℕ} {shape : Shape} {paper whole left b
       let fits : end + longest ≤ length room = omega (arith, going .fits) in
       let here = placed-is room end line fits (answer-short number answer) in
       let there = behind-is (length room) end line fits in
-      let heard = heardBy log paper at answer ring in
-      let rest = restOf log heard (rulesOf words′) shape (taken .state) paper (taken .at) (number + 1) in
-      let next : restOf log ring (rulesOf words) shape state paper at number ≡ line ++ rest =
-      Steps.answered log ring (rulesOf words) shape state paper at number h said answer e
-      ∙ ap (λ rules. line ++ restOf log heard rules shape (taken .state) paper (taken .at) (number + 1)) (sym (w .1)) in
+      let rest = restOf (rulesOf words′) shape (taken .state) paper (taken .at) (number + 1) in
+      let next : restOf (rulesOf words) shape state paper at number ≡ line ++ rest =
+      Steps.answered (rulesOf words) shape state paper at number h said answer e
+      ∙ ap (λ rules. line ++ restOf rules shape (taken .state) paper (taken .at) (number + 1)) (sym (w .1)) in
       let joined = length-append line rest in
       let size = length-sets room end line in
       rw (here, there)
@@ -127,53 +109,46 @@ module _ {log : Log} {ring words : List ℕ} {shape : Shape} {paper whole left b
 
   -- a record that is not answered has the last line, or none, and leaves the words
   pub record Last (event : Event) (words′ : List ℕ) : Type 0 where
-    pub line : restOf log ring (rulesOf words) shape state paper at number ≡ lastLine number event
+    pub line : restOf (rulesOf words) shape state paper at number ≡ lastLine number event
     pub leaves : words′ ≡ left
-    pub short : end + length (lastLine number event) < length before
 
   pub last-is : (words′ : List ℕ) → Written words′ → (event : Event) → at < length paper → taken .event ≡ event
       → OneOf (0 ∷ 1 ∷ 2 ∷ []) (tagOf E.the-type event) → Last event words′
   last-is words′ w SetUp h e n = absurd (Steps.never-set-up (rulesOf words) shape state paper at e)
-  last-is words′ w End h e n = absurd (Steps.never-ends (rulesOf words) shape state paper at h e)
+  last-is words′ w End h e n =
+      record {
+        line = Steps.none (rulesOf words) shape state paper at number h e;
+        leaves = w .0 ∙ sym (Steps.words-last words shape state paper at h End (λ on. on) e) ∙ going .leaves;
+      }
   last-is words′ w (Refused refusal) h e n =
       record {
-        line = Steps.last log ring (rulesOf words) shape state paper at number h refusal e;
+        line = Steps.last (rulesOf words) shape state paper at number h refusal e;
         leaves = w .0 ∙ sym (Steps.words-last words shape state paper at h (Refused refusal) (λ on. on) e) ∙ going .leaves;
-        short = omega (arith, going .fits, going .sized, refusal-short number (refusalNumber refusal));
       }
   last-is words′ w (Answered said answer) h e (inl z) = absurd (omega arith)
   last-is words′ w (Answered said answer) h e (inr (inl z)) = absurd (omega arith)
   last-is words′ w (Answered said answer) h e (inr (inr z)) = absurd (omega arith)
 
-  -- nothing is left but the log's lines
-  pub over : length paper ≤ at → {r : ℕ} {after : List ℕ} → r ≡ log-behind (length room) end (logText log paper ring)
-      → after ≡ log-placed room end (logText log paper ring) → r ≤ end + longestLog
-      → (r ≡ to + length whole) × (after ≡ sets before to whole) × (words ≡ left) × (r < length before)
-  unfolding log-behind log-placed
-  over h {r} {after} e p short =
-      let last = Steps.at-last log ring (rulesOf words) shape state paper at number h in
-      let there = le-leb (end + longestLog) (length room) (omega (arith, going .fits)) in
-      let behind : r ≡ end + length (logText log paper ring) = e ∙ rw there in (
-        omega (arith, behind, going .ends, ap length last),
-        p ∙ rw there (ap (λ t. sets room end t) (sym last) ∙ going .text),
+  -- nothing is left
+  pub over : length paper ≤ at → (end ≡ to + length whole) × (room ≡ sets before to whole) × (words ≡ left)
+  over h =
+      let none = Steps.at-end (rulesOf words) shape state paper at number h in (
+        omega (arith, going .ends, ap length none),
+        ap (λ t. sets room end t) (sym none) ∙ going .text,
         sym (Steps.words-over words shape state paper at h) ∙ going .leaves,
-        omega (arith, short, going .fits, going .sized),
       )
 
 -- the set-up's line and the records' lines behind it are the paper's text
 pub whole-text : (words paper room : List ℕ) (at : ℕ) {between after words′ : List ℕ} {end r : ℕ} {begun : Begun} → begun ≡ begunOf paper
     → words′ ≡ wordsBegun words paper → begunOf paper .event ≡ SetUp → between ≡ sets room at (refusalLine 0 0)
     → end ≡ at + length (refusalLine 0 0)
-    → {log : Log} {ring : List ℕ} → log ≡ logOf (rulesOf words′) (begun .shape) paper → ring ≡ noRecords
-    → r ≡ end + length (restOf log ring (rulesOf words′) (begun .shape) (begun .state) paper (begun .at) 1)
-    → after ≡ sets between end (restOf log ring (rulesOf words′) (begun .shape) (begun .state) paper (begun .at) 1)
+    → r ≡ end + length (restOf (rulesOf words′) (begun .shape) (begun .state) paper (begun .at) 1)
+    → after ≡ sets between end (restOf (rulesOf words′) (begun .shape) (begun .state) paper (begun .at) 1)
     → {words″ : List ℕ} → words″ ≡ wordsFrom (length paper) words′ (begun .shape) (begun .state) paper (begun .at)
     → (r ≡ at + length (transcriptOf words paper)) × (after ≡ sets room at (transcriptOf words paper)) × (words″ ≡ wordsLeft words paper)
-whole-text words paper room at {between} {after} {words′} {end} {r} {begun} b k e there behind {log} {ring} l none size text {words″} leaves =
-    let rules = rulesOf (wordsBegun words paper) in
-    let rest =
-    restOf (logOf rules (begunOf paper .shape) paper) noRecords rules (begunOf paper .shape) (begunOf paper .state) paper (begunOf paper .at) 1 in
-    let same : restOf log ring (rulesOf words′) (begun .shape) (begun .state) paper (begun .at) 1 ≡ rest = rw (l, none, b, k) in
+whole-text words paper room at {between} {after} {words′} {end} {r} {begun} b k e there behind size text {words″} leaves =
+    let rest = restOf (rulesOf (wordsBegun words paper)) (begunOf paper .shape) (begunOf paper .state) paper (begunOf paper .at) 1 in
+    let same : restOf (rulesOf words′) (begun .shape) (begun .state) paper (begun .at) 1 ≡ rest = rw (b, k) in
     let parts = Steps.set-up words paper e in
     let joined = length-append (refusalLine 0 0) rest in (
       omega (arith, size, behind, ap length same, ap length parts),

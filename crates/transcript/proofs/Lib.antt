@@ -2,4 +2,3 @@ pub mod Short
 pub mod Steps
 pub mod Long
 pub mod Going
-pub mod Unlogged

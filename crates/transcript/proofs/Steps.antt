@@ -5,10 +5,10 @@ use mathlib.Core.List.{List, [], _∷_, _++_, append-nil}
 use mathlib.Core.Logic.{inl, inr}
 use types.Run.{OneOf}
 use denote.Enum.Declared.{tagOf}
-use Prim.Native.Nat.{ℕ, zero, suc, _+_, _-_, _≤_, _<_}
+use Prim.Native.Nat.{ℕ, suc, _+_, _-_, _≤_, _<_}
 use native.Mathlib.Omega.{arith}
-use borrow.Author.Tests.{ltb-false, lt-leb}
-use lib.Dec.{eqb, ltb, leb}
+use borrow.Author.Tests.{ltb-false}
+use lib.Dec.{eqb, ltb}
 use lib.ListN.{length}
 use Rattle.wire.specs.Wire.{byte}
 use Rattle.refusal.specs.declared.Refusal.{Refusal}
@@ -28,7 +28,7 @@ use Rattle.paper.specs.declared.Next.{Next}
 use Rattle.paper.specs.declared.Next.the-variants.{Record, Fault, End as PaperEnd}
 use Rattle.paper.specs.declared.Opened.{Opened}
 use Rattle.paper.specs.declared.Opened.the-variants.{Setup, Refused as OpenRefused}
-use Rattle.paper.specs.Paper.{latest, endAt, isFaultAt, nextAt, setupIn, isUnreadable, openPaper}
+use Rattle.paper.specs.Paper.{latest, nextAt, setupIn, isUnreadable, openPaper}
 use Rattle.paper.specs.Walk.{part}
 use Rattle.paper.proofs.Walk.{inside}
 use Rattle.records.specs.declared.Said.{Said}
@@ -41,130 +41,86 @@ use Rattle.opening.specs.declared.Begun.{Begun}
 use Rattle.records.specs.declared.Taken.{Taken}
 use Rattle.records.specs.declared.Event.{Event}
 use Rattle.records.specs.declared.Event.the-variants.{SetUp, End, Refused, Answered}
-use Rattle.records.specs.Records.{answeredBy, scriptedBy, recordTaken}
+use Rattle.records.specs.Records.{answeredBy, scriptedBy}
 use Rattle.opening.specs.Opening.{setUpEvent, baseBegun, logJudged, pastBegun, loggedBegun, shapedBegun, setupBegun, openedBegun, begunOf}
 use Rattle.records.specs.Records.{isScript}
 use Rattle.opening.specs.Opening.{wordsBegun}
 use Rattle.conversation.specs.Conversation.{nextTaken, takenOf, takenWrites}
 use Rattle.conversation.specs.Events.{following, eventsFrom, eventsOf, ending, wordsFrom, wordsLeft}
-use Rattle.conversation.proofs.Events.{GoesOn, further, at-end, settled, words-settled}
+use Rattle.conversation.proofs.Events.{GoesOn, further, settled, words-settled}
 use Rattle.script.specs.Script.{rulesAfter, wordsAfter}
 use Rattle.records.proofs.Event as E
 use Rattle.lines.specs.Lines.{refusalLine}
 use Rattle.lines.specs.Sitting.{answerLine, linesOf, sittingLines}
-use Rattle.ring.specs.Ring.{noRecords}
-use Rattle.log.specs.declared.Log.{Log}
-use Rattle.log.specs.Log.{logOf, heardBy}
-use Rattle.log_text.specs.LogText.{logText}
-use Rattle.transcript.specs.Transcript.{joined, transcriptOf, restOf, heardEvent, logBehind, logFrom, logLinesOf}
+use Rattle.transcript.specs.Transcript.{joined, transcriptOf, restOf}
 
 -- ---- a record
 
--- a record is answered, or its refusal ends the paper
-abbrev Told : Event → Type 0
-Told SetUp = ⊥
-Told End = ⊥
-Told (Refused refusal) = Unit
-Told (Answered said answer) = Unit
+-- no record is a set-up
+pub never-set-up : (rules : Rules) (shape : Shape) (state : State) (paper : List ℕ) (at : ℕ) → takenOf rules shape state paper at .event ≡ SetUp → ⊥
+unfolding takenOf answeredBy scriptedBy
+never-set-up rules shape state paper at = by (nextAt paper at) where
+  by-body : (end : ℕ) (body : List ℕ) → scriptedBy state body end .event ≡ SetUp → ⊥
+  by-body end [] e = let z : _≡_ {A = ℕ} 0 1 = cc in omega arith
+  by-body end (result ∷ template) e = let z : _≡_ {A = ℕ} 0 1 = cc in omega arith
 
-module _ (rules : Rules) (shape : Shape) (state : State) (paper : List ℕ) where
-  record-told : (kind : ℕ) (body : List ℕ) (end : ℕ) → Told (recordTaken rules shape state paper kind body end .event)
-  unfolding answeredBy scriptedBy
-  record-told kind body end = by (isScript shape kind) body (commandIn shape (state .values) paper kind body) where
-    by : (b : Bool) (script : List ℕ) (read : ReadCommand) → Told (cond b (scriptedBy state script end) (answeredBy rules state end read) .event)
-    by true [] read = tt
-    by true (result ∷ template) read = tt
-    by false script (NotTaken refusal) = tt
-    by false script (CommandTaken command) = tt
+  by-read : (end : ℕ) (read : ReadCommand) → answeredBy rules state end read .event ≡ SetUp → ⊥
+  by-read end (NotTaken refusal) e = let z : _≡_ {A = ℕ} 0 1 = cc in omega arith
+  by-read end (CommandTaken command) e = let z : _≡_ {A = ℕ} 0 1 = cc in omega arith
 
-  module _ (at : ℕ) where
-    pub never-set-up : takenOf rules shape state paper at .event ≡ SetUp → ⊥
-    unfolding takenOf
-    never-set-up = by (nextAt paper at) where
-      by : (next : Next) → nextTaken rules shape state paper at next .event ≡ SetUp → ⊥
-      by PaperEnd e = let z : _≡_ {A = ℕ} 0 1 = cc in omega arith
-      by Fault e = let z : _≡_ {A = ℕ} 0 1 = cc in omega arith
-      by (Record kind start end) e = subst Told e (record-told kind (part paper start end) end)
+  by : (next : Next) → nextTaken rules shape state paper at next .event ≡ SetUp → ⊥
+  by PaperEnd e = let z : _≡_ {A = ℕ} 0 1 = cc in omega arith
+  by Fault e = let z : _≡_ {A = ℕ} 0 1 = cc in omega arith
+  by (Record kind start end) e = by-kind (isScript shape kind) e where
+    by-kind : (b : Bool) → cond b (scriptedBy state (part paper start end) end)
+        (answeredBy rules state end (commandIn shape (state .values) paper kind (part paper start end))) .event ≡ SetUp → ⊥
+    by-kind true f = by-body end (part paper start end) f
+    by-kind false f = by-read end (commandIn shape (state .values) paper kind (part paper start end)) f
 
-    -- a paper's end is no record
-    pub never-ends : at < length paper → takenOf rules shape state paper at .event ≡ End → ⊥
-    unfolding takenOf nextAt
-    never-ends h = rw (lt-leb (length paper) at h) (by (isFaultAt paper at)) where
-      by : (b : Bool) → nextTaken rules shape state paper at (cond b Fault (Record (byte paper (at + 2)) (at + 3) (endAt paper at))) .event ≡ End → ⊥
-      by true e = let z : _≡_ {A = ℕ} 0 1 = cc in omega arith
-      by false e = subst Told e (record-told (byte paper (at + 2)) (part paper (at + 3) (endAt paper at)) (endAt paper at))
-
--- ---- the log
-
-module _ (log : Log) (shape : Shape) (paper : List ℕ) where
-  same-log : (event : Event) (ring : List ℕ) (more other : List (List ℕ)) → (GoesOn event → more ≡ other)
-      → logBehind log paper event ring more ≡ logBehind log paper event ring other
-  same-log SetUp ring more other e = e tt
-  same-log End ring more other e = refl
-  same-log (Refused refusal) ring more other e = refl
-  same-log (Answered said answer) ring more other e = e tt
-
-  -- behind as many records as there are bytes left stand all its lines
-  pub log-settled : (n m : ℕ) (ring : List ℕ) (rules : Rules) (state : State) (at : ℕ) → length paper - at ≤ n → n ≤ m
-      → logFrom m log ring rules shape state paper at ≡ logFrom n log ring rules shape state paper at
-  unfolding logFrom
-  log-settled zero zero ring rules state at h l = refl
-  log-settled zero (suc m) ring rules state at h l = rw (at-end shape paper rules state at (omega arith))
-  log-settled (suc n) zero ring rules state at h l = let z : ⊥ = omega arith in absurd z
-  log-settled (suc n) (suc m) ring rules state at h l =
-      let taken = takenOf rules shape state paper at in
-      let then = rulesAfter rules (takenWrites shape state paper at) in
-      same-log (taken .event) ring _ _
-      (λ on. let f = further shape paper rules state at on in log-settled n m _ then (taken .state) (taken .at) (omega arith) (omega arith))
-
--- ---- the text from a record on
-
-module _ (log : Log) (ring : List ℕ) (rules : Rules) (shape : Shape) (state : State) (paper : List ℕ) (at number : ℕ) where
+module _ (rules : Rules) (shape : Shape) (state : State) (paper : List ℕ) (at number : ℕ) where
   abbrev taken : Taken
   taken = takenOf rules shape state paper at
 
   abbrev then : Rules
   then = rulesAfter rules (takenWrites shape state paper at)
 
-  -- an event's line, the lines of m records behind it, and the log's
-  abbrev textBy : (m : ℕ) → Event → List ℕ
-  textBy m event =
-      joined
-      (linesOf number (following event (eventsFrom m then shape (taken .state) paper (taken .at)))
-      ++ logBehind log paper event ring (logFrom m log (heardEvent log paper at event ring) then shape (taken .state) paper (taken .at)))
-
-  event-first : (m : ℕ) (event : Event) → length paper ≡ suc m → taken .event ≡ event → restOf log ring rules shape state paper at number ≡ textBy m event
-  unfolding restOf eventsFrom logFrom
-  event-first m event e is =
-      ap (λ n. joined (linesOf number (eventsFrom n rules shape state paper at) ++ logFrom n log ring rules shape state paper at)) e ∙ ap (textBy m) is
+  event-first : (m : ℕ) → length paper ≡ suc m
+      → restOf rules shape state paper at number
+      ≡ joined (linesOf number (following (taken .event) (eventsFrom m then shape (taken .state) paper (taken .at))))
+  unfolding restOf eventsFrom
+  event-first m e = ap (λ n. joined (linesOf number (eventsFrom n rules shape state paper at))) e
 
   module _ (h : at < length paper) where
     pub answered : (said : Said) (answer : Answer) → taken .event ≡ Answered said answer
-        → restOf log ring rules shape state paper at number
-        ≡ answerLine number answer ++ restOf log (heardBy log paper at answer ring) then shape (taken .state) paper (taken .at) (number + 1)
+        → restOf rules shape state paper at number ≡ answerLine number answer ++ restOf then shape (taken .state) paper (taken .at) (number + 1)
     unfolding linesOf joined restOf
     answered said answer e =
         let m = length paper - 1 in
         let goes = further shape paper rules state at (subst GoesOn (sym e) tt) in
-        let heard = heardBy log paper at answer ring in
-        let line = answerLine number answer in
-        event-first m (Answered said answer) (omega arith) e
-        ∙ ap (λ more. line ++ joined (linesOf (number + 1) more ++ logFrom m log heard then shape (taken .state) paper (taken .at)))
+        event-first m (omega arith)
+        ∙ ap (λ v. joined (linesOf number (following v (eventsFrom m then shape (taken .state) paper (taken .at))))) e
+        ∙ ap (λ more. answerLine number answer ++ joined (linesOf (number + 1) more))
         (sym (settled shape paper m (length paper) then (taken .state) (taken .at) (omega arith) (omega arith)))
-        ∙ ap (λ more. line ++ joined (linesOf (number + 1) (eventsFrom (length paper) then shape (taken .state) paper (taken .at)) ++ more))
-        (sym (log-settled log shape paper m (length paper) heard then (taken .state) (taken .at) (omega arith) (omega arith)))
 
     pub last : (refusal : Refusal) → taken .event ≡ Refused refusal
-        → restOf log ring rules shape state paper at number ≡ refusalLine number (refusalNumber refusal)
+        → restOf rules shape state paper at number ≡ refusalLine number (refusalNumber refusal)
     unfolding linesOf joined
-    last refusal e = event-first (length paper - 1) (Refused refusal) (omega arith) e ∙ append-nil (refusalLine number (refusalNumber refusal))
+    last refusal e =
+        let m = length paper - 1 in
+        event-first m (omega arith)
+        ∙ ap (λ v. joined (linesOf number (following v (eventsFrom m then shape (taken .state) paper (taken .at))))) e
+        ∙ append-nil (refusalLine number (refusalNumber refusal))
 
-  pub at-last : length paper ≤ at → restOf log ring rules shape state paper at number ≡ logText log paper ring
-  unfolding restOf linesOf eventsFrom logFrom
-  at-last h =
-      ap (λ l. joined (linesOf number l ++ logFrom (length paper) log ring rules shape state paper at))
-      (settled shape paper 0 (length paper) rules state at (omega arith) (omega arith))
-      ∙ ap joined (log-settled log shape paper 0 (length paper) ring rules state at (omega arith) (omega arith))
+    pub none : taken .event ≡ End → restOf rules shape state paper at number ≡ []
+    unfolding linesOf joined
+    none e =
+        let m = length paper - 1 in
+        event-first m (omega arith)
+        ∙ ap (λ v. joined (linesOf number (following v (eventsFrom m then shape (taken .state) paper (taken .at))))) e
+
+  pub at-end : length paper ≤ at → restOf rules shape state paper at number ≡ []
+  unfolding restOf joined linesOf eventsFrom
+  at-end h = ap (λ l. joined (linesOf number l)) (settled shape paper 0 (length paper) rules state at (omega arith) (omega arith))
 
 -- the words that the records from a place on leave
 module _ (words : List ℕ) (shape : Shape) (state : State) (paper : List ℕ) (at : ℕ) where
@@ -289,29 +245,23 @@ module _ (words paper : List ℕ) where
   abbrev begun : Begun
   begun = begunOf paper
 
-  abbrev rules : Rules
-  rules = rulesOf (wordsBegun words paper)
-
-  abbrev log : Log
-  log = logOf rules (begun .shape) paper
-
   abbrev rest : List ℕ
-  rest = restOf log noRecords rules (begun .shape) (begun .state) paper (begun .at) 1
-
-  -- the set-up's line, and what is behind it
-  abbrev beginningBy : Event → List ℕ
-  beginningBy event =
-      joined
-      (linesOf 0 (following event (eventsFrom (length paper) rules (begun .shape) (begun .state) paper (begun .at)))
-      ++ logBehind log paper event noRecords (logFrom (length paper) log noRecords rules (begun .shape) (begun .state) paper (begun .at)))
+  rest = restOf (rulesOf (wordsBegun words paper)) (begun .shape) (begun .state) paper (begun .at) 1
 
   pub set-up : begun .event ≡ SetUp → transcriptOf words paper ≡ refusalLine 0 0 ++ rest
-  unfolding transcriptOf sittingLines logLinesOf eventsOf linesOf joined restOf
-  set-up e = ap beginningBy e
+  unfolding transcriptOf sittingLines eventsOf linesOf joined restOf
+  set-up e =
+      ap
+      (λ v. joined (linesOf 0 (following v (eventsFrom (length paper) (rulesOf (wordsBegun words paper)) (begun .shape) (begun .state) paper (begun .at)))))
+      e
 
   pub not-set-up : (refusal : Refusal) → begun .event ≡ Refused refusal → transcriptOf words paper ≡ refusalLine 0 (refusalNumber refusal)
-  unfolding transcriptOf sittingLines logLinesOf eventsOf linesOf joined
-  not-set-up refusal e = ap beginningBy e ∙ append-nil (refusalLine 0 (refusalNumber refusal))
+  unfolding transcriptOf sittingLines eventsOf linesOf joined
+  not-set-up refusal e =
+      ap
+      (λ v. joined (linesOf 0 (following v (eventsFrom (length paper) (rulesOf (wordsBegun words paper)) (begun .shape) (begun .state) paper (begun .at)))))
+      e
+      ∙ append-nil (refusalLine 0 (refusalNumber refusal))
 
   pub words-set-up : begun .event ≡ SetUp
       → wordsLeft words paper ≡ wordsFrom (length paper) (wordsBegun words paper) (begun .shape) (begun .state) paper (begun .at)

@@ -1,72 +1,30 @@
 -- The lines of a whole paper as one text, and the room that it is written into (document 01, "A sitting in full").
 use mathlib.Core.Bool.{Bool, cond}
-use mathlib.Core.List.{List, [], _++_}
-use Prim.Native.Nat.{ℕ, zero, suc, _+_, _*_, _<_}
+use mathlib.Core.List.{List, []}
+use Prim.Native.Nat.{ℕ, _+_, _*_}
 use lib.Dec.{leb}
 use lib.ListN.{length}
 use lib.Seq.{sets}
 unfoldable pub use Rattle.text.specs.Text.{joined}
 use Rattle.refusal.specs.Refusal.{refusalNumber}
-use Rattle.rules.specs.Rules.{Rules, rulesOf}
+use Rattle.rules.specs.Rules.{Rules}
 use Rattle.shape.specs.declared.Shape.{Shape}
 use Rattle.state.specs.declared.State.{State}
 use Rattle.records.specs.declared.Event.{Event}
 use Rattle.records.specs.declared.Event.the-variants.{SetUp, End, Refused, Answered}
-use Rattle.script.specs.Script.{rulesAfter}
-use Rattle.opening.specs.Opening.{begunOf, wordsBegun}
-use Rattle.conversation.specs.Conversation.{takenOf, takenWrites}
 use Rattle.conversation.specs.Events.{eventsFrom, wordsLeft}
-use Rattle.ring.specs.Ring.{noRecords}
-use Rattle.log.specs.declared.Log.{Log}
-use Rattle.log.specs.Log.{logOf, heardBy}
-use Rattle.log_text.specs.LogText.{logLines, longest as longestLog}
 use Rattle.lines.specs.Lines.{refusalLine, longest}
 use Rattle.lines.specs.Sitting.{linesOf, sittingLines}
 use Rattle.transcript.specs.declared.Transcript.{Transcript}
 use Rattle.transcript.specs.declared.Transcript.the-variants.{Whole, NoRoom}
 
--- THE LOG'S LINES stand behind those of a paper that no refusal ended. What the event of the record at a place does to the ring
-abbrev pub heardEvent : Log → (paper : List ℕ) (at : ℕ) → Event → (ring : List ℕ) → List ℕ
-heardEvent log paper at SetUp ring = ring
-heardEvent log paper at End ring = ring
-heardEvent log paper at (Refused refusal) ring = ring
-heardEvent log paper at (Answered said answer) ring = heardBy log paper at answer ring
-
--- behind an event, with those of the records that follow
-abbrev pub logBehind : Log → (paper : List ℕ) → Event → (ring : List ℕ) (more : List (List ℕ)) → List (List ℕ)
-logBehind log paper SetUp ring more = more
-logBehind log paper End ring more = logLines log paper ring
-logBehind log paper (Refused refusal) ring more = []
-logBehind log paper (Answered said answer) ring more = more
-
--- behind n records from a place on
-unfoldable pub logFrom : ℕ → Log → (ring : List ℕ) → Rules → Shape → State → (paper : List ℕ) (at : ℕ) → List (List ℕ)
-logFrom zero log ring rules shape state paper at = logLines log paper ring
-logFrom (suc n) log ring rules shape state paper at =
-    let taken = takenOf rules shape state paper at in
-    logBehind log paper (taken .event) ring
-    (logFrom n log (heardEvent log paper at (taken .event) ring) (rulesAfter rules (takenWrites shape state paper at)) shape (taken .state) paper
-    (taken .at))
-
-unfoldable pub logLinesOf : (words paper : List ℕ) → List (List ℕ)
-logLinesOf words paper =
-    let begun = begunOf paper in
-    let rules = rulesOf (wordsBegun words paper) in
-    let log = logOf rules (begun .shape) paper in
-    logBehind log paper (begun .event) noRecords (logFrom (length paper) log noRecords rules (begun .shape) (begun .state) paper (begun .at))
-
 -- what is printed of a paper, with the words that it was lent
-abbrev pub allLines : (words paper : List ℕ) → List (List ℕ)
-allLines words paper = sittingLines words paper ++ logLinesOf words paper
-
 unfoldable pub transcriptOf : (words paper : List ℕ) → List ℕ
-transcriptOf words paper = joined (allLines words paper)
+transcriptOf words paper = joined (sittingLines words paper)
 
--- and of its records from a place on, the first of which has a number, with what the log holds
-unfoldable pub restOf : Log → (ring : List ℕ) → Rules → Shape → State → (paper : List ℕ) (at record-number : ℕ) → List ℕ
-restOf log ring rules shape state paper at record-number =
-    joined
-    (linesOf record-number (eventsFrom (length paper) rules shape state paper at) ++ logFrom (length paper) log ring rules shape state paper at)
+-- and of its records from a place on, the first of which has a number
+unfoldable pub restOf : Rules → Shape → State → (paper : List ℕ) (at record-number : ℕ) → List ℕ
+restOf rules shape state paper at record-number = joined (linesOf record-number (eventsFrom (length paper) rules shape state paper at))
 
 -- the line of a record that ends the paper: refusal 9, or none at its end
 abbrev pub lastLine : (record-number : ℕ) → Event → List ℕ
@@ -75,9 +33,9 @@ lastLine record-number SetUp = []
 lastLine record-number End = []
 lastLine record-number (Answered said answer) = []
 
--- the room that a paper of so many bytes is asked: 8 bytes for each of its bytes, the longest line and the longest log
+-- the room that a paper of so many bytes is asked: 8 bytes for each of its bytes, and the longest line
 abbrev pub roomFor : (bytes : ℕ) → ℕ
-roomFor bytes = 8 * bytes + longest + longestLog
+roomFor bytes = 8 * bytes + longest
 
 abbrev pub hasRoom : (room at bytes : ℕ) → Bool
 hasRoom room at bytes = leb (at + roomFor bytes) room
@@ -93,8 +51,3 @@ roomAfter words paper room at = cond (hasRoom (length room) at (length paper)) (
 
 unfoldable pub wordsAfter : (words paper room : List ℕ) (at : ℕ) → List ℕ
 wordsAfter words paper room at = cond (hasRoom (length room) at (length paper)) (wordsLeft words paper) words
-
--- a text ends before the room does
-abbrev pub EndsIn : Transcript → (room : ℕ) → Type 0
-EndsIn (Whole end) room = end < room
-EndsIn NoRoom room = Unit

@@ -1,21 +1,15 @@
 // A whole paper answered: its lines, one behind the other, in lent room.
 ghost use mathlib.Core.Path.{_≡_};
-ghost use Prim.Native.Nat.{_+_, _-_, _≤_, _<_};
+ghost use Prim.Native.Nat.{_+_, _-_, _≤_};
 ghost use lib.ListN.{length};
 ghost use lib.Seq.{sets};
 ghost use Rattle.rules.specs.Rules.{rulesOf};
 ghost use Rattle.conversation.specs.Events.{wordsFrom, wordsLeft};
-ghost use Rattle.transcript.specs.Transcript.{lastLine, restOf, transcriptOf, roomFor, hasRoom};
-ghost use Rattle.transcript.specs.Transcript.{transcribed, roomAfter, wordsAfter, EndsIn};
-use log::Log;
+ghost use Rattle.transcript.specs.Transcript.{lastLine, restOf, transcriptOf, roomFor, hasRoom, transcribed, roomAfter, wordsAfter};
 use records::Event;
-use ring::Ring;
 use rules::Words;
 use shape::Shape;
 use state::State;
-
-// The most bytes of the last line and of the log behind it.
-const LAST: usize = lines::LONGEST + log_text::LONGEST;
 
 // The lines end at a place of the room, or it is too small and nothing was written.
 pub enum Transcript {
@@ -23,8 +17,7 @@ pub enum Transcript {
     NoRoom,
 }
 
-// Whether from a place on there is room for 8 bytes of each byte of a paper, for one line more and for
-// its log.
+// Whether from a place on there is room for 8 bytes of each byte of a paper and for one line more.
 fn has_room(room: usize, at: usize, paper: usize) -> bool
     ensures { λ r. ⌜ r ≡ hasRoom room at paper ⌝ }
 {
@@ -32,10 +25,10 @@ fn has_room(room: usize, at: usize, paper: usize) -> bool
         return false;
     }
     let left = room - at;
-    if left < LAST {
+    if left < lines::LONGEST {
         return false;
     }
-    paper <= (left - LAST) / 8
+    paper <= (left - lines::LONGEST) / 8
 }
 
 // The line of a record that ends the paper.
@@ -49,24 +42,20 @@ fn put_last(room: &mut [u8], at: usize, number: u16, event: Event) -> usize
     lines::put_refusal(room, at, number, refusal.number())
 }
 
-// The lines of the records from a place of the paper on, and of the log behind them, from a place of the
-// room on.
+// The lines of the records from a place of the paper on, from a place of the room on.
 fn put_records(
     words: &mut Words,
     shape: Shape,
     fresh: State,
     paper: &[u8],
     start: usize,
-    log: Log,
-    ring: &mut Ring,
     room: &mut [u8],
     to: usize,
 ) -> usize
     requires { ⌜ (4 ≤ start) × (start ≤ length (now paper)) × (length (now paper) ≤ 65536) × (to + roomFor (length (now paper) - start) ≤ length (now room)) ⌝ }
-    ensures { λ r. ⌜ (r ≡ to + length (restOf log (now (ring .entry)) (rulesOf (now (words .entry))) shape fresh (now (paper .entry)) start 1))
-        × (now (room .exit) ≡ sets (now (room .entry)) to (restOf log (now (ring .entry)) (rulesOf (now (words .entry))) shape fresh (now (paper .entry)) start 1))
-        × (now (words .exit) ≡ wordsFrom (length (now (paper .entry))) (now (words .entry)) shape fresh (now (paper .entry)) start)
-        × (r < length (now (room .entry))) ⌝ }
+    ensures { λ r. ⌜ (r ≡ to + length (restOf (rulesOf (now (words .entry))) shape fresh (now (paper .entry)) start 1))
+        × (now (room .exit) ≡ sets (now (room .entry)) to (restOf (rulesOf (now (words .entry))) shape fresh (now (paper .entry)) start 1))
+        × (now (words .exit) ≡ wordsFrom (length (now (paper .entry))) (now (words .entry)) shape fresh (now (paper .entry)) start) ⌝ }
 {
     let mut state = fresh;
     let mut at = start;
@@ -75,28 +64,21 @@ fn put_records(
     while at < paper.len() {
         let taken = conversation::take(words, shape, state, paper, at);
         let event = taken.event;
-        let here = at;
         state = taken.state;
         at = taken.at;
         let Event::Answered { answer, .. } = event else {
             return put_last(room, end, number, event);
         };
         end = lines::put_answer(room, end, number, answer);
-        if log.on {
-            let logging = log.logging;
-            let heard = log::heard(&paper[here..]);
-            journal::watch(ring, logging, heard, here + 3, answer);
-        }
         number += 1;
     }
-    log_text::put_log(room, end, paper, log, ring)
+    end
 }
 
 // The lines of a paper, where there is room for them.
 fn put_paper(paper: &[u8], words: &mut Words, room: &mut [u8], at: usize) -> usize
     requires { ⌜ at + roomFor (length (now paper)) ≤ length (now room) ⌝ }
-    ensures { λ r. ⌜ (r ≡ at + length (transcriptOf (now (words .entry)) (now (paper .entry)))) × (now (room .exit) ≡ sets (now (room .entry)) at (transcriptOf (now (words .entry)) (now (paper .entry)))) × (now (words .exit) ≡ wordsLeft (now (words .entry)) (now (paper .entry)))
-        × (r < length (now (room .entry))) ⌝ }
+    ensures { λ r. ⌜ (r ≡ at + length (transcriptOf (now (words .entry)) (now (paper .entry)))) × (now (room .exit) ≡ sets (now (room .entry)) at (transcriptOf (now (words .entry)) (now (paper .entry)))) × (now (words .exit) ≡ wordsLeft (now (words .entry)) (now (paper .entry))) ⌝ }
 {
     let begun = opening::begin(paper, words);
     let event = begun.event;
@@ -106,25 +88,12 @@ fn put_paper(paper: &[u8], words: &mut Words, room: &mut [u8], at: usize) -> usi
     let end = lines::put_refusal(room, at, 0, 0);
     let shape = begun.shape;
     let fresh = begun.state;
-    let log = log::log_of(words, shape, paper);
-    let mut ring = ring::none();
-    put_records(
-        words,
-        shape,
-        fresh,
-        paper,
-        begun.at,
-        log,
-        &mut ring,
-        room,
-        end,
-    )
+    put_records(words, shape, fresh, paper, begun.at, room, end)
 }
 
 // The lines of a paper, from a place of the room on.
 pub fn transcribe(paper: &[u8], words: &mut Words, room: &mut [u8], at: usize) -> Transcript
-    ensures { λ r. ⌜ (r ≡ transcribed (now (words .entry)) (now (paper .entry)) (now (room .entry)) at) × (now (room .exit) ≡ roomAfter (now (words .entry)) (now (paper .entry)) (now (room .entry)) at) × (now (words .exit) ≡ wordsAfter (now (words .entry)) (now (paper .entry)) (now (room .entry)) at)
-        × EndsIn r (length (now (room .entry))) ⌝ }
+    ensures { λ r. ⌜ (r ≡ transcribed (now (words .entry)) (now (paper .entry)) (now (room .entry)) at) × (now (room .exit) ≡ roomAfter (now (words .entry)) (now (paper .entry)) (now (room .entry)) at) × (now (words .exit) ≡ wordsAfter (now (words .entry)) (now (paper .entry)) (now (room .entry)) at) ⌝ }
 {
     if !has_room(room.len(), at, paper.len()) {
         return Transcript::NoRoom;

@@ -23,7 +23,7 @@ slice-write-room c =
     let start = put .before .before .before in
     let a = start .before .before .args in
     let e = put .transcribe .ensures in
-    rw (e .1) (page (now (a .words)) (now (a .paper)) (now (a .room)) (a .at) (e .0) (e .3) (c .before .end .given .1) .0)
+    rw (e .1) (page (now (a .words)) (now (a .paper)) (now (a .room)) (a .at) _ (sym (e .0) ∙ c .before .end .given .1) .0)
 
 add-t11 : tie.Need-add-t11
 add-t11 c =
@@ -32,7 +32,7 @@ add-t11 c =
     let start = put .before .before .before in
     let a = start .before .before .args in
     let e = put .transcribe .ensures in
-    let p = page (now (a .words)) (now (a .paper)) (now (a .room)) (a .at) (e .0) (e .3) (c .before .end .given .1) in
+    let p = page (now (a .words)) (now (a .paper)) (now (a .room)) (a .at) _ (sym (e .0) ∙ c .before .end .given .1) in
     omega (arith, p .3, start .before .before .good)
 
 same-length-2 : tie.Need-same-length-2
@@ -50,7 +50,7 @@ returns-2 c =
     let start = put .before .before .before in
     let a = start .before .before .args in
     let e = put .transcribe .ensures in
-    let p = page (now (a .words)) (now (a .paper)) (now (a .room)) (a .at) (e .0) (e .3) (c .before .end .given .1) in
+    let p = page (now (a .words)) (now (a .paper)) (now (a .room)) (a .at) _ (sym (e .0) ∙ c .before .end .given .1) in
     (p .1, rw (e .1) (p .2), e .2)
 
 pub put-page-spec : {M : Type 1} → statement M

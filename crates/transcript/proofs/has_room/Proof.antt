@@ -11,11 +11,11 @@ use Rattle.transcript.proofs.has_room.Tie as tie
 none : (room at paper : ℕ) → room < at + roomFor paper → false ≡ hasRoom room at paper
 none room at paper h = sym (lt-leb (at + roomFor paper) room h)
 
-eighth : (room at paper : ℕ) → at ≤ room → 245822 ≤ room - at → leb paper ((room - at - 245822) / 8) ≡ hasRoom room at paper
-eighth room at paper h k = by (leb paper ((room - at - 245822) / 8)) refl where
-  by : (b : Bool) → leb paper ((room - at - 245822) / 8) ≡ b → b ≡ hasRoom room at paper
-  by true e = let l = leb-true paper ((room - at - 245822) / 8) e in sym (le-leb (at + roomFor paper) room (omega arith))
-  by false e = let l = leb-false paper ((room - at - 245822) / 8) e in none room at paper (omega arith)
+eighth : (room at paper : ℕ) → at ≤ room → 82 ≤ room - at → leb paper ((room - at - 82) / 8) ≡ hasRoom room at paper
+eighth room at paper h k = by (leb paper ((room - at - 82) / 8)) refl where
+  by : (b : Bool) → leb paper ((room - at - 82) / 8) ≡ b → b ≡ hasRoom room at paper
+  by true e = let l = leb-true paper ((room - at - 82) / 8) e in sym (le-leb (at + roomFor paper) room (omega arith))
+  by false e = let l = leb-false paper ((room - at - 82) / 8) e in none room at paper (omega arith)
 
 returns : tie.Need-returns
 returns c = let a = c .before .args in none (a .room) (a .at) (a .paper) (omega arith)

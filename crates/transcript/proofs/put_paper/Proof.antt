@@ -23,20 +23,16 @@ returns c =
     let e = ap (λ b. b .event) (sym (begin .begin .ensures .0)) ∙ told .event .given .1 in
     let text = not-set-up (now (a .words)) (now (a .paper)) _ e in
     let pre = start .before .pre in
-    let short = refusal-short 0 (number .number .result) in
-    let behind = put .put-refusal .ensures .0 ∙ behind-is _ _ _ (omega (arith, pre)) in (
-      rw (text, ← number .number .ensures) behind,
+    let short = refusal-short 0 (number .number .result) in (
+      rw (text, ← number .number .ensures) (put .put-refusal .ensures .0 ∙ behind-is _ _ _ (omega (arith, pre))),
       rw (text, ← number .number .ensures) (put .put-refusal .ensures .1 ∙ placed-is _ _ _ (omega (arith, pre)) (omega arith)),
       begin .begin .ensures .1 ∙ sym (words-not-set-up (now (a .words)) (now (a .paper)) _ e),
-      omega (arith, behind, short, pre),
     )
 
 put-records-requires : tie.Need-put-records-requires
 put-records-requires c κs =
-    let none = c .before .before .before in
-    let fresh = none .before .before .before in
-    let known = fresh .before .before in
-    let put = known .before .before in
+    let shape = c .before .before .before in
+    let put = shape .before .before .before in
     let other = put .before .before in
     let begin = other .before in
     let start = begin .before .before .before in
@@ -56,11 +52,9 @@ put-records-requires c κs =
 returns-2 : tie.Need-returns-2
 returns-2 c =
     let records = c .before .before in
-    let ring-lent = records .before .before .before in
-    let none = ring-lent .before in
-    let log-of = none .before in
-    let shape = log-of .before .before .before in
-    let put = shape .before .before .before in
+    let fresh = records .before .before .before in
+    let shape = fresh .before .before in
+    let put = shape .before .before in
     let other = put .before .before in
     let begin = other .before in
     let start = begin .before .before .before in
@@ -71,17 +65,13 @@ returns-2 c =
     let short = refusal-short 0 0 in
     let behind = put .put-refusal2 .ensures .0 ∙ behind-is _ _ (refusalLine 0 0) (omega (arith, pre)) in
     let there = put .put-refusal2 .ensures .1 ∙ placed-is _ _ (refusalLine 0 0) (omega (arith, pre)) (omega arith) in
-    let size = ap length there ∙ length-sets (now (a .room)) (a .at) (refusalLine 0 0) in
     let kept = begin .begin .ensures .1 in
     let p = records .put-records .ensures in
-    let ring = none .none .ensures in
-    let text =
-    whole-text (now (a .words)) (now (a .paper)) (now (a .room)) (a .at) begun kept taken there behind (log-of .log-of .ensures) ring
-    (p .0) (p .1) (p .2) in
-    (text .0, text .1, text .2, omega (arith, p .3, size))
+    let text = whole-text (now (a .words)) (now (a .paper)) (now (a .room)) (a .at) begun kept taken there behind (p .0) (p .1) (p .2) in
+    (text .0, text .1, text .2)
 
 pub put-paper-spec : {M : Type 1} → statement M
 put-paper-spec =
     tie.close
-    (tie.spec (search needs) (search needs) (search needs) (search needs) (search needs) returns (search needs) (search needs) (search needs)
-    put-records-requires (search needs) returns-2)
+    (tie.spec (search needs) (search needs) (search needs) (search needs) (search needs) returns (search needs) put-records-requires
+    (search needs) returns-2)
