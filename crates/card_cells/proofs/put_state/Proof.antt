@@ -9,8 +9,8 @@ use Rattle.phase_seat.specs.Phases.{phaseCells}
 use Rattle.phase_seat.proofs.Back.{phase-size}
 use Rattle.seating.specs.States.{valueCells, markCells}
 use Rattle.seating.proofs.Back.{value-size, mark-size}
-use Rattle.seat.proofs.put_state.Statement.{statement}
-use Rattle.seat.proofs.put_state.Tie as tie
+use Rattle.card_cells.proofs.put_state.Statement.{statement}
+use Rattle.card_cells.proofs.put_state.Tie as tie
 
 put-requires : tie.Need-put-requires
 put-requires c κs =

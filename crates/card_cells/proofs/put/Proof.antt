@@ -9,8 +9,8 @@ use native.Mathlib.Numerals.{add-one}
 use lib.ListN.{length, take, getD}
 use lib.Seq.{sets, length-sets, length-take-le, take-suc, take-all}
 use Rattle.text.proofs.Laws.{sets-on}
-use Rattle.seat.proofs.put.Statement.{statement}
-use Rattle.seat.proofs.put.Tie as tie
+use Rattle.card_cells.proofs.put.Statement.{statement}
+use Rattle.card_cells.proofs.put.Tie as tie
 
 abbrev Inv-loop : tie.InvT-loop
 Inv-loop cells₀ at part i₀ i-end cells i = (i ≤ i-end) × (i-end ≡ length part) × (cells ≡ sets cells₀ at (take i part))
