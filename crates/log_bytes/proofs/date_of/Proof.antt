@@ -1,7 +1,7 @@
 use borrow.Author.Needs.{needs}
 use mathlib.Core.Path.{refl}
-use Rattle.log_lines.proofs.date_of.Statement.{statement}
-use Rattle.log_lines.proofs.date_of.Tie as tie
+use Rattle.log_bytes.proofs.date_of.Statement.{statement}
+use Rattle.log_bytes.proofs.date_of.Tie as tie
 
 returns : tie.Need-returns
 returns c =

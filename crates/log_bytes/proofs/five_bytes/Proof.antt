@@ -1,8 +1,8 @@
 use borrow.Author.Needs.{needs}
 use mathlib.Core.Path.{refl}
-use Rattle.log_lines.specs.LogLines.{octets}
-use Rattle.log_lines.proofs.five_bytes.Statement.{statement}
-use Rattle.log_lines.proofs.five_bytes.Tie as tie
+use Rattle.log_bytes.specs.LogBytes.{octets}
+use Rattle.log_bytes.proofs.five_bytes.Statement.{statement}
+use Rattle.log_bytes.proofs.five_bytes.Tie as tie
 
 returns : tie.Need-returns
 unfolding octets

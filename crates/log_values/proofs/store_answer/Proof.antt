@@ -1,11 +1,11 @@
 -- Three parts, each where its switch is on.
 use borrow.Author.Needs.{needs}
 use native.Mathlib.Omega.{arith}
-use Rattle.lines.proofs.Stores.{next, within}
-use Rattle.log_lines.specs.LogLines.{answerText}
-use Rattle.log_lines.proofs.Octets.{one-octet, two-octets}
-use Rattle.log_lines.proofs.put_answer.Statement.{statement}
-use Rattle.log_lines.proofs.put_answer.Tie as tie
+use Rattle.text.proofs.Stores.{next, within}
+use Rattle.log_values.specs.LogValues.{answerText}
+use Rattle.log_values.proofs.Octets.{one-octet, two-octets}
+use Rattle.log_values.proofs.store_answer.Statement.{statement}
+use Rattle.log_values.proofs.store_answer.Tie as tie
 
 returns : tie.Need-returns
 unfolding answerText
@@ -26,11 +26,11 @@ returns c =
       ← low-byte .low-byte2 .ensures,
       ← cid-byte .low-byte3 .ensures,
     )
-    (within (next (cvr .put-hex-if .ensures) (next (atc .put-hex-if2 .ensures) (cid .put-hex-if3 .ensures)))
+    (within (next (cvr .store-hex-if .ensures) (next (atc .store-hex-if2 .ensures) (cid .store-hex-if3 .ensures)))
     (omega (arith, five .five-bytes .ensures .1)))
 
-pub put-answer-spec : {M : Type 1} → statement M
-put-answer-spec =
+pub store-answer-spec : {M : Type 1} → statement M
+store-answer-spec =
     tie.close
     (tie.spec (search needs) (search needs) (search needs) (search needs) (search needs) (search needs) (search needs) (search needs)
     (search needs) (search needs) (search needs) returns)

@@ -5,12 +5,12 @@ use Prim.Native.Nat.{_+_, _*_, _-_, _≤_}
 use native.Mathlib.Omega.{arith}
 use lib.ListN.{length, take}
 use lib.Seq.{take-length}
-use Rattle.lines.specs.Lines.{hex}
-use Rattle.lines.specs.Stored.{Stored}
-use Rattle.lines.proofs.Stores.{next}
+use Rattle.hex.specs.Hex.{hex}
+use Rattle.text.specs.Stored.{Stored}
+use Rattle.text.proofs.Stores.{next}
 use Rattle.lines.proofs.Hex.{hex-more}
-use Rattle.log_lines.proofs.put_hex.Statement.{statement}
-use Rattle.log_lines.proofs.put_hex.Tie as tie
+use Rattle.log_values.proofs.store_hex.Statement.{statement}
+use Rattle.log_values.proofs.store_hex.Tie as tie
 
 abbrev Inv-loop : tie.InvT-loop
 Inv-loop room₀ at values end₀ i₀ i-end room end i =
@@ -31,7 +31,7 @@ loop-again c =
     let values = at-loop .before .before .before .args .values .now in
     let i = at-loop .loop .i in
     let two : 2 * (i + 1) ≡ 2 * i + 2 = omega arith in
-    let more = next (at-loop .loop .inv .0) (put .put-hex-byte .ensures) in
+    let more = next (at-loop .loop .inv .0) (put .store-hex-byte .ensures) in
     (rw (two, hex-more values i (omega arith)) more, search needs, search needs, search needs)
 
 returns : tie.Need-returns Inv-loop μ-loop
@@ -41,7 +41,7 @@ returns c =
     let all : at-loop .loop .i ≡ length values = omega arith in
     rw (all, take-length values) at (at-loop .loop .inv .0)
 
-pub put-hex-spec : {M : Type 1} → statement M
-put-hex-spec =
+pub store-hex-spec : {M : Type 1} → statement M
+store-hex-spec =
     tie.close
     (tie.spec Inv-loop μ-loop loop-holds (search needs) (search needs) (search needs) (search needs) loop-again (search needs) returns)

@@ -2,7 +2,7 @@
 use mathlib.Core.Path.{_≡_, refl}
 use mathlib.Core.List.{[], _∷_}
 use Prim.Native.Nat.{ℕ, _/_, _%_}
-use Rattle.log_lines.specs.LogLines.{octets}
+use Rattle.log_bytes.specs.LogBytes.{octets}
 
 pub one-octet : (n : ℕ) → octets 1 n ≡ n % 256 ∷ []
 unfolding octets

@@ -1,8 +1,8 @@
 use borrow.Author.Needs.{needs}
 use mathlib.Core.Path.{refl}
 use Rattle.iad.specs.Iad.{pairsOf}
-use Rattle.log_lines.proofs.twelve_digits.Statement.{statement}
-use Rattle.log_lines.proofs.twelve_digits.Tie as tie
+use Rattle.log_bytes.proofs.twelve_digits.Statement.{statement}
+use Rattle.log_bytes.proofs.twelve_digits.Tie as tie
 
 returns : tie.Need-returns
 unfolding pairsOf

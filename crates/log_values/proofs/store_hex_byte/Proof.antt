@@ -1,8 +1,8 @@
 use borrow.Author.Needs.{needs}
 use denote.Ref.{now}
-use Rattle.log_lines.proofs.Stores.{put-in}
-use Rattle.log_lines.proofs.put_hex_byte.Statement.{statement}
-use Rattle.log_lines.proofs.put_hex_byte.Tie as tie
+use Rattle.log_values.proofs.Stores.{put-in}
+use Rattle.log_values.proofs.store_hex_byte.Statement.{statement}
+use Rattle.log_values.proofs.store_hex_byte.Tie as tie
 
 returns : tie.Need-returns
 returns c =
@@ -14,5 +14,5 @@ returns c =
     simp (← lower .lower-digit .ensures, ← upper .upper-digit .ensures)
     (put-in (now (a .room)) _ (a .at) (start .pre) (put .put .ensures .0) (put .put .ensures .1))
 
-pub put-hex-byte-spec : {M : Type 1} → statement M
-put-hex-byte-spec = tie.close (tie.spec (search needs) (search needs) (search needs) (search needs) (search needs) returns)
+pub store-hex-byte-spec : {M : Type 1} → statement M
+store-hex-byte-spec = tie.close (tie.spec (search needs) (search needs) (search needs) (search needs) (search needs) returns)

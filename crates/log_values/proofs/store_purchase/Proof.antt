@@ -1,10 +1,10 @@
 -- Amount, currency, date.
 use borrow.Author.Needs.{needs}
 use native.Mathlib.Omega.{arith}
-use Rattle.lines.proofs.Stores.{next, within}
-use Rattle.log_lines.specs.LogLines.{purchaseText}
-use Rattle.log_lines.proofs.put_purchase.Statement.{statement}
-use Rattle.log_lines.proofs.put_purchase.Tie as tie
+use Rattle.text.proofs.Stores.{next, within}
+use Rattle.log_values.specs.LogValues.{purchaseText}
+use Rattle.log_values.proofs.store_purchase.Statement.{statement}
+use Rattle.log_values.proofs.store_purchase.Tie as tie
 
 returns : tie.Need-returns
 unfolding purchaseText
@@ -24,11 +24,11 @@ returns c =
       ← low-byte .byte-at2 .ensures,
       ← date-bytes .date-of .ensures .0,
     )
-    (within (next (amount .put-hex .ensures) (next (currency .put-hex2 .ensures) (date .put-hex3 .ensures)))
+    (within (next (amount .store-hex .ensures) (next (currency .store-hex2 .ensures) (date .store-hex3 .ensures)))
     (omega (arith, digits .twelve-digits .ensures .1, date-bytes .date-of .ensures .1)))
 
-pub put-purchase-spec : {M : Type 1} → statement M
-put-purchase-spec =
+pub store-purchase-spec : {M : Type 1} → statement M
+store-purchase-spec =
     tie.close
     (tie.spec (search needs) (search needs) (search needs) (search needs) (search needs) (search needs) (search needs) (search needs)
     (search needs) (search needs) (search needs) (search needs) returns)
