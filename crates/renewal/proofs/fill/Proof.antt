@@ -1,8 +1,8 @@
 use native.Mathlib.Omega.{arith}
 use mathlib.Core.Path.{ap, _∙_}
 use Rattle.rooms.specs.Rooms.{columnSet, filled}
-use Rattle.rooms.proofs.fill.Statement.{statement}
-use Rattle.rooms.proofs.fill.Tie as tie
+use Rattle.renewal.proofs.fill.Statement.{statement}
+use Rattle.renewal.proofs.fill.Tie as tie
 
 returns : tie.Need-returns
 unfolding filled

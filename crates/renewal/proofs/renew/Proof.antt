@@ -1,8 +1,8 @@
 use native.Mathlib.Omega.{arith}
 use mathlib.Core.Path.{ap, _∙_}
 use Rattle.rooms.specs.Rooms.{cellSet, columnSet}
-use Rattle.rooms.proofs.renew.Statement.{statement}
-use Rattle.rooms.proofs.renew.Tie as tie
+use Rattle.renewal.proofs.renew.Statement.{statement}
+use Rattle.renewal.proofs.renew.Tie as tie
 
 returns : tie.Need-returns
 unfolding columnSet

@@ -1,8 +1,8 @@
 use native.Mathlib.Omega.{arith}
 use borrow.Author.Needs.{needs}
 use Rattle.rooms.specs.Rooms.{cellSet}
-use Rattle.rooms.proofs.put.Statement.{statement}
-use Rattle.rooms.proofs.put.Tie as tie
+use Rattle.renewal.proofs.put.Statement.{statement}
+use Rattle.renewal.proofs.put.Tie as tie
 
 returns : tie.Need-returns
 unfolding cellSet

@@ -1,8 +1,8 @@
 use native.Mathlib.Omega.{arith}
 use borrow.Author.Tests.{eq-eqb, ne-eqb}
 use Rattle.rooms.specs.Rooms.{columnRenewed}
-use Rattle.rooms.proofs.renew_if_moved.Statement.{statement}
-use Rattle.rooms.proofs.renew_if_moved.Tie as tie
+use Rattle.renewal.proofs.renew_if_moved.Statement.{statement}
+use Rattle.renewal.proofs.renew_if_moved.Tie as tie
 
 returns : tie.Need-returns
 unfolding columnRenewed

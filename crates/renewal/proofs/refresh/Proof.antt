@@ -1,8 +1,8 @@
 use native.Mathlib.Omega.{arith}
 use mathlib.Core.Path.{ap, _∙_}
 use Rattle.rooms.specs.Rooms.{columnRenewed, renewed}
-use Rattle.rooms.proofs.refresh.Statement.{statement}
-use Rattle.rooms.proofs.refresh.Tie as tie
+use Rattle.renewal.proofs.refresh.Statement.{statement}
+use Rattle.renewal.proofs.refresh.Tie as tie
 
 returns : tie.Need-returns
 unfolding renewed
