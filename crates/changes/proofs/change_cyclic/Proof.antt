@@ -1,8 +1,8 @@
 -- The change is told by its name.
 use borrow.Author.Needs.{needs}
 use mathlib.Core.Bool.{and-false}
-use Rattle.meters.proofs.change_cyclic.Statement.{statement}
-use Rattle.meters.proofs.change_cyclic.Tie as tie
+use Rattle.changes.proofs.change_cyclic.Statement.{statement}
+use Rattle.changes.proofs.change_cyclic.Tie as tie
 
 returns : tie.Need-returns
 returns c = simp (c .before .before .change .given .1, c .grow-cyclic .ensures)

@@ -3,9 +3,9 @@ use borrow.Author.Needs.{needs}
 use Prim.Native.Nat.{ℕ}
 use mathlib.Core.Path.{ap, sym}
 use Rattle.money.specs.declared.AccumulatorAmount.{AccumulatorAmount}
 use Rattle.meters.proofs.Ledger.{over-stores-max}
-use Rattle.meters.proofs.grow.Statement.{statement}
-use Rattle.meters.proofs.grow.Tie as tie
+use Rattle.changes.proofs.grow.Statement.{statement}
+use Rattle.changes.proofs.grow.Tie as tie
 
 abbrev amount : ℕ → AccumulatorAmount
 amount n = record { 0 = n }

@@ -1,8 +1,8 @@
 -- What takes no part stays; else the purchase is added where the rule counts it.
 use borrow.Author.Needs.{needs}
 use borrow.Author.Tests.{not-true, not-false}
-use Rattle.meters.proofs.grow_cyclic.Statement.{statement}
-use Rattle.meters.proofs.grow_cyclic.Tie as tie
+use Rattle.changes.proofs.grow_cyclic.Statement.{statement}
+use Rattle.changes.proofs.grow_cyclic.Tie as tie
 
 returns : tie.Need-returns
 returns c =

@@ -7,10 +7,10 @@ use mathlib.Core.Bool.{false, and-false}
 use Rattle.rules.specs.declared.AccumulatorRule.{AccumulatorRule}
 use Rattle.rules.specs.Rules.{rulesOf, accumulatorRule}
 use Rattle.purchase.specs.Meter.{accumulator, ruleOf}
 use Rattle.meters.specs.Meters.{amountMoved}
 use Rattle.meters.proofs.Ledger.{inactive-still}
-use Rattle.meters.proofs.change_amount.Statement.{statement}
-use Rattle.meters.proofs.change_amount.Tie as tie
+use Rattle.changes.proofs.change_amount.Statement.{statement}
+use Rattle.changes.proofs.change_amount.Tie as tie
 
 returns : tie.Need-returns
 returns c =

@@ -10,10 +10,10 @@ use Rattle.money.specs.Money.{max}
 use Rattle.rules.specs.declared.CyclicRule.{CyclicRule}
 use Rattle.rules.specs.Rules.{rulesOf, cyclicRule}
 use Rattle.purchase.specs.Meter.{cyclic, ruleOf}
 use Rattle.meters.specs.Meters.{amountMoved, order}
 use Rattle.meters.proofs.Ledger.{inactive-still, order-puts}
-use Rattle.meters.proofs.put_cyclic.Statement.{statement}
-use Rattle.meters.proofs.put_cyclic.Tie as tie
+use Rattle.changes.proofs.put_cyclic.Statement.{statement}
+use Rattle.changes.proofs.put_cyclic.Tie as tie
 
 abbrev amount : ℕ → AccumulatorAmount
 amount n = record { 0 = n }

@@ -1,8 +1,8 @@
 -- Each value is moved as its leaf says.
 use borrow.Author.Needs.{needs}
 use Rattle.meters.specs.Meters.{applied}
-use Rattle.meters.proofs.apply.Statement.{statement}
-use Rattle.meters.proofs.apply.Tie as tie
+use Rattle.changes.proofs.apply.Statement.{statement}
+use Rattle.changes.proofs.apply.Tie as tie
 
 returns : tie.Need-returns
 unfolding applied
