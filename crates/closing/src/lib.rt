@@ -92,7 +92,7 @@ pub fn order(words: &Words, place: Place, values: Values, purchase: Purchase, up
     if update % 4 == 0 {
         return values;
     }
-    meters::apply(words, place, values, change_ordered(update % 4, purchase))
+    changes::apply(words, place, values, change_ordered(update % 4, purchase))
 }
 
 // The last date after an answer by the issuer, or without its data: in a date error a TC makes the

@@ -66,7 +66,7 @@ fn settle(
     let last = state.last;
     let atc = state.atc;
     let scripts = state.scripts;
-    let values = meters::apply(words, place, values, change);
+    let values = changes::apply(words, place, values, change);
     let iad = cryptogram::send(words, place, values, cvr);
     Outcome {
         state: State {

@@ -26,7 +26,7 @@ pub fn begin(paper: &[u8], words: &mut Words, rooms: &mut Rooms) -> Begun
     if let Event::SetUp = event {
         let state = begun.state;
         let values = state.values;
-        rooms::fill(words, values, rooms);
+        renewal::fill(words, values, rooms);
     }
     begun
 }

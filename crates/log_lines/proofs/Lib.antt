@@ -1,5 +1,4 @@
 pub mod Stores
-pub mod Octets
 pub mod Longest
 pub mod Plain
 pub mod Samples

@@ -17,7 +17,9 @@ use Rattle.ring.specs.declared.Record.{Record}
 use Rattle.log_fields.specs.declared.Form.{Form}
 use Rattle.log_fields.specs.LogFields.{firstData, fieldCount, fieldIn}
 use Rattle.log_fields.proofs.Lengths.{field-short}
-use Rattle.log_lines.specs.LogLines.{octets, dateBytes, purchaseText, ifOn, answerText, fieldTexts, fieldsText, valuesText, logLine, longest}
+use Rattle.log_bytes.specs.LogBytes.{octets, dateBytes}
+use Rattle.log_values.specs.LogValues.{purchaseText, ifOn, answerText}
+use Rattle.log_lines.specs.LogLines.{fieldTexts, fieldsText, valuesText, logLine, longest}
 
 date-size : (first : List ℕ) (dated : Bool) → length (dateBytes first dated) ≡ 3
 date-size first true = refl

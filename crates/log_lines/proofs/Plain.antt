@@ -12,7 +12,8 @@ use Rattle.log_tail.specs.LogTail.{switchesIn}
 use Rattle.ring.specs.declared.Record.{Record}
 use Rattle.log_fields.specs.declared.Form.{Form}
 use Rattle.log_fields.specs.LogFields.{firstData, fieldCount, fieldIn}
-use Rattle.log_lines.specs.LogLines.{purchaseText, answerText, fieldTexts, fieldsText, valuesText, logLine, word}
+use Rattle.log_values.specs.LogValues.{purchaseText, answerText}
+use Rattle.log_lines.specs.LogLines.{fieldTexts, fieldsText, valuesText, logLine, word}
 
 digits-plain : (most n : ℕ) → Plain (digitsOf most n)
 unfolding digitsOf

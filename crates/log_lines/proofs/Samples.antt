@@ -13,7 +13,9 @@ use Rattle.field.specs.Field.{stretchOf, fieldOf}
 use Rattle.ring.specs.declared.Record.{Record}
 use Rattle.log_fields.specs.declared.Form.{Form}
 use Rattle.log_fields.specs.LogFields.{partOf, fieldIn}
-use Rattle.log_lines.specs.LogLines.{octets, purchaseText, answerText, fieldTexts, fieldsText, valuesText, logLine}
+use Rattle.log_bytes.specs.LogBytes.{octets}
+use Rattle.log_values.specs.LogValues.{purchaseText, answerText}
+use Rattle.log_lines.specs.LogLines.{fieldTexts, fieldsText, valuesText, logLine}
 
 -- "log", a number below 10, bytes in hex, and the line feed
 abbrev shown : (k : ℕ) (bytes : List ℕ) → List ℕ

@@ -6,19 +6,8 @@ use native.Mathlib.Omega.{arith}
 use borrow.Author.Tests.{le-leb, lt-leb}
 use lib.ListN.{length}
 use lib.Seq.{length-sets}
-use Rattle.text.specs.Text as text
-use Rattle.text.proofs.Laws.{placed-in}
 use Rattle.lines.specs.Stored.{Stored}
 use Rattle.log_lines.specs.LogLines.{longest, placed, placeBehind}
-
--- a text, where it fits
-pub put-in : (room said : List ℕ) (at : ℕ) {end : ℕ} {after : List ℕ} → at + length said ≤ length room
-    → end ≡ text.placeBehind (length room) at said
-    → after ≡ text.placed room at said → Stored room at said (length said) end after
-put-in room said at fits e p =
-    let there = placed-in room said at fits in
-    let behind = e ∙ there .1 in
-    record { is = p ∙ there .0; behind = behind; short = omega (arith, behind) }
 
 -- the room keeps its length
 pub same-size : {room after said : List ℕ} {at most end : ℕ} → Stored room at said most end after → length after ≡ length room

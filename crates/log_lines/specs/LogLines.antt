@@ -1,40 +1,17 @@
 -- The line of a log record: "log", its number, and in hex and without separators the values of Tables 15-11 and 17-14 in their order.
-use Prim.Native.Nat.{ℕ, zero, suc, _+_, _/_, _%_}
+use Prim.Native.Nat.{ℕ, zero, suc, _+_}
 use mathlib.Core.Bool.{Bool, cond}
 use mathlib.Core.List.{List, [], _∷_, _++_}
-use lib.Dec.{leb, eqb}
+use lib.Dec.{leb}
 use lib.ListN.{length}
 use lib.Seq.{sets}
-use Rattle.wire.specs.Wire.{byte, number}
-use Rattle.iad.specs.Iad.{pairsOf}
 use Rattle.lines.specs.Lines.{hex, line}
 use Rattle.numerals.specs.Numeral.{numeral}
 use Rattle.log_tail.specs.LogTail.{switchesIn}
 use Rattle.ring.specs.declared.Record.{Record}
 use Rattle.log_fields.specs.declared.Form.{Form}
 use Rattle.log_fields.specs.LogFields.{firstData, fieldCount, fieldIn}
-
--- the last bytes of a number, so many
-unfoldable pub octets : (count n : ℕ) → List ℕ
-octets zero n = []
-octets (suc count) n = octets count (n / 256) ++ (n % 256) ∷ []
-
--- OF FIRST'S DATA: the amount (8, behind the type) as 12 digits, the currency (2), the date (3, behind the terminal type), zeros in a paper without
--- dates
-abbrev pub dateBytes : (first : List ℕ) (dated : Bool) → List ℕ
-dateBytes first dated = cond dated (byte first 12 ∷ byte first 13 ∷ byte first 14 ∷ []) (0 ∷ 0 ∷ 0 ∷ [])
-
-unfoldable pub purchaseText : (first : List ℕ) (dated : Bool) → List ℕ
-purchaseText first dated = hex (pairsOf (number first 1 8) 6) ++ (hex (byte first 9 ∷ byte first 10 ∷ []) ++ hex (dateBytes first dated))
-
--- OF THE ANSWER: CVR (5), ATC (2), CID (1), each where its switch is on: 04, 10, 08
-abbrev pub ifOn : (switches switch : ℕ) (bytes : List ℕ) → List ℕ
-ifOn switches switch bytes = cond (eqb (switches / switch % 2) 1) bytes []
-
-unfoldable pub answerText : (switches : ℕ) → Record → List ℕ
-answerText switches kept =
-    hex (ifOn switches 0x04 (octets 5 (kept .cvr)))
-    ++ (hex (ifOn switches 0x10 (octets 2 (kept .atc))) ++ hex (ifOn switches 0x08 (octets 1 (kept .cid))))
+use Rattle.log_values.specs.LogValues.{purchaseText, answerText}
 
 -- OF THE TABLE: its fields, so many of them
 unfoldable pub fieldTexts : (paper tail : List ℕ) → Form → Record → ℕ → List ℕ

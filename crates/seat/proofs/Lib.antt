@@ -1,2 +1,2 @@
--- What the proofs of several functions use, and that a card that is seated is the one read.
+-- What the proofs of several functions use.
 pub mod Laws

@@ -1,10 +1,9 @@
 -- What the three calls return, and what they leave in the lent cells and bytes (request Eleven). A seat of fewer cells than a card takes is refusal 7
 -- before all else. Where a call returns 0 its card is stored; else nothing changes.
 use Prim.Native.Nat.{ℕ}
-use mathlib.Core.Bool.{Bool, cond}
+use mathlib.Core.Bool.{cond}
 use mathlib.Core.List.{List}
-use lib.Dec.{eqb, ltb}
-use lib.ListN.{length}
+use lib.Dec.{eqb}
 use Rattle.refusal.specs.declared.Refusal.the-variants.{RoomTooSmall}
 use Rattle.refusal.specs.Refusal.{refusalNumber}
 use Rattle.rules.specs.Rules.{rulesOf, blankWords}
@@ -18,10 +17,7 @@ use Rattle.keeper.specs.Keeper.{roomsBegun}
 use Rattle.runs.specs.declared.Ran.{Ran}
 use Rattle.runs.specs.declared.Ran.the-variants.{Done, Refused as RunRefused}
 use Rattle.runs.specs.Runs as runs
-use Rattle.seat.specs.Seat.{Card, cardOf, size, storedIn, cardIn}
-
-abbrev pub isShort : (cells : List ℕ) → Bool
-isShort cells = ltb (length cells) size
+use Rattle.card_cells.specs.Seat.{Card, cardOf, isShort, storedIn, cardIn}
 
 abbrev pub seatNumber : (cells : List ℕ) → (other : ℕ) → ℕ
 seatNumber cells other = cond (isShort cells) (refusalNumber RoomTooSmall) other

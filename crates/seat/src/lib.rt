@@ -1,93 +1,23 @@
 // The card for C and for whatever calls C: it sits in cells that the caller lends, behind three
-// functions. The cells hold the words of its rules, its rooms, the shape of its paper and its state,
-// one behind the other; those behind them stay as they are. A seat that is too short is refusal 7
-// before all else. A refusal changes nothing.
+// functions. A seat that is too short is refusal 7 before all else. A refusal changes nothing.
 ghost use mathlib.Core.Path.{_≡_};
-ghost use Prim.Native.Nat.{_+_, _≤_};
 ghost use lib.ListN.{length};
-ghost use lib.Seq.{sets};
-ghost use Rattle.seating.specs.States.{stateCells, StateFits};
-ghost use Rattle.seat.specs.Seat.{size, cardIn, cardOf, storedIn, wordsIn, roomsIn};
+ghost use Rattle.card_cells.specs.Seat.{cardIn};
 ghost use Rattle.seat.specs.Calls.{eventNumber, openNumber, openCells, freshCard, ranNumber, runNumber, runCells, runRoom, cardBehind};
 ghost use Rattle.seat.specs.Calls.{roomNumber, roomLeft};
+use card_cells::SHAPE;
+use card_cells::SIZE;
+use card_cells::VALUES;
+use card_cells::put_card;
+use card_cells::rooms_in;
+use card_cells::words_in;
 use keeper::begin;
 use records::Event;
 use refusal::Refusal;
 use rooms::RoomLeft;
-use rooms::Rooms;
 use rooms::room_left;
-use rules::Words;
-use rules::word;
 use runs::Ran;
 use runs::run;
-use shape::Shape;
-use state::State;
-
-// Where the rooms, the shape and the state's values, phase and marks begin, and how many cells a
-// card takes.
-const ROOMS: usize = word::COUNT;
-
-const SHAPE: usize = ROOMS + 16;
-
-const VALUES: usize = SHAPE + shape_seat::SHAPE;
-
-const PHASE: usize = VALUES + seating::VALUES;
-
-const MARKS: usize = PHASE + phase_seat::PHASE;
-
-const SIZE: usize = MARKS + seating::MARKS;
-
-// A part of the cells.
-fn put(cells: &mut [u64], at: usize, part: &[u64])
-    requires { ⌜ at + length (now part) ≤ length (now cells) ⌝ }
-    ensures { λ _. ⌜ now (cells .exit) ≡ sets (now (cells .entry)) at (now (part .entry)) ⌝ }
-{
-    for i in 0..part.len() {
-        cells[at + i] = part[i];
-    }
-}
-
-fn words_in(seat: &[u64]) -> Words
-    requires { ⌜ size ≤ length (now seat) ⌝ }
-    ensures { λ r. ⌜ r ≡ wordsIn (now (seat .entry)) ⌝ }
-{
-    let mut words = rules::blank();
-    put(&mut words, 0, &seat[0..ROOMS]);
-    words
-}
-
-fn rooms_in(seat: &[u64]) -> Rooms
-    requires { ⌜ size ≤ length (now seat) ⌝ }
-    ensures { λ r. ⌜ r ≡ roomsIn (now (seat .entry)) ⌝ }
-{
-    let mut rooms = rooms::none();
-    put(&mut rooms, 0, &seat[ROOMS..SHAPE]);
-    rooms
-}
-
-// A state into its cells.
-fn put_state(seat: &mut [u64], state: State)
-    requires { ⌜ size ≤ length (now seat) ⌝ }
-    ensures { λ _. ⌜ (now (seat .exit) ≡ sets (now (seat .entry)) 231 (stateCells state)) × StateFits state ⌝ }
-{
-    let values = state.values;
-    let phase = state.phase;
-    put(seat, VALUES, &seating::value_cells(values));
-    put(seat, PHASE, &phase_seat::phase_cells(phase));
-    put(seat, MARKS, &seating::mark_cells(state));
-}
-
-// A card into the first cells, where it is then read.
-fn put_card(seat: &mut [u64], words: &Words, rooms: &Rooms, shape: Shape, state: State)
-    requires { ⌜ size ≤ length (now seat) ⌝ }
-    ensures { λ _. ⌜ (now (seat .exit) ≡ storedIn (now (seat .entry)) (cardOf (now (words .entry)) (now (rooms .entry)) shape state))
-        × (cardIn (now (seat .exit)) ≡ cardOf (now (words .entry)) (now (rooms .entry)) shape state) ⌝ }
-{
-    put(seat, 0, words);
-    put(seat, ROOMS, rooms);
-    put(seat, SHAPE, &shape_seat::shape_cells(shape));
-    put_state(seat, state);
-}
 
 // 0, or the refusal.
 fn event_number(event: Event) -> u8

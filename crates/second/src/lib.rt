@@ -43,7 +43,7 @@ fn unable(words: &Words, state: State, pending: Pending, requested: u8) -> Outco
     let masks = rules::profile_masks(words, place);
     let approves = !((requested == 0) | checks::meets(adr, masks.default));
     let change = Change::offline(approves, purchase);
-    let values = meters::apply(words, place, values, change);
+    let values = changes::apply(words, place, values, change);
     let issuer = Issuer {
         unperformed: true,
         failed: before.failed,

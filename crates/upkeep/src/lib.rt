@@ -31,8 +31,8 @@ pub fn keep(words: &Words, before: Values, taken: Taken, rooms: &mut Rooms)
     let after = state.values;
     let event = taken.event;
     if is_scripted(event) {
-        rooms::fill(words, after, rooms);
+        renewal::fill(words, after, rooms);
     } else {
-        rooms::refresh(words, before, after, rooms);
+        renewal::refresh(words, before, after, rooms);
     }
 }

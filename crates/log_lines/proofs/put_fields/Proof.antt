@@ -8,6 +8,7 @@ use native.Mathlib.Omega.{arith}
 use lib.ListN.{length}
 use Rattle.lines.specs.Stored.{Stored}
 use Rattle.lines.proofs.Stores.{next, within}
+use Rattle.log_values.proofs.Stores.{stored}
 use Rattle.log_fields.specs.LogFields.{fieldCount}
 use Rattle.log_fields.proofs.Lengths.{field-short}
 use Rattle.log_lines.specs.LogLines.{fieldTexts, fieldsText}
@@ -26,15 +27,6 @@ loop-holds : tie.Need-loop-holds Inv-loop μ-loop
 unfolding fieldTexts
 loop-holds c = (record { is = refl; behind = omega arith; short = omega arith }, omega arith, c .field-count .ensures, refl)
 
-put-hex-requires : tie.Need-put-hex-requires Inv-loop μ-loop
-put-hex-requires c κs =
-    let at-loop = c .before .before .before in
-    let known = at-loop .before .before .before in
-    let a = known .before .before .args in
-    let few = field-short (now (a .paper)) (now (a .tail)) (a .form) (a .kept) (at-loop .loop .i) in
-    let size = ap length (c .field-at .ensures .0) in
-    omega (arith, few, size, at-loop .loop .inv .0 .short, at-loop .loop .inv .3, known .before .before .pre)
-
 loop-again : tie.Need-loop-again Inv-loop μ-loop
 unfolding fieldTexts
 loop-again c =
@@ -46,10 +38,12 @@ loop-again c =
     let i = at-loop .loop .i in
     let few = field-short (now (a .paper)) (now (a .tail)) (a .form) (a .kept) i in
     let size = ap length (found .field-at .ensures .0) in
-    let more = next (at-loop .loop .inv .0) (put .put-hex .ensures) in (
+    let inv = at-loop .loop .inv in
+    let there = stored (put .put-hex .ensures) (omega (arith, few, size, inv .0 .short, inv .3, known .before .before .pre)) in
+    let more = next (inv .0) there in (
       rw (add-one, ← found .field-at .ensures .0) (within more (omega (arith, few, size))),
       omega arith,
-      at-loop .loop .inv .2,
+      inv .2,
       search needs,
     )
 
@@ -65,5 +59,5 @@ returns c =
 pub put-fields-spec : {M : Type 1} → statement M
 put-fields-spec =
     tie.close
-    (tie.spec Inv-loop μ-loop (search needs) loop-holds (search needs) put-hex-requires (λ c. omega arith) (λ c. omega arith) loop-again
+    (tie.spec Inv-loop μ-loop (search needs) loop-holds (search needs) (search needs) (λ c. omega arith) (λ c. omega arith) loop-again
     (search needs) returns)

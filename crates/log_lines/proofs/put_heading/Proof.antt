@@ -7,7 +7,8 @@ use lib.ListN.{length-append}
 use Rattle.lines.proofs.Stores.{next}
 use Rattle.numerals.specs.Numeral.{numeral}
 use Rattle.numerals.proofs.Numerals.{size-below, stored}
-use Rattle.log_lines.proofs.Stores.{put-in, same-size, as-long}
+use Rattle.log_values.proofs.Stores.{put-in}
+use Rattle.log_lines.proofs.Stores.{same-size, as-long}
 use Rattle.log_lines.proofs.put_heading.Statement.{statement}
 use Rattle.log_lines.proofs.put_heading.Tie as tie
 

@@ -1,6 +1,9 @@
 use borrow.Author.Needs.{needs}
+use native.Mathlib.Omega.{arith}
 use Rattle.lines.proofs.Stores.{next}
+use Rattle.log_values.proofs.Stores.{stored}
 use Rattle.log_lines.specs.LogLines.{valuesText}
+use Rattle.log_lines.proofs.Stores.{same-size}
 use Rattle.log_lines.proofs.put_values.Statement.{statement}
 use Rattle.log_lines.proofs.put_values.Tie as tie
 
@@ -14,8 +17,11 @@ returns c =
     let to-purchase = switches .before .before .before in
     let purchase = to-purchase .before in
     let first = purchase .before .before in
-    rw (← first .first-data .ensures .0, ← switches .switches .ensures)
-    (next (purchase .put-purchase .ensures) (next (answer .put-answer .ensures) (fields .put-fields .ensures)))
+    let known = first .before .before .before in
+    let pre = known .before .pre in
+    let one = stored (purchase .put-purchase .ensures) (omega (arith, pre)) in
+    let two = stored (answer .put-answer .ensures) (omega (arith, pre, one .short, same-size one)) in
+    rw (← first .first-data .ensures .0, ← switches .switches .ensures) (next one (next two (fields .put-fields .ensures)))
 
 pub put-values-spec : {M : Type 1} → statement M
 put-values-spec = tie.close (tie.spec (search needs) (search needs) (search needs) (search needs) (search needs) (search needs) returns)

@@ -2,7 +2,8 @@ use borrow.Author.Needs.{needs}
 use native.Mathlib.Omega.{arith}
 use Rattle.lines.proofs.Stores.{next}
 use Rattle.log_lines.specs.LogLines.{logLine}
-use Rattle.log_lines.proofs.Stores.{put-in, same-size}
+use Rattle.log_values.proofs.Stores.{put-in}
+use Rattle.log_lines.proofs.Stores.{same-size}
 use Rattle.log_lines.proofs.store_line.Statement.{statement}
 use Rattle.log_lines.proofs.store_line.Tie as tie
 

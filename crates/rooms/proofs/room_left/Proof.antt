@@ -31,10 +31,11 @@ sub-cell c =
     let read = c .before .before .before in
     omega (arith, one-to-four (read .before .before .args .accumulator) (c .if1 .left))
 
-cell-requires : tie.Need-cell-requires
-cell-requires c κs =
-    let read = c .before .before .before in
-    omega (arith, one-to-four (read .before .before .args .accumulator) (c .if1 .left))
+in-cells : tie.Need-element-copy-out-t17
+in-cells c =
+    let tested = c .before in
+    let read = tested .before .before .before in
+    omega (arith, one-to-four (read .before .before .args .accumulator) (tested .if1 .left))
 
 returns-3 : tie.Need-returns-3
 unfolding roomLeft
@@ -46,4 +47,4 @@ returns-3 c =
 pub room-left-spec : {M : Type 1} → statement M
 room-left-spec =
     tie.close
-    (tie.spec (search needs) (search needs) (search needs) returns returns-2 sub-cell cell-requires (λ c. omega arith) (λ c. omega arith) returns-3)
+    (tie.spec (search needs) (search needs) (search needs) returns returns-2 sub-cell (search needs) (λ c. omega arith) in-cells returns-3)

@@ -8,9 +8,10 @@ use Rattle.rules.specs.Rules.{blankWords}
 use Rattle.opening.specs.declared.Begun.{Begun}
 use Rattle.opening.specs.Opening.{wordsBegun}
 use Rattle.keeper.specs.Keeper.{roomsBegun}
-use Rattle.seat.specs.Seat.{storedIn}
+use Rattle.card_cells.specs.Seat.{storedIn}
 use Rattle.seat.specs.Calls.{eventNumber, openNumber, openCells, freshCard}
-use Rattle.seat.proofs.Laws.{same-card, if-long, if-short, stays, changes}
+use Rattle.card_cells.proofs.Laws.{same-card, if-long, if-short}
+use Rattle.seat.proofs.Laws.{stays, changes}
 use Rattle.seat.proofs.comblattice_open.Statement.{statement}
 use Rattle.seat.proofs.comblattice_open.Tie as tie
 
@@ -52,12 +53,14 @@ returns-3 c =
     let is = begun .begin .ensures in
     let blank = made .before .blank .ensures in
     let event = told .event-number .ensures ∙ ap (λ (b : Begun). eventNumber (b .event)) (is .0) in
-    let number = sym (taken .if2 .left) ∙ event ∙ if-long cells (tested .if1 .left) 7 _ in
+    let long = tested .if1 .left in
+    let number = sym (taken .if2 .left) ∙ event ∙ if-long cells long 7 _ in
     let words = is .1 ∙ ap (λ (w : List ℕ). wordsBegun w paper) blank in
     let rooms =
     is .2 ∙ ap (λ (w : List ℕ). roomsBegun w (made .none .result) paper) blank ∙ ap (λ (r : List ℕ). roomsBegun blankWords r paper) (made .none .ensures) in
     let card = same-card words rooms (ap (λ (b : Begun). b .shape) (is .0)) (ap (λ (b : Begun). b .state) (is .0)) in
-    (number, seated .put-card .ensures .0 ∙ ap (storedIn cells) card ∙ changes _ cells number, λ z. seated .put-card .ensures .1 ∙ card)
+    let stored = seated .put-card .ensures .0 ∙ sym (if-long cells long cells _) ∙ ap (storedIn cells) card in
+    (number, stored ∙ changes _ cells number, λ z. seated .put-card .ensures .1 long ∙ card)
 
 pub comblattice-open-spec : {M : Type 1} → statement M
 comblattice-open-spec =

@@ -6,9 +6,9 @@ use Prim.Native.Nat.{ℕ}
 use Rattle.rules.specs.Rules.{rulesOf}
 use Rattle.rooms.specs.declared.RoomLeft.{RoomLeft}
 use Rattle.rooms.specs.Rooms.{roomLeft as storedRoom, roomNumber as storedNumber}
-use Rattle.seat.specs.Seat.{wordsIn, cardIn}
+use Rattle.card_cells.specs.Seat.{wordsIn, cardIn}
 use Rattle.seat.specs.Calls.{leftOr, roomNumber, roomLeft}
-use Rattle.seat.proofs.Laws.{if-long, if-short}
+use Rattle.card_cells.proofs.Laws.{if-long, if-short}
 use Rattle.seat.proofs.comblattice_room.Statement.{statement}
 use Rattle.seat.proofs.comblattice_room.Tie as tie
 
@@ -28,11 +28,12 @@ returns-2 c =
     let tested = words .before in
     let a = tested .before .before .args in
     let cells = now (a .seat) in
+    let long = tested .if1 .left in
     let is =
     sym (c .before .amount .given .1) ∙ asked .room-left .ensures
-    ∙ ap (λ (w : List ℕ). storedRoom (rulesOf w) (rooms .rooms-in .result) (a .profile) (a .accumulator)) (words .words-in .ensures)
-    ∙ ap (λ (r : List ℕ). storedRoom (rulesOf (wordsIn cells)) r (a .profile) (a .accumulator)) (rooms .rooms-in .ensures) in
-    (ap storedNumber is ∙ if-long cells (tested .if1 .left) 7 _, ap (leftOr (now (a .left))) is ∙ if-long cells (tested .if1 .left) _ _)
+    ∙ ap (λ (w : List ℕ). storedRoom (rulesOf w) (rooms .rooms-in .result) (a .profile) (a .accumulator)) (words .words-in .ensures ∙ sym (if-long cells long _ _))
+    ∙ ap (λ (r : List ℕ). storedRoom (rulesOf (wordsIn cells)) r (a .profile) (a .accumulator)) (rooms .rooms-in .ensures ∙ sym (if-long cells long _ _)) in
+    (ap storedNumber is ∙ if-long cells long 7 _, ap (leftOr (now (a .left))) is ∙ if-long cells long _ _)
 
 returns-3 : tie.Need-returns-3
 unfolding roomNumber roomLeft cardIn
@@ -44,11 +45,12 @@ returns-3 c =
     let tested = words .before in
     let a = tested .before .before .args in
     let cells = now (a .seat) in
+    let long = tested .if1 .left in
     let is =
     sym (told .before .refusal .given .1) ∙ asked .room-left .ensures
-    ∙ ap (λ (w : List ℕ). storedRoom (rulesOf w) (rooms .rooms-in .result) (a .profile) (a .accumulator)) (words .words-in .ensures)
-    ∙ ap (λ (r : List ℕ). storedRoom (rulesOf (wordsIn cells)) r (a .profile) (a .accumulator)) (rooms .rooms-in .ensures) in
-    (c .number2 .ensures ∙ ap storedNumber is ∙ if-long cells (tested .if1 .left) 7 _, ap (leftOr (now (a .left))) is ∙ if-long cells (tested .if1 .left) _ _)
+    ∙ ap (λ (w : List ℕ). storedRoom (rulesOf w) (rooms .rooms-in .result) (a .profile) (a .accumulator)) (words .words-in .ensures ∙ sym (if-long cells long _ _))
+    ∙ ap (λ (r : List ℕ). storedRoom (rulesOf (wordsIn cells)) r (a .profile) (a .accumulator)) (rooms .rooms-in .ensures ∙ sym (if-long cells long _ _)) in
+    (c .number2 .ensures ∙ ap storedNumber is ∙ if-long cells long 7 _, ap (leftOr (now (a .left))) is ∙ if-long cells long _ _)
 
 pub comblattice-room-spec : {M : Type 1} → statement M
 comblattice-room-spec =

@@ -10,9 +10,10 @@ use Rattle.shape_seat.specs.Shapes.{shapeIn}
 use Rattle.seating.specs.States.{stateIn}
 use Rattle.runs.specs.declared.RunEnd.{RunEnd}
 use Rattle.runs.specs.Runs as runs
-use Rattle.seat.specs.Seat.{size, storedIn, cardIn}
+use Rattle.card_cells.specs.Seat.{size, storedIn, cardIn}
 use Rattle.seat.specs.Calls.{ranNumber, runCard, runNumber, runCells, runRoom, cardBehind}
-use Rattle.seat.proofs.Laws.{same-card, same-run, same-room, same-ruling, shape-in-cells, from-on, if-long, if-short, stays, changes}
+use Rattle.card_cells.proofs.Laws.{same-card, if-long, if-short}
+use Rattle.seat.proofs.Laws.{same-run, same-room, same-ruling, shape-in-cells, from-on, stays, changes}
 use Rattle.seat.proofs.comblattice_run.Statement.{statement}
 use Rattle.seat.proofs.comblattice_run.Tie as tie
 
@@ -47,8 +48,8 @@ returns-2 c =
     let h = tested .if1 .left in
     let s = shape .shape-in .ensures ∙ ap shapeIn (from-on 214 cells) in
     let t = state .state-in .ensures ∙ ap stateIn (from-on 231 cells) in
-    let w = words .words-in .ensures in
-    let r = rooms .rooms-in .ensures in
+    let w = words .words-in .ensures ∙ sym (if-long cells h _ _) in
+    let r = rooms .rooms-in .ensures ∙ sym (if-long cells h _ _) in
     let records = now (a .records) in
     let room = now (a .room) in
     let ruled = ap (λ (e : RunEnd). ranNumber (e .ran)) (ran .run .ensures .0) ∙ ap ranNumber (same-ruling (now (a .paper)) cells records w r s t (length room)) in
@@ -58,18 +59,6 @@ returns-2 c =
       ran .run .ensures .3 ∙ same-room (now (a .paper)) cells records w r s t room ∙ if-long cells h _ _,
       λ z. absurd (c .if2 .taken z),
     )
-
-put-card-requires : tie.Need-put-card-requires
-put-card-requires c κs =
-    let taken = c .before .before .before in
-    let told = taken .before .before in
-    let ran = told .before .before .before in
-    let lent = ran .before .before .before in
-    let state = lent .before in
-    let shape = state .before .before .before in
-    let rooms = shape .before .before .before in
-    let words = rooms .before .before in
-    words .before .before .if1 .left
 
 returns-3 : tie.Need-returns-3
 unfolding runNumber runCells runRoom cardBehind
@@ -92,8 +81,8 @@ returns-3 c =
     let h = tested .if1 .left in
     let s = shape .shape-in .ensures ∙ ap shapeIn (from-on 214 cells) in
     let t = state .state-in .ensures ∙ ap stateIn (from-on 231 cells) in
-    let w = words .words-in .ensures in
-    let r = rooms .rooms-in .ensures in
+    let w = words .words-in .ensures ∙ sym (if-long cells h _ _) in
+    let r = rooms .rooms-in .ensures ∙ sym (if-long cells h _ _) in
     let records = now (a .records) in
     let room = now (a .room) in
     let n = length room in
@@ -105,14 +94,13 @@ returns-3 c =
     same-card (is .1 ∙ ap (λ (k : runs.Card). k .words) same) (is .2 ∙ ap (λ (k : runs.Card). k .rooms) same) (s ∙ shape-in-cells cells)
     (ap (λ (e : RunEnd). e .state) (is .0) ∙ ap (λ (k : runs.Card). k .state) same) in (
       number,
-      seated .put-card .ensures .0 ∙ ap (storedIn cells) card ∙ changes _ cells number,
+      seated .put-card .ensures .0 ∙ sym (if-long cells h cells _) ∙ ap (storedIn cells) card ∙ changes _ cells number,
       is .3 ∙ same-room paper cells records w r s t room ∙ if-long cells h _ _,
-      λ z. seated .put-card .ensures .1 ∙ card,
+      λ z. seated .put-card .ensures .1 h ∙ card,
     )
 
 pub comblattice-run-spec : {M : Type 1} → statement M
 comblattice-run-spec =
     tie.close
     (tie.spec (search needs) returns (search needs) (search needs) (search needs) (search needs) (search needs) (search needs) (search needs)
-    (search needs) (search needs) (search needs) (search needs) (search needs) (search needs) (search needs) returns-2 put-card-requires
-    (search needs) (search needs) returns-3)
+    (search needs) (search needs) (search needs) (search needs) (search needs) (search needs) (search needs) returns-2 (search needs) (search needs) (search needs) returns-3)

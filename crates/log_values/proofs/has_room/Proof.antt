@@ -1,0 +1,27 @@
+use borrow.Author.Needs.{needs}
+use borrow.Author.Tests.{lt-leb, le-leb}
+use denote.Ref.{now}
+use mathlib.Core.Path.{sym}
+use native.Mathlib.Omega.{arith}
+use Prim.Native.Nat.{_+_}
+use lib.ListN.{length}
+use Rattle.log_values.proofs.has_room.Statement.{statement}
+use Rattle.log_values.proofs.has_room.Tie as tie
+
+returns : tie.Need-returns
+returns c =
+    let a = c .before .args in
+    sym (lt-leb (a .at + a .bytes) (length (now (a .room))) (omega arith))
+
+returns-2 : tie.Need-returns-2
+returns-2 c =
+    let a = c .before .before .args in
+    sym (lt-leb (a .at + a .bytes) (length (now (a .room))) (omega arith))
+
+returns-3 : tie.Need-returns-3
+returns-3 c =
+    let a = c .before .before .args in
+    sym (le-leb (a .at + a .bytes) (length (now (a .room))) (omega arith))
+
+pub has-room-spec : {M : Type 1} → statement M
+has-room-spec = tie.close (tie.spec returns (search needs) returns-2 returns-3)
