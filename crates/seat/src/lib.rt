@@ -18,7 +18,7 @@ use rooms::Rooms;
 use rooms::room_left;
 use rules::Words;
 use rules::word;
-use runs::Ran;
+use run_rule::Ran;
 use runs::run;
 use shape::Shape;
 use state::State;

@@ -18,9 +18,9 @@ use Rattle.paper.specs.Paper.{nextAt}
 use Rattle.paper.specs.Walk.{Met, part, metIn, placeIn}
 use Rattle.paper.proofs.Walk.{inside, Stopped, past-end, rests, walk-on}
 use Rattle.records.specs.Records.{canBeRead}
-use Rattle.runs.specs.declared.Counted.{Counted}
-use Rattle.runs.specs.declared.Counted.the-variants.{Records, Unreadable}
-use Rattle.runs.specs.Runs.{recordsIn, allRead, isRun, countOf}
+use Rattle.run_rule.specs.declared.Counted.{Counted}
+use Rattle.run_rule.specs.declared.Counted.the-variants.{Records, Unreadable}
+use Rattle.run_rule.specs.Ruling.{recordsIn, allRead, isRun, countOf}
 
 -- what stands at a place is no record
 pub stopped : (run : List ℕ) (at : ℕ) (next : Next) → OneOf (1 ∷ 2 ∷ []) (tagOf N.the-type next) → next ≡ nextAt run at → Stopped run at

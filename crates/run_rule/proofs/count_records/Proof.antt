@@ -6,9 +6,9 @@ use native.Mathlib.Omega.{arith}
 use denote.Ref.{now}
 use lib.ListN.{length}
 use Rattle.paper.proofs.Walk.{inside}
-use Rattle.runs.proofs.Walk.{stopped, Counting, from-start, one-more, unread, no-record, all-counted}
-use Rattle.runs.proofs.count_records.Statement.{statement}
-use Rattle.runs.proofs.count_records.Tie as tie
+use Rattle.run_rule.proofs.Walk.{stopped, Counting, from-start, one-more, unread, no-record, all-counted}
+use Rattle.run_rule.proofs.count_records.Statement.{statement}
+use Rattle.run_rule.proofs.count_records.Tie as tie
 
 abbrev Inv-loop : tie.InvT-loop
 Inv-loop shape run at₀ count₀ at count = Counting shape run at count
