@@ -5,7 +5,7 @@ ghost use lib.ListN.{length};
 ghost use lib.Seq.{sets};
 ghost use Rattle.rules.specs.Rules.{rulesOf};
 ghost use Rattle.conversation.specs.Events.{wordsFrom, wordsLeft};
-ghost use Rattle.transcript.specs.Transcript.{lastLine, restOf, transcriptOf, roomFor, hasRoom};
+ghost use Rattle.transcript.specs.Transcript.{lastLine, restOf, transcriptOf, roomFor};
 ghost use Rattle.transcript.specs.Transcript.{transcribed, roomAfter, wordsAfter, EndsIn};
 use log::Log;
 use records::Event;
@@ -14,28 +14,10 @@ use rules::Words;
 use shape::Shape;
 use state::State;
 
-// The most bytes of the last line and of the log behind it.
-const LAST: usize = lines::LONGEST + log_text::LONGEST;
-
 // The lines end at a place of the room, or it is too small and nothing was written.
 pub enum Transcript {
     Whole { end: usize },
     NoRoom,
-}
-
-// Whether from a place on there is room for 8 bytes of each byte of a paper, for one line more and for
-// its log.
-fn has_room(room: usize, at: usize, paper: usize) -> bool
-    ensures { λ r. ⌜ r ≡ hasRoom room at paper ⌝ }
-{
-    if room < at {
-        return false;
-    }
-    let left = room - at;
-    if left < LAST {
-        return false;
-    }
-    paper <= (left - LAST) / 8
 }
 
 // The line of a record that ends the paper.
@@ -122,7 +104,7 @@ pub fn transcribe(paper: &[u8], words: &mut Words, room: &mut [u8], at: usize) -
     ensures { λ r. ⌜ (r ≡ transcribed (now (words .entry)) (now (paper .entry)) (now (room .entry)) at) × (now (room .exit) ≡ roomAfter (now (words .entry)) (now (paper .entry)) (now (room .entry)) at) × (now (words .exit) ≡ wordsAfter (now (words .entry)) (now (paper .entry)) (now (room .entry)) at)
         × EndsIn r (length (now (room .entry))) ⌝ }
 {
-    if !has_room(room.len(), at, paper.len()) {
+    if !paper_room::has_room(room.len(), at, paper.len()) {
         return Transcript::NoRoom;
     }
     Transcript::Whole {

@@ -4,9 +4,9 @@ use Prim.Native.Nat.{ℕ, _+_, _-_, _/_, _≤_, _<_}
 use native.Mathlib.Omega.{arith}
 use borrow.Author.Tests.{leb-true, leb-false, le-leb, lt-leb}
 use lib.Dec.{leb}
-use Rattle.transcript.specs.Transcript.{roomFor, hasRoom}
-use Rattle.transcript.proofs.has_room.Statement.{statement}
-use Rattle.transcript.proofs.has_room.Tie as tie
+use Rattle.paper_room.specs.PaperRoom.{roomFor, hasRoom}
+use Rattle.paper_room.proofs.has_room.Statement.{statement}
+use Rattle.paper_room.proofs.has_room.Tie as tie
 
 none : (room at paper : ℕ) → room < at + roomFor paper → false ≡ hasRoom room at paper
 none room at paper h = sym (lt-leb (at + roomFor paper) room h)

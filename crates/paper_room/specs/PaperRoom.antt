@@ -1,0 +1,12 @@
+-- The room that a paper of so many bytes is asked: 8 bytes for each of its bytes, the longest line and the longest log.
+use mathlib.Core.Bool.{Bool}
+use Prim.Native.Nat.{ℕ, _+_, _*_}
+use lib.Dec.{leb}
+use Rattle.lines.specs.Lines.{longest}
+use Rattle.log_text.specs.LogText.{longest as longestLog}
+
+abbrev pub roomFor : (bytes : ℕ) → ℕ
+roomFor bytes = 8 * bytes + longest + longestLog
+
+abbrev pub hasRoom : (room at bytes : ℕ) → Bool
+hasRoom room at bytes = leb (at + roomFor bytes) room
