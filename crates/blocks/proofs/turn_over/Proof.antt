@@ -1,6 +1,6 @@
 use borrow.Author.Needs.{needs}
-use Rattle.pages.proofs.turn_over.Statement.{statement}
-use Rattle.pages.proofs.turn_over.Tie as tie
+use Rattle.blocks.proofs.turn_over.Statement.{statement}
+use Rattle.blocks.proofs.turn_over.Tie as tie
 
 returns : tie.Need-returns
 returns c = rw (c .before .page .given .1)

@@ -4,10 +4,10 @@ use denote.Ref.{now}
 use mathlib.Core.List.{[]}
 use mathlib.Core.Path.{ap, _∙_}
 use lib.ListN.{length}
-use Rattle.pages.specs.Turn.{tooLong, turnedOver}
-use Rattle.pages.proofs.Told.{text-said}
-use Rattle.pages.proofs.pass.Statement.{statement}
-use Rattle.pages.proofs.pass.Tie as tie
+use Rattle.blocks.specs.Blocks.{tooLong, turnedOver}
+use Rattle.blocks.proofs.Texts.{text-said}
+use Rattle.blocks.proofs.pass.Statement.{statement}
+use Rattle.blocks.proofs.pass.Tie as tie
 
 returns : tie.Need-returns
 returns c = let few = lt-ltb _ _ (c .before .if1 .taken) in (rw few (c .wait .ensures), rw few)

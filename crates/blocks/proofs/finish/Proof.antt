@@ -1,6 +1,6 @@
 use borrow.Author.Needs.{needs}
-use Rattle.pages.proofs.finish.Statement.{statement}
-use Rattle.pages.proofs.finish.Tie as tie
+use Rattle.blocks.proofs.finish.Statement.{statement}
+use Rattle.blocks.proofs.finish.Tie as tie
 
 returns : tie.Need-returns
 returns c =

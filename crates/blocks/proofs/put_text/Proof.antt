@@ -8,9 +8,9 @@ use native.Mathlib.Omega.{arith}
 use native.Mathlib.Numerals.{add-one}
 use lib.ListN.{length, take, getD}
 use lib.Seq.{sets, length-sets, length-take-le, take-suc, take-all}
-use Rattle.transcript.proofs.Going.{sets-on}
-use Rattle.pages.proofs.put_text.Statement.{statement}
-use Rattle.pages.proofs.put_text.Tie as tie
+use Rattle.text.proofs.Laws.{sets-on}
+use Rattle.blocks.proofs.put_text.Statement.{statement}
+use Rattle.blocks.proofs.put_text.Tie as tie
 
 abbrev Inv-loop : tie.InvT-loop
 Inv-loop room₀ at text i₀ i-end room i = (i ≤ i-end) × (i-end ≡ length text) × (room ≡ sets room₀ at (take i text))

@@ -3,9 +3,9 @@ use denote.Ref.{now}
 use mathlib.Core.Path.{ap, _∙_}
 use native.Mathlib.Omega.{arith}
 use Rattle.transcript.specs.declared.Transcript.the-variants.{Whole}
-use Rattle.pages.proofs.Told.{text-placed, text-stays}
-use Rattle.pages.proofs.place_text.Statement.{statement}
-use Rattle.pages.proofs.place_text.Tie as tie
+use Rattle.blocks.proofs.Texts.{text-placed, text-stays}
+use Rattle.blocks.proofs.place_text.Statement.{statement}
+use Rattle.blocks.proofs.place_text.Tie as tie
 
 returns : tie.Need-returns
 returns c = let a = c .before .before .before .args in text-stays (now (a .room)) (now (a .text)) (a .at) (omega arith)
