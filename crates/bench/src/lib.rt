@@ -10,7 +10,7 @@ ghost use Rattle.run_page.specs.RunPage.{pageOf, pageSize};
 ghost use Rattle.bench.specs.Bench.{filler, sizeIn, recordsIn, lent, hasRoom, turnOf, cardTurned, roomTurned, textTurned, turned};
 use rooms::Rooms;
 use rules::Words;
-use runs::Ran;
+use run_rule::Ran;
 use shape::Shape;
 use state::State;
 

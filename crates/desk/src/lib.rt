@@ -2,8 +2,8 @@
 // and `pages`; here it is only read and written.
 ghost use Prim.Native.Nat.{_+_, _≤_};
 ghost use lib.ListN.{length};
-use pages::Turned;
-use pages::Wants;
+use blocks::Turned;
+use blocks::Wants;
 use rules::Words;
 use streams::Ending;
 use streams::Read;
@@ -62,7 +62,7 @@ fn turn(
 
 // The stack has ended with so many bytes at hand.
 fn close(left: usize, skip: usize, room: &mut [u8], to: usize) -> Ending {
-    let Transcript::Whole { end } = pages::finish(left, skip, room, to) else {
+    let Transcript::Whole { end } = blocks::finish(left, skip, room, to) else {
         return Ending::NotWritten;
     };
     if !streams::write_out(room, end) {

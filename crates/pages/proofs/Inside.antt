@@ -9,9 +9,9 @@ use lib.Dec.{ltb, leb}
 use lib.ListN.{length}
 use Rattle.conversation.specs.Events.{wordsLeft}
 use Rattle.transcript.specs.Transcript.{roomFor}
-use Rattle.pages.specs.declared.Turned.{Turned}
-use Rattle.pages.specs.declared.Wants.{Wants}
-use Rattle.pages.specs.declared.Wants.the-variants.{Turn, Input, Room}
+use Rattle.blocks.specs.declared.Turned.{Turned}
+use Rattle.blocks.specs.declared.Wants.{Wants}
+use Rattle.blocks.specs.declared.Wants.the-variants.{Turn, Input, Room}
 use Rattle.pages.specs.Stack.{pageOf, sizeOf, paperOf}
 use Rattle.pages.specs.Turn.{tooLong, longestPaper, Deal, hold, page, passing, opening, dealOf, saidBy}
 

@@ -4,7 +4,6 @@ use mathlib.Core.Bool.{Bool, true, false, cond}
 use mathlib.Core.List.{List, [], _∷_}
 use Prim.Native.Nat.{ℕ, _+_, _-_, _≤_, _<_}
 use native.Mathlib.Omega.{arith}
-use borrow.Author.Tests.{leb-true, le-leb, lt-leb}
 use lib.Dec.{leb, ltb}
 use lib.ListN.{length, set, length-append, length-set}
 use lib.Seq.{sets, length-sets}
@@ -12,9 +11,9 @@ use Rattle.transcript.specs.declared.Transcript.the-variants.{Whole, NoRoom}
 use Rattle.transcript.specs.Transcript.{transcriptOf, roomFor, transcribed, roomAfter, hasRoom}
 use Rattle.transcript.proofs.Going.{sets-on}
 use Rattle.transcript.proofs.Long.{long}
-use Rattle.pages.specs.declared.Wants.the-variants as Wants
+use Rattle.blocks.specs.declared.Wants.the-variants as Wants
 use Rattle.pages.specs.Stack.{pageOf}
-use Rattle.pages.specs.Turn.{placedText, textRoom, pagePut, pageRoom, turnedOver, tooLong, passing, saidBy, roomBy, wordsBy}
+use Rattle.pages.specs.Turn.{pagePut, pageRoom, turnedOver, tooLong, passing, saidBy, roomBy, wordsBy}
 use Rattle.pages.specs.Turn as Turn
 
 by-none : (b : Bool) (end : ℕ) → cond b (Whole end) NoRoom ≡ NoRoom → b ≡ false
@@ -62,25 +61,7 @@ module _ (words paper room : List ℕ) (at : ℕ) where
     by true = simp (length-set) (length-sets room at (transcriptOf words paper))
     by false = simp length-set
 
--- a text that is placed, and one for which there is no room
-pub text-placed : (room text : List ℕ) (to : ℕ) → to + length text ≤ length room
-    → (Whole (to + length text) ≡ placedText (length room) to text) × (sets room to text ≡ textRoom room to text)
-text-placed room text to h = let e = le-leb (to + length text) (length room) h in (rw e, rw e)
-
-pub text-stays : (room text : List ℕ) (to : ℕ) → length room < to + length text
-    → (NoRoom ≡ placedText (length room) to text) × (room ≡ textRoom room to text)
-text-stays room text to h = let e = lt-leb (to + length text) (length room) h in (rw e, rw e)
-
 -- ---- a turn that has a page
-
-pub text-said : (room to skip taken : ℕ) (text words : List ℕ)
-    → turnedOver taken skip to (placedText room to text) ≡ saidBy room to skip (Turn.page taken (length text) text words)
-text-said room to skip taken text words = by (leb (to + length text) room) where
-  by : (b : Bool) → turnedOver taken skip to (cond b (Whole (to + length text)) NoRoom)
-      ≡ cond b (record { taken = taken; skip = 0; end = to + length text; wants = Wants.Turn })
-      (record { taken = 0; skip = skip; end = to; wants = Wants.Room })
-  by true = refl
-  by false = refl
 
 pub page-said : (room to skip taken : ℕ) (words paper words′ : List ℕ)
     → turnedOver taken skip to (pagePut words paper room to)

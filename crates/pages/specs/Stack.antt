@@ -4,27 +4,13 @@ use mathlib.Core.Bool.{cond}
 use mathlib.Core.List.{List, [], _∷_, _++_}
 use Prim.Native.Nat.{ℕ, zero, suc, _+_}
 use lib.Dec.{eqb, ltb}
-use lib.ListN.{length, take, drop}
-use Rattle.wire.specs.Wire.{number}
+use lib.ListN.{length}
 use Rattle.conversation.specs.Events.{wordsLeft}
 use Rattle.transcript.specs.Transcript.{transcriptOf}
+pub use Rattle.blocks.specs.Blocks.{cutShort, sizeOf, paperOf, behind}
 
 abbrev pub pageOf : (words paper : List ℕ) → List ℕ
 pageOf words paper = transcriptOf words paper ++ 10 ∷ []
-
--- "cut short" and a line feed
-abbrev pub cutShort : List ℕ
-cutShort = 99 ∷ 117 ∷ 116 ∷ 32 ∷ 115 ∷ 104 ∷ 111 ∷ 114 ∷ 116 ∷ 10 ∷ []
-
--- the length at the front of a stack, the paper behind it, and what stands behind that
-abbrev pub sizeOf : (stack : List ℕ) → ℕ
-sizeOf stack = number stack 0 4
-
-abbrev pub paperOf : (stack : List ℕ) → List ℕ
-paperOf stack = take (sizeOf stack) (drop 4 stack)
-
-abbrev pub behind : (stack : List ℕ) → List ℕ
-behind stack = drop (4 + sizeOf stack) stack
 
 -- the pages of n papers; a paper's rules are read into the words that the one before it left
 unfoldable pub pagesIn : ℕ → (words stack : List ℕ) → List ℕ

@@ -41,7 +41,7 @@ use Rattle.script.specs.Script.{rulesAfter}
 use Rattle.lines.specs.Sitting.{answerLine, linesOf}
 use Rattle.demands.specs.Conversation.{Exchange, outcomeOf, told}
 use Rattle.runs.specs.Runs.{allRead, Card, cardBehind}
-use Rattle.runs.proofs.Walk.{metFrom, isRunFrom, body-length, first}
+use Rattle.run_rule.proofs.Walk.{metFrom, isRunFrom, body-length, first}
 use Rattle.runs.proofs.Going.{elsewhere}
 use Rattle.run_laws.specs.Singly.{sentBy, messagesOf}
 use Rattle.run_laws.specs.Behind.{leftFrom, ReadFrom, answerLines}

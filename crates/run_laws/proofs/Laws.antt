@@ -34,8 +34,9 @@ use Rattle.records.specs.Records.{recordTaken, canBeRead}
 use Rattle.records.proofs.Readable.{IsAnswered, Answers, answered-or-not}
 use Rattle.answers.specs.Answers.{size, answerBytes}
 use Rattle.answers.proofs.Laws.{answer-size}
-use Rattle.runs.specs.declared.Ran.{Ran}
-use Rattle.runs.specs.declared.Ran.the-variants.{Done, Refused}
+use Rattle.run_rule.specs.declared.Ran.{Ran}
+use Rattle.run_rule.specs.declared.Ran.the-variants.{Done, Refused}
+use Rattle.run_rule.proofs.Rulings.{done-is}
 use Rattle.runs.specs.Runs.{recordsIn, stopIn, allRead, isRun, Card, answeredIn, takenBy, cardBehind, cardAfter, answersTo, ruledRun, unless, cardRun, roomRun, endOf}
 use Rattle.run_laws.specs.Singly.{spelled}
 use Rattle.run_laws.proofs.Appended as Appended
@@ -368,17 +369,6 @@ module _ (shape : Shape) (paper : List ℕ) where
 
     -- ---- what stays
 
-    pub done-is : (room n : ℕ) → ruledRun shape run room ≡ Done n
-        → (isRun shape run ≡ true) × (size * length (recordsIn run) ≤ room) × (length (recordsIn run) ≡ n)
-    unfolding ruledRun
-    done-is room n = by (isRun shape run) (ltb room (size * length (recordsIn run))) refl refl where
-      by : (b short : Bool) → isRun shape run ≡ b → ltb room (size * length (recordsIn run)) ≡ short
-          → cond b (cond short (Refused NoRoomForAnswers) (Done (length (recordsIn run)))) (Refused Unreadable) ≡ Done n
-          → (isRun shape run ≡ true) × (size * length (recordsIn run) ≤ room) × (length (recordsIn run) ≡ n)
-      by true false i l e = (i, ltb-false room (size * length (recordsIn run)) l, cc)
-      by true true i l e = absurd (let z : _≡_ {A = ℕ} 0 1 = cc in omega arith)
-      by false short i l e = absurd (let z : _≡_ {A = ℕ} 0 1 = cc in omega arith)
-
     module _ (card : Card) (room : List ℕ) where
       -- for a refusal the card and every byte of the room
       pub untouched : (refusal : Refusal) → ruledRun shape run (length room) ≡ Refused refusal
@@ -389,7 +379,7 @@ module _ (shape : Shape) (paper : List ℕ) where
       -- behind the answers the room, whatever they are
       pub beyond : (n : ℕ) → ruledRun shape run (length room) ≡ Done n → drop (36 * n) (roomRun shape paper card run room) ≡ drop (36 * n) room
       beyond n e =
-          let is = done-is (length room) n e in
+          let is = done-is shape run (length room) n e in
           let answers = answersTo shape paper card (recordsIn run) in
           let long = answers-size card (recordsIn run) (parts run (is .0) .1) in
           let to : 36 * n ≡ length answers = omega (arith, is .2, long) in

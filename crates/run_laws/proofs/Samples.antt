@@ -18,8 +18,8 @@ use Rattle.card.specs.Card.{freshState, stepOf, startStep, secondStep}
 use Rattle.records.specs.Records.{answeredBy, scriptedBy, bodyWrites}
 use Rattle.keeper.specs.Keeper.{roomsAfter, roomsRecorded}
 use Rattle.answers.specs.Answers.{answerBytes}
-use Rattle.runs.specs.declared.Ran.{Ran}
-use Rattle.runs.specs.declared.Ran.the-variants.{Done, Refused}
+use Rattle.run_rule.specs.declared.Ran.{Ran}
+use Rattle.run_rule.specs.declared.Ran.the-variants.{Done, Refused}
 use Rattle.runs.specs.Runs.{allRead, isRun, Card, cardBehind, cardAfter, answersTo, ruledRun, cardRun, roomRun}
 use Rattle.spelling.specs.Printed.{printed, body}
 

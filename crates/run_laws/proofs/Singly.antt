@@ -28,10 +28,11 @@ use Rattle.keeper.specs.Keeper.{roomsAfter, roomsRecorded}
 use Rattle.answers.specs.Answers.{size}
 use Rattle.demands.specs.Conversation.{Exchange, Sitting, outcomeOf, told, run as converse}
 use Rattle.room_laws.specs.Kept.{roomsTold, roomsOver}
-use Rattle.runs.specs.declared.Ran.the-variants.{Done}
+use Rattle.run_rule.specs.declared.Ran.the-variants.{Done}
+use Rattle.run_rule.proofs.Rulings.{done-is}
 use Rattle.runs.specs.Runs.{recordsIn, allRead, Card, answeredIn, takenBy, writesOf, cardBehind, cardAfter, answersTo, ruledRun, cardRun, roomRun}
 use Rattle.run_laws.specs.Singly.{spelled, answersOver, commandSent, scriptSent, sentBy, messagesOf, seated}
-use Rattle.run_laws.proofs.Laws.{both, spelled-is, answers-size, parts, placed, after, done-is}
+use Rattle.run_laws.proofs.Laws.{both, spelled-is, answers-size, parts, placed, after}
 
 -- ---- a record and its message
 
@@ -131,7 +132,7 @@ module _ (shape : Shape) (paper : List ℕ) where
       (left .state ≡ then .state) × (left .rules ≡ then .rules) × (left .rooms ≡ roomsOver (seated card) messages (card .rooms))
       × (take (36 * n) (roomRun shape paper card records room) ≡ answersOver (seated card) messages)
   as-singly card records room n done =
-      let is = done-is shape paper records (length room) n done in
+      let is = done-is shape records (length room) n done in
       let read = parts shape paper records (is .0) .1 in
       let singly = all (recordsIn records) card [] read in
       let left = after shape paper card records (length room) (is .0) (is .1) in

@@ -7,7 +7,7 @@ use borrow.Author.Tests.{le-leb, lt-leb}
 use lib.ListN.{length}
 use lib.Seq.{sets}
 use Rattle.text.specs.Stored.{Stored}
-use Rattle.runs.specs.declared.Ran.{Ran}
+use Rattle.run_rule.specs.declared.Ran.{Ran}
 use Rattle.run_page.specs.RunPage.{ranLine, hexLines, pageOf, pageSize, pageText, pageEnd}
 
 module _ (text : List ℕ) (ran : Ran) (room : List ℕ) where

@@ -9,8 +9,8 @@ use Rattle.refusal.specs.Refusal.{refusalNumber}
 use Rattle.hex.specs.Hex.{hexByte}
 use Rattle.lines.specs.Lines.{line}
 use Rattle.numerals.specs.Numeral.{numeral}
-use Rattle.runs.specs.declared.Ran.{Ran}
-use Rattle.runs.specs.declared.Ran.the-variants.{Done, Refused}
+use Rattle.run_rule.specs.declared.Ran.{Ran}
+use Rattle.run_rule.specs.declared.Ran.the-variants.{Done, Refused}
 
 -- "run", the refusal, and the number of answers, which is 0 where it is refused
 abbrev pub refusalIn : Ran → ℕ

@@ -8,7 +8,7 @@ ghost use Rattle.hex.specs.Hex.{hexByte};
 ghost use Rattle.text.specs.Stored.{Stored};
 ghost use Rattle.run_page.specs.RunPage.{refusalIn, answersIn, ranLine, feed, hexLines, pageEnd, pageText};
 use refusal::Refusal;
-use runs::Ran;
+use run_rule::Ran;
 
 // The most bytes of what became of a run.
 const LONGEST_HEAD: usize = 46;

@@ -35,7 +35,7 @@ use Rattle.keeper.specs.Keeper.{roomsAfter, roomsRecorded}
 use Rattle.answers.specs.Answers.{size, answerBytes, placed}
 use Rattle.answers.proofs.Laws.{answer-size}
 use Rattle.runs.specs.Runs.{recordsIn, allRead, isRun, Card, cardOf, answeredIn, takenBy, writesOf, cardBehind, cardAfter, answersTo}
-use Rattle.runs.proofs.Walk.{metFrom, isRunFrom, body-length, first}
+use Rattle.run_rule.proofs.Walk.{metFrom, isRunFrom, body-length, first}
 
 -- ---- a record, wherever it ends
 

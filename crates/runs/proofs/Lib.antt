@@ -1,3 +1,1 @@
-pub mod Walk
 pub mod Going
-pub mod Rulings

@@ -1,46 +1,25 @@
--- A run (document 02, Eleven): the bytes of zero or more records as they stand in a paper.
-use Prim.Native.Nat.{ℕ, _*_}
-use mathlib.Core.Bool.{Bool, true, cond, _&&_}
+-- A run carried out (document 02, Eleven): the card behind its records, and their answers in the lent room.
+use Prim.Native.Nat.{ℕ}
 use mathlib.Core.List.{List, [], _∷_, _++_}
-use lib.Dec.{leb, ltb}
 use lib.ListN.{length}
 use lib.Seq.{sets}
-use Rattle.refusal.specs.declared.Refusal.the-variants.{Unreadable, NoRoomForAnswers}
 use Rattle.rules.specs.Rules.{Rules, rulesOf}
 use Rattle.shape.specs.declared.Shape.{Shape}
-use Rattle.paper.specs.Walk.{Met, metIn, placeIn}
+use Rattle.paper.specs.Walk.{Met}
 use Rattle.script.specs.Script.{rulesAfter, wordsAfter}
 use Rattle.element.specs.declared.Write.{Write}
 use Rattle.state.specs.declared.State.{State}
 use Rattle.records.specs.declared.Event.{Event}
 use Rattle.records.specs.declared.Event.the-variants.{SetUp, End, Refused as EventRefused, Answered}
 use Rattle.records.specs.declared.Taken.{Taken}
-use Rattle.records.specs.Records.{recordTaken, recordWrites, canBeRead}
+use Rattle.records.specs.Records.{recordTaken, recordWrites}
 use Rattle.keeper.specs.Keeper.{roomsRecorded}
-use Rattle.answers.specs.Answers.{size, answerBytes}
-use Rattle.runs.specs.declared.Counted.{Counted}
-use Rattle.runs.specs.declared.Counted.the-variants.{Records, Unreadable as NotCounted}
-use Rattle.runs.specs.declared.Ran.{Ran}
-use Rattle.runs.specs.declared.Ran.the-variants.{Done, Refused}
+use Rattle.answers.specs.Answers.{answerBytes}
+use Rattle.run_rule.specs.declared.Ran.{Ran}
+use Rattle.run_rule.specs.declared.Ran.the-variants.{Done, Refused}
+pub use Rattle.run_rule.specs.Ruling.{recordsIn, stopIn}
+unfoldable pub use Rattle.run_rule.specs.Ruling.{allRead, isRun, ruledRun}
 use Rattle.runs.specs.declared.RunEnd.{RunEnd}
-
--- its records, and where the walk over them stops: at its end, a length 0 or a record cut short
-abbrev pub recordsIn : (run : List ℕ) → List Met
-recordsIn run = metIn (length run) run 0
-
-abbrev pub stopIn : (run : List ℕ) → ℕ
-stopIn run = placeIn (length run) run 0
-
-unfoldable pub allRead : Shape → List Met → Bool
-allRead shape [] = true
-allRead shape (met ∷ more) = canBeRead shape (met .kind) (length (met .body)) && allRead shape more
-
--- all of it is records, and each of them can be read
-unfoldable pub isRun : Shape → (run : List ℕ) → Bool
-isRun shape run = leb (length run) (stopIn run) && allRead shape (recordsIn run)
-
-unfoldable pub countOf : Shape → (run : List ℕ) → Counted
-countOf shape run = cond (isRun shape run) (Records (length (recordsIn run))) NotCounted
 
 -- THE CARD: its rules and the words that they lie in, the room left, its state
 pub record Card : Type 0 where
@@ -84,13 +63,6 @@ module _ (shape : Shape) (paper : List ℕ) where
   unfoldable pub answersTo : Card → List Met → List ℕ
   answersTo card [] = []
   answersTo card (met ∷ more) = answeredIn (takenBy card met .event) ++ answersTo (cardBehind card met) more
-
--- THE RULING: refusal 9 for what is no run, then 17 for room of so many bytes that is too small for all answers
-unfoldable pub ruledRun : Shape → (run : List ℕ) (room : ℕ) → Ran
-ruledRun shape run room =
-    cond (isRun shape run)
-    (cond (ltb room (size * length (recordsIn run))) (Refused NoRoomForAnswers) (Done (length (recordsIn run))))
-    (Refused Unreadable)
 
 -- a run is carried out, or for a refusal nothing is
 abbrev pub unless : {A : Type 0} → Ran → (refused done : A) → A

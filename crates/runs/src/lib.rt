@@ -7,51 +7,19 @@ ghost use lib.ListN.{length};
 ghost use lib.Seq.{sets};
 ghost use Rattle.rules.specs.Rules.{rulesOf};
 ghost use Rattle.answers.specs.Answers.{size};
-ghost use Rattle.runs.specs.Runs.{recordsIn, isRun, countOf, cardOf, cardAfter, answersTo, cardRun, roomRun, endOf};
+ghost use Rattle.runs.specs.Runs.{recordsIn, isRun, cardOf, cardAfter, answersTo, cardRun, roomRun, endOf};
 use paper::Next;
 use records::Event;
-use refusal::Refusal;
 use rooms::Rooms;
 use rules::Words;
+use run_rule::Ran;
 use shape::Shape;
 use state::State;
-
-pub enum Ran {
-    // So many records were answered.
-    Done { answers: usize },
-    // Nothing was run.
-    Refused(Refusal),
-}
 
 // The card after a run, and what became of it.
 pub struct RunEnd {
     pub state: State,
     pub ran: Ran,
-}
-
-// How many records a run has.
-enum Counted {
-    Records(usize),
-    Unreadable,
-}
-
-// The records of a run are counted, where each of them can be read.
-fn count_records(shape: Shape, records: &[u8]) -> Counted
-    ensures { λ r. ⌜ r ≡ countOf shape (now (records .entry)) ⌝ }
-{
-    let mut at = 0;
-    let mut count = 0;
-    while at < records.len() {
-        let Next::Record { kind, start, end } = paper::record_at(records, at) else {
-            return Counted::Unreadable;
-        };
-        if !records::can_be_read(shape, kind, end - start) {
-            return Counted::Unreadable;
-        }
-        at = end;
-        count += 1;
-    }
-    Counted::Records(count)
 }
 
 // Each record is answered on the card as it then stands, and its answer stored behind those before it.
@@ -100,9 +68,8 @@ fn answer_records(
     state
 }
 
-// A run on the card as it stands. The paper is the one that the set-up came in: only the file in it is
-// read. Refusal 9 for a run that is not made of records that can be read, then 17 for room that is too
-// small for all answers; for either nothing is run.
+// A run on the card as it stands, where it is not refused; else nothing is run. The paper is the one
+// that the set-up came in: only the file in it is read.
 pub fn run(
     words: &mut Words,
     rooms: &mut Rooms,
@@ -118,20 +85,12 @@ pub fn run(
         × (now (room .exit) ≡ roomRun shape (now (paper .entry)) (cardOf (now (words .entry)) (now (rooms .entry)) state) (now (records .entry)) (now (room .entry)))
         × (rulesOf (now (words .exit)) ≡ cardRun shape (now (paper .entry)) (cardOf (now (words .entry)) (now (rooms .entry)) state) (now (records .entry)) (length (now (room .entry))) .rules) ⌝ }
 {
-    let Counted::Records(count) = count_records(shape, records) else {
-        return RunEnd {
-            state,
-            ran: Ran::Refused(Refusal::Unreadable),
-        };
-    };
-    if room.len() / answers::SIZE < count {
-        return RunEnd {
-            state,
-            ran: Ran::Refused(Refusal::NoRoomForAnswers),
-        };
-    }
-    RunEnd {
-        state: answer_records(words, rooms, shape, paper, state, records, room),
-        ran: Ran::Done { answers: count },
+    let ran = run_rule::rule(shape, records, room.len());
+    match ran {
+        Ran::Refused(_) => RunEnd { state, ran },
+        Ran::Done { .. } => RunEnd {
+            state: answer_records(words, rooms, shape, paper, state, records, room),
+            ran,
+        },
     }
 }

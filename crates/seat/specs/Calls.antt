@@ -14,8 +14,8 @@ use Rattle.records.specs.declared.Event.{Event}
 use Rattle.records.specs.declared.Event.the-variants.{SetUp, End, Refused, Answered}
 use Rattle.opening.specs.Opening.{begunOf, wordsBegun}
 use Rattle.keeper.specs.Keeper.{roomsBegun}
-use Rattle.runs.specs.declared.Ran.{Ran}
-use Rattle.runs.specs.declared.Ran.the-variants.{Done, Refused as RunRefused}
+use Rattle.run_rule.specs.declared.Ran.{Ran}
+use Rattle.run_rule.specs.declared.Ran.the-variants.{Done, Refused as RunRefused}
 use Rattle.runs.specs.Runs as runs
 use Rattle.card_cells.specs.Seat.{Card, cardOf, isShort, storedIn, cardIn}
 

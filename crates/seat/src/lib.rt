@@ -16,7 +16,7 @@ use records::Event;
 use refusal::Refusal;
 use rooms::RoomLeft;
 use rooms::room_left;
-use runs::Ran;
+use run_rule::Ran;
 use runs::run;
 
 // 0, or the refusal.

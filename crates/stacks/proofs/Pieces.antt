@@ -10,7 +10,7 @@ use lib.ListN.{length, drop, length-append, length-drop}
 use lib.Seq.{drop-length, take-append-le, drop-append-le, drop-append-add}
 use Rattle.conversation.specs.Events.{wordsLeft}
 use Rattle.transcript.specs.Transcript.{joined, roomFor}
-use Rattle.pages.specs.declared.Wants.the-variants.{Turn, Input, Room}
+use Rattle.blocks.specs.declared.Wants.the-variants.{Turn, Input, Room}
 use Rattle.pages.specs.Stack.{pageOf, sizeOf, paperOf, stackOf}
 use Rattle.pages.specs.Turn.{tooLong, longestPaper, owed, Deal, hold, page, passing, opening, dealOf, lastText}
 use Rattle.stacks.specs.Pieces.{dealt, toldIn, toldOf}

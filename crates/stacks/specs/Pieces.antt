@@ -3,7 +3,7 @@ use mathlib.Core.List.{List, [], _∷_, _++_}
 use Prim.Native.Nat.{ℕ, zero, suc, _+_}
 use lib.ListN.{length, drop}
 use Rattle.transcript.specs.Transcript.{joined}
-use Rattle.pages.specs.declared.Wants.the-variants.{Turn, Input, Room}
+use Rattle.blocks.specs.declared.Wants.the-variants.{Turn, Input, Room}
 use Rattle.pages.specs.Turn.{Deal, hold, page, dealOf, lastText}
 
 -- what a turn prints, and what is told behind it

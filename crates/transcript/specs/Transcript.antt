@@ -1,8 +1,7 @@
 -- The lines of a whole paper as one text, and the room that it is written into (document 01, "A sitting in full").
-use mathlib.Core.Bool.{Bool, cond}
+use mathlib.Core.Bool.{cond}
 use mathlib.Core.List.{List, []}
-use Prim.Native.Nat.{ℕ, _+_, _*_}
-use lib.Dec.{leb}
+use Prim.Native.Nat.{ℕ, _+_}
 use lib.ListN.{length}
 use lib.Seq.{sets}
 unfoldable pub use Rattle.text.specs.Text.{joined}
@@ -13,8 +12,9 @@ use Rattle.state.specs.declared.State.{State}
 use Rattle.records.specs.declared.Event.{Event}
 use Rattle.records.specs.declared.Event.the-variants.{SetUp, End, Refused, Answered}
 use Rattle.conversation.specs.Events.{eventsFrom, wordsLeft}
-use Rattle.lines.specs.Lines.{refusalLine, longest}
+use Rattle.lines.specs.Lines.{refusalLine}
 use Rattle.lines.specs.Sitting.{linesOf, sittingLines}
+pub use Rattle.paper_room.specs.PaperRoom.{roomFor, hasRoom}
 use Rattle.transcript.specs.declared.Transcript.{Transcript}
 use Rattle.transcript.specs.declared.Transcript.the-variants.{Whole, NoRoom}
 
@@ -32,13 +32,6 @@ lastLine record-number (Refused refusal) = refusalLine record-number (refusalNum
 lastLine record-number SetUp = []
 lastLine record-number End = []
 lastLine record-number (Answered said answer) = []
-
--- the room that a paper of so many bytes is asked: 8 bytes for each of its bytes, and the longest line
-abbrev pub roomFor : (bytes : ℕ) → ℕ
-roomFor bytes = 8 * bytes + longest
-
-abbrev pub hasRoom : (room at bytes : ℕ) → Bool
-hasRoom room at bytes = leb (at + roomFor bytes) room
 
 -- where the text ends, or that there is no room
 unfoldable pub transcribed : (words paper room : List ℕ) (at : ℕ) → Transcript

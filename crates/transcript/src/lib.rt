@@ -5,7 +5,7 @@ ghost use lib.ListN.{length};
 ghost use lib.Seq.{sets};
 ghost use Rattle.rules.specs.Rules.{rulesOf};
 ghost use Rattle.conversation.specs.Events.{wordsFrom, wordsLeft};
-ghost use Rattle.transcript.specs.Transcript.{lastLine, restOf, transcriptOf, roomFor, hasRoom, transcribed, roomAfter, wordsAfter};
+ghost use Rattle.transcript.specs.Transcript.{lastLine, restOf, transcriptOf, roomFor, transcribed, roomAfter, wordsAfter};
 use records::Event;
 use rules::Words;
 use shape::Shape;
@@ -15,20 +15,6 @@ use state::State;
 pub enum Transcript {
     Whole { end: usize },
     NoRoom,
-}
-
-// Whether from a place on there is room for 8 bytes of each byte of a paper and for one line more.
-fn has_room(room: usize, at: usize, paper: usize) -> bool
-    ensures { λ r. ⌜ r ≡ hasRoom room at paper ⌝ }
-{
-    if room < at {
-        return false;
-    }
-    let left = room - at;
-    if left < lines::LONGEST {
-        return false;
-    }
-    paper <= (left - lines::LONGEST) / 8
 }
 
 // The line of a record that ends the paper.
@@ -95,7 +81,7 @@ fn put_paper(paper: &[u8], words: &mut Words, room: &mut [u8], at: usize) -> usi
 pub fn transcribe(paper: &[u8], words: &mut Words, room: &mut [u8], at: usize) -> Transcript
     ensures { λ r. ⌜ (r ≡ transcribed (now (words .entry)) (now (paper .entry)) (now (room .entry)) at) × (now (room .exit) ≡ roomAfter (now (words .entry)) (now (paper .entry)) (now (room .entry)) at) × (now (words .exit) ≡ wordsAfter (now (words .entry)) (now (paper .entry)) (now (room .entry)) at) ⌝ }
 {
-    if !has_room(room.len(), at, paper.len()) {
+    if !paper_room::has_room(room.len(), at, paper.len()) {
         return Transcript::NoRoom;
     }
     Transcript::Whole {

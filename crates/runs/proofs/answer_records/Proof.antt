@@ -6,7 +6,7 @@ use lib.ListN.{length}
 use Rattle.paper.proofs.Walk.{inside, walk-on}
 use Rattle.opening.proofs.Parts.{record-inside}
 use Rattle.runs.specs.Runs.{Card, cardOf}
-use Rattle.runs.proofs.Walk.{stopped}
+use Rattle.run_rule.proofs.Walk.{stopped}
 use Rattle.runs.proofs.Going.{Going, begin, is-answered, not-answered, go-on, never, over}
 use Rattle.runs.proofs.answer_records.Statement.{statement}
 use Rattle.runs.proofs.answer_records.Tie as tie
