@@ -5,10 +5,11 @@ use Prim.Native.Nat.{ℕ, _+_, _*_}
 use lib.Dec.{T, eqb, leb}
 use lib.ListN.{getD}
 use Rattle.purchase.specs.Meter.{accumulator}
-use Rattle.rooms.specs.Rooms.{noRooms, leftIn, cellSet, columnSet, columnRenewed, filled, renewed}
+use Rattle.rooms.specs.Rooms.{noRooms, leftIn, cellSet, columnSet, columnRenewed, filled, renewed, roomLeft, roomNumber}
 use Rattle.keeper.specs.Keeper.{roomsAfter}
 use Rattle.card.specs.Message.{Message}
 use Rattle.demands.specs.Setup.{Setup}
+use Rattle.demands.specs.Conversation.{rulesBy}
 use Rattle.demands.specs.Audit.{inForce, upperOf, audited}
 use Rattle.demands.proofs.Computed.{computed}
 use Rattle.demands.proofs.Sittings.{counting, limiting, answered, approvals, limits, resets, first, value, limit, script}
@@ -40,9 +41,12 @@ pub record Samples : Type 0 where
   pub limit-written : T (keeps counting (script (limit 1 0 0 0 0x99 ∷ []) ∷ []) 1 0)
   pub limit-below : T (keeps counting (answered 1 ++ script (limit 1 0 0 0 0 ∷ []) ∷ []) 0 0)
   pub value-written : T (keeps counting (script (value 1 0 0x99 ∷ []) ∷ []) 0 0)
+  -- `room-unknown`: asked for accumulator 0 of a profile that the set-up lacks, it is 3 and not 6
+  pub unknown-first : T (eqb (roomNumber (roomLeft (rulesBy counting) noRooms 9 0)) 3)
 
 pub samples : Samples
 unfolding counting limiting answered approvals limits resets keeps computed roomsOver roomsAfter filled renewed columnSet columnRenewed cellSet leftIn
+    roomLeft
 samples =
     record {
       set-up = tt;
@@ -55,4 +59,5 @@ samples =
       limit-written = tt;
       limit-below = tt;
       value-written = tt;
+      unknown-first = tt;
     }
