@@ -55,9 +55,9 @@ formOf shape paper = record { profiles = byte paper 7; dated = isDated (shape .d
 
 -- THE LOG of a paper of a shape, by the rules that its set-up gives
 abbrev pub tailed : Rules → Shape → (paper : List ℕ) → LogTail → Log
-tailed rules shape paper Off = record { on = false; logging = noLogging; form = formOf shape paper; start = 0; end = 0 }
+tailed rules shape paper Off = record { logging = noLogging; form = formOf shape paper; start = 0; end = 0 }
 tailed rules shape paper (On start end) =
-    record { on = true; logging = loggingIn rules (tailAt paper start end); form = formOf shape paper; start = start; end = end }
+    record { logging = loggingIn rules (tailAt paper start end); form = formOf shape paper; start = start; end = end }
 
 unfoldable pub logOf : Rules → Shape → (paper : List ℕ) → Log
 logOf rules shape paper = tailed rules shape paper (shape .logging)

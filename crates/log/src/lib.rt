@@ -20,9 +20,9 @@ const SECOND: u8 = 4;
 // The response code, behind the length, the kind and the type.
 const CODE: usize = 4;
 
-// Whether there is a log, what goes in, what its lines must know of the paper, and where its tail lies.
+// What goes in, what its lines must know of the paper, and where its tail lies. Without a log nothing
+// goes in.
 pub struct Log {
-    pub on: bool,
     pub logging: journal::Logging,
     pub form: Form,
     pub start: usize,
@@ -101,14 +101,12 @@ pub fn log_of(words: &Words, shape: Shape, paper: &[u8]) -> Log
     let logging = shape.logging;
     match logging {
         Logging::Off => Log {
-            on: false,
             logging: no_logging(),
             form: form_of(shape, paper),
             start: 0,
             end: 0,
         },
         Logging::On { start, end } => Log {
-            on: true,
             logging: logging_in(words, tail_at(paper, start, end)),
             form: form_of(shape, paper),
             start,
