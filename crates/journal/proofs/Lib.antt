@@ -1,4 +1,3 @@
-pub mod Given
 pub mod Newest
 pub mod Requirements
 pub mod Profiles

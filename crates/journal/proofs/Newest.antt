@@ -4,18 +4,17 @@ use mathlib.Core.Bool.{Bool, true, false, cond, _&&_}
 use mathlib.Core.List.{List, [], _∷_, _++_}
 use Prim.Native.Nat.{ℕ}
 use native.Mathlib.Omega.{arith}
-use Rattle.iad.specs.declared.Iad.{Iad}
-use Rattle.state.specs.declared.Kind.{Kind}
 use Rattle.state.specs.declared.Answer.{Answer}
 use Rattle.state.specs.declared.Answer.the-variants.{Refused, Started, Given, Done}
 use Rattle.ring.specs.declared.Record.{Record}
 use Rattle.ring.specs.Ring.{slotsOf, noRecords, firstPlace, firstOpened, added}
 use Rattle.ring.proofs.Newest.{Holds, none-held, opened-held, added-kept, first-stays, first-opened, Newest, read}
 use Rattle.journal.specs.declared.Logging.{Logging}
+use Rattle.journal.specs.declared.Cryptogram.{Cryptogram}
 use Rattle.journal.specs.declared.Heard.{Heard}
 use Rattle.journal.specs.declared.Heard.the-variants.{First, Second, Other}
-use Rattle.journal.specs.Journal.{isLogged, closedBy, noted, watchedGiven, watched}
-use Rattle.journal.specs.Logged.{Seen, isFirst, isGiven, firstIn, closedAs, loggedBy, loggedIn, ringAfter, ringThrough, turned}
+use Rattle.journal.specs.Journal.{isLogged, closedBy, noted, watched}
+use Rattle.journal.specs.Logged.{Seen, cryptogram, isFirst, isGiven, firstIn, loggedGiven, loggedBy, loggedIn, heardOut, ringAfter, ringThrough, turned}
 
 module _ (logging : Logging) where
   abbrev slots : ℕ
@@ -26,10 +25,10 @@ module _ (logging : Logging) where
     held : Holds slots logged ring
     place : firstPlace ring ≡ first
 
-  noted-kept : (said : Heard) (kind : Kind) (profile first : ℕ) (closed : Record) (logged : List Record) (ring : List ℕ) → Kept first logged ring
-      → Kept first (cond (isLogged logging said kind profile) (closed ∷ []) [] ++ logged) (noted logging said kind profile closed ring)
+  noted-kept : (said : Heard) (given : Cryptogram) (first : ℕ) (closed : Record) (logged : List Record) (ring : List ℕ) → Kept first logged ring
+      → Kept first (cond (isLogged logging said given) (closed ∷ []) [] ++ logged) (noted logging said given closed ring)
   unfolding noted
-  noted-kept said kind profile first closed logged ring kept = by (isLogged logging said kind profile) where
+  noted-kept said given first closed logged ring kept = by (isLogged logging said given) where
     by : (b : Bool) → Kept first (cond b (closed ∷ []) [] ++ logged) (cond b (added (logging .size) closed ring) ring)
     by true =
         record {
@@ -38,39 +37,38 @@ module _ (logging : Logging) where
         }
     by false = kept
 
-  given-kept : (said : Heard) (at first : ℕ) (kind : Kind) (atc : ℕ) (iad : Iad) (logged : List Record) (ring : List ℕ) → Kept first logged ring
-      → Kept (cond (isFirst said) at first)
-      (cond (isLogged logging said kind (iad .profile)) (closedAs said at first kind atc iad) [] ++ logged)
-      (watchedGiven logging said at kind atc iad ring)
-  unfolding watchedGiven
-  given-kept First at first kind atc iad logged ring kept =
-      noted-kept First kind (iad .profile) at (closedBy at 0 kind atc iad) logged (firstOpened ring at)
+  given-kept : (said : Heard) (at first : ℕ) (given : Cryptogram) (logged : List Record) (ring : List ℕ) → Kept first logged ring
+      → Kept (cond (isFirst said) at first) (loggedGiven logging said at first given ++ logged) (watched logging said at given ring)
+  unfolding watched
+  given-kept First at first given logged ring kept =
+      noted-kept First given at (closedBy at 0 given) logged (firstOpened ring at)
       (record { held = opened-held slots logged ring at (kept .held); place = first-opened slots logged ring at (kept .held) })
-  given-kept (Second code) at first kind atc iad logged ring kept =
-      rw (← kept .place) (noted-kept (Second code) kind (iad .profile) (firstPlace ring) (closedBy (firstPlace ring) at kind atc iad) logged ring (again kept)) where
+  given-kept (Second code) at first given logged ring kept =
+      rw (← kept .place) (noted-kept (Second code) given (firstPlace ring) (closedBy (firstPlace ring) at given) logged ring (again kept)) where
         again : Kept first logged ring → Kept (firstPlace ring) logged ring
         again k = record { held = k .held; place = refl }
-  given-kept Other at first kind atc iad logged ring kept = by (isLogged logging Other kind (iad .profile)) where
+  given-kept Other at first given logged ring kept = by (isLogged logging Other given) where
     by : (b : Bool) → Kept first (cond b [] [] ++ logged) ring
     by true = kept
     by false = kept
 
   seen-kept : (seen : Seen) (before : List Seen) (ring : List ℕ) → Kept (firstIn before) (loggedIn logging before) ring
-      → Kept (firstIn (seen ∷ before)) (loggedIn logging (seen ∷ before)) (watched logging (seen .said) (seen .at) (seen .answer) ring)
-  unfolding firstIn loggedIn watched
+      → Kept (firstIn (seen ∷ before)) (loggedIn logging (seen ∷ before)) (heardOut logging (seen .said) (seen .at) (seen .answer) ring)
+  unfolding firstIn loggedIn
   seen-kept seen before ring kept = by (seen .said) (seen .answer) where
     by : (said : Heard) (answer : Answer)
         → Kept (cond (isFirst said && isGiven answer) (seen .at) (firstIn before))
-        (loggedBy logging said (seen .at) (firstIn before) answer ++ loggedIn logging before) (watched logging said (seen .at) answer ring)
+        (loggedBy logging said (seen .at) (firstIn before) answer ++ loggedIn logging before) (heardOut logging said (seen .at) answer ring)
     by First (Refused refusal) = kept
     by (Second code) (Refused refusal) = kept
     by Other (Refused refusal) = kept
     by First (Started atc visits) = kept
     by (Second code) (Started atc visits) = kept
     by Other (Started atc visits) = kept
-    by First (Given kind atc iad) = given-kept First (seen .at) (firstIn before) kind atc iad (loggedIn logging before) ring kept
-    by (Second code) (Given kind atc iad) = given-kept (Second code) (seen .at) (firstIn before) kind atc iad (loggedIn logging before) ring kept
-    by Other (Given kind atc iad) = given-kept Other (seen .at) (firstIn before) kind atc iad (loggedIn logging before) ring kept
+    by First (Given kind atc iad) = given-kept First (seen .at) (firstIn before) (cryptogram kind atc iad) (loggedIn logging before) ring kept
+    by (Second code) (Given kind atc iad) =
+        given-kept (Second code) (seen .at) (firstIn before) (cryptogram kind atc iad) (loggedIn logging before) ring kept
+    by Other (Given kind atc iad) = given-kept Other (seen .at) (firstIn before) (cryptogram kind atc iad) (loggedIn logging before) ring kept
     by First Done = kept
     by (Second code) Done = kept
     by Other Done = kept

@@ -15,8 +15,8 @@ use Rattle.ring.specs.Ring.{noRecords, recordIn, recordPut, addedIn, added, cou
 use Rattle.journal.specs.declared.Logging.{Logging}
 use Rattle.journal.specs.declared.Heard.{Heard}
 use Rattle.journal.specs.declared.Heard.the-variants.{First, Second, Other}
-use Rattle.journal.specs.Journal.{isLogging, cvrNumber, closedBy, noted, watchedGiven, watched}
-use Rattle.journal.specs.Logged.{Seen, ringThrough}
+use Rattle.journal.specs.Journal.{isLogging, closedBy, noted, watched}
+use Rattle.journal.specs.Logged.{Seen, cvrNumber, cryptogram, ringThrough}
 
 -- profiles 1 and 2, of which the first logs
 abbrev set-up : (size switches : ℕ) → Logging
@@ -101,7 +101,7 @@ pub record Samples : Type 0 where
   pub no-slot : shown (set-up 0 0xC0) 1 (first 30 Tc 1 0x90 ∷ []) ≡ [] ∷ []
 
 pub samples : Samples
-unfolding number cvrNumber isLogging closedBy noted watchedGiven watched ringThrough recordIn recordPut addedIn added countIn found
+unfolding number cvrNumber cryptogram isLogging closedBy noted watched ringThrough recordIn recordPut addedIn added countIn found
 samples =
     record {
       sitting-e = refl;

@@ -1,21 +1,16 @@
--- What is logged (document 02, Eight; CPA R15.82 and R17.88, Table L-10), and what an answered record does to the ring.
+-- What is logged (document 02, Eight; CPA R15.82 and R17.88, Table L-10), and what a cryptogram does to the ring.
 use Prim.Native.Nat.{ℕ, _/_, _%_}
 use mathlib.Core.Bool.{Bool, true, false, cond, _&&_, _||_}
 use mathlib.Core.List.{List}
 use lib.Dec.{eqb}
 use lib.ListN.{getD}
-use Rattle.wire.specs.Wire.{number}
-use Rattle.iad.specs.declared.Cvr.{Cvr}
-use Rattle.iad.specs.declared.Iad.{Iad}
-use Rattle.iad.specs.Iad.{cvrBytes}
 use Rattle.state.specs.declared.Kind.{Kind}
 use Rattle.state.specs.declared.Kind.the-variants.{Aac, Tc, Arqc}
-use Rattle.state.specs.declared.Answer.{Answer}
-use Rattle.state.specs.declared.Answer.the-variants.{Refused, Started, Given, Done}
 use Rattle.state.specs.State.{cidOf}
 use Rattle.ring.specs.declared.Record.{Record}
 use Rattle.ring.specs.Ring.{firstPlace, firstOpened, added}
 use Rattle.journal.specs.declared.Logging.{Logging}
+use Rattle.journal.specs.declared.Cryptogram.{Cryptogram}
 use Rattle.journal.specs.declared.Heard.{Heard}
 use Rattle.journal.specs.declared.Heard.the-variants.{First, Second, Other}
 
@@ -38,29 +33,20 @@ logsAt logging profile i = eqb (getD (logging .numbers) i 0) profile && getD (lo
 unfoldable pub isLogging : Logging → (profile : ℕ) → Bool
 isLogging logging profile = logsAt logging profile 0 || logsAt logging profile 1 || logsAt logging profile 2 || logsAt logging profile 3
 
-abbrev pub isLogged : Logging → Heard → Kind → (profile : ℕ) → Bool
-isLogged logging said kind profile = isWanted (logging .switches) said kind && isLogging logging profile
+abbrev pub isLogged : Logging → Heard → Cryptogram → Bool
+isLogged logging said given = isWanted (logging .switches) said (given .kind) && isLogging logging (given .profile)
 
 -- THE RECORD: where First's body lies and where Second's does, 0 for none; the CVR's five bytes as a number, ATC and CID of the closing answer
-unfoldable pub cvrNumber : Cvr → ℕ
-cvrNumber cvr = number (cvrBytes cvr) 0 5
-
-unfoldable pub closedBy : (first second : ℕ) → Kind → (atc : ℕ) → Iad → Record
-closedBy first second kind atc iad = record { first = first; second = second; cvr = cvrNumber (iad .cvr); atc = atc; cid = cidOf kind }
+unfoldable pub closedBy : (first second : ℕ) → Cryptogram → Record
+closedBy first second given =
+    record { first = first; second = second; cvr = given .cvr; atc = given .atc; cid = cidOf (given .kind) }
 
 -- A CRYPTOGRAM: a First's place is kept for the Second that may come, and what is closed is added if it is logged
-unfoldable pub noted : Logging → Heard → Kind → (profile : ℕ) → Record → (ring : List ℕ) → List ℕ
-noted logging said kind profile closed ring = cond (isLogged logging said kind profile) (added (logging .size) closed ring) ring
+unfoldable pub noted : Logging → Heard → Cryptogram → Record → (ring : List ℕ) → List ℕ
+noted logging said given closed ring = cond (isLogged logging said given) (added (logging .size) closed ring) ring
 
-unfoldable pub watchedGiven : Logging → Heard → (at : ℕ) → Kind → (atc : ℕ) → Iad → (ring : List ℕ) → List ℕ
-watchedGiven logging First at kind atc iad ring = noted logging First kind (iad .profile) (closedBy at 0 kind atc iad) (firstOpened ring at)
-watchedGiven logging (Second code) at kind atc iad ring =
-    noted logging (Second code) kind (iad .profile) (closedBy (firstPlace ring) at kind atc iad) ring
-watchedGiven logging Other at kind atc iad ring = ring
-
--- THE RING after a record that was answered, its body lying at a place
-unfoldable pub watched : Logging → Heard → (at : ℕ) → Answer → (ring : List ℕ) → List ℕ
-watched logging said at (Refused refusal) ring = ring
-watched logging said at (Started atc visits) ring = ring
-watched logging said at (Given kind atc iad) ring = watchedGiven logging said at kind atc iad ring
-watched logging said at Done ring = ring
+-- THE RING after it, its record's body lying at a place
+unfoldable pub watched : Logging → Heard → (at : ℕ) → Cryptogram → (ring : List ℕ) → List ℕ
+watched logging First at given ring = noted logging First given (closedBy at 0 given) (firstOpened ring at)
+watched logging (Second code) at given ring = noted logging (Second code) given (closedBy (firstPlace ring) at given) ring
+watched logging Other at given ring = ring

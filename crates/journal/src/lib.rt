@@ -1,13 +1,9 @@
-// What goes into a transaction log (request Eight): after each answered record, whether it closed a
+// What goes into a transaction log (request Eight): after each cryptogram, whether it closed a
 // transaction, and whether that is logged.
 ghost use mathlib.Core.Path.{_≡_};
-ghost use Prim.Native.Nat.{_<_};
-ghost use Rattle.journal.specs.Journal.{isOffline, isWanted, isLogging, cvrNumber, closedBy, noted, watched};
-use iad::Cvr;
-use iad::Iad;
+ghost use Rattle.journal.specs.Journal.{isOffline, isWanted, isLogging, closedBy, noted, watched};
 use ring::Record;
 use ring::Ring;
-use state::Answer;
 use state::Kind;
 
 const Y3: u32 = 0x5933;
@@ -35,6 +31,14 @@ pub enum Heard {
     First,
     Second { code: u32 },
     Other,
+}
+
+// A cryptogram, as far as a log listens: the CVR is its five bytes as one number.
+pub struct Cryptogram {
+    pub kind: Kind,
+    pub atc: u64,
+    pub profile: u8,
+    pub cvr: u64,
 }
 
 // Whether an approval is one that was given offline: at First, and at Second after Y3 or Z3.
@@ -73,59 +77,44 @@ fn is_logging(logging: Logging, profile: u8) -> bool
         | ((numbers[3] == profile) & logs[3])
 }
 
-fn wide(byte: u8) -> u64
-    ensures { λ r. ⌜ (r ≡ byte) × (r < 256) ⌝ }
-{
-    byte as u64
-}
-
-// The five bytes of the CVR as one number.
-fn cvr_number(cvr: Cvr) -> u64
-    ensures { λ r. ⌜ r ≡ cvrNumber cvr ⌝ }
-{
-    let upper = (wide(cvr.byte1) * 256 + wide(cvr.byte2)) * 256 + wide(cvr.byte3);
-    (upper * 256 + wide(cvr.byte4)) * 256 + wide(cvr.byte5)
-}
-
 // The record of a transaction whose First's body and, if there was one, Second's lie at these places.
-fn closed_by(first: u64, second: u64, kind: Kind, atc: u16, iad: Iad) -> Record
-    ensures { λ r. ⌜ r ≡ closedBy first second kind atc iad ⌝ }
+fn closed_by(first: u64, second: u64, given: Cryptogram) -> Record
+    ensures { λ r. ⌜ r ≡ closedBy first second given ⌝ }
 {
+    let kind = given.kind;
     Record {
         first,
         second,
-        cvr: cvr_number(iad.cvr),
-        atc: atc as u64,
+        cvr: given.cvr,
+        atc: given.atc,
         cid: kind.cid() as u64,
     }
 }
 
-// The record of a transaction that was closed under a profile is added, if it is logged.
-fn note(ring: &mut Ring, logging: Logging, said: Heard, kind: Kind, profile: u8, closed: Record)
-    ensures { λ _. ⌜ now (ring .exit) ≡ noted logging said kind profile closed (now (ring .entry)) ⌝ }
+// The record of a transaction that a cryptogram may have closed is added, if it is logged.
+fn note(ring: &mut Ring, logging: Logging, said: Heard, given: Cryptogram, closed: Record)
+    ensures { λ _. ⌜ now (ring .exit) ≡ noted logging said given closed (now (ring .entry)) ⌝ }
 {
-    if is_wanted(logging.switches, said, kind) & is_logging(logging, profile) {
+    let kind = given.kind;
+    if is_wanted(logging.switches, said, kind) & is_logging(logging, given.profile) {
         ring::add(ring, logging.size, closed);
     }
 }
 
-// After an answered record, whose body lies at a place. A refused command leaves all as it is.
-pub fn watch(ring: &mut Ring, logging: Logging, said: Heard, at: usize, answer: Answer)
-    ensures { λ _. ⌜ now (ring .exit) ≡ watched logging said at answer (now (ring .entry)) ⌝ }
+// After a cryptogram, the body of its record lying at a place.
+pub fn watch(ring: &mut Ring, logging: Logging, said: Heard, at: usize, given: Cryptogram)
+    ensures { λ _. ⌜ now (ring .exit) ≡ watched logging said at given (now (ring .entry)) ⌝ }
 {
-    let Answer::Given { kind, atc, iad } = answer else {
-        return;
-    };
     let place = at as u64;
     match said {
         Heard::First => {
             ring::open_first(ring, place);
-            let closed = closed_by(place, 0, kind, atc, iad);
-            note(ring, logging, said, kind, iad.profile, closed);
+            let closed = closed_by(place, 0, given);
+            note(ring, logging, said, given, closed);
         }
         Heard::Second { .. } => {
-            let closed = closed_by(ring::first_place(ring), place, kind, atc, iad);
-            note(ring, logging, said, kind, iad.profile, closed);
+            let closed = closed_by(ring::first_place(ring), place, given);
+            note(ring, logging, said, given, closed);
         }
         Heard::Other => {}
     }

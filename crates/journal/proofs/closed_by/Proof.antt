@@ -5,7 +5,7 @@ use Rattle.journal.proofs.closed_by.Tie as tie
 
 returns : tie.Need-returns
 unfolding closedBy
-returns c = simp (c .cid .ensures, c .before .cvr-number .ensures)
+returns c = simp (c .cid .ensures)
 
 pub closed-by-spec : {M : Type 1} → statement M
-closed-by-spec = tie.close (tie.spec (search needs) (search needs) (search needs) returns)
+closed-by-spec = tie.close (tie.spec (search needs) (search needs) returns)

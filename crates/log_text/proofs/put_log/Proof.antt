@@ -23,9 +23,8 @@ unfolding logLines
 returns-3 c =
     let put = c .before .before in
     let logging = put .before .before in
-    let tail = logging .before .before in
-    let tested = tail .before in
-    rw (← tail .tail-at .ensures .0) (place (put .put-lines .ensures) (omega (arith, tested .if2 .left, tested .before .if1 .left)))
+    let tested = logging .before in
+    place (put .put-lines .ensures) (omega (arith, tested .if2 .left, tested .before .if1 .left))
 
 pub put-log-spec : {M : Type 1} → statement M
-put-log-spec = tie.close (tie.spec returns (search needs) returns-2 (search needs) (search needs) (search needs) returns-3)
+put-log-spec = tie.close (tie.spec returns (search needs) returns-2 (search needs) (search needs) returns-3)
