@@ -26,13 +26,13 @@ behind mark text = drop (suc (placeOf mark text)) text
 abbrev pub digitValue : (digit : ℕ) → ℕ
 digitValue digit = cond (leb digit 57) (digit % 16) (digit % 16 + 9)
 
-abbrev pub pairAt : (digits : List ℕ) (at : ℕ) → ℕ
+unfoldable pub pairAt : (digits : List ℕ) (at : ℕ) → ℕ
 pairAt digits at = digitValue (byte digits at) * 16 + digitValue (byte digits (at + 1))
 
 -- A NUMBER in decimal, of which the last five digits count
-unfoldable pub decimalFrom : (before : ℕ) (digits : List ℕ) → ℕ
-decimalFrom before [] = before
-decimalFrom before (digit ∷ digits) = decimalFrom ((before * 10 + digit % 16) % 100_000) digits
+unfoldable pub decimalFrom : (front : ℕ) (digits : List ℕ) → ℕ
+decimalFrom front [] = front
+decimalFrom front (digit ∷ digits) = decimalFrom ((front * 10 + digit % 16) % 100_000) digits
 
 abbrev pub decimalIn : (digits : List ℕ) → ℕ
 decimalIn digits = decimalFrom 0 digits

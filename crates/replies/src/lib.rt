@@ -39,7 +39,8 @@ fn place_of(text: &[u8], mark: u8) -> usize
 pub fn before(text: &[u8], mark: u8) -> &[u8]
     ensures { λ r. ⌜ now r ≡ before mark (now (text .entry)) ⌝ }
 {
-    &text[..place_of(text, mark)]
+    let at = place_of(text, mark);
+    &text[..at]
 }
 
 // The text behind the first mark, or nothing of it.
@@ -117,7 +118,7 @@ pub fn reply_in(line: &[u8]) -> Reply
     Reply::Given(Cryptogram {
         kind: kind_in(cid),
         atc: decimal_in(before(atc, SPACE)),
-        profile: pair_at(iad, PROFILE) as u8,
+        profile: (pair_at(iad, PROFILE) % 256) as u8,
         cvr: cvr_in(iad),
     })
 }
