@@ -24,10 +24,13 @@ pub struct Log {
 pub fn stretch(text: &[u8], start: usize, end: usize) -> &[u8]
     ensures { λ r. ⌜ (now r ≡ stretchOf (now (text .entry)) start end) × (r .ptr ≡ stretchPlace (text .entry) start end) ⌝ }
 {
-    if (start <= end) & (end <= text.len()) {
-        return &text[start..end];
+    if end < start {
+        return &text[..0];
     }
-    &text[..0]
+    if text.len() < end {
+        return &text[..0];
+    }
+    &text[start..end]
 }
 
 // The log's tail in a set-up's body; no byte where there is no log.
