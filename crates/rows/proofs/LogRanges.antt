@@ -3,7 +3,7 @@
 use mathlib.Core.Path.{_≡_, refl, sym, ap, subst, _∙_}
 use mathlib.Core.Bool.{Bool, true, false, cond, not, _&&_}
 use mathlib.Core.List.{List, []}
-use mathlib.Core.Logic.{_↔_}
+use mathlib.Core.Logic.{_↔_, _⊎_, inl, inr}
 use Prim.Native.Nat.{ℕ, zero, suc, _+_, _-_, _*_, _%_, _≤_, _<_}
 use native.Mathlib.Omega.{arith}
 use borrow.Author.Tests.{le-leb, leb-true, ltb-true, ltb-false, eq-eqb, ne-eqb, eqb-true, eqb-false}
@@ -177,6 +177,12 @@ within p unlogged fine first = (λ _. tt, λ _. nothing-past p first)
 within p (logged l) fine first = subst (λ (n : ℕ). (isWithin (logBytes l) n first ≡ true) ↔ LogsWithin first (logged l)) (fine .0) (log-within l first)
 
 module _ (p : ℕ) (l : Logs) (fine : FineLogs p l) (first : ℕ) where
+  pub within-or-not : LogsWithin first l ⊎ (LogsWithin first l → ⊥)
+  within-or-not = by (isWithin (logSaid l) p first) refl where
+    by : (w : Bool) → isWithin (logSaid l) p first ≡ w → LogsWithin first l ⊎ (LogsWithin first l → ⊥)
+    by true e = inl (within p l fine first .0 e)
+    by false e = inr (λ i. let z : _≡_ {A = ℕ} 0 1 = cc (e, within p l fine first .1 i) in omega arith)
+
   -- THE STATEMENTS
   pub sound-exactly : (judged (logSaid l) p first ≡ Sound) ↔ (LogsRange l × LogsWithin first l)
   unfolding judged

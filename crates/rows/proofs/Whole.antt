@@ -2,7 +2,7 @@
 use mathlib.Core.Path.{_≡_, refl, sym, ap, ap₂, subst, _∙_}
 use mathlib.Core.Bool.{true}
 use mathlib.Core.List.{List, _++_}
-use mathlib.Core.Logic.{_↔_}
+use mathlib.Core.Logic.{_↔_, _⊎_, inl, inr}
 use Prim.Native.Nat.{ℕ, _≤_, _<_}
 use native.Mathlib.Omega.{arith}
 use lib.ListN.{length}
@@ -33,7 +33,7 @@ use Rattle.rows.proofs.Unspelled.{spelled-if-accepted}
 use Rattle.rows.proofs.Ranges.{accepted-in-range, three, all-accepted, setup-taken}
 use Rattle.rows.proofs.DatedRanges.{dates-in-range}
 use Rattle.rows.proofs.FamilyRanges.{families-in-range}
-use Rattle.rows.proofs.LogRanges.{sound-exactly, past-exactly}
+use Rattle.rows.proofs.LogRanges.{within-or-not, sound-exactly, past-exactly}
 use Rattle.rows.proofs.Entries.{small-take}
 use Rattle.rows.proofs.Behind.{byte-kept, reads-tails}
 use Rattle.rows.proofs.Causes.{tails-if-read}
@@ -244,3 +244,13 @@ module _ (version : ℕ) (s : List ℕ) (bytes : Bytes s) (least : 1 ≤ version
         record { fields = i; past = past },
     λ i. let f = i .fields in back PastData f (log-past (f .setup) (f .tail) (f .fits) (f .fine) .1 (f .logs-in-range, i .past)),
   )
+
+-- fields in their ranges are a set-up's, or 14
+pub set-up-or-past : (version : ℕ) (s : List ℕ) → IsInRange version s → IsSetup version s ⊎ IsPast version s
+set-up-or-past version s i =
+    let p = length (i .setup .profiles) in
+    by (within-or-not p (logsOf (i .tail)) (fine-logs p (i .tail) (i .fine)) (firstLong (datesOf (i .tail)) (familiesOf (i .tail))))
+  where
+    by : Within (i .tail) ⊎ (Within (i .tail) → ⊥) → IsSetup version s ⊎ IsPast version s
+    by (inl within) = inl (record { fields = i; within = within })
+    by (inr past) = inr (record { fields = i; past = past })

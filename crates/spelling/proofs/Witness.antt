@@ -290,10 +290,10 @@ script-events rules state =
 -- ---- papers of version 07: the printed set-up, and behind it every tail off up to the log; sitting E's log, which is taken, sitting G's, whose last
 -- entry reaches past Second's 8 bytes, and one with a ring of 21
 
-abbrev withLog : (log : List ℕ) → List ℕ
+abbrev pub withLog : (log : List ℕ) → List ℕ
 withLog log = body ++ 0 ∷ 0 ∷ 0 ∷ 0 ∷ 0 ∷ log
 
-abbrev kept : List ℕ
+abbrev pub kept : List ℕ
 kept = 1 ∷ 2 ∷ 0xDC ∷ 1 ∷ 1 ∷ 0 ∷ 12 ∷ 1 ∷ 3 ∷ 0 ∷ 12 ∷ 1 ∷ 1 ∷ 2 ∷ 2 ∷ 1 ∷ 0 ∷ 9 ∷ []
 
 abbrev past : List ℕ
@@ -302,7 +302,7 @@ past = 1 ∷ 0 ∷ 0 ∷ 0 ∷ 0 ∷ 2 ∷ 1 ∷ 9 ∷ 0 ∷ 1 ∷ 8 ∷ 2 ∷ [
 abbrev wrong : List ℕ
 wrong = 1 ∷ 21 ∷ 0 ∷ 0 ∷ 0 ∷ 0 ∷ []
 
-abbrev logging : (end : ℕ) → Shape
+abbrev pub logging : (end : ℕ) → Shape
 logging end = logs (families (dates (based 159) DatesOff) Cpa) (LogOn 164 end)
 
 unfoldable pub loggedPaper : List ℕ
