@@ -7,32 +7,32 @@ use Prim.Native.Nat.{ℕ, suc, _+_}
 use native.Mathlib.Omega.{arith}
 use lib.ListN.{length, replicate}
 use Rattle.refusal.specs.declared.Refusal.{Refusal}
-use Rattle.refusal.specs.declared.Refusal.the-variants.{Unreadable}
+use Rattle.refusal.specs.declared.Refusal.the-variants.{Unreadable, PastData}
 use Rattle.rules.specs.Word.{wordCount}
 use Rattle.setup.specs.Setup.{setupNumber}
+use Rattle.log_tail.specs.declared.Judged.the-variants.{Sound, PastData as TableFault}
 use Rattle.shape.specs.declared.Shape.{Shape}
 use Rattle.opening.specs.declared.Begun.{Begun}
 use Rattle.records.specs.declared.Event.{Event}
 use Rattle.records.specs.declared.Event.the-variants.{SetUp, Refused}
 use Rattle.opening.specs.Opening.{begunOf, setupBegun}
-use Rattle.opening.proofs.Unlogged.{sound-below}
 use Rattle.conversation.specs.Events.{eventsOf}
 use Rattle.lines.specs.Lines.{refusalLine}
 use Rattle.lines.specs.Sitting.{answerLine, linesOf, sittingLines}
 use Rattle.demands.specs.Conversation.{Exchange, run, rulesBy}
-use Rattle.rows.specs.Whole.{IsTaken}
-use Rattle.rows.proofs.Whole.{taken-if-spelled}
+use Rattle.rows.specs.Whole.{IsInRange, IsSetup, IsPast, IsTaken}
+use Rattle.rows.proofs.Whole.{taken-if-spelled, past-if-spelled, set-up-or-past}
 use Rattle.spelling.specs.Spelling.{Bytes}
 use Rattle.spelling.specs.Faults.{OpenFault, Opens}
 use Rattle.spelling.specs.Sitting.{NotSetUp, happened}
 use Rattle.spelling.specs.Sitting as Sp
 use Rattle.spelling.proofs.Numbers.{byte-small}
 use Rattle.spelling.proofs.Opening.{opens, faults, Opening, opens-or-faults}
-use Rattle.spelling.proofs.Papers.{set-up-or-not, One, not-begun, taken-or-not}
+use Rattle.spelling.proofs.Papers.{set-up-or-not, One, not-begun, past-begun, taken-or-not, refused-or-past}
 use Rattle.papers.specs.Papers.{setupOf, Accepted, walked, commandsOf, faulty}
-use Rattle.papers.specs.Talk.{allAnswered, talk, ending, eventsBy, CutBehind, Plain, Heard, unread, not-set-up, heard}
+use Rattle.papers.specs.Talk.{allAnswered, talk, ending, eventsBy, CutBehind, Plain, Heard, unread, not-set-up, past-data, heard}
 use Rattle.papers.specs.Lines.{answerLines, endingLines, linesBy}
-use Rattle.papers.proofs.Setups.{opened-bytes, shape, set-up, begins}
+use Rattle.papers.proofs.Setups.{opened-bytes, log-judged, shape, set-up, past, begins}
 use Rattle.papers.proofs.Walk.{walk-events}
 use Rattle.papers.proofs.Talk.{fresh, talk-is, talk-length, plain-said}
 
@@ -83,9 +83,26 @@ pub accepted-if-taken : (paper : List ℕ) → Bytes paper → (version : ℕ) (
     → (shape : Shape) → Sp.SetUp version body shape → Accepted paper
 accepted-if-taken paper bytes version body rest o shape t =
     let small : Bytes body = opened-bytes paper version body rest o bytes in
-    let taken : IsTaken version body = record { shape = shape; shape-is = t .shape-is; base = ap setupNumber (t .base) } in
-    let spelled = taken-if-spelled version body (record { below = byte-small body small }) (o .least) (omega (arith, o .most)) .0 taken in
+    let log = sym (log-judged shape body) ∙ t .log in
+    let taken : IsTaken Sound version body = record { shape = shape; shape-is = t .shape-is; base = ap setupNumber (t .base); log = log } in
+    let spelled = taken-if-spelled version body (record { below = byte-small body small }) (o .least) (o .most) .0 taken in
     record { version = version; body = body; rest = rest; opens = o; set-up = spelled }
+
+-- and what reaches past its data is spelled so
+past-if-taken : (paper : List ℕ) → Bytes paper → (version : ℕ) (body rest : List ℕ) → Opens paper version body rest → Sp.PastSetUp version body
+    → IsPast version body
+past-if-taken paper bytes version body rest o p =
+    let small : Bytes body = opened-bytes paper version body rest o bytes in
+    let log = sym (log-judged (p .shape) body) ∙ p .log in
+    let taken : IsTaken TableFault version body = record { shape = p .shape; shape-is = p .shape-is; base = ap setupNumber (p .base); log = log } in
+    past-if-spelled version body (record { below = byte-small body small }) (o .least) (o .most) .0 taken
+
+-- what is refused as a set-up has a field out of its range
+none-in-range : (version : ℕ) (body : List ℕ) → NotSetUp version body → IsInRange version body → ⊥
+none-in-range version body n i = by (set-up-or-past version body i) where
+  by : IsSetup version body ⊎ IsPast version body → ⊥
+  by (inl s) = taken-or-not version body (shape version body (s .fields)) (set-up version body (s .fields) (s .within)) n
+  by (inr p) = refused-or-past version body n (past version body (p .fields) (p .past))
 
 ended-at-once : (words paper : List ℕ) (refusal : Refusal) → begunOf paper .event ≡ Refused refusal → eventsOf words paper ≡ Refused refusal ∷ []
 unfolding eventsOf
@@ -95,14 +112,12 @@ one-event : (paper : List ℕ) (version : ℕ) (body rest : List ℕ) → Opens 
 unfolding begunOf setupBegun
 one-event paper version body rest o n = let r = opens paper version body rest o in rw (r .0, r .1) (not-begun version body 4 (4 + length body) n)
 
--- no paper of these versions has a log
-unlogged : (version : ℕ) (body rest paper : List ℕ) → Opens paper version body rest → Sp.PastSetUp version body → ⊥
-unlogged version body rest paper o p =
-    let sound = sound-below version (omega (arith, o .most)) body (p .shape) (p .shape-is) in
-    let z : _≡_ {A = ℕ} 0 1 = cc (sound, p .log) in
-    omega arith
+past-event : (paper : List ℕ) (version : ℕ) (body rest : List ℕ) → Opens paper version body rest → Sp.PastSetUp version body
+    → begunOf paper .event ≡ Refused PastData
+unfolding begunOf setupBegun
+past-event paper version body rest o p = let r = opens paper version body rest o in rw (r .0, r .1) (past-begun version body 4 (4 + length body) p)
 
--- EVERY BYTE STRING: it does not open, its set-up is not one, or it is heard
+-- EVERY BYTE STRING: it does not open, its set-up is not one, its log reaches past its data, or it is heard
 pub every-paper : (words paper : List ℕ) → length words ≡ wordCount → Bytes paper → Heard words paper
 unfolding begunOf
 every-paper words paper lent bytes = by (opens-or-faults paper bytes) where
@@ -112,12 +127,13 @@ every-paper words paper lent bytes = by (opens-or-faults paper bytes) where
   by-set-up o (inl t) =
       let a = accepted-if-taken paper bytes (o .version) (o .body) (o .rest) (o .opens) (t .0) (t .1) in
       heard a (events-are words paper lent bytes a)
-  by-set-up o (inr (inr p)) = absurd (unlogged (o .version) (o .body) (o .rest) paper (o .opens) p)
+  by-set-up o (inr (inr p)) =
+      past-data (o .version) (o .body) (o .rest) (o .opens) (past-if-taken paper bytes (o .version) (o .body) (o .rest) (o .opens) p)
+      (ended-at-once words paper PastData (past-event paper (o .version) (o .body) (o .rest) (o .opens) p))
   by-set-up o (inr (inl n)) =
       let i = one-event paper (o .version) (o .body) (o .rest) (o .opens) n in
-      not-set-up (o .version) (o .body) (o .rest) (o .opens)
-      (λ s. taken-or-not (o .version) (o .body) (shape (o .version) (o .body) s) (set-up (o .version) (o .body) s (omega (arith, o .opens .most))) n)
-      (i .refusal) (i .one) (ended-at-once words paper (i .refusal) (i .is))
+      not-set-up (o .version) (o .body) (o .rest) (o .opens) (none-in-range (o .version) (o .body) n) (i .refusal) (i .one)
+      (ended-at-once words paper (i .refusal) (i .is))
 
   by : OpenFault paper ⊎ Opening paper → Heard words paper
   by (inl f) = unread f (ended-at-once words paper Unreadable (rw (faults paper f)))
@@ -134,7 +150,9 @@ accepted-exactly paper bytes = (λ e. by e (opens-or-faults paper bytes), begun)
       → ((shape : Shape) × Sp.SetUp (o .version) (o .body) shape) ⊎ (NotSetUp (o .version) (o .body) ⊎ Sp.PastSetUp (o .version) (o .body))
       → Accepted paper
   by-set-up e o (inl t) = accepted-if-taken paper bytes (o .version) (o .body) (o .rest) (o .opens) (t .0) (t .1)
-  by-set-up e o (inr (inr p)) = absurd (unlogged (o .version) (o .body) (o .rest) paper (o .opens) p)
+  by-set-up e o (inr (inr p)) =
+      let z : _≡_ {A = ℕ} 0 1 = cc (past-event paper (o .version) (o .body) (o .rest) (o .opens) p) in
+      absurd (omega arith)
   by-set-up e o (inr (inl n)) =
       let i = one-event paper (o .version) (o .body) (o .rest) (o .opens) n in
       let z : _≡_ {A = ℕ} 0 1 = cc (i .is) in

@@ -9,23 +9,16 @@ use Rattle.wire.specs.Wire.{number}
 use Rattle.calendar.specs.declared.Date.{Date}
 use Rattle.purchase.specs.declared.Timing.the-variants.{InOrder, DateError}
 use Rattle.purchase.specs.Meter.{cyclic}
-use Rattle.ranges.specs.Ranges.{isSetup, hasLength, isHead, areAccumulators, isAccumulator}
-use Rattle.ranges.specs.Ranges.{areProfiles, isProfileOrAbsent, isProfile, areMasks, isMaximumAmount, areAccumulatorRules, isAccumulatorRule}
-use Rattle.ranges.specs.Ranges.{areCounterRules, areSent, areNumbersApart, profileNumber}
-use Rattle.ranges.specs.Ranges.{areConversions, isConversionOrAbsent, isConversion, conversionPair, arePairsApart}
-use Rattle.tails.specs.Tails.{isCycle, isCyclicRule, areCyclicRules, areCycles, isFamily}
-use Rattle.calendar.specs.Calendar.{dateAt, hasDay, isDay}
-use Rattle.setup.specs.Setup.{readSetup}
 use Rattle.shape.specs.declared.Dating.the-variants.{On as DatesOn}
 use Rattle.shape.specs.declared.Shape.{Shape}
-use Rattle.shape.specs.Shape.{based, baseTail, selectionTail, syllabusTail, dates, datingTail, tailsOf, shapeOf}
+use Rattle.shape.specs.Shape.{based, dates}
 use Rattle.demands.specs.Conversation.{Exchange}
 use Rattle.demands.specs.Audit.{bought, lastDate, audited}
 use Rattle.demands.proofs.Computed.{computed}
-use Rattle.opening.specs.Opening.{logJudged}
 use Rattle.spelling.specs.Spelling.{Bytes, big, recordOf}
 use Rattle.spelling.specs.Faults.{Opens}
 use Rattle.spelling.specs.Sitting.{SetUp}
+use Rattle.spelling.proofs.Computed.{begun}
 use Rattle.papers.specs.Papers.{entriesLong, setupOf, mannerOf, Accepted, frontOf, meant, walk, walked, commandsOf, faulty}
 use Rattle.papers.specs.Talk.{talk, newest}
 use Rattle.papers.specs.Late.{late, lateBody, lateRest}
@@ -44,10 +37,7 @@ abbrev shaped : Shape
 shaped = dates (based 159) (DatesOn 161 207)
 
 set-up : SetUp 4 lateBody shaped
-unfolding late shapeOf tailsOf baseTail selectionTail syllabusTail datingTail logJudged readSetup isSetup hasLength isHead areAccumulators isAccumulator number
-    areProfiles isProfileOrAbsent isProfile areMasks isMaximumAmount areAccumulatorRules isAccumulatorRule areCounterRules areSent
-    areNumbersApart profileNumber areConversions isConversionOrAbsent isConversion conversionPair arePairsApart
-    areCycles isCycle areCyclicRules isCyclicRule dateAt isDay hasDay isFamily
+unfolding late begun
 set-up = record { shape-is = refl; base = refl; log = refl }
 
 pub accepted : Accepted late

@@ -2,22 +2,26 @@
 use mathlib.Core.Path.{_≡_, refl, sym, ap, ap₂, subst, _∙_}
 use mathlib.Core.Bool.{true}
 use mathlib.Core.List.{List, [], _++_}
-use Prim.Native.Nat.{ℕ, _+_, _-_, _<_}
+use Prim.Native.Nat.{ℕ, _+_, _-_}
 use native.Mathlib.Omega.{arith}
 use lib.ListN.{length, drop, length-append}
 use lib.Seq.{take-at, drop-append-seam}
 use Rattle.wire.specs.Wire.{byte, number}
 use Rattle.rules.specs.Word.{wordCount}
 use Rattle.rules.specs.Rules.{rulesOf}
+use Rattle.setup.specs.declared.SetupAnswer.the-variants.{Done}
 use Rattle.setup.specs.Setup.{isAccepted, rulesIn}
 use Rattle.setup.proofs.Faithful.{started}
 use Rattle.auditor.specs.Template.{InRange}
+use Rattle.log_tail.specs.LogTail.{judged}
+use Rattle.bodies.specs.Bodies.{firstLength}
+use Rattle.shape.specs.declared.Logging.{Logging}
+use Rattle.shape.specs.declared.Logging.the-variants.{Off, On}
 use Rattle.shape.specs.declared.Shape.{Shape}
 use Rattle.shape.specs.declared.ReadShape.the-variants.{Taken}
-use Rattle.shape.specs.Shape.{basePart, cyclesPart, familyPart, shapeOf, shapeAt}
+use Rattle.shape.specs.Shape.{basePart, cyclesPart, familyPart, logPart, shapeOf, shapeAt}
 use Rattle.records.specs.declared.Event.the-variants.{SetUp}
-use Rattle.opening.proofs.Unlogged.{sound-below}
-use Rattle.opening.specs.Opening.{begunOf, baseBegun, setupBegun, setupWords, wordsBegun}
+use Rattle.opening.specs.Opening.{logFound, logJudged, begunOf, baseBegun, setupBegun, setupWords, wordsBegun}
 use Rattle.demands.specs.Setup.{Setup, AcceptedSetup}
 use Rattle.demands.specs.Conversation.{rulesBy}
 use Rattle.rows.specs.Rows.{body as spelledBase, cyclesBytes, controlsBytes}
@@ -25,11 +29,12 @@ use Rattle.rows.specs.Rows as R
 use Rattle.rows.specs.Tails as T
 use Rattle.rows.specs.Tails.{Choosing, off, on, Tail, tailBytes, choosingOf, syllabusOf, scriptingOf, unnamedOf, Base}
 use Rattle.rows.specs.Tails.{selecting, fileOf, dating, familyFrom, Fine, shapeSaid, TailSays}
-use Rattle.rows.specs.Whole.{IsSetup}
+use Rattle.rows.specs.Whole.{IsInRange, Within, logWhole}
 use Rattle.rows.proofs.Placed.{in-place}
 use Rattle.rows.proofs.Ranges.{three}
 use Rattle.rows.proofs.Behind.{byte-kept, length-kept}
-use Rattle.rows.proofs.Whole.{is-base, reads-whole, all-in-range}
+use Rattle.rows.proofs.LogRanges.{sound-exactly}
+use Rattle.rows.proofs.Whole.{is-base, reads-whole, all-in-range, log-sound, log-past}
 use Rattle.spelling.specs.Spelling.{Bytes, byFile, choiceIn, Dates, datesIn, familyIn, scriptsIn, mannerIn}
 use Rattle.spelling.specs.Faults.{Opens}
 use Rattle.spelling.specs.Sitting.{Lies}
@@ -95,7 +100,15 @@ setupSaid base tail =
       written = [];
     }
 
-module _ (version : ℕ) (body : List ℕ) (i : IsSetup version body) where
+-- a log is judged alike where it is off: it has no byte then
+pub log-judged : (shape : Shape) (body : List ℕ) → logJudged shape body ≡ logWhole shape body
+unfolding logJudged
+log-judged shape body = by (shape .logging) where
+  by : (logging : Logging) → logFound logging shape body ≡ judged (logPart logging body) (byte body 3) (firstLength (shape .dating) (shape .family))
+  by Off = sym (sound-exactly (byte body 3) T.unlogged tt (firstLength (shape .dating) (shape .family)) .1 (tt, tt))
+  by (On start end) = refl
+
+module _ (version : ℕ) (body : List ℕ) (i : IsInRange version body) where
   abbrev base : List ℕ
   base = spelledBase (i .setup)
 
@@ -126,12 +139,27 @@ module _ (version : ℕ) (body : List ℕ) (i : IsSetup version body) where
   shape-read : shapeOf version body ≡ Taken shape
   shape-read = rw (← i .version-is, ← i .spelled) (says .read)
 
-  pub set-up : version < 7 → Sp.SetUp version body shape
-  set-up unlogged =
+  base-done : Sp.setupFrom shape body .answer ≡ Done
+  base-done = rw (base-is, cycles-are, controls-are, started base cycles controls (shape .unnamed) good)
+
+  log-is : logJudged shape body ≡ logWhole shape (base ++ tailBytes (i .tail))
+  log-is = log-judged shape body ∙ ap (logWhole shape) (sym (i .spelled))
+
+  pub set-up : Within (i .tail) → Sp.SetUp version body shape
+  set-up within =
       record {
         shape-is = shape-read;
-        base = rw (base-is, cycles-are, controls-are, started base cycles controls (shape .unnamed) good);
-        log = sound-below version unlogged body shape shape-read;
+        base = base-done;
+        log = log-is ∙ log-sound (i .setup) (i .tail) (i .fits) (i .fine) .1 (i .logs-in-range, within);
+      }
+
+  pub past : (Within (i .tail) → ⊥) → Sp.PastSetUp version body
+  past reaches =
+      record {
+        shape = shape;
+        shape-is = shape-read;
+        base = base-done;
+        log = log-is ∙ log-past (i .setup) (i .tail) (i .fits) (i .fine) .1 (i .logs-in-range, reaches);
       }
 
   -- what is read behind the base
@@ -187,18 +215,21 @@ module _ (version : ℕ) (body : List ℕ) (i : IsSetup version body) where
 -- ---- an accepted paper
 
 module _ (paper : List ℕ) (a : Accepted paper) where
+  abbrev i : IsInRange (a .version) (a .body)
+  i = a .set-up .fields
+
   -- what is read of its version and its set-up's body
   as-spelled : {A : Type 0} (f : (version : ℕ) (body : List ℕ) → A) → f (versionIn paper) (bodyIn paper) ≡ f (a .version) (a .body)
   as-spelled f = ap₂ f (version-is paper (a .version) (a .body) (a .rest) (a .opens)) (body-is paper (a .version) (a .body) (a .rest) (a .opens))
 
   -- THE SET-UP AND THE MANNER THAT ITS BYTES SAY ARE THOSE THAT ARE SPELLED THERE
-  pub setup-is : setupOf paper ≡ setupSaid (spelledBase (a .set-up .setup)) (a .set-up .tail)
+  pub setup-is : setupOf paper ≡ setupSaid (spelledBase (i .setup)) (i .tail)
   unfolding setupOf
-  setup-is = as-spelled setupIn ∙ setup-there (a .version) (a .body) (a .set-up)
+  setup-is = as-spelled setupIn ∙ setup-there (a .version) (a .body) i
 
-  pub manner-is : mannerOf paper ≡ mannerSaid (a .set-up .tail)
+  pub manner-is : mannerOf paper ≡ mannerSaid (i .tail)
   unfolding mannerOf
-  manner-is = as-spelled (λ version body. P.mannerIn body) ∙ manner-there (a .version) (a .body) (a .set-up)
+  manner-is = as-spelled (λ version body. P.mannerIn body) ∙ manner-there (a .version) (a .body) i
 
   -- it is one of those that the demands speak of
   pub good-setup : Bytes paper → AcceptedSetup (setupOf paper)
@@ -206,14 +237,14 @@ module _ (paper : List ℕ) (a : Accepted paper) where
       let v = a .version in
       let b = a .body in
       let body-bytes = opened-bytes paper v b (a .rest) (a .opens) bytes in
-      let form = shape v b (a .set-up) in
-      let s = base v b (a .set-up) in
-      let t = cycles v b (a .set-up) in
-      let base-bytes : Bytes s = subst Bytes (base-is v b (a .set-up)) (bytes-take (form .base) b body-bytes) in
-      let tail-bytes : Bytes t = subst Bytes (cycles-are v b (a .set-up)) (bytes-cycles (form .dating) b body-bytes) in
-      let f = controls v b (a .set-up) in
-      let family-bytes : Bytes f = subst Bytes (controls-are v b (a .set-up)) (bytes-family (form .family) b body-bytes) in
-      let (base-taken, tail-taken, family-taken) = three s t f (form .unnamed) (good v b (a .set-up)) in
+      let form = shape v b i in
+      let s = base v b i in
+      let t = cycles v b i in
+      let base-bytes : Bytes s = subst Bytes (base-is v b i) (bytes-take (form .base) b body-bytes) in
+      let tail-bytes : Bytes t = subst Bytes (cycles-are v b i) (bytes-cycles (form .dating) b body-bytes) in
+      let f = controls v b i in
+      let family-bytes : Bytes f = subst Bytes (controls-are v b i) (bytes-family (form .family) b body-bytes) in
+      let (base-taken, tail-taken, family-taken) = three s t f (form .unnamed) (good v b i) in
       rw setup-is
       (record {
         bytes = record { below = byte-small s base-bytes };
@@ -246,20 +277,21 @@ unfolding begunOf setupBegun baseBegun wordsBegun setupWords
 begins words paper lent bytes a =
     let v = a .version in
     let b = a .body in
-    let form = shape v b (a .set-up) in
-    let t = set-up v b (a .set-up) (omega (arith, a .opens .most)) in
+    let i = a .set-up .fields in
+    let form = shape v b i in
+    let t = set-up v b i (a .set-up .within) in
     let r = O.opens paper v b (a .rest) (a .opens) in
-    let base = base-is v b (a .set-up) in
-    let cycles = cycles-are v b (a .set-up) in
-    let family = controls-are v b (a .set-up) in
+    let base = base-is v b i in
+    let cycles = cycles-are v b i in
+    let family = controls-are v b i in
     record {
       shape = shapeAt 4 form;
       at = 4 + length b;
-      begun-is = rw (setup-is paper a, r .0, r .1, t .shape-is, t .log, base, cycles, family, started _ _ _ _ (good v b (a .set-up)));
+      begun-is = rw (setup-is paper a, r .0, r .1, t .shape-is, t .log, base, cycles, family, started _ _ _ _ (good v b i));
       rules =
           rw (setup-is paper a, r .0, r .1, t .shape-is, t .log)
           (rules-are words paper v b (a .rest) (a .opens) form t bytes lent ∙ (λ j. rulesIn (base j) (cycles j) (family j) (form .syllabus)));
       lies = lies-there words paper v b (a .rest) (a .opens) form t;
-      manner = chooses words paper v b (a .rest) (a .opens) form t ∙ manner-read v b (a .set-up) ∙ sym (manner-is paper a);
+      manner = chooses words paper v b (a .rest) (a .opens) form t ∙ manner-read v b i ∙ sym (manner-is paper a);
       rest = r .2 ∙ sym (rest-is paper v b (a .rest) (a .opens));
     }

@@ -1,5 +1,5 @@
 -- The premises are met: by the printed sitting, its 242 bytes and the 322 bytes of its lines; by a paper whose Starts bring the terminal's data; by
--- one of version 03; by one whose Firsts have their dates; by a CPACE card's; and by one with a script. Assumes nothing.
+-- one of version 03; by one whose Firsts have their dates; by a CPACE card's; by one with a script; and by one with a log. Assumes nothing.
 use mathlib.Core.Path.{_≡_, refl, sym, ap, _∙_}
 use mathlib.Core.Bool.{Bool, true, false, _&&_}
 use mathlib.Core.List.{List, [], _∷_, append-nil}
@@ -177,15 +177,20 @@ latest-accepted =
       opens = record { is = refl; least = lit≤ tt; most = lit≤ tt; short = lit≤ tt };
       set-up =
           record {
-            setup = R.printed;
-            tail = third off 1;
-            version-is = refl;
-            fits = R.printed-fits;
-            in-range = R.printed-in-range;
-            fine = (tt, lit≤ tt);
-            dates-in-range = tt;
-            families-in-range = tt;
-            spelled = refl;
+            fields =
+                record {
+                  setup = R.printed;
+                  tail = third off 1;
+                  version-is = refl;
+                  fits = R.printed-fits;
+                  in-range = R.printed-in-range;
+                  fine = (tt, lit≤ tt);
+                  dates-in-range = tt;
+                  families-in-range = tt;
+                  logs-in-range = tt;
+                  spelled = refl;
+                };
+            within = tt;
           };
     }
 
@@ -319,15 +324,20 @@ limited-accepted =
       opens = record { is = refl; least = lit≤ tt; most = lit≤ tt; short = lit≤ tt };
       set-up =
           record {
-            setup = R.printed;
-            tail = scriptsTail;
-            version-is = refl;
-            fits = R.printed-fits;
-            in-range = R.printed-in-range-5;
-            fine = (tt, lit≤ tt, tt, tt);
-            dates-in-range = tt;
-            families-in-range = tt;
-            spelled = refl;
+            fields =
+                record {
+                  setup = R.printed;
+                  tail = scriptsTail;
+                  version-is = refl;
+                  fits = R.printed-fits;
+                  in-range = R.printed-in-range-5;
+                  fine = (tt, lit≤ tt, tt, tt);
+                  dates-in-range = tt;
+                  families-in-range = tt;
+                  logs-in-range = tt;
+                  spelled = refl;
+                };
+            within = tt;
           };
     }
 
@@ -365,3 +375,17 @@ soFar = newest (take 3 (saidIn limited))
 pub written-limit : upperOf (inForce (setupOf limited) soFar) (placeBy (setupOf limited) soFar) (accumulator 0) ≡ 6000
 unfolding limited setupOf mannerOf entriesLong number frontOf meant walk walked talk computed
 written-limit = refl
+
+-- ---- a paper of version 07: the printed sitting with a log
+
+pub logged-accepted : Accepted W.loggedPaper
+logged-accepted =
+    accepted-if-taken W.loggedPaper W.logged-bytes 7 (W.withLog W.kept) (spellAll sent) W.logged-opens (W.logging 182) W.logged-set-up
+
+pub logged-setup : setupOf W.loggedPaper ≡ record { bytes = D.body; tail = []; family = []; syllabus = 0; unnamed = 2 ^ 26; written = [] }
+unfolding W.loggedPaper D.body setupOf entriesLong number
+logged-setup = refl
+
+pub logged-commands : commandsOf W.loggedPaper ≡ commands
+unfolding W.loggedPaper commands mannerOf entriesLong number frontOf meant walk walked
+logged-commands = refl

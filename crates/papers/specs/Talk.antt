@@ -4,7 +4,7 @@ use mathlib.Core.Path.{_≡_}
 use mathlib.Core.List.{List, [], _∷_, _++_}
 use Prim.Native.Nat.{ℕ, zero, suc}
 use Rattle.refusal.specs.declared.Refusal.{Refusal}
-use Rattle.refusal.specs.declared.Refusal.the-variants.{Unreadable}
+use Rattle.refusal.specs.declared.Refusal.the-variants.{Unreadable, PastData}
 use Rattle.refusal.specs.Refusal.{refusalNumber}
 use Rattle.rules.specs.Rules.{Rules, rulesOf}
 use Rattle.shape.specs.declared.Shape.{Shape}
@@ -23,7 +23,7 @@ use Rattle.demands.specs.Setup.{Setup}
 use Rattle.demands.specs.Conversation.{Exchange, sat}
 use Rattle.spelling.specs.Faults.{OpenFault, Opens}
 use Rattle.spelling.specs.Sitting.{saidOf}
-use Rattle.rows.specs.Whole.{IsSetup}
+use Rattle.rows.specs.Whole.{IsInRange, IsPast}
 use Rattle.papers.specs.Papers.{setupOf, Accepted, commandsOf, faulty}
 
 -- a command and its answer as an event
@@ -91,9 +91,12 @@ cardAfter words paper n =
     let begun = begunOf paper in
     turns n (rulesOf (wordsBegun words paper)) (begun .shape) (begun .state) paper (begun .at)
 
--- a paper and its events: it does not open, 9; its set-up is not one, 1; or it is accepted
+-- a paper and its events: it does not open, 9; its set-up's fields are not all in their ranges, 1; they are, but a table of its log reaches past its
+-- data, 14; or it is accepted
 pub data Heard (words paper : List ℕ) : Type 0 where
   unread : OpenFault paper → eventsOf words paper ≡ Refused Unreadable ∷ [] → Heard words paper
-  not-set-up : (version : ℕ) (body rest : List ℕ) → Opens paper version body rest → (IsSetup version body → ⊥)
+  not-set-up : (version : ℕ) (body rest : List ℕ) → Opens paper version body rest → (IsInRange version body → ⊥)
       → (refusal : Refusal) → refusalNumber refusal ≡ 1 → eventsOf words paper ≡ Refused refusal ∷ [] → Heard words paper
+  past-data : (version : ℕ) (body rest : List ℕ) → Opens paper version body rest → IsPast version body
+      → eventsOf words paper ≡ Refused PastData ∷ [] → Heard words paper
   heard : Accepted paper → eventsOf words paper ≡ eventsBy paper → Heard words paper

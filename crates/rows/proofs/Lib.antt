@@ -10,6 +10,7 @@ pub mod DatedRanges
 pub mod FamilyRanges
 pub mod Entries
 pub mod Logged
+pub mod LogRanges
 pub mod Behind
 pub mod Later
 pub mod LaterRefused

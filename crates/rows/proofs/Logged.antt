@@ -1,16 +1,19 @@
--- The bytes of a log that is on: spelled exactly if they are as long as its numbers of entries say. Assumes nothing.
-use mathlib.Core.Path.{_≡_, refl, sym, ap, ap₂, subst, _∙_}
+-- The bytes of a log that is on: each field stands at the offset that docs/PAPERS.md gives, and they are spelled exactly if they are as long as its numbers
+-- of entries say. Assumes nothing.
+use mathlib.Core.Path.{_≡_, refl, sym, ap, ap₂, subst, subst₂, _∙_}
 use mathlib.Core.Bool.{Bool, true, false}
-use mathlib.Core.List.{List, [], _∷_, _++_}
+use mathlib.Core.List.{List, [], _∷_, _++_, append-nil, append-assoc}
 use mathlib.Core.Logic.{_⊎_, inl, inr}
 use Prim.Native.Nat.{ℕ, zero, suc, _+_, _-_, _*_, _≤_, _<_}
+use native.Mathlib.Nat.{add-assoc}
 use native.Mathlib.Omega.{arith}
 use borrow.Author.Tests.{eqb-true, eqb-false}
 use lib.Dec.{eqb}
-use lib.ListN.{length, take, drop, length-append, length-drop, take-append-drop}
-use lib.Seq.{take-all, drop-drop, getD-append-add}
+use lib.ListN.{length, getD, take, drop, length-append, length-drop, take-append-drop, List·getD-append}
+use lib.Seq.{take-all, drop-drop, getD-append-seam, getD-append-add}
 use Rattle.wire.specs.Wire.{byte}
 use Rattle.rows.specs.Tails.{LogEntry, Log, Logs, unlogged, logged, entriesBytes, tableBytes, logBytes, logsBytes, FineLogs}
+use Rattle.rows.specs.Offsets.{LogEntryOffsets, TableOffsets, LogOffsets}
 use Rattle.rows.specs.Tails.{tableLong, logLong, BadLog, no-log, log-above, behind-unlogged, log-length}
 use Rattle.rows.proofs.Entries.{Small, more-than-one}
 
@@ -53,6 +56,60 @@ module _ (l : Log) (p : ℕ) (few : length (l .profiles) ≡ p) (rest : List ℕ
 
   pub log-says : logLong p all ≡ length (logBytes l)
   log-says = rw (first-number, second-number) (sym log-size)
+
+-- ---- each field at its place
+
+further : (front s : List ℕ) (at : ℕ) (e : LogEntry) → LogEntryOffsets s at e → LogEntryOffsets (front ++ s) (length front + at) e
+further front s at e o =
+    let next : (k : ℕ) → byte (front ++ s) (length front + at + k) ≡ byte s (at + k) =
+    λ k. ap (byte (front ++ s)) (add-assoc (length front) at k) ∙ getD-append-add front s (at + k) 0 in
+    record { source = getD-append-add front s at 0 ∙ o .source; position = next 1 ∙ o .position; long = next 2 ∙ o .long }
+
+entries-at : (es : List LogEntry) (rest : List ℕ) (i : ℕ) → i < length es → (d : LogEntry) → LogEntryOffsets (entriesBytes es ++ rest) (3 * i) (getD es i d)
+entries-at [] rest i h d = absurd (omega arith)
+entries-at (e ∷ es) rest zero h d = record { source = refl; position = refl; long = refl }
+entries-at (e ∷ es) rest (suc i) h d =
+    let three : List ℕ = e .source ∷ e .position ∷ e .long ∷ [] in
+    let place : length three + 3 * i ≡ 3 * suc i = omega arith in
+    subst (λ (at : ℕ). LogEntryOffsets (three ++ (entriesBytes es ++ rest)) at (getD es i d)) place
+    (further three (entriesBytes es ++ rest) (3 * i) (getD es i d) (entries-at es rest i (omega arith) d))
+
+table-at : (front : List ℕ) (es : List LogEntry) (rest : List ℕ) → TableOffsets (front ++ (tableBytes es ++ rest)) (length front) es
+table-at front es rest =
+    record {
+      count = getD-append-seam front (length es) (entriesBytes es ++ rest) 0;
+      entries =
+          λ i l d.
+          let number : List ℕ = length es ∷ [] in
+          let place : length front + (length number + 3 * i) ≡ length front + 1 + 3 * i = omega arith in
+          subst (λ (at : ℕ). LogEntryOffsets (front ++ (tableBytes es ++ rest)) at (getD es i d)) place
+          (further front (tableBytes es ++ rest) (length number + 3 * i) (getD es i d)
+          (further number (entriesBytes es ++ rest) (3 * i) (getD es i d) (entries-at es rest i l d)));
+    }
+
+-- THE STATEMENT
+pub log-in-place : (l : Log) → LogOffsets (logBytes l) l
+log-in-place l =
+    let p = length (l .profiles) in
+    let head : List ℕ = 1 ∷ l .size ∷ l .switches ∷ l .profiles in
+    let firsts = tableBytes (l .firsts) in
+    let seconds = tableBytes (l .seconds) in
+    let first-place : length head ≡ 3 + p = omega arith in
+    let second-place : length (head ++ firsts) ≡ 3 + p + 1 + 3 * length (l .firsts) =
+    length-append head firsts ∙ omega (arith, entries-size (l .firsts)) in
+    let joined : head ++ firsts ++ (seconds ++ []) ≡ logBytes l =
+    append-assoc head firsts (seconds ++ []) ∙ ap (λ (t : List ℕ). head ++ (firsts ++ t)) (append-nil seconds) in
+    record {
+      on = refl;
+      size = refl;
+      switches = refl;
+      profiles =
+          λ j h.
+          let place : 3 + j ≡ suc (suc (suc j)) = omega arith in
+          ap (byte (logBytes l)) place ∙ List·getD-append (l .profiles) (firsts ++ seconds) 0 j h;
+      firsts = subst (λ (at : ℕ). TableOffsets (logBytes l) at (l .firsts)) first-place (table-at head (l .firsts) seconds);
+      seconds = subst₂ (λ (t : List ℕ) (at : ℕ). TableOffsets t at (l .seconds)) joined second-place (table-at (head ++ firsts) (l .seconds) []);
+    }
 
 -- ---- back
 

@@ -13,16 +13,17 @@ use Rattle.ranges.specs.Ranges.{areMasks, isMaximumAmount, areAccumulatorRules,
 use Rattle.ranges.specs.Ranges.{areNumbersApart, profileNumber, areConversions, isConversionOrAbsent, isConversion, conversionPair, arePairsApart}
 use Rattle.tails.specs.Tails.{areCycles, isCycle, areCyclicRules, isCyclicRule, isFamily}
 use Rattle.setup.specs.Setup.{rateIn, accumulatorIn, counterIn, profileIn, cycleIn, cyclicIn, rulesIn, freshIn, readSetup, setupNumber}
+use Rattle.log_tail.specs.LogTail.{entryIn, reachesPast, areFlags, areSources, areWithin, isInRange, isWithin, judged, judgedNumber}
 use Rattle.shape.specs.declared.ReadShape.{ReadShape}
 use Rattle.shape.specs.declared.ReadShape.the-variants.{Taken, Refused}
-use Rattle.shape.specs.Shape.{baseTail, entriesEnd, selectionTail, syllabusTail, datingTail, familyTail, scriptingTail, tailsOf, shapeOf, shapeNumber}
+use Rattle.shape.specs.Shape.{baseTail, entriesEnd, selectionTail, syllabusTail, datingTail, familyTail, scriptingTail, loggingTail, tailsOf, shapeOf, shapeNumber}
 use Rattle.rows.specs.Rows.{Four, Accumulator, Limits, Profile, Conversion, Setup, written, spelled, headRow, profileRow, conversionRow, setupRow, body}
 use Rattle.rows.specs.Rows.{Two, Cyclic, CyclicLimit, Dates, undated, dated, cyclicLimitsRow, cyclesRow, cyclesBytes}
 use Rattle.rows.specs.Rows.{Families, cpa, cpace, controlsRow, controlsBytes}
 use Rattle.rows.specs.Said.{profileSaid, conversionSaid, rulesSaid, freshSaid}
-use Rattle.rows.specs.Tails.{off, first, third, tailBytes}
-use Rattle.rows.specs.Whole.{readWhole}
-use Rattle.rows.proofs.Witness.{profile as printedProfile, printed, printedBytes, daily, dual, scripted}
+use Rattle.rows.specs.Tails.{off, LogEntry, unlogged, logged, Tail, first, third, seventh, tailBytes}
+use Rattle.rows.specs.Whole.{readWhole, logWhole}
+use Rattle.rows.proofs.Witness.{profile as printedProfile, printed, printedBytes, spending, daily, guarding, dual, scripted, entry, ring, logging, ofTwo, past}
 
 -- ---- a set-up in which each field has a value of its own
 
@@ -224,7 +225,19 @@ isOff (Refused refusal) = false
 abbrev isRefused : ℕ → List ℕ → Bool
 isRefused version tail = eqb (shapeNumber (shapeOf version (printedBytes ++ tail))) 1
 
--- `reads-fields`, `setup-refused`, `reads-tails` and `refused-by-cause` at single inputs
+-- what is judged of a log, 9 where it has no shape
+abbrev judged-by : ReadShape → (body : List ℕ) → ℕ
+judged-by (Taken shape) s = judgedNumber (logWhole shape s)
+judged-by (Refused refusal) s = 9
+
+abbrev judged-as : Tail → ℕ
+judged-as tail = judged-by (shapeOf 7 (printedBytes ++ tailBytes tail)) (printedBytes ++ tailBytes tail)
+
+-- a log with one entry in First's table, in a set-up with dates of a CPACE card
+abbrev dualLog : LogEntry → Tail
+dualLog e = seventh off 0 (dated spending) (cpace guarding) false (logged (ring 0 0 (e ∷ []) []))
+
+-- `reads-fields`, `setup-refused`, `reads-tails`, `refused-by-cause` and `past-if-spelled` at single inputs
 pub record Samples : Type 0 where
   pub counter-limits : T (limitsRead counted (limits 49))
   pub required-above : T (eqb (number-of twice undated (2 ^ 22)) 1)
@@ -264,6 +277,17 @@ pub record Samples : Type 0 where
   pub scripts-2 : T (isRefused 6 (tailBytes dual ++ 2 ∷ []) && isRefused 6 (0 ∷ 0 ∷ 0 ∷ 0 ∷ 2 ∷ []))
   pub scripts-missing : T (isRefused 6 (tailBytes dual) && isRefused 6 (0 ∷ 0 ∷ 0 ∷ 0 ∷ []))
   pub scripts-more : T (isRefused 6 (tailBytes (scripted true) ++ 0 ∷ []) && isRefused 6 (0 ∷ 0 ∷ 0 ∷ 0 ∷ 1 ∷ 0 ∷ []))
+  pub log-read : T (eqb (judged-as (logging ofTwo)) 0 && eqb (judged-as (seventh off 0 undated cpa false unlogged)) 0)
+  pub log-2 : T (isRefused 7 (0 ∷ 0 ∷ 0 ∷ 0 ∷ 0 ∷ 2 ∷ []))
+  pub log-missing : T (isRefused 7 (0 ∷ 0 ∷ 0 ∷ 0 ∷ 0 ∷ []))
+  pub behind-unlogged : T (isRefused 7 (0 ∷ 0 ∷ 0 ∷ 0 ∷ 0 ∷ 0 ∷ 0 ∷ []))
+  pub log-short : T (isRefused 7 (take 22 (tailBytes (logging ofTwo))))
+  pub log-more : T (isRefused 7 (tailBytes (logging ofTwo) ++ 0 ∷ []))
+  pub ring-21 : T (eqb (judged-as (logging (ring 20 0xFC [] []))) 0 && eqb (judged-as (logging (ring 21 0xFC [] []))) 1)
+  pub low-switches : T (eqb (judged-as (logging (ring 0 1 [] []))) 1 && eqb (judged-as (logging (ring 0 2 [] []))) 1)
+  pub sources : T (eqb (judged-as (logging (ring 0 0 (entry 1 1 1 ∷ []) []))) 1 && eqb (judged-as (logging (ring 0 0 [] (entry 1 1 1 ∷ [])))) 0)
+  pub log-past : T (eqb (judged-as (logging past)) 14 && eqb (judged-as (logging (ring 0 0 (entry 0 12 2 ∷ []) []))) 14)
+  pub dual-within : T (eqb (judged-as (dualLog (entry 0 24 1))) 0 && eqb (judged-as (dualLog (entry 0 24 2))) 14)
 
 pub samples : Samples
 unfolding counted printed printedBytes setupRow headRow profileRow conversionRow spelled written rulesIn rateIn profileIn accumulatorIn
@@ -271,7 +295,7 @@ unfolding counted printed printedBytes setupRow headRow profileRow conversionRow
     isMaximumAmount areAccumulatorRules isAccumulatorRule areCounterRules areSent areNumbersApart profileNumber areConversions
     isConversionOrAbsent isConversion conversionPair arePairsApart shapeOf tailsOf baseTail selectionTail entriesEnd syllabusTail datingTail
     cyclesRow cyclicLimitsRow cycleIn cyclicIn areCycles isCycle areCyclicRules isCyclicRule dateAt isDay hasDay familyTail controlsRow isFamily
-    scriptingTail
+    scriptingTail loggingTail entryIn reachesPast areFlags areSources areWithin isInRange isWithin judged
 samples =
     record {
       counter-limits = tt;
@@ -312,4 +336,15 @@ samples =
       scripts-2 = tt;
       scripts-missing = tt;
       scripts-more = tt;
+      log-read = tt;
+      log-2 = tt;
+      log-missing = tt;
+      behind-unlogged = tt;
+      log-short = tt;
+      log-more = tt;
+      ring-21 = tt;
+      low-switches = tt;
+      sources = tt;
+      log-past = tt;
+      dual-within = tt;
     }

@@ -1,5 +1,5 @@
 -- The set-up of the sitting that document 01 prints ("A sitting in full"), from its fields: its bytes, and that the premises of the statements are met;
--- also with dates, of a CPACE card, and with scripts off or on. Assumes nothing.
+-- also with dates, of a CPACE card, with scripts off or on, and with a log, within its data or past it. Assumes nothing.
 use mathlib.Core.Path.{_≡_, refl}
 use mathlib.Core.Bool.{Bool, true, false, _&&_}
 use mathlib.Core.List.{List, [], _∷_, _++_}
@@ -16,9 +16,9 @@ use Rattle.ranges.specs.Ranges.{isSetup}
 use Rattle.rows.specs.Rows.{Field, written, spelled, Fits, Four, Accumulator, Limits, Profile, Setup, headRow, profileRow, setupRow, body}
 use Rattle.rows.specs.Rows.{Cyclic, Cycles, undated, dated, cyclicLimitsRow, cyclesRow, Controls, cpa, cpace, controlsRow}
 use Rattle.rows.specs.Said.{Says}
-use Rattle.rows.specs.InRange.{ThreeDigits, AccumulatorRange, AccumulatorLimits, InRange, CyclicRange, DatesRange, FamiliesRange}
-use Rattle.rows.specs.Tails.{off, on, third, fourth, fifth, sixth, Tail, tailBytes, Fine, TailSays}
-use Rattle.rows.specs.Whole.{wholeBody, WholeSays}
+use Rattle.rows.specs.InRange.{ThreeDigits, AccumulatorRange, AccumulatorLimits, InRange, CyclicRange, DatesRange, FamiliesRange, LogsRange}
+use Rattle.rows.specs.Tails.{off, on, LogEntry, Log, logged, third, fourth, fifth, sixth, seventh, Tail, tailBytes, Fine, TailSays}
+use Rattle.rows.specs.Whole.{wholeBody, Within, IsPast, WholeSays}
 use Rattle.rows.proofs.Fields.{reads-fields}
 use Rattle.rows.proofs.Ranges.{accepted-in-range}
 use Rattle.rows.proofs.Behind.{reads-tails}
@@ -223,7 +223,7 @@ daily-in-range =
 -- THE WITNESS: it is taken, and says what was spelled
 pub daily-says : WholeSays printed daily 4 (wholeBody printed daily)
 unfolding printed
-daily-says = whole-says printed daily printed-fits daily-fine printed-in-range-4 daily-in-range tt
+daily-says = whole-says printed daily printed-fits daily-fine printed-in-range-4 daily-in-range tt tt tt
 
 -- ---- and a CPACE card: accumulator 1 is closed without CVM, counter 4 always, and cashback is checked
 
@@ -257,7 +257,7 @@ dual-in-range =
 -- THE WITNESS: it is taken, and says what was spelled
 pub dual-says : WholeSays printed dual 5 (wholeBody printed dual)
 unfolding printed
-dual-says = whole-says printed dual printed-fits dual-fine printed-in-range-5 daily-in-range dual-in-range
+dual-says = whole-says printed dual printed-fits dual-fine printed-in-range-5 daily-in-range dual-in-range tt tt
 
 -- ---- and scripts, off or on
 
@@ -271,4 +271,71 @@ scripted-bytes = (refl, refl)
 -- THE WITNESS: it is taken, and says what was spelled
 pub scripted-says : (scripting : Bool) → WholeSays printed (scripted scripting) 6 (wholeBody printed (scripted scripting))
 unfolding printed
-scripted-says scripting = whole-says printed (scripted scripting) printed-fits dual-fine printed-in-range-5 daily-in-range dual-in-range
+scripted-says scripting = whole-says printed (scripted scripting) printed-fits dual-fine printed-in-range-5 daily-in-range dual-in-range tt tt
+
+-- ---- and a log in a set-up whose other tails are off: a ring of two, all switches but "offline only"; and one whose last entry asks for bytes 8 and 9 of
+-- Second's 8
+
+abbrev pub entry : (source position long : ℕ) → LogEntry
+entry source position long = record { source = source; position = position; long = long }
+
+abbrev pub ring : (size switches : ℕ) (firsts seconds : List LogEntry) → Log
+ring size switches firsts seconds = record { size = size; switches = switches; profiles = 1 ∷ []; firsts = firsts; seconds = seconds }
+
+abbrev pub logging : Log → Tail
+logging l = seventh off 0 undated cpa false (logged l)
+
+abbrev pub ofTwo : Log
+ofTwo = ring 2 0xDC (entry 0 12 1 ∷ []) (entry 0 12 1 ∷ entry 1 2 2 ∷ entry 1 0 9 ∷ [])
+
+abbrev pub past : Log
+past = ring 0 0 [] (entry 1 9 0 ∷ entry 1 8 2 ∷ [])
+
+pub logging-bytes : tailBytes (logging ofTwo)
+    ≡ 0 ∷ 0 ∷ 0 ∷ 0 ∷ 0 ∷ 0x01 ∷ 0x02 ∷ 0xDC ∷ 0x01
+    ∷ 0x01 ∷ 0x00 ∷ 0x0C ∷ 0x01
+    ∷ 0x03 ∷ 0x00 ∷ 0x0C ∷ 0x01 ∷ 0x01 ∷ 0x02 ∷ 0x02 ∷ 0x01 ∷ 0x00 ∷ 0x09 ∷ []
+logging-bytes = refl
+
+pub logging-fine : Fine 1 (logging ofTwo)
+logging-fine = (tt, omega arith, tt, tt, (refl, omega arith, omega arith))
+
+pub logging-in-range : LogsRange (logged ofTwo)
+logging-in-range =
+    record {
+      size = omega arith;
+      switches = refl;
+      profiles = (omega arith, tt);
+      firsts = (omega arith, tt);
+      seconds = (omega arith, (omega arith, (omega arith, tt)));
+    }
+
+pub logging-within : Within (logging ofTwo)
+logging-within = ((λ h. omega arith, tt), (λ h. omega arith, (λ h. omega arith, (λ h. omega arith, tt))))
+
+-- THE WITNESS: it is taken, and says what was spelled
+pub logging-says : WholeSays printed (logging ofTwo) 7 (wholeBody printed (logging ofTwo))
+unfolding printed
+logging-says = whole-says printed (logging ofTwo) printed-fits logging-fine printed-in-range-5 tt tt logging-in-range logging-within
+
+-- AND THE WITNESS OF 14
+pub past-there : IsPast 7 (wholeBody printed (logging past))
+unfolding printed
+past-there =
+    record {
+      fields =
+          record {
+            setup = printed;
+            tail = logging past;
+            version-is = refl;
+            fits = printed-fits;
+            in-range = printed-in-range-5;
+            fine = (tt, omega arith, tt, tt, (refl, omega arith, omega arith));
+            dates-in-range = tt;
+            families-in-range = tt;
+            logs-in-range =
+                record { size = omega arith; switches = refl; profiles = (omega arith, tt); firsts = tt; seconds = (omega arith, (omega arith, tt)) };
+            spelled = refl;
+          };
+      past = λ w. let reached = w .1 .1 .0 (omega arith) in omega arith;
+    }

@@ -1,12 +1,13 @@
--- The ranges of a set-up's fields (document 01, "Numbers" and "The paper"; document 02, Five and Thirteen). Key index, ATC, and a counter's value and limits
--- may be any.
+-- The ranges of a set-up's fields (document 01, "Numbers" and "The paper"; document 02, Five, Thirteen and Eight). Key index, ATC, and a counter's value and
+-- limits may be any.
 use mathlib.Core.Path.{_≡_}
 use mathlib.Core.List.{List, [], _∷_}
-use Prim.Native.Nat.{ℕ, _+_, _*_, _≤_, _<_}
+use Prim.Native.Nat.{ℕ, zero, suc, _+_, _-_, _*_, _%_, _≤_, _<_}
 use lib.ListN.{length}
 use Rattle.calendar.specs.Almanac.{dateAfter}
 use Rattle.rows.specs.Rows.{Accumulator, Limits, Profile, Conversion, Setup, listed, Two, Cyclic, CyclicLimit, Cycles, Dates, undated, dated, paired}
 use Rattle.rows.specs.Rows.{Controls, Families, cpa, cpace}
+use Rattle.rows.specs.Tails.{LogEntry, Log, Logs, unlogged, logged}
 
 -- of each in a list
 abbrev pub Each : {A : Type 0} → (A → Type 0) → List A → Type 0
@@ -138,3 +139,45 @@ pub record ControlsRange (f : Controls) : Type 0 where
 abbrev pub FamiliesRange : Families → Type 0
 FamiliesRange cpa = Unit
 FamiliesRange (cpace f) = ControlsRange f
+
+-- ---- the tail of version 07
+
+abbrev pub LogsProfile : ℕ → Type 0
+LogsProfile flag = flag ≤ 1
+
+abbrev pub SourceUpTo : (highest : ℕ) → LogEntry → Type 0
+SourceUpTo highest e = e .source ≤ highest
+
+-- a ring of up to 20; switches 80, 40, 20, 10, 08 and 04; First's table has source 0 alone, Second's 0 and 1
+pub record LogRange (l : Log) : Type 0 where
+  pub size : l .size ≤ 20
+  pub switches : l .switches % 4 ≡ 0
+  pub profiles : Each LogsProfile (l .profiles)
+  pub firsts : Each (SourceUpTo 0) (l .firsts)
+  pub seconds : Each (SourceUpTo 1) (l .seconds)
+
+abbrev pub LogsRange : Logs → Type 0
+LogsRange unlogged = Unit
+LogsRange (logged l) = LogRange l
+
+-- ---- and no entry of its tables reaches past its data
+
+-- the bytes of First's data
+abbrev pub firstLong : Dates → Families → ℕ
+firstLong undated cpa = 12
+firstLong (dated d) cpa = 15
+firstLong undated (cpace f) = 21
+firstLong (dated d) (cpace f) = 24
+
+-- source 0 is First's data, source 1 Second's
+abbrev pub dataLong : (first source : ℕ) → ℕ
+dataLong first zero = first
+dataLong first (suc source) = 8
+
+-- the first byte has position 1; position 0 is "not logged"
+abbrev pub EntryWithin : (first : ℕ) → LogEntry → Type 0
+EntryWithin first e = 0 < e .position → e .position - 1 + e .long ≤ dataLong first (e .source)
+
+abbrev pub LogsWithin : (first : ℕ) → Logs → Type 0
+LogsWithin first unlogged = Unit
+LogsWithin first (logged l) = Each (EntryWithin first) (l .firsts) × Each (EntryWithin first) (l .seconds)

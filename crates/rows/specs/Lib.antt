@@ -1,6 +1,6 @@
 pub mod Rows
+pub mod Tails
 pub mod Said
 pub mod InRange
 pub mod Offsets
-pub mod Tails
 pub mod Whole

@@ -1,4 +1,4 @@
--- Where the fields of a set-up stand, in numbers: the offsets of docs/PAPERS.md, "Set-up, kind 1" and the tails of versions 04 and 05.
+-- Where the fields of a set-up stand, in numbers: the offsets of docs/PAPERS.md, "Set-up, kind 1" and the tails of versions 04, 05 and 07.
 use mathlib.Core.Path.{_≡_}
 use mathlib.Core.List.{List}
 use Prim.Native.Nat.{ℕ, _+_, _*_, _<_}
@@ -6,6 +6,7 @@ use lib.ListN.{length, getD}
 use Rattle.wire.specs.Wire.{byte, number}
 use Rattle.rows.specs.Rows.{Four, Limits, Profile, Conversion, Setup, listed, Two, Cyclic, CyclicLimit, Cycles, paired}
 use Rattle.rows.specs.Rows.{Controls}
+use Rattle.rows.specs.Tails.{LogEntry, Log}
 
 -- number i + 1 of the four
 abbrev pub nth : {A : Type 0} → Four A → ℕ → A
@@ -90,3 +91,22 @@ pub record ControlsOffsets (t : List ℕ) (f : Controls) : Type 0 where
   pub accumulators : (i : ℕ) → i < 4 → byte t (1 + i) ≡ nth (f .accumulators) i
   pub counters : (i : ℕ) → i < 4 → byte t (5 + i) ≡ nth (f .counters) i
   pub cashbacks : (j : ℕ) → j < length (f .cashbacks) → (d : ℕ) → byte t (9 + j) ≡ getD (f .cashbacks) j d
+
+-- ---- the tail of version 07, from its own start
+
+pub record LogEntryOffsets (t : List ℕ) (at : ℕ) (e : LogEntry) : Type 0 where
+  pub source : byte t at ≡ e .source
+  pub position : byte t (at + 1) ≡ e .position
+  pub long : byte t (at + 2) ≡ e .long
+
+pub record TableOffsets (t : List ℕ) (at : ℕ) (es : List LogEntry) : Type 0 where
+  pub count : byte t at ≡ length es
+  pub entries : (i : ℕ) → i < length es → (d : LogEntry) → LogEntryOffsets t (at + 1 + 3 * i) (getD es i d)
+
+pub record LogOffsets (t : List ℕ) (l : Log) : Type 0 where
+  pub on : byte t 0 ≡ 1
+  pub size : byte t 1 ≡ l .size
+  pub switches : byte t 2 ≡ l .switches
+  pub profiles : (j : ℕ) → j < length (l .profiles) → byte t (3 + j) ≡ byte (l .profiles) j
+  pub firsts : TableOffsets t (3 + length (l .profiles)) (l .firsts)
+  pub seconds : TableOffsets t (3 + length (l .profiles) + 1 + 3 * length (l .firsts)) (l .seconds)

@@ -1,4 +1,4 @@
--- What follows the base of a set-up's body, spelled (docs/PAPERS.md, "Tail of version 02" to "Tail of version 06"; document 02, Three, Nine, Five,
+-- What follows the base of a set-up's body, spelled (docs/PAPERS.md, "Tail of version 02" to "Tail of version 07"; document 02, Three, Nine, Five,
 -- Thirteen, Twelve and Eight).
 use Prim.Native.Nat.{ℕ, suc, _+_, _-_, _*_, _^_, _≤_, _<_}
 use mathlib.Core.Path.{_≡_}

@@ -15,10 +15,14 @@ use Rattle.load.specs.Load.{profilesWords, cycleWords, cyclicRuleWords, cyclicR
 use Rattle.ranges.specs.Ranges.{isSetup, hasLength, isHead, areAccumulators, isAccumulator, areProfiles, isProfileOrAbsent, isProfile}
 use Rattle.ranges.specs.Ranges.{areMasks, isMaximumAmount, areAccumulatorRules, isAccumulatorRule, areCounterRules, areSent}
 use Rattle.ranges.specs.Ranges.{areNumbersApart, profileNumber, areConversions, isConversionOrAbsent, isConversion, conversionPair, arePairsApart}
-use Rattle.tails.specs.Tails.{areCycles, isFamily}
+use Rattle.tails.specs.Tails.{isCycle, isCyclicRule, areCyclicRules, areCycles, isFamily}
+use Rattle.calendar.specs.Calendar.{dateAt, hasDay, isDay}
 use Rattle.setup.specs.Setup.{freshIn, readSetup, wordsAfter, rateIn, accumulatorIn, counterIn, profileIn, cycleIn, cyclicIn, rulesIn}
 use Rattle.shape.specs.declared.Shape.{Shape}
-use Rattle.shape.specs.Shape.{shapeOf, tailsOf, baseTail, selectionTail, syllabusTail}
+use Rattle.shape.specs.declared.ReadShape.{ReadShape}
+use Rattle.shape.specs.Shape.{shapeOf, tailsOf, baseTail, entriesEnd, selectionTail, syllabusTail, datingTail, familyTail, scriptingTail, loggingTail}
+use Rattle.log_tail.specs.declared.Judged.{Judged}
+use Rattle.log_tail.specs.LogTail.{entryIn, reachesPast, areFlags, areSources, areWithin, isInRange, isWithin, judged}
 use Rattle.paper.specs.Paper.{nextAt, openPaper}
 use Rattle.command.specs.declared.Command.{Command}
 use Rattle.command.specs.Command.{startOf, firstOf, secondOf, commandOf, commandIn}
@@ -44,7 +48,7 @@ use Rattle.scripting.specs.Scripting.{scriptPerformed, scriptStep, scriptWrites
 use Rattle.opening.specs.declared.Begun.{Begun}
 use Rattle.records.specs.declared.Event.{Event}
 use Rattle.records.specs.Records.{answeredBy, scriptedBy, bodyWrites}
-use Rattle.opening.specs.Opening.{logJudged, baseBegun, setupBegun, begunOf, setupWords, wordsBegun}
+use Rattle.opening.specs.Opening.{logJudged, pastBegun, baseBegun, setupBegun, begunOf, setupWords, wordsBegun}
 use Rattle.conversation.specs.Conversation.{takenOf, takenWrites}
 use Rattle.conversation.specs.Events.{eventsFrom, eventsOf}
 use Rattle.lines.specs.Lines.{digit, decimal, hex, refusalLine, startLine, selectedLine, cryptogramLine}
@@ -56,10 +60,20 @@ unfolding number isSetup hasLength isHead areAccumulators isAccumulator areProfi
     areAccumulatorRules isAccumulatorRule areCounterRules areSent areNumbersApart profileNumber
 inRange s unnamed = isSetup s unnamed
 
+-- its tails
+unfoldable tailed : (version : ℕ) (body : List ℕ) → ReadShape
+unfolding tailsOf baseTail entriesEnd selectionTail syllabusTail datingTail familyTail scriptingTail loggingTail areCycles isCycle areCyclicRules isCyclicRule dateAt isDay
+    hasDay isFamily
+tailed version body = shapeOf version body
+
+unfoldable logged : Shape → (body : List ℕ) → Judged
+unfolding entryIn reachesPast areFlags areSources areWithin isInRange isWithin judged
+logged shape body = logJudged shape body
+
 -- a paper opened, and its set-up read into words
-unfoldable begun : (paper : List ℕ) → Begun
-unfolding inRange areConversions isConversionOrAbsent isConversion conversionPair arePairsApart areCycles isFamily openPaper nextAt shapeOf tailsOf baseTail
-    selectionTail syllabusTail readSetup freshIn freshState freshScripts kept begunOf setupBegun baseBegun logJudged
+unfoldable pub begun : (paper : List ℕ) → Begun
+unfolding inRange areConversions isConversionOrAbsent isConversion conversionPair arePairsApart tailed logged openPaper nextAt shapeOf readSetup freshIn
+    freshState freshScripts kept begunOf setupBegun baseBegun logJudged pastBegun
 begun paper = begunOf paper
 
 unfoldable rules : (words paper : List ℕ) → Rules

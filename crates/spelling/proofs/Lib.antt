@@ -6,8 +6,8 @@ pub mod Opening
 pub mod Lines
 pub mod Parsed
 pub mod Papers
-pub mod Witness
 pub mod Computed
+pub mod Witness
 pub mod Samples
 pub mod Text
 pub mod Shown

@@ -14,7 +14,7 @@ use Rattle.refusal.specs.declared.Refusal.the-variants.{Unreadable}
 use Rattle.paper.specs.declared.Next.{Next}
 use Rattle.paper.specs.declared.Next.the-variants.{Record, Fault, End}
 use Rattle.paper.specs.declared.Opened.the-variants.{Setup, Refused}
-use Rattle.paper.specs.Paper.{isUnreadable, nextAt, setupIn, openPaper, openedNumber}
+use Rattle.paper.specs.Paper.{latest, isUnreadable, nextAt, setupIn, openPaper, openedNumber}
 use Rattle.paper.specs.Walk.{part}
 use Rattle.spelling.specs.Spelling.{Bytes, recordOf}
 use Rattle.spelling.specs.Faults.{Whole, OpenFault, empty, over, bad-version, setup-missing, setup-broken, other-first, Opens}
@@ -36,7 +36,7 @@ module _ (s : List ℕ) (version : ℕ) (body rest : List ℕ) (o : Opens s vers
         ne-eqb (length s) 0 (omega arith),
         le-ltb 65536 (length s) (o .short),
         ne-eqb version 0 (omega (arith, o .least)),
-        le-ltb 6 version (o .most),
+        le-ltb latest version (o .most),
       ))
 
   -- ITS VERSION AND ITS SET-UP'S BODY ARE READ, AND THE READER GOES ON BEHIND IT
@@ -85,10 +85,10 @@ no-setup s n e h = rw (e, h) (by (isUnreadable s)) where
 -- ONE OF THE CAUSES: REFUSAL 9
 pub faults : (s : List ℕ) → OpenFault s → openPaper s ≡ Refused Unreadable
 faults s (empty e) = unreadable s (rw e)
-faults s (over l) = unreadable s (rw (lt-ltb 65536 (length s) l) (second-holds (eqb (length s) 0) (eqb (byte s 0) 0) (ltb 6 (byte s 0))))
-faults s (bad-version version rest e (inl z)) = unreadable s (rw (e, z) (third-holds (eqb (length (0 ∷ rest)) 0) (ltb 65536 (length (0 ∷ rest))) (ltb 6 0)))
+faults s (over l) = unreadable s (rw (lt-ltb 65536 (length s) l) (second-holds (eqb (length s) 0) (eqb (byte s 0) 0) (ltb latest (byte s 0))))
+faults s (bad-version version rest e (inl z)) = unreadable s (rw (e, z) (third-holds (eqb (length (0 ∷ rest)) 0) (ltb 65536 (length (0 ∷ rest))) (ltb latest 0)))
 faults s (bad-version version rest e (inr l)) =
-    unreadable s (rw (e, lt-ltb 6 version l) (fourth-holds (eqb (length (version ∷ rest)) 0) (ltb 65536 (length (version ∷ rest))) (eqb version 0)))
+    unreadable s (rw (e, lt-ltb latest version l) (fourth-holds (eqb (length (version ∷ rest)) 0) (ltb 65536 (length (version ∷ rest))) (eqb version 0)))
 faults s (setup-missing version e) = no-setup s End (next-drop s 1 ∙ ap (shift 1) (next-nothing (drop 1 s) (ap (drop 1) e))) refl
 faults s (setup-broken version rest e b) =
     no-setup s Fault (next-drop s 1 ∙ ap (shift 1) (ap (λ (t : List ℕ). nextAt t 0) (ap (drop 1) e) ∙ next-broken rest b)) refl
@@ -109,9 +109,9 @@ pub record Opening (s : List ℕ) : Type 0 where
 pub opens-or-faults : (s : List ℕ) → Bytes s → OpenFault s ⊎ Opening s
 opens-or-faults [] h = inl (empty refl)
 opens-or-faults (version ∷ rest) h =
-    by (ltb 65536 (length (version ∷ rest))) (eqb version 0) (ltb 6 version) refl refl refl (shape rest (h .1))
+    by (ltb 65536 (length (version ∷ rest))) (eqb version 0) (ltb latest version) refl refl refl (shape rest (h .1))
   where
-    by-kind : (kind : ℕ) (body : List ℕ) (b : Bool) → eqb kind 1 ≡ b → Whole rest kind body → 1 ≤ version → version ≤ 6
+    by-kind : (kind : ℕ) (body : List ℕ) (b : Bool) → eqb kind 1 ≡ b → Whole rest kind body → 1 ≤ version → version ≤ latest
         → length (version ∷ rest) ≤ 65536
         → OpenFault (version ∷ rest) ⊎ Opening (version ∷ rest)
     by-kind kind body true e w l m short =
@@ -124,15 +124,15 @@ opens-or-faults (version ∷ rest) h =
         })
     by-kind kind body false e w l m short = inl (other-first version kind rest body refl w (eqb-false kind 1 e))
 
-    by : (long none late : Bool) → ltb 65536 (length (version ∷ rest)) ≡ long → eqb version 0 ≡ none → ltb 6 version ≡ late → Shape rest
+    by : (long none late : Bool) → ltb 65536 (length (version ∷ rest)) ≡ long → eqb version 0 ≡ none → ltb latest version ≡ late → Shape rest
         → OpenFault (version ∷ rest) ⊎ Opening (version ∷ rest)
     by true none late p q r x = inl (over (ltb-true 65536 (length (version ∷ rest)) p))
     by false true late p q r x = inl (bad-version version rest refl (inl (eqb-true version 0 q)))
-    by false false true p q r x = inl (bad-version version rest refl (inr (ltb-true 6 version r)))
+    by false false true p q r x = inl (bad-version version rest refl (inr (ltb-true latest version r)))
     by false false false p q r (nothing e) = inl (setup-missing version (ap (λ (t : List ℕ). version ∷ t) e))
     by false false false p q r (broken b) = inl (setup-broken version rest refl b)
     by false false false p q r (whole kind body w) =
-        by-kind kind body (eqb kind 1) refl w (omega (arith, eqb-false version 0 q)) (ltb-false 6 version r) (ltb-false 65536 (length (version ∷ rest)) p)
+        by-kind kind body (eqb kind 1) refl w (omega (arith, eqb-false version 0 q)) (ltb-false latest version r) (ltb-false 65536 (length (version ∷ rest)) p)
 
 -- REFUSAL 9 EXACTLY WHERE A CAUSE APPLIES
 pub nine-exactly : (s : List ℕ) → Bytes s → (openedNumber (openPaper s) ≡ 9) ↔ OpenFault s

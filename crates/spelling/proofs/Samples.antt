@@ -40,7 +40,7 @@ use Rattle.lines.specs.Sitting.{answerLine, linesOf, sittingLines}
 use Rattle.readback.specs.Fields.{wordsIn, areDigits, valueIn, isHex, bytesIn, Fields, Two, Three, Four, Five, Other, fieldsIn}
 use Rattle.spelling.specs.Spelling.{big, recordOf, unsaid, on, Presented, unshown, shown, names, brings, first, firstOn, second, script}
 use Rattle.spelling.specs.Spelling.{kindOf, bodyOf, spell, paperOf}
-use Rattle.spelling.specs.Printed.{printed, body}
+use Rattle.spelling.specs.Printed.{printed, body, calendar, calendarBody, cpacePaper, cpaceBody}
 use Rattle.spelling.specs.Sitting.{Reading, over, refused, message, reading}
 use Rattle.spelling.proofs.Computed.{answered, heard}
 
@@ -202,11 +202,37 @@ converting = take 4 body ++ 1 ∷ drop 5 body ++ 0x08 ∷ 0x40 ∷ 0x09 ∷ 0x78
 abbrev roundedUp : List (List ℕ)
 roundedUp = sittingLines blank (paperOf 3 (converting ++ 0 ∷ 1 ∷ []) (spell (names unsaid 1) ++ spell (first 1 1 0x0840 0x22 unshown)))
 
+-- version 07, the printed set-up and a log behind it, and a Start: every tail before the log is off
+abbrev withLog : (base log : List ℕ) → List (List ℕ)
+withLog base log = sittingLines blank (paperOf 7 (base ++ 0 ∷ 0 ∷ 0 ∷ 0 ∷ 0 ∷ log) (spell (names unsaid 1)))
+
+-- a log of size 0 that logs nothing, with one entry in First's table, and with two in Second's, of which the last reaches past its 8 bytes
+abbrev entry : (source position long : ℕ) → List ℕ
+entry source position long = 1 ∷ 0 ∷ 0 ∷ 0 ∷ 1 ∷ source ∷ position ∷ long ∷ 0 ∷ []
+
+abbrev past : (size : ℕ) → List ℕ
+past size = 1 ∷ size ∷ 0 ∷ 0 ∷ 0 ∷ 2 ∷ 1 ∷ 9 ∷ 0 ∷ 1 ∷ 8 ∷ 2 ∷ []
+
+-- PIN tries 16 are out of range
+abbrev badBase : List ℕ
+badBase = take 1 body ++ 16 ∷ drop 2 body
+
+-- the same entry behind a set-up with dates, and of a CPACE card
+abbrev withDatesLog : (log : List ℕ) → List (List ℕ)
+withDatesLog log = sittingLines blank (paperOf 7 (calendarBody ++ 0 ∷ 0 ∷ log) [])
+
+abbrev withCpaceLog : (log : List ℕ) → List (List ℕ)
+withCpaceLog log = sittingLines blank (paperOf 7 (cpaceBody ++ 0 ∷ log) [])
+
+-- the set-up's line is the only one, with this refusal
+abbrev endsWith : List (List ℕ) → (refusal : ℕ) → Bool
+endsWith lines refusal = eqb (length lines) 1 && isTwo (fieldsIn (getD lines 0 [])) 0 refusal
+
 pub record Samples : Type 0 where
   -- 4 bytes and any 65,533 more
   pub over-long : (more : List ℕ) → length more ≡ 65533 → T (isUnread (1 ∷ 0 ∷ 1 ∷ 1 ∷ more))
   pub version-0 : T (isUnread (0 ∷ 0 ∷ 1 ∷ 1 ∷ []))
-  pub version-7 : T (isUnread (7 ∷ 0 ∷ 1 ∷ 1 ∷ []))
+  pub version-8 : T (isUnread (8 ∷ 0 ∷ 1 ∷ 1 ∷ []))
   pub first-fields : T (isFirst (readingWith (based 0) (spell (first 1 5000 0x0978 0x22 unshown)) 0) 1 5000 0x0978 0x22 15)
   pub dated-fields : T (isFirst (readingWith withDates onDay 0) 1 5000 0x0978 0x22 18)
   pub date-field : T (isFirstOn (readingWith withDates onDay 0) 0x05 0x07 0x15)
@@ -252,6 +278,17 @@ pub record Samples : Type 0 where
   pub first-command : T (eqb (length started) 2)
   pub own-rules : T (eqb (length (getD started 1 [])) 6)
   pub rounded-up : T (eqb (byte (getD roundedUp 2 []) 36) 0x31)
+  -- a paper of version 07 is taken, its log off or on
+  pub log-off : T (eqb (length (withLog body (0 ∷ []))) 2)
+  pub log-on : T (eqb (length (withLog body (entry 0 12 1))) 2)
+  -- a table that reaches past its data ends it with 14; 1 comes before it, of the log and of the base
+  pub past-data : T (endsWith (withLog body (past 0)) 14)
+  pub range-first : T (endsWith (withLog body (past 21)) 1)
+  pub base-first : T (endsWith (withLog badBase (past 0)) 1)
+  -- First's data has 12 bytes, with dates 15, of a CPACE card 21
+  pub past-first : T (endsWith (withLog body (entry 0 13 1)) 14)
+  pub within-dates : T (endsWith (withDatesLog (entry 0 13 3)) 0 && endsWith (withDatesLog (entry 0 13 4)) 14)
+  pub within-cpace : T (endsWith (withCpaceLog (entry 0 13 9)) 0 && endsWith (withCpaceLog (entry 0 13 10)) 14)
   -- a script's line; the CID of a First behind it, TC, and AAC where the script has written 5 into accumulator 1 and 0 into its limits
   pub script-first : T (isTwo (fieldsIn (getD (behindScript 2 0x7100) 0 [])) 1 0)
   pub nothing-written : T (eqb (byte (getD (behindScript 2 0x7100) 2 []) 4) 0x34)
@@ -266,12 +303,12 @@ unfolding openPaper nextAt number dateAt cvmAt cashbackAt reading commandIn comm
     slotsOf testsSlot slotAction isSlotSound slotOf lacksAmount slotPasses slotValue
     kindOf bodyOf recordOf big
     eventsFrom takenOf takenWrites answeredBy linesOf refusalLine decimal digit answerLine startLine selectedLine
-    fieldsIn wordsIn areDigits valueIn isHex bytesIn printed answered heard
+    fieldsIn wordsIn areDigits valueIn isHex bytesIn printed calendar cpacePaper answered heard
 samples =
     record {
       over-long = λ more e. rw e tt;
       version-0 = tt;
-      version-7 = tt;
+      version-8 = tt;
       first-fields = tt;
       dated-fields = tt;
       date-field = tt;
@@ -305,6 +342,14 @@ samples =
       first-command = tt;
       own-rules = tt;
       rounded-up = tt;
+      log-off = tt;
+      log-on = tt;
+      past-data = tt;
+      range-first = tt;
+      base-first = tt;
+      past-first = tt;
+      within-dates = tt;
+      within-cpace = tt;
       script-first = tt;
       nothing-written = tt;
       limits-written = tt;

@@ -1,5 +1,5 @@
 -- The premises are met: by the paper of the printed sitting, by one whose Starts bring the terminal's data, by one whose Firsts have
--- their dates, by a CPACE card's, and by records with a script. Assumes nothing.
+-- their dates, by a CPACE card's, by records with a script, and by papers with a log. Assumes nothing.
 use mathlib.Core.Path.{_≡_, refl, sym}
 use mathlib.Core.Bool.{Bool, true, _&&_}
 use mathlib.Core.List.{List, [], _∷_, _++_, append-nil}
@@ -8,33 +8,27 @@ use native.Mathlib.Omega.{arith}
 use borrow.Author.Tests.{ltb-true}
 use lib.Dec.{T, ltb, lit<, lit≤}
 use lib.ListN.{length, drop}
-use Rattle.wire.specs.Wire.{number}
 use Rattle.wire.proofs.Pairs.{both}
 use Rattle.rules.specs.Rules.{Rules}
 use Rattle.rules.specs.Word.{wordCount}
-use Rattle.ranges.specs.Ranges.{isSetup, hasLength, isHead, areAccumulators, isAccumulator}
-use Rattle.ranges.specs.Ranges.{areProfiles, isProfileOrAbsent, isProfile, areMasks, isMaximumAmount, areAccumulatorRules, isAccumulatorRule}
-use Rattle.ranges.specs.Ranges.{areCounterRules, areSent, areNumbersApart, profileNumber}
-use Rattle.ranges.specs.Ranges.{areConversions, isConversionOrAbsent, isConversion, conversionPair, arePairsApart}
-use Rattle.tails.specs.Tails.{isCycle, isCyclicRule, areCyclicRules, areCycles, isFamily}
-use Rattle.calendar.specs.Calendar.{dateAt, hasDay, isDay}
-use Rattle.setup.specs.Setup.{readSetup}
-use Rattle.shape.specs.declared.Dating.the-variants.{On as DatesOn}
-use Rattle.shape.specs.declared.Family.the-variants.{Cpace}
+use Rattle.shape.specs.declared.Dating.the-variants.{Off as DatesOff, On as DatesOn}
+use Rattle.shape.specs.declared.Family.the-variants.{Cpa, Cpace}
+use Rattle.shape.specs.declared.Logging.the-variants.{On as LogOn}
 use Rattle.shape.specs.declared.Shape.{Shape}
-use Rattle.shape.specs.Shape.{based, baseTail, entriesEnd, selects, selectionTail, syllabusTail, dates, datingTail, families, familyTail, scripts, tailsOf, shapeOf}
+use Rattle.shape.specs.Shape.{based, selects, dates, families, scripts, logs}
 use Rattle.state.specs.declared.State.{State}
 use Rattle.conversation.specs.Events.{eventsFrom}
+use Rattle.lines.specs.Lines.{refusalLine}
 use Rattle.lines.specs.Sitting.{sittingLines}
-use Rattle.opening.specs.Opening.{logJudged}
 use Rattle.spelling.specs.Spelling.{Bytes, big, recordOf, unsaid, on, unshown, shown, Sent, names, brings, first, firstOn, second, script}
 use Rattle.spelling.specs.Spelling.{kindOf, bodyOf, spellAll, paperOf}
 use Rattle.spelling.specs.Spelling.{byName, byFile, undated, dated, cpa, cpace, unscripted, scripted, Manner, mannerIn, Fits, AllFit}
 use Rattle.spelling.specs.Faults.{Opens}
-use Rattle.spelling.specs.Sitting.{SetUp, allStandFor, happened, ended, sittingOf}
+use Rattle.spelling.specs.Sitting.{SetUp, NotSetUp, no-log, PastSetUp, allStandFor, happened, ended, sittingOf}
 use Rattle.spelling.specs.Printed.{printed, body, sent, selection, selectionBody, file, brought, calendar, calendarBody, datedSent, cpacePaper, cpaceBody, cpaceSent}
 use Rattle.spelling.proofs.Lines.{events-spelled}
-use Rattle.spelling.proofs.Papers.{lines-of}
+use Rattle.spelling.proofs.Papers.{lines-of, fourteen-line}
+use Rattle.spelling.proofs.Computed.{begun}
 
 areBytes : List ℕ → Bool
 areBytes [] = true
@@ -63,9 +57,7 @@ unfolding printed sent spellAll kindOf bodyOf recordOf big
 opens = record { is = refl; least = lit≤ tt; most = lit≤ tt; short = lit≤ tt }
 
 pub set-up : SetUp 1 body (based 159)
-unfolding printed shapeOf tailsOf baseTail logJudged readSetup isSetup hasLength isHead areAccumulators isAccumulator number
-    areProfiles isProfileOrAbsent isProfile areMasks isMaximumAmount areAccumulatorRules isAccumulatorRule areCounterRules areSent
-    areNumbersApart profileNumber areConversions isConversionOrAbsent isConversion conversionPair arePairsApart areCycles isFamily
+unfolding printed begun
 set-up = record { shape-is = refl; base = refl; log = refl }
 
 abbrev pub named : Manner
@@ -114,9 +106,7 @@ unfolding selection brought spellAll kindOf bodyOf recordOf big
 brought-opens = record { is = refl; least = lit≤ tt; most = lit≤ tt; short = lit≤ tt }
 
 pub brought-set-up : SetUp 2 selectionBody selective
-unfolding selection shapeOf tailsOf baseTail selectionTail entriesEnd logJudged readSetup isSetup hasLength isHead areAccumulators isAccumulator number
-    areProfiles isProfileOrAbsent isProfile areMasks isMaximumAmount areAccumulatorRules isAccumulatorRule areCounterRules areSent
-    areNumbersApart profileNumber areConversions isConversionOrAbsent isConversion conversionPair arePairsApart areCycles isFamily
+unfolding selection begun
 brought-set-up = record { shape-is = refl; base = refl; log = refl }
 
 pub brought-chosen : mannerIn selective selectionBody ≡ chosen
@@ -164,10 +154,7 @@ unfolding calendar datedSent spellAll kindOf bodyOf recordOf big
 dated-opens = record { is = refl; least = lit≤ tt; most = lit≤ tt; short = lit≤ tt }
 
 pub dated-set-up : SetUp 4 calendarBody calendarly
-unfolding calendar shapeOf tailsOf baseTail selectionTail syllabusTail datingTail logJudged readSetup isSetup hasLength isHead areAccumulators isAccumulator number
-    areProfiles isProfileOrAbsent isProfile areMasks isMaximumAmount areAccumulatorRules isAccumulatorRule areCounterRules areSent
-    areNumbersApart profileNumber areConversions isConversionOrAbsent isConversion conversionPair arePairsApart
-    areCycles isCycle areCyclicRules isCyclicRule dateAt isDay hasDay isFamily
+unfolding calendar begun
 dated-set-up = record { shape-is = refl; base = refl; log = refl }
 
 pub dated-manner : mannerIn calendarly calendarBody ≡ onDays
@@ -234,9 +221,7 @@ unfolding cpacePaper cpaceSent spellAll kindOf bodyOf recordOf big
 cpace-opens = record { is = refl; least = lit≤ tt; most = lit≤ tt; short = lit≤ tt }
 
 pub cpace-set-up : SetUp 5 cpaceBody cpacely
-unfolding cpacePaper shapeOf tailsOf baseTail selectionTail syllabusTail datingTail familyTail logJudged readSetup isSetup hasLength isHead areAccumulators isAccumulator
-    number areProfiles isProfileOrAbsent isProfile areMasks isMaximumAmount areAccumulatorRules isAccumulatorRule areCounterRules areSent
-    areNumbersApart profileNumber areConversions isConversionOrAbsent isConversion conversionPair arePairsApart areCycles isFamily
+unfolding cpacePaper begun
 cpace-set-up = record { shape-is = refl; base = refl; log = refl }
 
 pub cpace-manner : mannerIn cpacely cpaceBody ≡ presenting
@@ -301,3 +286,58 @@ pub script-events : (rules : Rules) (state : State)
 script-events rules state =
     events-spelled scriptly (spellAll issued) tt issued 10 rules state 0 script-fit [] (ended refl) (sym (append-nil (spellAll issued)))
     (rw script-spelled (omega arith))
+
+-- ---- papers of version 07: the printed set-up, and behind it every tail off up to the log; sitting E's log, which is taken, sitting G's, whose last
+-- entry reaches past Second's 8 bytes, and one with a ring of 21
+
+abbrev pub withLog : (log : List ℕ) → List ℕ
+withLog log = body ++ 0 ∷ 0 ∷ 0 ∷ 0 ∷ 0 ∷ log
+
+abbrev pub kept : List ℕ
+kept = 1 ∷ 2 ∷ 0xDC ∷ 1 ∷ 1 ∷ 0 ∷ 12 ∷ 1 ∷ 3 ∷ 0 ∷ 12 ∷ 1 ∷ 1 ∷ 2 ∷ 2 ∷ 1 ∷ 0 ∷ 9 ∷ []
+
+abbrev past : List ℕ
+past = 1 ∷ 0 ∷ 0 ∷ 0 ∷ 0 ∷ 2 ∷ 1 ∷ 9 ∷ 0 ∷ 1 ∷ 8 ∷ 2 ∷ []
+
+abbrev wrong : List ℕ
+wrong = 1 ∷ 21 ∷ 0 ∷ 0 ∷ 0 ∷ 0 ∷ []
+
+abbrev pub logging : (end : ℕ) → Shape
+logging end = logs (families (dates (based 159) DatesOff) Cpa) (LogOn 164 end)
+
+unfoldable pub loggedPaper : List ℕ
+unfolding printed sent spellAll kindOf bodyOf recordOf big
+loggedPaper = paperOf 7 (withLog kept) (spellAll sent)
+
+pub logged-bytes : Bytes loggedPaper
+unfolding loggedPaper areBytes
+logged-bytes = bytes-of loggedPaper refl
+
+pub logged-opens : Opens loggedPaper 7 (withLog kept) (spellAll sent)
+unfolding loggedPaper
+logged-opens = record { is = refl; least = lit≤ tt; most = lit≤ tt; short = lit≤ tt }
+
+pub logged-set-up : SetUp 7 (withLog kept) (logging 182)
+unfolding printed begun
+logged-set-up = record { shape-is = refl; base = refl; log = refl }
+
+-- ITS LINES ARE THOSE OF WHAT WAS SENT
+pub logged-lines : (words : List ℕ) → length words ≡ wordCount
+    → sittingLines words loggedPaper ≡ sittingOf (logging 182) (withLog kept) {manner = named} sent {rest = []} (ended refl)
+logged-lines words lent =
+    lines-of words loggedPaper 7 (withLog kept) (spellAll sent) logged-opens (logging 182) logged-set-up logged-bytes lent sent [] fit (ended refl)
+    (sym (append-nil (spellAll sent)))
+
+pub past-set-up : PastSetUp 7 (withLog past)
+unfolding printed begun
+past-set-up = record { shape = logging 176; shape-is = refl; base = refl; log = refl }
+
+-- THE ONE LINE 0 14
+pub past-line : (words : List ℕ) → sittingLines words (paperOf 7 (withLog past) []) ≡ refusalLine 0 14 ∷ []
+unfolding printed recordOf big
+past-line words =
+    fourteen-line words (paperOf 7 (withLog past) []) 7 (withLog past) [] (record { is = refl; least = lit≤ tt; most = lit≤ tt; short = lit≤ tt }) past-set-up
+
+pub wrong-log : NotSetUp 7 (withLog wrong)
+unfolding printed begun
+wrong-log = no-log (logging 170) refl refl

@@ -18,12 +18,12 @@ pub record Whole (s : List ℕ) (kind : ℕ) (body : List ℕ) : Type 0 where
   pub is : s ≡ recordOf kind body ++ more
   pub sized : length body < 65535
 
--- before the first command: paper empty or over 65,536 bytes; version not 01 to 06; the first record missing, cut short or without a
+-- before the first command: paper empty or over 65,536 bytes; version not 01 to 07; the first record missing, cut short or without a
 -- kind; another record in the set-up's place
 pub data OpenFault (s : List ℕ) : Type 0 where
   empty : s ≡ [] → OpenFault s
   over : 65536 < length s → OpenFault s
-  bad-version : (version : ℕ) (rest : List ℕ) → s ≡ version ∷ rest → (version ≡ 0) ⊎ (6 < version) → OpenFault s
+  bad-version : (version : ℕ) (rest : List ℕ) → s ≡ version ∷ rest → (version ≡ 0) ⊎ (7 < version) → OpenFault s
   setup-missing : (version : ℕ) → s ≡ version ∷ [] → OpenFault s
   setup-broken : (version : ℕ) (rest : List ℕ) → s ≡ version ∷ rest → Broken rest → OpenFault s
   other-first : (version kind : ℕ) (rest body : List ℕ) → s ≡ version ∷ rest → Whole rest kind body → (kind ≡ 1 → ⊥) → OpenFault s
@@ -32,7 +32,7 @@ pub data OpenFault (s : List ℕ) : Type 0 where
 pub record Opens (s : List ℕ) (version : ℕ) (body rest : List ℕ) : Type 0 where
   pub is : s ≡ paperOf version body rest
   pub least : 1 ≤ version
-  pub most : version ≤ 6
+  pub most : version ≤ 7
   pub short : length s ≤ 65536
 
 -- the length of a Start that names its profile, and of a First
