@@ -16,7 +16,7 @@ fn sit(buffer: &mut [u8], words: &mut Words, room: &mut [u8]) -> Ending {
         return Ending::NotRead;
     }
     let filled = read.filled;
-    let Transcript::Whole { end } = transcript::transcribe(&buffer[..filled], words, room, 0) else {
+    let Transcript::Whole { end } = paper_text::put_text(&buffer[..filled], words, room, 0) else {
         return Ending::NotWritten;
     };
     if streams::write_out(room, end) {
@@ -116,14 +116,14 @@ fn turn_pages(buffer: &mut [u8], words: &mut Words, room: &mut [u8]) -> Ending {
 
 pub fn run_sitting() {
     let mut buffer = [0u8; 65_537];
-    let mut room = [0u8; 524_378];
+    let mut room = [0u8; 770_118];
     let mut words = rules::blank();
     streams::acknowledge(sit(&mut buffer, &mut words, &mut room));
 }
 
 pub fn run_stack() {
     let mut buffer = [0u8; 65_540];
-    let mut room = [0u8; 524_378];
+    let mut room = [0u8; 770_118];
     let mut words = rules::blank();
     streams::acknowledge(turn_pages(&mut buffer, &mut words, &mut room));
 }

@@ -1,11 +1,17 @@
 // The log of a paper (request Eight): what its set-up says of it, and what a record is to it.
 ghost use mathlib.Core.Path.{_≡_};
-ghost use Rattle.log.specs.Log.{stretchOf, stretchPlace, tailIn, tailPlace, numberIn, loggingIn, isDated, formOf, logOf, heardIn};
+ghost use Rattle.rules.specs.Rules.{rulesOf};
+ghost use Rattle.log.specs.Log.{tailAt, tailPlace, loggingIn, isDated, formOf, noLogging, logOf, heardIn};
 use journal::Heard;
 use log_fields::Form;
+use rules::Place;
+use rules::Words;
 use shape::Dating;
 use shape::Logging;
 use shape::Shape;
+
+// The number of profiles: the set-up's body begins at 4, behind the version, its length and its kind.
+const PROFILES: usize = 7;
 
 const FIRST: u8 = 3;
 
@@ -14,54 +20,37 @@ const SECOND: u8 = 4;
 // The response code, behind the length, the kind and the type.
 const CODE: usize = 4;
 
-// What goes in, and what its lines must know of the paper.
+// What goes in, what its lines must know of the paper, and where its tail lies. Without a log nothing
+// goes in.
 pub struct Log {
     pub logging: journal::Logging,
     pub form: Form,
+    pub start: usize,
+    pub end: usize,
 }
 
-// The stretch of a text from a place up to another. What does not lie in it is empty.
-pub fn stretch(text: &[u8], start: usize, end: usize) -> &[u8]
-    ensures { λ r. ⌜ (now r ≡ stretchOf (now (text .entry)) start end) × (r .ptr ≡ stretchPlace (text .entry) start end) ⌝ }
+// The paper from a place up to another. What does not lie in it is empty.
+pub fn tail_at(paper: &[u8], start: usize, end: usize) -> &[u8]
+    ensures { λ r. ⌜ (now r ≡ tailAt (now (paper .entry)) start end) × (r .ptr ≡ tailPlace (paper .entry) start end) ⌝ }
 {
-    if end < start {
-        return &text[..0];
+    if (start <= end) & (end <= paper.len()) {
+        return &paper[start..end];
     }
-    if text.len() < end {
-        return &text[..0];
-    }
-    &text[start..end]
-}
-
-// The log's tail in a set-up's body; no byte where there is no log.
-pub fn tail_in(logging: Logging, body: &[u8]) -> &[u8]
-    ensures { λ r. ⌜ (now r ≡ tailIn logging (now (body .entry))) × (r .ptr ≡ tailPlace logging (body .entry)) ⌝ }
-{
-    match logging {
-        Logging::Off => stretch(body, 0, 0),
-        Logging::On { start, end } => stretch(body, start, end),
-    }
-}
-
-// The number of profile i + 1, 0 where there is none.
-fn number_in(body: &[u8], i: usize) -> u8
-    ensures { λ r. ⌜ r ≡ numberIn (now (body .entry)) i ⌝ }
-{
-    wire::byte_at(body, layout::profile_place(body, i))
+    &paper[..0]
 }
 
 // What goes in: the tail's size and switches, and of each profile its number and whether it logs.
-fn logging_in(body: &[u8], tail: &[u8]) -> journal::Logging
-    ensures { λ r. ⌜ r ≡ loggingIn (now (body .entry)) (now (tail .entry)) ⌝ }
+fn logging_in(words: &Words, tail: &[u8]) -> journal::Logging
+    ensures { λ r. ⌜ r ≡ loggingIn (rulesOf (now (words .entry))) (now (tail .entry)) ⌝ }
 {
     journal::Logging {
         size: log_tail::size(tail),
         switches: log_tail::switches(tail),
         numbers: [
-            number_in(body, 0),
-            number_in(body, 1),
-            number_in(body, 2),
-            number_in(body, 3),
+            rules::profile_number(words, Place::One),
+            rules::profile_number(words, Place::Two),
+            rules::profile_number(words, Place::Three),
+            rules::profile_number(words, Place::Four),
         ],
         logs: [
             log_tail::logs(tail, 0),
@@ -81,26 +70,48 @@ fn is_dated(dating: Dating) -> bool
     }
 }
 
-fn form_of(shape: Shape, body: &[u8]) -> Form
-    ensures { λ r. ⌜ r ≡ formOf shape (now (body .entry)) ⌝ }
+fn form_of(shape: Shape, paper: &[u8]) -> Form
+    ensures { λ r. ⌜ r ≡ formOf shape (now (paper .entry)) ⌝ }
 {
     let dating = shape.dating;
     let family = shape.family;
     Form {
-        profiles: wire::byte_at(body, layout::PROFILES),
+        profiles: wire::byte_at(paper, PROFILES),
         dated: is_dated(dating),
         cpace: bodies::is_cpace(family),
     }
 }
 
-// The log of a set-up's body of this shape. Without one nothing goes in: the ring has no slot.
-pub fn log_of(shape: Shape, body: &[u8]) -> Log
-    ensures { λ r. ⌜ r ≡ logOf shape (now (body .entry)) ⌝ }
+// Nothing goes in.
+fn no_logging() -> journal::Logging
+    ensures { λ r. ⌜ r ≡ noLogging ⌝ }
+{
+    journal::Logging {
+        size: 0,
+        switches: 0,
+        numbers: [0; 4],
+        logs: [false; 4],
+    }
+}
+
+// The log of a paper of this shape, its rules standing in the words.
+pub fn log_of(words: &Words, shape: Shape, paper: &[u8]) -> Log
+    ensures { λ r. ⌜ r ≡ logOf (rulesOf (now (words .entry))) shape (now (paper .entry)) ⌝ }
 {
     let logging = shape.logging;
-    Log {
-        logging: logging_in(body, tail_in(logging, body)),
-        form: form_of(shape, body),
+    match logging {
+        Logging::Off => Log {
+            logging: no_logging(),
+            form: form_of(shape, paper),
+            start: 0,
+            end: 0,
+        },
+        Logging::On { start, end } => Log {
+            logging: logging_in(words, tail_at(paper, start, end)),
+            form: form_of(shape, paper),
+            start,
+            end,
+        },
     }
 }
 

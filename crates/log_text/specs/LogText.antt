@@ -11,6 +11,7 @@ use Rattle.ring.specs.Ring.{countIn, found}
 use Rattle.log_fields.specs.declared.Form.{Form}
 use Rattle.log_lines.specs.LogLines.{logLine}
 use Rattle.log.specs.declared.Log.{Log}
+use Rattle.log.specs.Log.{tailAt}
 
 -- record k's line
 abbrev pub foundLine : (paper tail : List ℕ) → Form → (k : ℕ) → Found → List ℕ
@@ -24,11 +25,13 @@ linesUpTo paper tail form ring size (suc n) =
     linesUpTo paper tail form ring size n ++ foundLine paper tail form (n + 1) (found ring size (n + 1)) ∷ []
 
 -- THE LINES of all records of the ring
-unfoldable pub logLines : Log → (paper tail ring : List ℕ) → List (List ℕ)
-logLines log paper tail ring = let size = log .logging .size in linesUpTo paper tail (log .form) ring size (countIn ring size)
+unfoldable pub logLines : Log → (paper ring : List ℕ) → List (List ℕ)
+logLines log paper ring =
+    let size = log .logging .size in
+    linesUpTo paper (tailAt paper (log .start) (log .end)) (log .form) ring size (countIn ring size)
 
-abbrev pub logText : Log → (paper tail ring : List ℕ) → List ℕ
-logText log paper tail ring = joined (logLines log paper tail ring)
+abbrev pub logText : Log → (paper ring : List ℕ) → List ℕ
+logText log paper ring = joined (logLines log paper ring)
 
 -- the most bytes that it has: 20 of the longest lines
 abbrev pub longest : ℕ

@@ -57,16 +57,9 @@ fn put_lines(
 }
 
 // The text of a paper's log. Without room for the longest nothing is written, and the place stays.
-pub fn put_log(
-    room: &mut [u8],
-    at: usize,
-    paper: &[u8],
-    tail: &[u8],
-    log: Log,
-    ring: &Ring,
-) -> usize
-    ensures { λ r. ⌜ (r ≡ placeBehind (length (now (room .entry))) at (logText log (now (paper .entry)) (now (tail .entry)) (now (ring .entry))))
-        × (now (room .exit) ≡ placed (now (room .entry)) at (logText log (now (paper .entry)) (now (tail .entry)) (now (ring .entry))))
+pub fn put_log(room: &mut [u8], at: usize, paper: &[u8], log: Log, ring: &Ring) -> usize
+    ensures { λ r. ⌜ (r ≡ placeBehind (length (now (room .entry))) at (logText log (now (paper .entry)) (now (ring .entry))))
+        × (now (room .exit) ≡ placed (now (room .entry)) at (logText log (now (paper .entry)) (now (ring .entry))))
         × (r ≤ at + longest) ⌝ }
 {
     if room.len() < at {
@@ -75,6 +68,7 @@ pub fn put_log(
     if room.len() - at < LONGEST {
         return at;
     }
+    let tail = log::tail_at(paper, log.start, log.end);
     let form = log.form;
     let logging = log.logging;
     put_lines(room, at, paper, tail, form, ring, logging.size)

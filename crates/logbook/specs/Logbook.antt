@@ -2,9 +2,8 @@
 use Prim.Native.Nat.{ℕ, _+_}
 use mathlib.Core.Bool.{cond}
 use mathlib.Core.List.{List, [], _∷_}
-use lib.Dec.{eqb, ltb}
+use lib.Dec.{eqb}
 use lib.ListN.{drop}
-use Rattle.wire.specs.Wire.{byte}
 use Rattle.ring.specs.Ring.{noRecords}
 use Rattle.journal.specs.declared.Logging.{Logging}
 use Rattle.journal.specs.declared.Heard.{Heard}
@@ -12,15 +11,10 @@ use Rattle.journal.specs.Journal.{watched}
 use Rattle.replies.specs.declared.Reply.{Reply}
 use Rattle.replies.specs.declared.Reply.the-variants.{Given, Other}
 use Rattle.replies.specs.Replies.{behind, replyIn, isEnding}
-use Rattle.paper.specs.declared.Opened.{Opened}
-use Rattle.paper.specs.declared.Opened.the-variants.{Setup, Refused as Unopened}
-use Rattle.paper.specs.Paper.{placeAfter, openPaper}
-use Rattle.paper.specs.Walk.{part}
+use Rattle.rules.specs.Rules.{Rules}
+use Rattle.paper.specs.Paper.{placeAfter}
 use Rattle.shape.specs.declared.Shape.{Shape}
-use Rattle.shape.specs.declared.ReadShape.{ReadShape}
-use Rattle.shape.specs.declared.ReadShape.the-variants.{Taken, Refused}
-use Rattle.shape.specs.Shape.{shapeOf}
-use Rattle.log.specs.Log.{tailIn, logOf, heardIn}
+use Rattle.log.specs.Log.{logOf, heardIn}
 use Rattle.log_text.specs.LogText.{logText}
 
 -- a text taken apart at its line feeds (10), which go
@@ -46,21 +40,9 @@ ringBy logging paper at [] ring = ring
 ringBy logging paper at (line ∷ more) ring =
     cond (isEnding line) noRecords (ringBy logging paper (placeAfter paper at) more (watchedLine logging paper at line ring))
 
--- THE TEXT of the log: the first of the paper's lines is its set-up's, and each further one that of a record
-unfoldable pub shapedBehind : Shape → (body paper : List ℕ) (start : ℕ) (text : List ℕ) → List ℕ
-shapedBehind shape body paper start text =
-    let log = logOf shape body in
-    logText log paper (tailIn (shape .logging) body) (ringBy (log .logging) paper start (linesIn (behind 10 text)) noRecords)
-
-abbrev pub readBehind : (body paper : List ℕ) (start : ℕ) (text : List ℕ) → ReadShape → List ℕ
-readBehind body paper start text (Taken shape) = shapedBehind shape body paper start text
-readBehind body paper start text (Refused refusal) = []
-
-abbrev pub openedBehind : (paper text : List ℕ) → Opened → List ℕ
-openedBehind paper text (Setup version start end) =
-    let body = part paper start end in readBehind body paper end text (shapeOf version body)
-openedBehind paper text (Unopened refusal) = []
-
--- below version 07 there is none
-unfoldable pub logBehind : (paper text : List ℕ) → List ℕ
-logBehind paper text = cond (ltb (byte paper 0) 7) [] (openedBehind paper text (openPaper paper))
+-- THE TEXT of the log of a paper of a shape, by the rules that its set-up gives, its records beginning at a place: the first of the paper's lines
+-- is its set-up's, and each further one that of a record
+unfoldable pub shapedBehind : Rules → Shape → (paper : List ℕ) (start : ℕ) (text : List ℕ) → List ℕ
+shapedBehind rules shape paper start text =
+    let log = logOf rules shape paper in
+    logText log paper (ringBy (log .logging) paper start (linesIn (behind 10 text)) noRecords)

@@ -4,20 +4,17 @@ ghost use mathlib.Core.Path.{_≡_};
 ghost use Prim.Native.Nat.{_+_, _≤_};
 ghost use lib.ListN.{length};
 ghost use Rattle.paper.specs.Paper.{placeAfter};
-ghost use Rattle.log.specs.Log.{stretchOf};
+ghost use Rattle.rules.specs.Rules.{rulesOf};
+ghost use Rattle.log.specs.Log.{tailAt};
 ghost use Rattle.log_text.specs.LogText.{placed, placeBehind, longest};
-ghost use Rattle.logbook.specs.Logbook.{watchedLine, ringBy, linesIn, shapedBehind, logBehind};
+ghost use Rattle.logbook.specs.Logbook.{watchedLine, ringBy, linesIn, shapedBehind};
 ghost use Rattle.ring.specs.Ring.{noRecords};
 use journal::Logging;
 use paper::Next;
-use paper::Opened;
 use replies::Reply;
 use ring::Ring;
-use shape::ReadShape;
+use rules::Words;
 use shape::Shape;
-
-// The first version with a log.
-const LOG: u8 = 7;
 
 const LINE_FEED: u8 = b'\n';
 
@@ -65,48 +62,24 @@ fn ring_of(logging: Logging, paper: &[u8], start: usize, text: &[u8]) -> Ring
     ring
 }
 
-// The log of a set-up's body of this shape, behind which the records stand from a place on.
-fn put_shaped(
+// The lines of a paper's log behind its own, which stand in the room from a place up to another; its
+// rules stand in the words, and its records in the paper from a place on. Without room for the longest
+// log nothing is written, and the place stays.
+pub fn put_behind(
+    words: &Words,
     shape: Shape,
-    body: &[u8],
     paper: &[u8],
     start: usize,
     room: &mut [u8],
     from: usize,
     end: usize,
 ) -> usize
-    requires { ⌜ start ≤ length (now paper) ⌝ }
-    ensures { λ r. ⌜ (r ≡ placeBehind (length (now (room .entry))) end (shapedBehind shape (now (body .entry)) (now (paper .entry)) start (stretchOf (now (room .entry)) from end)))
-        × (now (room .exit) ≡ placed (now (room .entry)) end (shapedBehind shape (now (body .entry)) (now (paper .entry)) start (stretchOf (now (room .entry)) from end)))
+    ensures { λ r. ⌜ (r ≡ placeBehind (length (now (room .entry))) end (shapedBehind (rulesOf (now (words .entry))) shape (now (paper .entry)) start (tailAt (now (room .entry)) from end)))
+        × (now (room .exit) ≡ placed (now (room .entry)) end (shapedBehind (rulesOf (now (words .entry))) shape (now (paper .entry)) start (tailAt (now (room .entry)) from end)))
         × (r ≤ end + longest) ⌝ }
 {
-    let log = log::log_of(shape, body);
-    let text = replies::behind(log::stretch(room, from, end), LINE_FEED);
+    let log = log::log_of(words, shape, paper);
+    let text = replies::behind(log::tail_at(room, from, end), LINE_FEED);
     let ring = ring_of(log.logging, paper, start, text);
-    let place = shape.logging;
-    log_text::put_log(room, end, paper, log::tail_in(place, body), log, &ring)
-}
-
-// The lines of a paper's log behind its own, which stand in the room from a place up to another. Without
-// a log, and without room for the longest, nothing is written and the place stays.
-pub fn put_behind(paper: &[u8], room: &mut [u8], from: usize, end: usize) -> usize
-    ensures { λ r. ⌜ (r ≡ placeBehind (length (now (room .entry))) end (logBehind (now (paper .entry)) (stretchOf (now (room .entry)) from end)))
-        × (now (room .exit) ≡ placed (now (room .entry)) end (logBehind (now (paper .entry)) (stretchOf (now (room .entry)) from end)))
-        × (r ≤ end + longest) ⌝ }
-{
-    if wire::byte_at(paper, 0) < LOG {
-        return end;
-    }
-    let Opened::Setup {
-        version,
-        start,
-        end: behind,
-    } = paper::open_paper(paper) else {
-        return end;
-    };
-    let body = &paper[start..behind];
-    let ReadShape::Taken(shape) = additions::read_shape(version, body) else {
-        return end;
-    };
-    put_shaped(shape, body, paper, behind, room, from, end)
+    log_text::put_log(room, end, paper, log, &ring)
 }

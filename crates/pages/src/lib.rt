@@ -13,7 +13,7 @@ use transcript::Transcript;
 fn put_page(paper: &[u8], words: &mut Words, room: &mut [u8], at: usize) -> Transcript
     ensures { λ r. ⌜ (r ≡ pagePut (now (words .entry)) (now (paper .entry)) (length (now (room .entry))) at) × (now (room .exit) ≡ pageRoom (now (words .entry)) (now (paper .entry)) (now (room .entry)) at) × (now (words .exit) ≡ wordsAfter (now (words .entry)) (now (paper .entry)) (now (room .entry)) at) ⌝ }
 {
-    let Transcript::Whole { end } = transcript::transcribe(paper, words, room, at) else {
+    let Transcript::Whole { end } = paper_text::put_text(paper, words, room, at) else {
         return Transcript::NoRoom;
     };
     room[end] = b'\n';

@@ -61,6 +61,14 @@ fn put_records(
     end
 }
 
+fn number_of(event: Event) -> u8
+{
+    match event {
+        Event::Refused(refusal) => refusal.number(),
+        _ => 0,
+    }
+}
+
 // The lines of a paper, where there is room for them.
 fn put_paper(paper: &[u8], words: &mut Words, room: &mut [u8], at: usize) -> usize
     requires { ⌜ at + roomFor (length (now paper)) ≤ length (now room) ⌝ }
@@ -68,10 +76,10 @@ fn put_paper(paper: &[u8], words: &mut Words, room: &mut [u8], at: usize) -> usi
 {
     let begun = opening::begin(paper, words);
     let event = begun.event;
-    if let Event::Refused(refusal) = event {
-        return lines::put_refusal(room, at, 0, refusal.number());
+    let end = lines::put_refusal(room, at, 0, number_of(event));
+    if let Event::Refused(_) = event {
+        return end;
     }
-    let end = lines::put_refusal(room, at, 0, 0);
     let shape = begun.shape;
     let fresh = begun.state;
     put_records(words, shape, fresh, paper, begun.at, room, end)

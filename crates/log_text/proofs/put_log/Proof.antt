@@ -9,12 +9,12 @@ use Rattle.log_text.proofs.put_log.Tie as tie
 
 returns : tie.Need-returns
 returns c =
-    let a = c .before .before .before .before .args in
+    let a = c .before .before .before .args in
     stay (now (a .room)) _ (a .at) (omega arith)
 
 returns-2 : tie.Need-returns-2
 returns-2 c =
-    let known = c .before .before .before .before in
+    let known = c .before .before .before in
     let a = known .before .args in
     stay (now (a .room)) _ (a .at) (omega arith)
 
@@ -23,8 +23,9 @@ unfolding logLines
 returns-3 c =
     let put = c .before .before in
     let logging = put .before .before in
-    let tested = logging .before .before in
-    place (put .put-lines .ensures) (omega (arith, tested .if2 .left, tested .before .if1 .left))
+    let tail = logging .before .before in
+    let tested = tail .before in
+    rw (← tail .tail-at .ensures .0) (place (put .put-lines .ensures) (omega (arith, tested .if2 .left, tested .before .if1 .left)))
 
 pub put-log-spec : {M : Type 1} → statement M
-put-log-spec = tie.close (tie.spec returns (search needs) returns-2 (search needs) (search needs) returns-3)
+put-log-spec = tie.close (tie.spec returns (search needs) returns-2 (search needs) (search needs) (search needs) returns-3)
