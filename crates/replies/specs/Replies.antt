@@ -1,5 +1,5 @@
 -- What a printed line of a sitting says, read back from its bytes (document 01, "A sitting in full"): words with one space (32) between them.
-use Prim.Native.Nat.{ℕ, zero, suc, _+_, _*_, _%_}
+use Prim.Native.Nat.{ℕ, suc, _+_, _*_, _%_}
 use mathlib.Core.Bool.{Bool, cond}
 use mathlib.Core.List.{List, [], _∷_}
 use lib.Dec.{eqb, leb, ltb}
@@ -7,7 +7,6 @@ use lib.ListN.{length, take, drop}
 use Rattle.wire.specs.Wire.{byte}
 use Rattle.state.specs.declared.Kind.{Kind}
 use Rattle.state.specs.declared.Kind.the-variants.{Aac, Tc, Arqc}
-use Rattle.journal.specs.declared.Cryptogram.{Cryptogram}
 use Rattle.replies.specs.declared.Reply.{Reply}
 use Rattle.replies.specs.declared.Reply.the-variants.{Given, Other}
 
