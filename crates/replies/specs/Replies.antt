@@ -1,13 +1,13 @@
 -- What a printed line of a sitting says, read back from its bytes (document 01, "A sitting in full"): words with one space (32) between them.
-use Prim.Native.Nat.{ℕ, zero, suc, _+_, _*_, _%_}
+use Prim.Native.Nat.{ℕ, suc, _+_, _*_, _%_, min}
 use mathlib.Core.Bool.{Bool, cond}
 use mathlib.Core.List.{List, [], _∷_}
 use lib.Dec.{eqb, leb, ltb}
 use lib.ListN.{length, take, drop}
+use denote.Ref.{RefT, now}
 use Rattle.wire.specs.Wire.{byte}
 use Rattle.state.specs.declared.Kind.{Kind}
 use Rattle.state.specs.declared.Kind.the-variants.{Aac, Tc, Arqc}
-use Rattle.journal.specs.declared.Cryptogram.{Cryptogram}
 use Rattle.replies.specs.declared.Reply.{Reply}
 use Rattle.replies.specs.declared.Reply.the-variants.{Given, Other}
 
@@ -21,6 +21,10 @@ before mark text = take (placeOf mark text) text
 
 unfoldable pub behind : (mark : ℕ) (text : List ℕ) → List ℕ
 behind mark text = drop (suc (placeOf mark text)) text
+
+-- and where the latter lies, at the end where there is nothing
+unfoldable pub behindPlace : (mark : ℕ) (text : RefT (List ℕ)) → ℕ × ℕ
+behindPlace mark text = (text .ptr .0, text .ptr .1 + min (suc (placeOf mark (now text))) (length (now text)))
 
 -- A BYTE by its two hex digits: "0" (48) to "9" (57), "A" (65) to "F" (70)
 abbrev pub digitValue : (digit : ℕ) → ℕ

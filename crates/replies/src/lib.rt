@@ -2,7 +2,7 @@
 ghost use mathlib.Core.Path.{_≡_};
 ghost use Prim.Native.Nat.{_≤_, _<_};
 ghost use lib.ListN.{length};
-ghost use Rattle.replies.specs.Replies.{placeOf, before, behind, digitValue, pairAt, decimalIn, kindIn, cvrIn, replyIn, isEnding};
+ghost use Rattle.replies.specs.Replies.{placeOf, before, behind, behindPlace, digitValue, pairAt, decimalIn, kindIn, cvrIn, replyIn, isEnding};
 use journal::Cryptogram;
 use state::Kind;
 
@@ -37,7 +37,7 @@ fn place_of(text: &[u8], mark: u8) -> usize
 
 // The text up to the first mark, or all of it.
 pub fn before(text: &[u8], mark: u8) -> &[u8]
-    ensures { λ r. ⌜ now r ≡ before mark (now (text .entry)) ⌝ }
+    ensures { λ r. ⌜ (now r ≡ before mark (now (text .entry))) × (r .ptr ≡ text .entry .ptr) ⌝ }
 {
     let at = place_of(text, mark);
     &text[..at]
@@ -45,7 +45,7 @@ pub fn before(text: &[u8], mark: u8) -> &[u8]
 
 // The text behind the first mark, or nothing of it.
 pub fn behind(text: &[u8], mark: u8) -> &[u8]
-    ensures { λ r. ⌜ now r ≡ behind mark (now (text .entry)) ⌝ }
+    ensures { λ r. ⌜ (now r ≡ behind mark (now (text .entry))) × (r .ptr ≡ behindPlace mark (text .entry)) ⌝ }
 {
     let at = place_of(text, mark);
     if at == text.len() {

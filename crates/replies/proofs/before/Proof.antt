@@ -1,6 +1,6 @@
 use borrow.Author.Needs.{needs}
 use denote.Ref.{now}
-use mathlib.Core.Path.{sym, ap}
+use mathlib.Core.Path.{refl, sym, ap}
 use Prim.Native.Nat.{ℕ}
 use lib.ListN.{take}
 use lib.Seq.{length-take-le}
@@ -17,7 +17,7 @@ returns : tie.Need-returns
 unfolding before
 returns c =
     let call = c .before in
-    ap (λ (k : ℕ). take k (now (call .before .before .args .text))) (call .place-of .ensures .0)
+    (ap (λ (k : ℕ). take k (now (call .before .before .args .text))) (call .place-of .ensures .0), refl)
 
 pub before-spec : {M : Type 1} → statement M
 before-spec = tie.close (tie.spec (search needs) slice-aggregate-result returns)

@@ -8,7 +8,7 @@ use native.Mathlib.Numerals.{add-one}
 use native.Mathlib.Omega.{arith}
 use lib.ListN.{length, take, drop, length-drop, drop-of-length-le}
 use lib.Seq.{take-all}
-use Rattle.replies.specs.Replies.{behind}
+use Rattle.replies.specs.Replies.{behind, behindPlace}
 use Rattle.replies.proofs.behind.Statement.{statement}
 use Rattle.replies.proofs.behind.Tie as tie
 
@@ -16,21 +16,27 @@ left : (text : List ℕ) (at : ℕ) → take (length text - at) (drop at text) �
 left text at = take-all (length text - at) (drop at text) (omega (arith, length-drop at text))
 
 returns : tie.Need-returns
-unfolding behind
+unfolding behind behindPlace
 returns c =
     let call = c .before .before in
-    let text = now (call .before .before .args .text) in
+    let lent = call .before .before .args .text in
+    let text = now lent in
     let at = call .place-of .result in
-    let nothing = drop-of-length-le text {i = at} (omega arith) ∙ sym (drop-of-length-le text {i = suc at} (omega arith)) in
-    left text at ∙ nothing ∙ ap (λ (k : ℕ). drop (suc k) text) (call .place-of .ensures .0)
+    let nothing = drop-of-length-le text {i = at} (omega arith) ∙ sym (drop-of-length-le text {i = suc at} (omega arith)) in (
+      left text at ∙ nothing ∙ ap (λ (k : ℕ). drop (suc k) text) (call .place-of .ensures .0),
+      ap (λ (k : ℕ). (lent .ptr .0, k)) (omega arith),
+    )
 
 returns-2 : tie.Need-returns-2
-unfolding behind
+unfolding behind behindPlace
 returns-2 c =
     let call = c .before .before in
-    let text = now (call .before .before .args .text) in
-    let at = call .place-of .result in
-    left text (at + 1) ∙ ap (λ (k : ℕ). drop k text) (add-one at) ∙ ap (λ (k : ℕ). drop (suc k) text) (call .place-of .ensures .0)
+    let lent = call .before .before .args .text in
+    let text = now lent in
+    let at = call .place-of .result in (
+      left text (at + 1) ∙ ap (λ (k : ℕ). drop k text) (add-one at) ∙ ap (λ (k : ℕ). drop (suc k) text) (call .place-of .ensures .0),
+      ap (λ (k : ℕ). (lent .ptr .0, k)) (omega arith),
+    )
 
 pub behind-spec : {M : Type 1} → statement M
 behind-spec =

@@ -10,7 +10,8 @@ returns c =
     let iad = c .before in
     let atc = iad .before in
     let cid = atc .before in
-    rw (← cid .before .behind .ensures, ← cid .behind2 .ensures, ← atc .behind3 .ensures, ← iad .behind4 .ensures) (simp (lt-ltb _ _ (c .if1 .taken)))
+    rw (← cid .before .behind .ensures .0, ← cid .behind2 .ensures .0, ← atc .behind3 .ensures .0, ← iad .behind4 .ensures .0)
+    (simp (lt-ltb _ _ (c .if1 .taken)))
 
 returns-2 : tie.Need-returns-2
 unfolding replyIn
@@ -20,11 +21,11 @@ returns-2 c =
     let iad = long .before in
     let atc = iad .before in
     let cid = atc .before in
-    rw (← cid .before .behind .ensures, ← cid .behind2 .ensures, ← atc .behind3 .ensures, ← iad .behind4 .ensures)
+    rw (← cid .before .behind .ensures .0, ← cid .behind2 .ensures .0, ← atc .behind3 .ensures .0, ← iad .behind4 .ensures .0)
     (simp (
       le-ltb _ _ (long .if1 .left),
       word .before .kind-in .ensures,
-      word .before2 .ensures,
+      word .before2 .ensures .0,
       c .before .before .decimal-in .ensures,
       c .before .pair-at .ensures .0,
       c .cvr-in .ensures,
