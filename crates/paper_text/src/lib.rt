@@ -42,7 +42,7 @@ pub fn put_text(paper: &[u8], words: &mut Words, room: &mut [u8], at: usize) -> 
     ensures { λ r. ⌜ (r ≡ textPut (now (words .entry)) (now (paper .entry)) (now (room .entry)) at)
         × (now (room .exit) ≡ roomPut (now (words .entry)) (now (paper .entry)) (now (room .entry)) at)
         × (now (words .exit) ≡ wordsPut (now (words .entry)) (now (paper .entry)) (now (room .entry)) at)
-        × EndsIn (length (now (room .entry))) at (length (now (paper .entry))) r ⌝ }
+        × EndsIn at (length (now (paper .entry))) r ⌝ }
 {
     if !has_room(room.len(), at, paper.len()) {
         return Transcript::NoRoom;

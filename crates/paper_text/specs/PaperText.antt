@@ -1,0 +1,48 @@
+-- The text of a whole paper (document 01, "A sitting in full"; document 02, Eight): its lines, and behind them those of its log.
+use Prim.Native.Nat.{ℕ, _+_, _-_, _≤_}
+use mathlib.Core.Bool.{Bool, cond, _&&_}
+use mathlib.Core.List.{List, [], _++_}
+use lib.Dec.{leb, ltb}
+use lib.ListN.{length}
+use lib.Seq.{sets}
+use Rattle.wire.specs.Wire.{byte}
+use Rattle.rules.specs.Word.{blankWords}
+use Rattle.rules.specs.Rules.{rulesOf}
+use Rattle.opening.specs.Opening.{begunOf, wordsBegun}
+use Rattle.conversation.specs.Events.{wordsLeft}
+use Rattle.transcript.specs.declared.Transcript.{Transcript}
+use Rattle.transcript.specs.declared.Transcript.the-variants.{Whole, NoRoom}
+use Rattle.transcript.specs.Transcript.{transcriptOf, roomFor, hasRoom}
+use Rattle.log_text.specs.LogText.{longest}
+use Rattle.logbook.specs.Logbook.{shapedBehind}
+
+-- the text of a paper's log, behind the text of its lines; below version 07 there is none
+unfoldable pub logBehind : (paper text : List ℕ) → List ℕ
+logBehind paper text =
+    let begun = begunOf paper in
+    let rules = rulesOf (wordsBegun blankWords paper) in
+    cond (ltb (byte paper 0) 7) [] (shapedBehind rules (begun .shape) paper (begun .at) text)
+
+-- THE TEXT of a paper, with the words that it was lent
+unfoldable pub textOf : (words paper : List ℕ) → List ℕ
+textOf words paper = let lines = transcriptOf words paper in lines ++ logBehind paper lines
+
+-- there is room for its lines and for the longest log
+unfoldable pub hasTextRoom : (room at paper : ℕ) → Bool
+hasTextRoom room at paper = leb longest room && hasRoom (room - longest) at paper
+
+-- where the text ends, or that there is no room
+unfoldable pub textPut : (words paper room : List ℕ) (at : ℕ) → Transcript
+textPut words paper room at = cond (hasTextRoom (length room) at (length paper)) (Whole (at + length (textOf words paper))) NoRoom
+
+-- the room holds the text from the place on, and all else stays; where there is no room all stays, and so do the words
+unfoldable pub roomPut : (words paper room : List ℕ) (at : ℕ) → List ℕ
+roomPut words paper room at = cond (hasTextRoom (length room) at (length paper)) (sets room at (textOf words paper)) room
+
+unfoldable pub wordsPut : (words paper room : List ℕ) (at : ℕ) → List ℕ
+wordsPut words paper room at = cond (hasTextRoom (length room) at (length paper)) (wordsLeft words paper) words
+
+-- it ends in the room that it was asked
+abbrev pub EndsIn : (at paper : ℕ) → Transcript → Type 0
+EndsIn at paper (Whole end) = end ≤ at + roomFor paper + longest
+EndsIn at paper NoRoom = Unit
