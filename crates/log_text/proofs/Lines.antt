@@ -51,7 +51,7 @@ none-of-0 log paper ring e = rw e (none (getD ring 2 0)) where
 -- ---- how long it is, where all numbers of the paper are bytes
 
 -- every byte is below 256
-abbrev Small : List ℕ → Type 0
+abbrev pub Small : List ℕ → Type 0
 Small s = (i : ℕ) → byte s i < 256
 
 small-part : (paper : List ℕ) (start end : ℕ) → Small paper → Small (tailAt paper start end)

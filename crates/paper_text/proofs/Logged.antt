@@ -2,7 +2,7 @@
 use mathlib.Core.Path.{_≡_, refl, ap, _∙_}
 use mathlib.Core.Bool.{Bool, true, false, cond}
 use mathlib.Core.List.{List, []}
-use Prim.Native.Nat.{ℕ, _<_}
+use Prim.Native.Nat.{ℕ, _≤_, _<_}
 use native.Mathlib.Omega.{arith}
 use borrow.Author.Tests.{ltb-false}
 use lib.Dec.{ltb}
@@ -17,8 +17,8 @@ use Rattle.replies.specs.Replies.{behind}
 use Rattle.ring.specs.Ring.{noRecords, countKept, countIn, slotsOf}
 use Rattle.log.specs.declared.Log.{Log}
 use Rattle.log.specs.Log.{logOf}
-use Rattle.log_text.specs.LogText.{linesUpTo, logLines, logText}
-use Rattle.log_text.proofs.Lines.{log-fed}
+use Rattle.log_text.specs.LogText.{longest, linesUpTo, logLines, logText}
+use Rattle.log_text.proofs.Lines.{Small, log-fed, text-short}
 use Rattle.logbook.specs.Logbook.{linesIn, ringBy, shapedBehind}
 use Rattle.paper_text.specs.PaperText.{logBehind}
 
@@ -45,6 +45,21 @@ lined paper text = by (ltb (byte paper 0) 7) (ltb (length paper) (begunOf paper 
   by true b = no-lines
   by false true = no-lines
   by false false = record { lines = logLines log paper ring; is = refl; fed = log-fed log paper ring }
+
+-- no longer than the longest, where all numbers of the paper are bytes
+pub log-long : (paper text : List ℕ) → Small paper → length (logBehind paper text) ≤ longest
+unfolding logBehind shapedBehind
+log-long paper text small = by (ltb (byte paper 0) 7) (ltb (length paper) (begunOf paper .at)) where
+  log : Log
+  log = logOf (rulesOf (wordsBegun blankWords paper)) (begunOf paper .shape) paper
+
+  ring : List ℕ
+  ring = ringBy (log .logging) paper (begunOf paper .at) (linesIn (behind 10 text)) noRecords
+
+  by : (a b : Bool) → length (cond a [] (cond b [] (logText log paper ring))) ≤ longest
+  by true b = omega arith
+  by false true = omega arith
+  by false false = text-short log paper ring small
 
 -- without a record there is no line
 none-kept : (slots : ℕ) → countKept 0 slots ≡ 0

@@ -1,12 +1,12 @@
 -- What is printed of a paper, read as text: its lines, each once and in order, and nothing more. Assumes nothing.
-use mathlib.Core.Path.{_≡_, refl, ap, subst₂, _∙_}
+use mathlib.Core.Path.{_≡_, refl, ap, sym, subst₂, _∙_}
 use mathlib.Core.Bool.{Bool, true, false, cond}
-use mathlib.Core.List.{List, [], _∷_}
+use mathlib.Core.List.{List, [], _∷_, _++_, append-nil}
 use Prim.Native.Nat.{ℕ, zero, suc, _+_, _*_, _≤_, _<_}
 use native.Mathlib.Omega.{arith}
 use borrow.Author.Tests.{leb-true, leb-false, le-leb}
 use lib.Dec.{eqb}
-use lib.ListN.{length, getD}
+use lib.ListN.{length, getD, length-append}
 use lib.Seq.{sets}
 use Rattle.refusal.specs.Refusal.{refusalNumber}
 use Rattle.rules.specs.Rules.{Rules, rulesOf}
@@ -29,8 +29,13 @@ use Rattle.lines.proofs.Each.{Each, none, more, weaken}
 use Rattle.lines.proofs.Fields.{OneLine, Fed}
 use Rattle.lines.proofs.Laws.{refusal-line, start-line, selected-line, cryptogram-line}
 use Rattle.transcript.specs.declared.Transcript.the-variants.{Whole, NoRoom}
-use Rattle.transcript.specs.Transcript.{transcriptOf, hasRoom, transcribed, roomAfter, wordsAfter}
+use Rattle.transcript.specs.Transcript.{transcriptOf}
 use Rattle.transcript.proofs.Long.{long}
+use Rattle.replies.specs.Replies.{behind}
+use Rattle.reply_laws.proofs.Marks.{behind-feed}
+use Rattle.log_text.specs.LogText.{longest}
+use Rattle.paper_text.specs.PaperText.{logBehind, textOf, hasTextRoom, textPut, roomPut, wordsPut}
+use Rattle.paper_text.proofs.Logged.{no-further-line, log-long}
 use Rattle.readback.specs.Fields.{fieldsIn}
 use Rattle.demands.specs.Conversation.{Exchange}
 use Rattle.spelling.specs.Spelling.{Bytes}
@@ -44,8 +49,9 @@ use Rattle.papers.specs.Talk as Talk
 use Rattle.papers.specs.Lines.{linesBy}
 use Rattle.papers.proofs.Events.{lines-are, every-paper}
 use Rattle.papers.proofs.Demands.{paper-line}
-use Rattle.printout.specs.Text.{linesRead, Printed, unread, not-set-up, heard, Holds}
-use Rattle.printout.proofs.Text.{only-lines, held}
+use Rattle.spelling.proofs.Numbers.{byte-small}
+use Rattle.printout.specs.Text.{linesRead, logged, Printed, unread, not-set-up, past-data, heard, Holds}
+use Rattle.printout.proofs.Text.{lines-first, only-lines, held}
 
 -- ---- each of its lines is one line
 
@@ -109,36 +115,56 @@ module _ (words paper : List ℕ) where
   unfolding transcriptOf
   printed-lines = only-lines (paper-lines words paper)
 
+  -- AND WITH ITS LOG'S TEXT BEHIND IT THEY ARE ITS LINES AND THE LOG'S
+  pub text-lines : linesRead (textOf words paper) ≡ sittingLines words paper ++ logged words paper
+  unfolding textOf transcriptOf
+  text-lines = lines-first (paper-lines words paper) (logBehind paper (transcriptOf words paper))
+
+  -- without a record there is no line of a log
+  pub one-line-unlogged : (refusal : ℕ) → transcriptOf words paper ≡ refusalLine 0 refusal → logged words paper ≡ []
+  unfolding linesRead
+  one-line-unlogged refusal e =
+      let line = refusal-line 0 refusal .fed in
+      let only = ap (λ (t : List ℕ). behind 10 t) (sym (append-nil (refusalLine 0 refusal))) ∙ behind-feed line [] in
+      ap linesRead (no-further-line paper (transcriptOf words paper) (ap (behind 10) e ∙ only))
+
+  -- how long it is, its numbers being bytes
+  text-long : Bytes paper → length (textOf words paper) ≤ 8 * length paper + 12 + longest
+  unfolding textOf
+  text-long bytes =
+      let lines = transcriptOf words paper in
+      omega (arith, length-append lines (logBehind paper lines), long words paper, log-long paper lines (byte-small paper bytes))
+
   -- THE ROOM HOLDS THEM, AND ALL ELSE STAYS
-  pub room-holds : (room : List ℕ) (at end : ℕ) → transcribed words paper room at ≡ Whole end
-      → Holds room at end (sittingLines words paper) (roomAfter words paper room at)
-  unfolding transcribed roomAfter
-  room-holds room at end = by (hasRoom (length room) at (length paper)) refl where
-    by : (b : Bool) → hasRoom (length room) at (length paper) ≡ b → cond b (Whole (at + length (transcriptOf words paper))) NoRoom ≡ Whole end
-        → Holds room at end (sittingLines words paper) (cond b (sets room at (transcriptOf words paper)) room)
+  pub room-holds : Bytes paper → (room : List ℕ) (at end : ℕ) → textPut words paper room at ≡ Whole end
+      → Holds room at end (sittingLines words paper ++ logged words paper) (roomPut words paper room at)
+  unfolding textPut roomPut
+  room-holds bytes room at end = by (hasTextRoom (length room) at (length paper)) refl where
+    by : (b : Bool) → hasTextRoom (length room) at (length paper) ≡ b → cond b (Whole (at + length (textOf words paper))) NoRoom ≡ Whole end
+        → Holds room at end (sittingLines words paper ++ logged words paper) (cond b (sets room at (textOf words paper)) room)
     by false e w = absurd (let z : _≡_ {A = ℕ} 0 1 = cc in omega arith)
     by true e w =
-        let text = transcriptOf words paper in
+        let text = textOf words paper in
         let ends : at + length text ≡ end = cc in
-        let asked = leb-true (at + (8 * length paper + 82)) (length room) e in
-        let there = held room text at (omega (arith, long words paper)) in
-        subst₂ (λ (k : ℕ) (lines : List (List ℕ)). Holds room at k lines (sets room at text)) ends printed-lines there
+        let asked = leb-true (at + (8 * length paper + 82 + longest)) (length room) e in
+        let there = held room text at (omega (arith, text-long bytes)) in
+        subst₂ (λ (k : ℕ) (lines : List (List ℕ)). Holds room at k lines (sets room at text)) ends text-lines there
 
-  -- IT IS ANSWERED WHERE THE ROOM HAS 8 BYTES FOR EACH OF ITS BYTES AND 82 MORE, AND ELSE NOTHING IS TOUCHED
-  pub room-asked : (room : List ℕ) (at : ℕ) → at + (8 * length paper + 82) ≤ length room
-      → transcribed words paper room at ≡ Whole (at + length (transcriptOf words paper))
-  unfolding transcribed
-  room-asked room at fits = rw (le-leb (at + (8 * length paper + 82)) (length room) fits)
+  -- IT IS ANSWERED WHERE THE ROOM HAS 8 BYTES FOR EACH OF ITS BYTES, 82 MORE, AND 245,740 FOR A LOG, AND ELSE NOTHING IS TOUCHED
+  pub room-asked : (room : List ℕ) (at : ℕ) → at + (8 * length paper + 82 + 245_740) ≤ length room
+      → textPut words paper room at ≡ Whole (at + length (textOf words paper))
+  unfolding textPut
+  room-asked room at fits = rw (le-leb (at + (8 * length paper + 82 + 245_740)) (length room) fits)
 
-  pub room-kept : (room : List ℕ) (at : ℕ) → transcribed words paper room at ≡ NoRoom
-      → (length room < at + (8 * length paper + 82)) × (roomAfter words paper room at ≡ room) × (wordsAfter words paper room at ≡ words)
-  unfolding transcribed roomAfter wordsAfter
-  room-kept room at = by (hasRoom (length room) at (length paper)) refl where
-    by : (b : Bool) → hasRoom (length room) at (length paper) ≡ b → cond b (Whole (at + length (transcriptOf words paper))) NoRoom ≡ NoRoom
-        → (length room < at + (8 * length paper + 82)) × (cond b (sets room at (transcriptOf words paper)) room ≡ room)
+  pub room-kept : (room : List ℕ) (at : ℕ) → textPut words paper room at ≡ NoRoom
+      → (length room < at + (8 * length paper + 82 + 245_740)) × (roomPut words paper room at ≡ room) × (wordsPut words paper room at ≡ words)
+  unfolding textPut roomPut wordsPut
+  room-kept room at = by (hasTextRoom (length room) at (length paper)) refl where
+    by : (b : Bool) → hasTextRoom (length room) at (length paper) ≡ b → cond b (Whole (at + length (textOf words paper))) NoRoom ≡ NoRoom
+        → (length room < at + (8 * length paper + 82 + 245_740)) × (cond b (sets room at (textOf words paper)) room ≡ room)
         × (cond b (wordsLeft words paper) words ≡ words)
     by true e w = absurd (let z : _≡_ {A = ℕ} 0 1 = cc in omega arith)
-    by false e w = (leb-false (at + (8 * length paper + 82)) (length room) e, refl, refl)
+    by false e w = (leb-false (at + (8 * length paper + 82 + 245_740)) (length room) e, refl, refl)
 
   -- EVERY BYTE STRING
   pub every-text : length words ≡ wordCount → Bytes paper → Printed paper (linesRead (transcriptOf words paper))
@@ -148,6 +174,7 @@ module _ (words paper : List ℕ) where
     by (Talk.not-set-up version body rest o none-is refusal one e) =
         not-set-up version body rest o none-is
         (unfold sittingLines linesOf in (ap (linesOf 0) e ∙ ap (λ (n : ℕ). refusalLine 0 n ∷ []) one))
+    by (Talk.past-data version body rest o past e) = past-data version body rest o past (unfold sittingLines linesOf in ap (linesOf 0) e)
     by (Talk.heard a e) = heard a (lines-are words paper lent bytes a)
 
 -- AND OF AN ACCEPTED ONE: the set-up's line, one for each command with its answer, and refusal 9 where a fault ends it

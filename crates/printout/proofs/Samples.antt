@@ -7,6 +7,7 @@ use lib.ListN.{length, replicate, getD}
 use Rattle.wire.specs.Wire.{byte, number}
 use Rattle.rules.specs.Word.{wordCount}
 use Rattle.transcript.specs.Transcript.{joined, transcriptOf}
+use Rattle.paper_text.specs.PaperText.{logBehind, textOf}
 use Rattle.pages.specs.Stack.{pagesIn, stackOf}
 use Rattle.import.specs.Import.{importRecord, oldRecord, takeOver}
 use Rattle.imports.specs.Imports.{digitsOf, recordLine, linesIn, importsFrom, importsOf}
@@ -16,13 +17,13 @@ use Rattle.spelling.proofs.Computed.{answered}
 use Rattle.printout.specs.Text.{linesRead}
 use Rattle.printout.specs.Stack.{stackWith}
 
--- `printed-lines`: an empty paper has the one line "0 9"
+-- `text-lines`: an empty paper has the one line "0 9"
 abbrev unread : List (List ℕ)
-unread = linesRead (transcriptOf [] [])
+unread = linesRead (textOf [] [])
 
 -- and the printed set-up, a Start and a byte more have three
 abbrev heard : List (List ℕ)
-heard = linesRead (transcriptOf (replicate wordCount 0) (paperOf 1 body (spell (names unsaid 1) ++ 0 ∷ [])))
+heard = linesRead (textOf (replicate wordCount 0) (paperOf 1 body (spell (names unsaid 1) ++ 0 ∷ [])))
 
 -- `stack-lines`, `cut-lines`: two empty papers, and one behind which a byte stands
 abbrev two : List (List ℕ)
@@ -50,7 +51,7 @@ pub record Samples : Type 0 where
   pub rising-by-1 : T (eqb (firstOf records 1) 0x32)
 
 pub samples : Samples
-unfolding printed recordOf kindOf bodyOf answered transcriptOf joined linesRead stackWith stackOf pagesIn number big importsFrom linesIn recordLine
+unfolding printed recordOf kindOf bodyOf answered textOf logBehind transcriptOf joined linesRead stackWith stackOf pagesIn number big importsFrom linesIn recordLine
     importRecord digitsOf takeOver oldRecord
 samples =
     record {

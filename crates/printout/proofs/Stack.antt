@@ -22,9 +22,11 @@ use Rattle.spelling.specs.Spelling.{Bytes, big}
 use Rattle.spelling.specs.Faults.{over}
 use Rattle.spelling.proofs.Numbers.{big-length, big-read, big-back, number-small, bytes-drop, peel}
 use Rattle.spelling.proofs.Papers.{nine-line}
-use Rattle.printout.specs.Text.{linesRead}
+use Rattle.paper_text.specs.PaperText.{logBehind, textOf}
+use Rattle.paper_text.proofs.Logged.{lined}
+use Rattle.printout.specs.Text.{linesRead, logged}
 use Rattle.printout.specs.Stack.{blockOf, stackWith, Fits, pagesOf, cutLine, tooLongLine, Stacked, whole, cut}
-use Rattle.printout.proofs.Text.{up-to-feed, lines-first}
+use Rattle.printout.proofs.Text.{up-to-feed, lines-first, only-lines}
 use Rattle.printout.proofs.Paper.{paper-lines}
 
 -- ---- a block in front
@@ -66,19 +68,27 @@ module _ (words : List ℕ) (lent : length words ≡ wordCount) where
       ∙ rw (paper-is paper rest fits, behind-is paper rest fits)
       (ap (λ (t : List ℕ). pageOf words paper ++ t) (any-words (wordsLeft words paper) rest (words-length words paper ∙ lent)))
 
-  page-lines : (paper rest : List ℕ) → linesRead (pageOf words paper ++ rest) ≡ sittingLines words paper ++ ((10 ∷ []) ∷ linesRead rest)
-  unfolding transcriptOf
+  page-lines : (paper rest : List ℕ)
+      → linesRead (pageOf words paper ++ rest) ≡ sittingLines words paper ++ logged words paper ++ ((10 ∷ []) ∷ linesRead rest)
+  unfolding textOf transcriptOf
   page-lines paper rest =
-      ap linesRead (append-assoc (transcriptOf words paper) (10 ∷ []) rest)
-      ∙ lines-first (paper-lines words paper) (10 ∷ rest)
-      ∙ ap (λ (l : List (List ℕ)). sittingLines words paper ++ l) (up-to-feed [] rest (λ i l. absurd (omega arith)))
+      let lines = transcriptOf words paper in
+      let log = lined paper lines in
+      let read : logged words paper ≡ log .lines = ap linesRead (log .is) ∙ only-lines (log .fed) in
+      ap linesRead (append-assoc (lines ++ logBehind paper lines) (10 ∷ []) rest ∙ append-assoc lines (logBehind paper lines) (10 ∷ rest))
+      ∙ lines-first (paper-lines words paper) (logBehind paper lines ++ 10 ∷ rest)
+      ∙ ap (λ (t : List ℕ). sittingLines words paper ++ linesRead (t ++ 10 ∷ rest)) (log .is)
+      ∙ ap (λ (l : List (List ℕ)). sittingLines words paper ++ l) (lines-first (log .fed) (10 ∷ rest))
+      ∙ ap (λ (l : List (List ℕ)). sittingLines words paper ++ (log .lines ++ l)) (up-to-feed [] rest (λ i l. absurd (omega arith)))
+      ∙ ap (λ (l : List (List ℕ)). sittingLines words paper ++ (l ++ ((10 ∷ []) ∷ linesRead rest))) (sym read)
+      ∙ sym (append-assoc (sittingLines words paper) (logged words paper) ((10 ∷ []) ∷ linesRead rest))
 
   pages-first : {papers : List (List ℕ)} → Each Fits papers → (rest : List ℕ)
       → linesRead (stackOf words (stackWith papers ++ rest)) ≡ pagesOf words papers ++ linesRead (stackOf words rest)
   unfolding stackWith pagesOf
   pages-first none rest = refl
   pages-first (more {a = paper} {s = papers} fits r) rest =
-      let lines = sittingLines words paper in
+      let lines = sittingLines words paper ++ logged words paper in
       let behind = stackWith papers ++ rest in
       ap (λ (s : List ℕ). linesRead (stackOf words s)) (append-assoc (blockOf paper) (stackWith papers) rest)
       ∙ ap linesRead (page-first paper behind fits)

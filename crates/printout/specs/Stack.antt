@@ -7,6 +7,7 @@ use Rattle.lines.specs.Sitting.{sittingLines}
 use Rattle.lines.proofs.Each.{Each}
 use Rattle.spelling.specs.Spelling.{big}
 use Rattle.spelling.specs.Printed as Printed
+use Rattle.printout.specs.Text.{logged}
 
 -- a paper behind its length, 4 bytes, big-endian
 abbrev pub blockOf : (paper : List ℕ) → List ℕ
@@ -19,10 +20,10 @@ stackWith (paper ∷ more) = blockOf paper ++ stackWith more
 abbrev pub Fits : (paper : List ℕ) → Type 0
 Fits paper = length paper < 256 ^ 4
 
--- the lines of each paper, as if it were alone with these words, and an empty line behind them
+-- the lines of each paper, as if it were alone with these words, those of its log, and an empty line behind them
 unfoldable pub pagesOf : (words : List ℕ) (papers : List (List ℕ)) → List (List ℕ)
 pagesOf words [] = []
-pagesOf words (paper ∷ more) = sittingLines words paper ++ ((10 ∷ []) ∷ pagesOf words more)
+pagesOf words (paper ∷ more) = sittingLines words paper ++ logged words paper ++ ((10 ∷ []) ∷ pagesOf words more)
 
 -- the last line of a stack that ends before a block does
 abbrev pub cutLine : List ℕ

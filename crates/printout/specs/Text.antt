@@ -6,7 +6,9 @@ use Prim.Native.Nat.{ℕ, _-_}
 use lib.Dec.{eqb}
 use lib.ListN.{take, drop}
 use Rattle.lines.specs.Lines.{refusalLine}
-use Rattle.rows.specs.Whole.{IsSetup}
+use Rattle.transcript.specs.Transcript.{transcriptOf}
+use Rattle.paper_text.specs.PaperText.{logBehind}
+use Rattle.rows.specs.Whole.{IsInRange, IsPast}
 use Rattle.spelling.specs.Faults.{OpenFault, Opens}
 use Rattle.papers.specs.Papers.{Accepted}
 use Rattle.papers.specs.Lines.{linesBy}
@@ -21,10 +23,17 @@ unfoldable pub linesRead : (text : List ℕ) → List (List ℕ)
 linesRead [] = []
 linesRead (c ∷ text) = cond (eqb c 10) ((10 ∷ []) ∷ linesRead text) (begun c (linesRead text))
 
--- A PAPER AND ITS LINES: it does not open, 9; its set-up is not one, 1; or it is accepted, and they are those of its commands
+-- the lines of a paper's log, which stand behind its own
+abbrev pub logged : (words paper : List ℕ) → List (List ℕ)
+logged words paper = linesRead (logBehind paper (transcriptOf words paper))
+
+-- A PAPER AND ITS LINES: it does not open, 9; its set-up's fields are not all in their ranges, 1; only its log reaches past its data, 14; or it is
+-- accepted, and they are those of its commands
 pub data Printed (paper : List ℕ) (lines : List (List ℕ)) : Type 0 where
   unread : OpenFault paper → lines ≡ refusalLine 0 9 ∷ [] → Printed paper lines
-  not-set-up : (version : ℕ) (body rest : List ℕ) → Opens paper version body rest → (IsSetup version body → ⊥) → lines ≡ refusalLine 0 1 ∷ []
+  not-set-up : (version : ℕ) (body rest : List ℕ) → Opens paper version body rest → (IsInRange version body → ⊥) → lines ≡ refusalLine 0 1 ∷ []
+      → Printed paper lines
+  past-data : (version : ℕ) (body rest : List ℕ) → Opens paper version body rest → IsPast version body → lines ≡ refusalLine 0 14 ∷ []
       → Printed paper lines
   heard : Accepted paper → lines ≡ linesBy paper → Printed paper lines
 
