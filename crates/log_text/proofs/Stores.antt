@@ -1,11 +1,13 @@
 -- What stands in the room behind each line of a log. Assumes nothing.
 use mathlib.Core.Path.{_≡_, refl, sym, ap, _∙_}
+use mathlib.Core.Bool.{Bool, true, false, cond}
 use mathlib.Core.List.{List, [], _∷_, _++_, append-nil, append-assoc}
 use Prim.Native.Nat.{ℕ, _+_, _≤_, _<_}
 use native.Mathlib.Omega.{arith}
 use borrow.Author.Tests.{le-leb, lt-leb}
 use lib.ListN.{length}
-use Rattle.text.specs.Text.{joined}
+use lib.Seq.{sets, length-sets}
+use Rattle.text.specs.Text.{fits, joined}
 use Rattle.text.specs.Stored.{Stored}
 use Rattle.log_lines.specs.LogLines as line
 use Rattle.log_text.specs.LogText.{longest, placed, placeBehind}
@@ -40,3 +42,18 @@ pub stay : (room text : List ℕ) (at : ℕ) → length room < at + longest
     → (at ≡ placeBehind (length room) at text) × (room ≡ placed room at text) × (at ≤ at + longest)
 unfolding placed placeBehind
 stay room text at full = let no-room = lt-leb (at + longest) (length room) full in (simp no-room, simp no-room, omega arith)
+
+-- no text is put anywhere
+pub nothing : (room : List ℕ) (at : ℕ) → (at ≡ placeBehind (length room) at []) × (room ≡ placed room at []) × (at ≤ at + longest)
+unfolding placed placeBehind
+nothing room at = by (fits (length room) at longest) where
+  by : (b : Bool) → (at ≡ cond b (at + 0) at) × (room ≡ cond b (sets room at []) room) × (at ≤ at + longest)
+  by true = (omega arith, refl, omega arith)
+  by false = (refl, refl, omega arith)
+
+pub placed-length : (room : List ℕ) (at : ℕ) (text : List ℕ) → length (placed room at text) ≡ length room
+unfolding placed
+placed-length room at text = by (fits (length room) at longest) where
+  by : (b : Bool) → length (cond b (sets room at text) room) ≡ length room
+  by true = length-sets room at text
+  by false = refl

@@ -2,8 +2,8 @@
 use Prim.Native.Nat.{ℕ, _+_}
 use mathlib.Core.Bool.{cond}
 use mathlib.Core.List.{List, [], _∷_}
-use lib.Dec.{eqb}
-use lib.ListN.{drop}
+use lib.Dec.{eqb, ltb}
+use lib.ListN.{length, drop}
 use Rattle.ring.specs.Ring.{noRecords}
 use Rattle.journal.specs.declared.Logging.{Logging}
 use Rattle.journal.specs.declared.Heard.{Heard}
@@ -45,4 +45,4 @@ ringBy logging paper at (line ∷ more) ring =
 unfoldable pub shapedBehind : Rules → Shape → (paper : List ℕ) (start : ℕ) (text : List ℕ) → List ℕ
 shapedBehind rules shape paper start text =
     let log = logOf rules shape paper in
-    logText log paper (ringBy (log .logging) paper start (linesIn (behind 10 text)) noRecords)
+    cond (ltb (length paper) start) [] (logText log paper (ringBy (log .logging) paper start (linesIn (behind 10 text)) noRecords))

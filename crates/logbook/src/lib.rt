@@ -64,7 +64,7 @@ fn ring_of(logging: Logging, paper: &[u8], start: usize, text: &[u8]) -> Ring
 
 // The lines of a paper's log behind its own, which stand in the room from a place up to another; its
 // rules stand in the words, and its records in the paper from a place on. Without room for the longest
-// log nothing is written, and the place stays.
+// log, and where no record could stand, nothing is written and the place stays.
 pub fn put_behind(
     words: &Words,
     shape: Shape,
@@ -78,6 +78,9 @@ pub fn put_behind(
         × (now (room .exit) ≡ placed (now (room .entry)) end (shapedBehind (rulesOf (now (words .entry))) shape (now (paper .entry)) start (tailAt (now (room .entry)) from end)))
         × (r ≤ end + longest) ⌝ }
 {
+    if paper.len() < start {
+        return end;
+    }
     let log = log::log_of(words, shape, paper);
     let text = replies::behind(log::tail_at(room, from, end), LINE_FEED);
     let ring = ring_of(log.logging, paper, start, text);

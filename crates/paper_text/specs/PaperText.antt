@@ -6,8 +6,8 @@ use lib.Dec.{leb, ltb}
 use lib.ListN.{length}
 use lib.Seq.{sets}
 use Rattle.wire.specs.Wire.{byte}
-use Rattle.rules.specs.Word.{blankWords}
-use Rattle.rules.specs.Rules.{rulesOf}
+
+use Rattle.rules.specs.Rules.{rulesOf, blankWords}
 use Rattle.opening.specs.Opening.{begunOf, wordsBegun}
 use Rattle.conversation.specs.Events.{wordsLeft}
 use Rattle.transcript.specs.declared.Transcript.{Transcript}

@@ -33,6 +33,13 @@ lastLine record-number SetUp = []
 lastLine record-number End = []
 lastLine record-number (Answered said answer) = []
 
+-- the number that a set-up's line says: its refusal's, or 0
+abbrev pub setUpNumber : Event → ℕ
+setUpNumber (Refused refusal) = refusalNumber refusal
+setUpNumber SetUp = 0
+setUpNumber End = 0
+setUpNumber (Answered said answer) = 0
+
 -- where the text ends, or that there is no room
 unfoldable pub transcribed : (words paper room : List ℕ) (at : ℕ) → Transcript
 transcribed words paper room at =

@@ -5,7 +5,7 @@ ghost use lib.ListN.{length};
 ghost use lib.Seq.{sets};
 ghost use Rattle.rules.specs.Rules.{rulesOf};
 ghost use Rattle.conversation.specs.Events.{wordsFrom, wordsLeft};
-ghost use Rattle.transcript.specs.Transcript.{lastLine, restOf, transcriptOf, roomFor, transcribed, roomAfter, wordsAfter};
+ghost use Rattle.transcript.specs.Transcript.{lastLine, setUpNumber, restOf, transcriptOf, roomFor, transcribed, roomAfter, wordsAfter};
 use records::Event;
 use rules::Words;
 use shape::Shape;
@@ -61,12 +61,14 @@ fn put_records(
     end
 }
 
+// The number that a set-up's line says: its refusal's, or 0.
 fn number_of(event: Event) -> u8
+    ensures { λ r. ⌜ r ≡ setUpNumber event ⌝ }
 {
-    match event {
-        Event::Refused(refusal) => refusal.number(),
-        _ => 0,
-    }
+    let Event::Refused(refusal) = event else {
+        return 0;
+    };
+    refusal.number()
 }
 
 // The lines of a paper, where there is room for them.
