@@ -4,7 +4,7 @@
 #define MODEL_LATEST_H
 
 #ifndef LATEST
-#define LATEST 6
+#define LATEST 7
 #endif
 
 #endif

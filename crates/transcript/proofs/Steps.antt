@@ -52,7 +52,7 @@ use Rattle.script.specs.Script.{rulesAfter, wordsAfter}
 use Rattle.records.proofs.Event as E
 use Rattle.lines.specs.Lines.{refusalLine}
 use Rattle.lines.specs.Sitting.{answerLine, linesOf, sittingLines}
-use Rattle.transcript.specs.Transcript.{joined, transcriptOf, restOf}
+use Rattle.transcript.specs.Transcript.{setUpNumber, joined, transcriptOf, restOf}
 
 -- ---- a record
 
@@ -226,20 +226,12 @@ begins paper = by (openPaper paper) refl where
   by (Setup version start end) e =
       unfold setupBegun in by-shape (part paper start end) start end (opening paper version start end e) (shapeOf version (part paper start end))
 
--- a beginning that is not refused
-pub set-up-if : (paper : List ℕ) → OneOf (0 ∷ 1 ∷ 3 ∷ []) (tagOf E.the-type (begunOf paper .event))
-    → (begunOf paper .event ≡ SetUp) × Opening paper (begunOf paper .at)
-set-up-if paper k = by (begins paper) where
-  not-refused : (refusal : Refusal) (event : Event) → event ≡ Refused refusal → OneOf (0 ∷ 1 ∷ 3 ∷ []) (tagOf E.the-type event) → ⊥
-  not-refused refusal event e n = by-tag (subst (λ v. OneOf (0 ∷ 1 ∷ 3 ∷ []) (tagOf E.the-type v)) e n) where
-    by-tag : OneOf (0 ∷ 1 ∷ 3 ∷ []) (tagOf E.the-type (Refused refusal)) → ⊥
-    by-tag (inl z) = omega arith
-    by-tag (inr (inl z)) = omega arith
-    by-tag (inr (inr z)) = omega arith
-
-  by : Beginning paper (begunOf paper) → (begunOf paper .event ≡ SetUp) × Opening paper (begunOf paper .at)
-  by (accepted e o) = (e, o)
-  by (refused refusal e) = absurd (not-refused refusal (begunOf paper .event) e k)
+-- a set-up that is taken
+pub set-up-in : (paper : List ℕ) → begunOf paper .event ≡ SetUp → Opening paper (begunOf paper .at)
+set-up-in paper taken = by (begins paper) where
+  by : Beginning paper (begunOf paper) → Opening paper (begunOf paper .at)
+  by (accepted e o) = o
+  by (refused refusal e) = let z : _≡_ {A = ℕ} 0 1 = cc in absurd (omega arith)
 
 module _ (words paper : List ℕ) where
   abbrev begun : Begun
@@ -273,3 +265,19 @@ module _ (words paper : List ℕ) where
   unfolding wordsLeft
   words-not-set-up refusal e =
       ap (λ v. ending v (wordsBegun words paper) (wordsFrom (length paper) (wordsBegun words paper) (begun .shape) (begun .state) paper (begun .at))) e
+
+  -- one that is not
+  pub refused-text : OneOf (1 ∷ 2 ∷ 3 ∷ []) (tagOf E.the-type (begun .event))
+      → (transcriptOf words paper ≡ refusalLine 0 (setUpNumber (begun .event))) × (wordsLeft words paper ≡ wordsBegun words paper)
+  refused-text k = by (begins paper) where
+    not-taken : (event : Event) → event ≡ SetUp → OneOf (1 ∷ 2 ∷ 3 ∷ []) (tagOf E.the-type event) → ⊥
+    not-taken event e n = by-tag (subst (λ v. OneOf (1 ∷ 2 ∷ 3 ∷ []) (tagOf E.the-type v)) e n) where
+      by-tag : OneOf (1 ∷ 2 ∷ 3 ∷ []) (tagOf E.the-type SetUp) → ⊥
+      by-tag (inl z) = omega arith
+      by-tag (inr (inl z)) = omega arith
+      by-tag (inr (inr z)) = omega arith
+
+    by : Beginning paper begun
+        → (transcriptOf words paper ≡ refusalLine 0 (setUpNumber (begun .event))) × (wordsLeft words paper ≡ wordsBegun words paper)
+    by (accepted e o) = absurd (not-taken (begun .event) e k)
+    by (refused refusal e) = (not-set-up refusal e ∙ ap (λ v. refusalLine 0 (setUpNumber v)) (sym e), words-not-set-up refusal e)

@@ -79,9 +79,9 @@ fn put_paper(paper: &[u8], words: &mut Words, room: &mut [u8], at: usize) -> usi
     let begun = opening::begin(paper, words);
     let event = begun.event;
     let end = lines::put_refusal(room, at, 0, number_of(event));
-    if let Event::Refused(_) = event {
+    let Event::SetUp = event else {
         return end;
-    }
+    };
     let shape = begun.shape;
     let fresh = begun.state;
     put_records(words, shape, fresh, paper, begun.at, room, end)

@@ -1,14 +1,18 @@
 -- Where selection is on, the Starts of a paper are read by the file behind its switch, whatever its version. Assumes nothing.
-use mathlib.Core.Path.{_≡_, refl, sym, ap, subst₂, _∙_}
+use mathlib.Core.Path.{_≡_, refl, sym, ap, ap₂, subst₂, _∙_}
 use mathlib.Core.Bool.{Bool, true, false, cond}
 use mathlib.Core.List.{List, [], _∷_, _++_}
 use Prim.Native.Nat.{ℕ, _+_, _-_, _*_, _≤_}
+use native.Mathlib.Nat.{add-zero, add-assoc}
 use native.Mathlib.Omega.{arith}
 use borrow.Author.Tests.{lt-leb, le-ltb, eq-eqb, ne-eqb, eqb-true}
 use lib.Dec.{lit≤, eqb, ltb, leb}
-use lib.ListN.{length, take, drop, length-append, List·getD-append}
-use lib.Seq.{getD-append-add, getD-append-seam, drop-append-add, take-append-seam}
+use lib.ListN.{length, take, drop, length-append, length-drop, List·getD-append}
+use lib.Seq.{take-all, getD-drop, getD-append-add, getD-append-seam, drop-append-add, take-append-seam}
 use Rattle.wire.specs.Wire.{byte}
+use Rattle.log_tail.specs.declared.Judged.the-variants.{Sound}
+use Rattle.log_tail.specs.LogTail.{behindTable, secondTable, judged}
+use Rattle.bodies.specs.Bodies.{firstLength}
 use Rattle.rules.specs.declared.Values.{Values}
 use Rattle.slot.specs.declared.Slots.{Slots}
 use Rattle.selection.specs.declared.Selection.{Selection}
@@ -17,12 +21,13 @@ use Rattle.shape.specs.declared.Selecting.the-variants.{On}
 use Rattle.shape.specs.declared.Dating.the-variants.{Off as DatesOff, On as DatesOn}
 use Rattle.shape.specs.declared.Family.{Family}
 use Rattle.shape.specs.declared.Family.the-variants.{Cpa, Cpace}
+use Rattle.shape.specs.declared.Logging.the-variants.{Off as LogOff, On as LogOn}
 use Rattle.shape.specs.declared.Shape.{Shape}
 use Rattle.shape.specs.declared.Tails.{Tails}
 use Rattle.shape.specs.declared.Tails.the-variants.{Ended, Wrong}
 use Rattle.shape.specs.declared.ReadShape.the-variants.{Taken}
 use Rattle.shape.specs.Shape.{based, baseTail, entriesEnd, selects, selectionTail, follows, syllabusTail, dates, datingTail}
-use Rattle.shape.specs.Shape.{families, familyTail, scripts, scriptingTail, behind, tailsOf, shapeOf, shapeAt}
+use Rattle.shape.specs.Shape.{families, familyTail, scripts, scriptingTail, logs, tableEnd, logEnd, loggingTail, logPart, behind, tailsOf, shapeOf, shapeAt}
 use Rattle.shape.proofs.Files.{file-ends}
 use Rattle.shape.proofs.Inside.{inside}
 use Rattle.paper.specs.Walk.{part}
@@ -30,8 +35,8 @@ use Rattle.command.specs.Command.{isCpace, startSelected, selectingOf, slotsOf,
 use Rattle.command.specs.declared.Command.the-variants.{Start as StartCommand}
 use Rattle.command.specs.declared.ReadCommand.the-variants.{Taken as CommandTaken}
 use Rattle.opening.specs.declared.Begun.{Begun}
-use Rattle.opening.specs.Opening.{baseBegun, setupBegun, begunOf}
-use Rattle.opening.proofs.Unlogged.{sound-below}
+use Rattle.opening.specs.Opening.{logJudged, baseBegun, setupBegun, begunOf}
+use Rattle.opening.proofs.Unlogged.{sound-off}
 use Rattle.versions.proofs.Papers.{Known, Reads, readsOf, paperOf, file-there, by-body, begun-is}
 
 -- a tail that is off, or on with so many bytes in all
@@ -39,8 +44,17 @@ pub data Switched (size : ℕ) : (on : Bool) → List ℕ → Type 0 where
   switched-off : Switched size false (0 ∷ [])
   switched-on : (more : List ℕ) → length (1 ∷ more) ≡ size → Switched size true (1 ∷ more)
 
+-- a log's bytes, by its numbers of entries
+abbrev pub logLong : (p : ℕ) (log : List ℕ) → ℕ
+logLong p log = behindTable log (secondTable log p)
+
+-- First's data
+abbrev pub firstLong : (dated cpace : Bool) → ℕ
+firstLong dated cpace = cond cpace (cond dated 24 21) (cond dated 15 12)
+
 -- what stands behind the file, with p profiles: nothing in version 02; the syllabus in version 03; behind it dates in version 04; behind them
--- in version 05 the family, which is on where it is CPACE; behind it in version 06 whether scripts are on
+-- in version 05 the family, which is on where it is CPACE; behind it in version 06 whether scripts are on; and behind that in version 07 a log,
+-- which is sound where it is on
 pub data Behind (p : ℕ) : (version : ℕ) → (cpace : Bool) → List ℕ → Type 0 where
   nothing : Behind p 2 false []
   syllabus-alone : (syllabus : ℕ) → syllabus ≤ 1 → Behind p 3 false (syllabus ∷ [])
@@ -50,6 +64,10 @@ pub data Behind (p : ℕ) : (version : ℕ) → (cpace : Bool) → List ℕ → 
   with-scripts : (syllabus : ℕ) → syllabus ≤ 1 → {dated : Bool} {dates : List ℕ} → Switched (28 + 18 * p) dated dates
       → {cpace : Bool} {family : List ℕ} → Switched (9 + p) cpace family → (scripting : ℕ) → scripting ≤ 1
       → Behind p 6 cpace (syllabus ∷ dates ++ (family ++ scripting ∷ []))
+  with-log : (syllabus : ℕ) → syllabus ≤ 1 → {dated : Bool} {dates : List ℕ} → Switched (28 + 18 * p) dated dates
+      → {cpace : Bool} {family : List ℕ} → Switched (9 + p) cpace family → (scripting : ℕ) → scripting ≤ 1
+      → {logs : Bool} {log : List ℕ} → Switched (logLong p log) logs log → (logs ≡ true → judged log p (firstLong dated cpace) ≡ Sound)
+      → Behind p 7 cpace (syllabus ∷ dates ++ (family ++ scripting ∷ log))
 
 known-behind : {p version : ℕ} {cpace : Bool} {tails : List ℕ} → Behind p version cpace tails → Known version
 known-behind nothing = (lit≤ tt, lit≤ tt)
@@ -57,6 +75,7 @@ known-behind (syllabus-alone syllabus h) = (lit≤ tt, lit≤ tt)
 known-behind (with-dates syllabus h dates) = (lit≤ tt, lit≤ tt)
 known-behind (with-family syllabus h dates family) = (lit≤ tt, lit≤ tt)
 known-behind (with-scripts syllabus h dates family scripting l) = (lit≤ tt, lit≤ tt)
+known-behind (with-log syllabus h dates family scripting l log sound) = (lit≤ tt, lit≤ tt)
 
 -- a CPACE Start begins with its interface
 abbrev pub Asks : (cpace : Bool) (terminal : List ℕ) → Type 0
@@ -90,6 +109,16 @@ started (Cpace start end) chosen terminal asks = rw (ne-eqb (length terminal) 0 
 starts : {size : ℕ} {on : Bool} {tail : List ℕ} → Switched size on tail → (more : List ℕ) → byte (tail ++ more) 0 ≡ byte tail 0
 starts switched-off more = refl
 starts (switched-on others sized) more = refl
+
+size-on : {size : ℕ} {tail : List ℕ} → Switched size true tail → size ≡ length tail
+size-on (switched-on more e) = sym e
+
+first-long : (dated cpace : Bool) (from to start end : ℕ)
+    → firstLength (cond dated (DatesOn from to) DatesOff) (cond cpace (Cpace start end) Cpa) ≡ firstLong dated cpace
+first-long false false from to start end = refl
+first-long false true from to start end = refl
+first-long true false from to start end = refl
+first-long true true from to start end = refl
 
 cpace-is : (cpace : Bool) (start end : ℕ) → isCpace (cond cpace (Cpace start end) Cpa) ≡ cpace
 cpace-is false start end = refl
@@ -202,6 +231,63 @@ module _ (s : List ℕ) (sized : length s ≡ 52 + 107 * byte s 3 + 7 * byte s 4
       unfolding scriptingTail
       scripts-end scripting = byte-ends (λ b. scripts shape (eqb b 1)) at i scripting refl
 
+      -- the log, at the end of what is behind
+      module _ (log : List ℕ) (there : drop i behind ≡ log) (fits : i ≤ length behind) where
+        abbrev p : ℕ
+        p = byte s 3
+
+        abbrev logged-shape : Bool → Shape
+        logged-shape on = cond on (logs shape (LogOn at (at + logLong p log))) shape
+
+        log-size : i + length log ≡ length behind
+        log-size = ap (λ (l : List ℕ). i + length l) (sym there) ∙ omega (arith, length-drop i behind)
+
+        log-byte : (k : ℕ) → byte behind (i + k) ≡ byte log k
+        log-byte k = sym (getD-drop i behind k 0) ∙ ap (λ (l : List ℕ). byte l k) there
+
+        table-ends : (k : ℕ) → tableEnd body (at + k) ≡ at + behindTable log k
+        table-ends k =
+            let here : byte body (at + k) ≡ byte log k = ap (byte body) (add-assoc end i k) ∙ behind-is (i + k) ∙ log-byte k in
+            ap (λ (n : ℕ). at + k + 1 + 3 * n) here ∙ omega arith
+
+        log-ends : logEnd body at ≡ at + logLong p log
+        log-ends =
+            let place : at + 3 + byte body 3 ≡ at + (3 + p) = omega (arith, profiles) in
+            ap (λ (k : ℕ). tableEnd body (tableEnd body k)) place ∙ ap (tableEnd body) (table-ends (3 + p)) ∙ table-ends (secondTable log p)
+
+        logging-ends : {on : Bool} → Switched (logLong p log) on log → loggingTail body shape at ≡ Ended (logged-shape on) (at + length log)
+        unfolding loggingTail
+        logging-ends sw =
+            let first : byte behind i ≡ byte log 0 = ap (byte behind) (sym (add-zero i)) ∙ log-byte 0 in
+            rw log-ends (switched-ends (λ (sh : Shape). sh) shape (logs shape (LogOn at (at + logLong p log))) i sw first (omega (arith, log-size)))
+
+        -- its bytes in the body, and what is judged of them
+        log-there : logLong p log ≡ length log → logPart (LogOn at (at + logLong p log)) body ≡ log
+        log-there size =
+            let place : end + i ≡ length s + (length selecting-tail + i) = omega arith in
+            let last : drop at body ≡ log =
+            ap (λ (n : ℕ). drop n body) place
+            ∙ drop-append-add s (selecting-tail ++ behind) (length selecting-tail + i)
+            ∙ drop-append-add selecting-tail behind i
+            ∙ there in
+            let long : at + logLong p log - at ≡ length log = omega arith in
+            ap₂ take long last ∙ take-all (length log) log (omega arith)
+
+        logged-sound : (on : Bool) → Switched (logLong p log) on log → shape .logging ≡ LogOff
+            → (on ≡ true → judged log p (firstLength (shape .dating) (shape .family)) ≡ Sound) → logJudged (logged-shape on) body ≡ Sound
+        unfolding logJudged
+        logged-sound false sw off sound = sound-off shape body off
+        logged-sound true sw off sound = rw (log-there (size-on sw), profiles) (sound refl)
+
+        -- it changes nothing else
+        logged-selects : (on : Bool) → logged-shape on .selecting ≡ shape .selecting
+        logged-selects false = refl
+        logged-selects true = refl
+
+        logged-family : (on : Bool) → logged-shape on .family ≡ shape .family
+        logged-family false = refl
+        logged-family true = refl
+
     -- a Start is read by the file in the body
     by-file : (shape : Shape) → shape .selecting ≡ On start end entries → Selects file entries (isCpace (shape .family)) (readsOf shape body)
     unfolding commandIn selectingOf
@@ -216,6 +302,7 @@ module _ (s : List ℕ) (sized : length s ≡ 52 + 107 * byte s 3 + 7 * byte s 4
     is : shapeOf version (body behind) ≡ Taken shape
     on : shape .selecting ≡ On start end entries
     family : isCpace (shape .family) ≡ cpace
+    sound : logJudged shape (body behind) ≡ Sound
 
   -- tails that end with the body
   ended : (version : ℕ) (behind : List ℕ) (shape : Shape) (at : ℕ) → tailsOf version (body behind) ≡ Ended shape at → at ≡ length (body behind)
@@ -276,6 +363,7 @@ module _ (s : List ℕ) (sized : length s ≡ 52 + 107 * byte s 3 + 7 * byte s 4
           is = ended 5 tails with-families _ families-end (omega (arith, tails-long, long tails));
           on = refl;
           family = cpace-is cpace _ _;
+          sound = sound-off with-families (body tails) refl;
         }
 
     scripts-take : (scripting : ℕ) → scripting ≤ 1 → byte more (length family) ≡ scripting → length more ≡ length family + 1 → Takes 6 cpace tails
@@ -285,6 +373,32 @@ module _ (s : List ℕ) (sized : length s ≡ 52 + 107 * byte s 3 + 7 * byte s 4
           is = ended 6 tails _ _ (scripts-too scripting l here (omega arith)) (omega (arith, tails-long, long tails));
           on = refl;
           family = cpace-is cpace _ _;
+          sound = sound-off _ (body tails) refl;
+        }
+
+    log-takes : (scripting : ℕ) → scripting ≤ 1 → byte more (length family) ≡ scripting → (log : List ℕ) → drop (length family + 1) more ≡ log
+        → length family + 1 ≤ length more
+        → {logs : Bool} → Switched (logLong (byte s 3) log) logs log → (logs ≡ true → judged log (byte s 3) (firstLong dated cpace) ≡ Sound)
+        → Takes 7 cpace tails
+    unfolding tailsOf
+    log-takes scripting l here log there left {logs} sw sound =
+        let scripted = scripts with-families (eqb scripting 1) in
+        let i = past-dates + length family + 1 in
+        let from : i ≡ length (syllabus ∷ dates) + (length family + 1) = omega arith in
+        let behind-scripts : drop i tails ≡ log =
+        ap (λ (n : ℕ). drop n tails) from ∙ drop-append-add (syllabus ∷ dates) more (length family + 1) ∙ there in
+        let place : end + (past-dates + length family) + 1 ≡ end + i = omega arith in
+        let fits : i ≤ length tails = omega (arith, tails-long) in
+        let size = log-size tails scripted i log behind-scripts fits in
+        let ends : tailsOf 7 (body tails) ≡ Ended (logged-shape tails scripted i log behind-scripts fits logs) (end + i + length log) =
+        ap (λ (t : Tails). behind t (loggingTail (body tails))) (scripts-too scripting l here left ∙ ap (Ended scripted) place)
+        ∙ logging-ends tails scripted i log behind-scripts fits sw in
+        record {
+          shape = logged-shape tails scripted i log behind-scripts fits logs;
+          is = ended 7 tails _ _ ends (omega (arith, long tails));
+          on = logged-selects tails scripted i log behind-scripts fits logs;
+          family = ap isCpace (logged-family tails scripted i log behind-scripts fits logs) ∙ cpace-is cpace _ _;
+          sound = logged-sound tails scripted i log behind-scripts fits logs sw refl (λ e. rw (first-long dated cpace _ _ _ _) (sound e));
         }
 
   takes : (version : ℕ) (cpace : Bool) (behind : List ℕ) → Behind (byte s 3) version cpace behind → Takes version cpace behind
@@ -295,6 +409,7 @@ module _ (s : List ℕ) (sized : length s ≡ 52 + 107 * byte s 3 + 7 * byte s 4
         is = rw (base-ends [], selection-ends [], eq-eqb end (length (body [])) (omega (arith, long [])));
         on = refl;
         family = refl;
+        sound = sound-off with-file (body []) refl;
       }
   takes version cpace behind (syllabus-alone syllabus h) =
       let l = syllabus ∷ [] in
@@ -304,6 +419,7 @@ module _ (s : List ℕ) (sized : length s ≡ 52 + 107 * byte s 3 + 7 * byte s 4
         is = rw (base-ends l, selection-ends l, syllabus-ends l syllabus h refl (omega arith), last);
         on = refl;
         family = refl;
+        sound = sound-off _ (body l) refl;
       }
   takes version cpace behind (with-dates syllabus h {dated} {dates = tail} d) =
       let l = syllabus ∷ tail in
@@ -314,11 +430,17 @@ module _ (s : List ℕ) (sized : length s ≡ 52 + 107 * byte s 3 + 7 * byte s 4
         is = rw (base-ends l, selection-ends l, syllabus-ends l syllabus h refl (omega arith), dates-end l followed 1 d refl (omega arith), last);
         on = refl;
         family = refl;
+        sound = sound-off _ (body l) refl;
       }
   takes version cpace behind (with-family syllabus h d {family} f) = family-takes syllabus h d f family refl (omega arith) refl
   takes version cpace behind (with-scripts syllabus h d {family} f scripting l) =
       let one = length-append family (scripting ∷ []) in
       scripts-take syllabus h d f (family ++ scripting ∷ []) (starts f (scripting ∷ [])) (omega arith) scripting l (getD-append-seam family scripting [] 0) one
+  takes version cpace behind (with-log syllabus h d {family} f scripting l {log} sw sound) =
+      let more = family ++ scripting ∷ log in
+      let size = length-append family (scripting ∷ log) in
+      log-takes syllabus h d f more (starts f (scripting ∷ log)) (omega arith) scripting l (getD-append-seam family scripting log 0) log
+      (drop-append-add family (scripting ∷ log) 1) (omega arith) sw sound
 
   -- A PAPER'S STARTS ARE READ BY THE FILE BEHIND ITS SWITCH
   pub file-selects : (version : ℕ) (cpace : Bool) (behind : List ℕ) → Behind (byte s 3) version cpace behind
@@ -329,9 +451,8 @@ module _ (s : List ℕ) (sized : length s ≡ 52 + 107 * byte s 3 + 7 * byte s 4
       let t = takes version cpace behind b in
       let known = known-behind b in
       let paper = paperOf version (body behind) rest in
-      let unlogged = sound-below version (omega (arith, known .1)) (body behind) (t .shape) (t .is) in
       let shaped : begunOf paper .shape ≡ shapeAt 4 (t .shape) =
-      ap (λ (x : Begun). x .shape) (begun-is version known (body behind) rest short) ∙ rw (t .is, unlogged) in
+      ap (λ (x : Begun). x .shape) (begun-is version known (body behind) rest short) ∙ rw (t .is, t .sound) in
       let lies = inside (body behind) version (t .shape) (t .is) .file in
       let reads : readsOf (begunOf paper .shape) paper ≡ readsOf (t .shape) (body behind) =
       ap (λ (shape : Shape). readsOf shape paper) shaped ∙ by-body version known (body behind) rest short (t .shape) lies in

@@ -20,6 +20,7 @@ use Rattle.shape.specs.declared.Dating.{Dating}
 use Rattle.shape.specs.declared.Dating.the-variants.{Off as DatesOff, On as DatesOn}
 use Rattle.shape.specs.declared.Family.{Family}
 use Rattle.shape.specs.declared.Family.the-variants.{Cpa, Cpace}
+use Rattle.shape.specs.declared.Logging.the-variants.{Off as LogOff}
 use Rattle.shape.specs.declared.Shape.{Shape}
 use Rattle.shape.specs.declared.ReadShape.{ReadShape}
 use Rattle.shape.specs.declared.ReadShape.the-variants.{Taken as ShapeTaken, Refused as ShapeRefused}
@@ -42,7 +43,7 @@ use Rattle.script.specs.Script.{rulesAfter}
 use Rattle.records.specs.Records.{answeredBy, scriptedBy, isScript}
 use Rattle.conversation.specs.Conversation.{nextTaken, takenOf, nextWrites, takenWrites}
 use Rattle.opening.specs.Opening.{setUpEvent, baseBegun, setupBegun, begunOf, setupWords, wordsBegun}
-use Rattle.opening.proofs.Unlogged.{sound-below}
+use Rattle.opening.proofs.Unlogged.{sound-off}
 use Rattle.conversation.specs.Events.{following, eventsFrom, eventsOf}
 use Rattle.conversation.proofs.Events.{settled}
 
@@ -228,6 +229,11 @@ abbrev pub eventsShaped : (words rest body : List ℕ) → ReadShape → List Ev
 eventsShaped words rest body (ShapeRefused refusal) = Refused refusal ∷ []
 eventsShaped words rest body (ShapeTaken shape) = eventsWith words rest (partsOf shape body) (shape .syllabus) (shape .unnamed)
 
+-- the log of a body of a shape is off
+abbrev pub Unlogged : ReadShape → Type 0
+Unlogged (ShapeRefused refusal) = Unit
+Unlogged (ShapeTaken shape) = shape .logging ≡ LogOff
+
 -- 01 to the latest
 abbrev pub Known : ℕ → Type 0
 Known version = (1 ≤ version) × (version ≤ latest)
@@ -299,19 +305,18 @@ module _ (version : ℕ) (known : Known version) (body rest : List ℕ) (short :
     by Off l same values = same .command
     by (On start end entries) l same values = λ i. same .selecting i (same .slots i values) (same-file start end (l .0) (l .1) i) entries
 
-  -- ITS EVENTS, BY ITS BODY'S SHAPE
-  pub events-are : (words : List ℕ) (read : ReadShape) → shapeOf version body ≡ read
+  -- ITS EVENTS, BY ITS BODY'S SHAPE, where it has no log
+  pub events-are : (words : List ℕ) (read : ReadShape) → shapeOf version body ≡ read → Unlogged read
       → eventsOf words (paperOf version body rest) ≡ eventsShaped words rest body read
   unfolding eventsOf begunOf setupBegun baseBegun wordsBegun setupWords
-  events-are words (ShapeRefused refusal) e = rw (opened, its-body, e)
-  events-are words (ShapeTaken shape) e =
+  events-are words (ShapeRefused refusal) e off = rw (opened, its-body, e)
+  events-are words (ShapeTaken shape) e off =
       let parts = partsOf shape body in
       let rules = rulesOf (wordsAfter words (parts .base) (parts .cycles) (parts .family) (shape .syllabus) (shape .unnamed)) in
       let read = readSetup (parts .base) (parts .cycles) (parts .family) (shape .unnamed) in
       let state = freshState (read .fresh) in
       let paper = paperOf version body rest in
-      let unlogged = sound-below version (omega (arith, known .1)) body shape e in
-      rw (opened, its-body, e, unlogged)
+      rw (opened, its-body, e, sound-off shape body off)
       (ap (following (setUpEvent (read .answer)))
       (ap (eventsFrom (length paper) rules (shapeAt 4 shape) state paper) (sym front-length)
       ∙ events-of-rest (front version body) rest (shapeAt 4 shape) (length paper) rules state (omega (arith, whole-length))

@@ -1,15 +1,16 @@
 -- An older paper reads as the newer one with the addition off: the lines of a version 01 paper are those of the version 02 paper with
 -- selection off; those of a version 02 paper, whether or not it selects, those of the version 03 paper with syllabus 0; those of a version
 -- 03 paper whose masks have no bit from 22 on, as one that is accepted, those of the version 04 paper with dates off; those of a version 04
--- paper whose masks have no bit from 25 on, as one that is accepted, those of the version 05 paper of a CPA card; and those of a version 05 paper
--- those of the version 06 paper with scripts off. Assumes nothing.
+-- paper whose masks have no bit from 25 on, as one that is accepted, those of the version 05 paper of a CPA card; those of a version 05 paper those
+-- of the version 06 paper with scripts off; and those of a version 06 paper whose body has a shape those of the version 07 paper with the log off.
+-- Assumes nothing.
 use mathlib.Core.Path.{_≡_, refl, sym, ap, _∙_}
 use mathlib.Core.Bool.{Bool, true, false, _&&_}
 use mathlib.Core.List.{List, [], _∷_, _++_, append-assoc}
-use Prim.Native.Nat.{ℕ, _+_, _*_, _^_, _≤_}
+use Prim.Native.Nat.{ℕ, _+_, _*_, _^_, _≤_, _<_}
 use native.Mathlib.Omega.{arith}
 use borrow.Author.Tests.{le-ltb, eq-eqb}
-use lib.Dec.{lit≤}
+use lib.Dec.{lit≤, lit<}
 use lib.ListN.{length, length-append}
 use lib.Seq.{take-append-le, take-append-seam}
 use Rattle.wire.specs.Wire.{byte}
@@ -31,15 +32,18 @@ use Rattle.shape.specs.declared.ReadShape.{ReadShape}
 use Rattle.shape.specs.declared.ReadShape.the-variants.{Taken, Refused}
 use Rattle.shape.specs.Shape.{Lies, Spans, Holds, based, baseTail, dates, families, tailsOf, shapeOf, basePart, cyclesPart, familyPart}
 use Rattle.shape.proofs.Inside.{Inside, inside}
-use Rattle.shape.proofs.Older.{selection-off, syllabus-off, dates-off, family-off, scripts-off}
+use Rattle.shape.proofs.Older.{selection-off, syllabus-off, dates-off, family-off, scripts-off, log-off}
+use Rattle.shape.proofs.Scripting.{unlogged-below}
 use Rattle.slot.specs.declared.Slots.{Slots}
 use Rattle.command.specs.Command.{selectingOf, fileIn, readBy, slotsOf, commandIn}
 use Rattle.opening.specs.declared.Begun.{Begun}
 use Rattle.records.specs.declared.Event.the-variants.{SetUp, Refused as EndRefused}
 use Rattle.opening.specs.Opening.{setUpEvent, baseBegun, shapedBegun, setupBegun, begunOf}
 use Rattle.opening.proofs.Unlogged.{sound-below}
+use Rattle.conversation.specs.Events.{eventsOf}
 use Rattle.lines.specs.Sitting.{linesOf, sittingLines}
-use Rattle.versions.proofs.Papers.{Known, readsOf, paperOf, Parts, partsOf, eventsWith, eventsShaped}
+use Rattle.paper.specs.Paper.{latest}
+use Rattle.versions.proofs.Papers.{Known, Unlogged, readsOf, paperOf, Parts, partsOf, eventsWith, eventsShaped}
 use Rattle.versions.proofs.Papers.{part-before, file-there, whole-length, events-are, begun-is}
 use Rattle.versions.proofs.Undated.{undated, of-cpa, MasksBelow, below-more, accepted-below, same-judged}
 
@@ -53,6 +57,17 @@ shorter : (older later : ℕ) → Known later → (b more rest : List ℕ) → l
     → length (paperOf older b rest) ≤ 65536
 shorter older later known b more rest short =
     omega (arith, whole-length later known (b ++ more) rest short, length-append b more, length-append b rest)
+
+-- a version that a newer one follows: it has no log
+abbrev pub Older : ℕ → Type 0
+Older version = (1 ≤ version) × (version < latest)
+
+older-known : (version : ℕ) → Older version → Known version
+older-known version older = (older .0, omega (arith, older .1))
+
+older-unlogged : (version : ℕ) → Older version → (body : List ℕ) (read : ReadShape) → shapeOf version body ≡ read → Unlogged read
+older-unlogged version older body (Refused refusal) e = tt
+older-unlogged version older body (Taken shape) e = unlogged-below body version (older .1) shape e
 
 -- a shape, but for the mask bits that are named
 abbrev naming : Shape → (unnamed : ℕ) → Shape
@@ -77,6 +92,11 @@ data Alike (body : List ℕ) : ReadShape → ReadShape → Type 0 where
 the-same : (body : List ℕ) (later older : ReadShape) → later ≡ older → Alike body later older
 the-same body later (Refused refusal) e = rw e (refused refusal)
 the-same body later (Taken shape) e = rw e (taken shape (shape .unnamed) refl)
+
+-- so it has no log where that has none
+alike-unlogged : {body : List ℕ} (later older : ReadShape) → Alike body later older → Unlogged older → Unlogged later
+alike-unlogged later older (refused refusal) off = tt
+alike-unlogged later older (taken shape unnamed same) off = off
 
 module _ (body : List ℕ) where
   -- what lies in the body lies at the same places of both
@@ -132,15 +152,20 @@ module _ (body : List ℕ) (older later : ℕ) (words rest : List ℕ) (alike : 
         ap (λ (parts : Parts). eventsWith words rest parts (shape .syllabus) unnamed) (same-parts body shape unnamed (inside body older shape e))
         ∙ same-judgement words rest (partsOf shape body) (shape .syllabus) unnamed (shape .unnamed) same
 
-  -- AND SO ARE THE LINES, of versions that are known
-  lines-as-older : Known older → Known later → length (paperOf later (newer body) rest) ≤ 65536
-      → sittingLines words (paperOf later (newer body) rest) ≡ sittingLines words (paperOf older body rest)
-  unfolding sittingLines
-  lines-as-older known known-later short =
-      ap (linesOf 0)
-      (events-are later known-later (newer body) rest short words (shapeOf later (newer body)) refl
-      ∙ events-as-older
-      ∙ sym (events-are older known body rest (shorter older later known-later body (0 ∷ []) rest short) words (shapeOf older body) refl))
+  module _ (follows : Older older) (known : Known later) (short : length (paperOf later (newer body) rest) ≤ 65536) where
+    -- SO THEY ARE OF PAPERS, of versions that are known
+    happens-as-older : eventsOf words (paperOf later (newer body) rest) ≡ eventsOf words (paperOf older body rest)
+    happens-as-older =
+        let off = older-unlogged older follows body (shapeOf older body) refl in
+        let before = shorter older later known body (0 ∷ []) rest short in
+        events-are later known (newer body) rest short words (shapeOf later (newer body)) refl (alike-unlogged _ _ alike off)
+        ∙ events-as-older
+        ∙ sym (events-are older (older-known older follows) body rest before words (shapeOf older body) refl off)
+
+    -- AND SO ARE THE LINES
+    lines-as-older : sittingLines words (paperOf later (newer body) rest) ≡ sittingLines words (paperOf older body rest)
+    unfolding sittingLines
+    lines-as-older = ap (linesOf 0) happens-as-older
 
 -- ---- a version 02 set-up with syllabus 0 behind it
 
@@ -149,12 +174,12 @@ module _ (b : List ℕ) (words rest : List ℕ) where
   pub syllabus-0-reads-as-older : length (paperOf 3 (newer b) rest) ≤ 65536
       → sittingLines words (paperOf 3 (newer b) rest) ≡ sittingLines words (paperOf 2 b rest)
   syllabus-0-reads-as-older =
-      lines-as-older b 2 3 words rest (the-same b (shapeOf 3 (newer b)) (shapeOf 2 b) (syllabus-off b)) (lit≤ tt, lit≤ tt) (lit≤ tt, lit≤ tt)
+      lines-as-older b 2 3 words rest (the-same b (shapeOf 3 (newer b)) (shapeOf 2 b) (syllabus-off b)) (lit≤ tt, lit< tt) (lit≤ tt, lit≤ tt)
 
 -- ---- an addition that, off, names more mask bits and changes nothing else of a shape
 
 record Adds (older later fewer more : ℕ) (b : List ℕ) : Type 0 where
-  known : Known older
+  known : Older older
   known-later : Known later
   rises : fewer ≤ more
   fewer-named : (shape : Shape) → shapeOf older b ≡ Taken shape → shape .unnamed ≡ fewer
@@ -175,7 +200,7 @@ module _ (older later fewer more : ℕ) (b : List ℕ) (adds : Adds older later 
   accepted-as-older : begunOf (paperOf older b rest) .event ≡ SetUp
       → sittingLines words (paperOf later (newer b) rest) ≡ sittingLines words (paperOf older b rest)
   unfolding setupBegun baseBegun
-  accepted-as-older e = by (shapeOf older b) refl (ap (λ (x : Begun). x .event) (sym (begun-is older (adds .known) b rest before)) ∙ e) where
+  accepted-as-older e = by (shapeOf older b) refl (ap (λ (x : Begun). x .event) (sym (begun-is older (older-known older (adds .known)) b rest before)) ∙ e) where
     before : length (paperOf older b rest) ≤ 65536
     before = shorter older later (adds .known-later) b (0 ∷ []) rest short
 
@@ -198,7 +223,7 @@ module _ (older later fewer more : ℕ) (b : List ℕ) (adds : Adds older later 
     by (Refused refusal) f g = absurd (never refusal g)
     by (Taken shape) f g =
         let parts = partsOf shape b in
-        let unlogged = sound-below older (omega (arith, adds .known .1)) b shape f in
+        let unlogged = sound-below older (adds .known .1) b shape f in
         by-parts shape f (parts .base) (parts .cycles) (parts .family) refl
         (isAccepted (parts .base) (parts .cycles) (parts .family) (shape .unnamed)) refl (rw unlogged at g)
 
@@ -207,7 +232,7 @@ module _ (older later fewer more : ℕ) (b : List ℕ) (adds : Adds older later 
 dates-added : (b : List ℕ) → Adds 3 4 (2 ^ 22) (2 ^ 25) b
 dates-added b =
     record {
-      known = (lit≤ tt, lit≤ tt);
+      known = (lit≤ tt, lit< tt);
       known-later = (lit≤ tt, lit≤ tt);
       rises = lit≤ tt;
       fewer-named = λ shape e. undated b shape e .unnamed;
@@ -231,7 +256,7 @@ module _ (b : List ℕ) (words rest : List ℕ) (short : length (paperOf 4 (newe
 family-added : (b : List ℕ) → Adds 4 5 (2 ^ 25) (2 ^ 26) b
 family-added b =
     record {
-      known = (lit≤ tt, lit≤ tt);
+      known = (lit≤ tt, lit< tt);
       known-later = (lit≤ tt, lit≤ tt);
       rises = lit≤ tt;
       fewer-named = λ shape e. of-cpa b shape e .unnamed;
@@ -263,7 +288,35 @@ module _ (b : List ℕ) (words rest : List ℕ) where
   -- A VERSION 05 PAPER'S LINES ARE THOSE OF THE VERSION 06 PAPER WITH SCRIPTS OFF
   pub scripts-off-reads-as-older : length (paperOf 6 (newer b) rest) ≤ 65536
       → sittingLines words (paperOf 6 (newer b) rest) ≡ sittingLines words (paperOf 5 b rest)
-  scripts-off-reads-as-older = lines-as-older b 5 6 words rest scripts-alike (lit≤ tt, lit≤ tt) (lit≤ tt, lit≤ tt)
+  scripts-off-reads-as-older = lines-as-older b 5 6 words rest scripts-alike (lit≤ tt, lit< tt) (lit≤ tt, lit≤ tt)
+
+-- ---- a version 06 set-up with the log off behind it
+
+module _ (b : List ℕ) (words rest : List ℕ) (short : length (paperOf 7 (newer b) rest) ≤ 65536) where
+  module _ (shape : Shape) (e : shapeOf 6 b ≡ Taken shape) where
+    log-alike : Alike b (shapeOf 7 (newer b)) (shapeOf 6 b)
+    log-alike = the-same b (shapeOf 7 (newer b)) (shapeOf 6 b) (log-off b shape e ∙ sym e)
+
+    -- A VERSION 06 PAPER'S EVENTS AND LINES ARE THOSE OF THE VERSION 07 PAPER WITH THE LOG OFF, if its body has a shape.
+    -- Without one, what was cut off of a log may be the byte 00.
+    pub log-off-happens-as-older : eventsOf words (paperOf 7 (newer b) rest) ≡ eventsOf words (paperOf 6 b rest)
+    log-off-happens-as-older = happens-as-older b 6 7 words rest log-alike (lit≤ tt, lit< tt) (lit≤ tt, lit≤ tt) short
+
+    pub log-off-reads-as-older : sittingLines words (paperOf 7 (newer b) rest) ≡ sittingLines words (paperOf 6 b rest)
+    log-off-reads-as-older = lines-as-older b 6 7 words rest log-alike (lit≤ tt, lit< tt) (lit≤ tt, lit≤ tt) short
+
+  -- so it is if the version 06 paper's set-up is accepted
+  pub accepted-log-off-reads-as-older : begunOf (paperOf 6 b rest) .event ≡ SetUp
+      → sittingLines words (paperOf 7 (newer b) rest) ≡ sittingLines words (paperOf 6 b rest)
+  unfolding setupBegun
+  accepted-log-off-reads-as-older e = by (shapeOf 6 b) refl (ap (λ (x : Begun). x .event) (sym (begun-is 6 (lit≤ tt, lit≤ tt) b rest before)) ∙ e) where
+    before : length (paperOf 6 b rest) ≤ 65536
+    before = shorter 6 7 (lit≤ tt, lit≤ tt) b (0 ∷ []) rest short
+
+    by : (read : ReadShape) → shapeOf 6 b ≡ read → shapedBegun b 4 (4 + length b) read .event ≡ SetUp
+        → sittingLines words (paperOf 7 (newer b) rest) ≡ sittingLines words (paperOf 6 b rest)
+    by (Refused refusal) f g = absurd (let z : _≡_ {A = ℕ} 0 1 = cc in omega arith)
+    by (Taken shape) f g = log-off-reads-as-older shape f
 
 -- ---- the same set-up in all versions
 
@@ -317,7 +370,7 @@ module _ (words rest : List ℕ) where
     pub off-reads-as-older : length (paperOf 2 (newer s) rest) ≤ 65536
         → sittingLines words (paperOf 2 (newer s) rest) ≡ sittingLines words (paperOf 1 s rest)
     off-reads-as-older =
-        lines-as-older s 1 2 words rest (the-same s (shapeOf 2 (newer s)) (shapeOf 1 s) (selection-off s sized)) (lit≤ tt, lit≤ tt) (lit≤ tt, lit≤ tt)
+        lines-as-older s 1 2 words rest (the-same s (shapeOf 2 (newer s)) (shapeOf 1 s) (selection-off s sized)) (lit≤ tt, lit< tt) (lit≤ tt, lit≤ tt)
 
     -- OF THE VERSION 03 PAPER WITH SELECTION OFF AND SYLLABUS 0
     pub both-off-read-as-older : length (paperOf 3 (s ++ 0 ∷ 0 ∷ []) rest) ≤ 65536
@@ -383,3 +436,45 @@ module _ (words rest : List ℕ) where
       → length (paperOf 6 (s ++ 0 ∷ 0 ∷ 0 ∷ 0 ∷ 0 ∷ []) rest) ≤ 65536 → MasksBelow s (2 ^ 22)
       → sittingLines words (paperOf 6 (s ++ 0 ∷ 0 ∷ 0 ∷ 0 ∷ 0 ∷ []) rest) ≡ sittingLines words (paperOf 1 s rest)
   one-reads-as-six s sized short low = to-six 1 s (0 ∷ 0 ∷ 0 ∷ 0 ∷ []) (λ fits. four-off-read-as-older words rest s sized fits low) short
+
+-- ---- and in version 07, each by the version behind it
+
+module _ (words rest : List ℕ) where
+  -- A VERSION 05 PAPER'S LINES ARE THOSE OF THE VERSION 07 PAPER WITH SCRIPTS AND THE LOG OFF
+  pub five-reads-as-seven : (b : List ℕ) → length (paperOf 7 (b ++ 0 ∷ 0 ∷ []) rest) ≤ 65536 → (shape : Shape) → shapeOf 5 b ≡ Taken shape
+      → sittingLines words (paperOf 7 (b ++ 0 ∷ 0 ∷ []) rest) ≡ sittingLines words (paperOf 5 b rest)
+  five-reads-as-seven b short shape e =
+      chain words rest 5 6 7 (lit≤ tt, lit≤ tt) b (0 ∷ []) (0 ∷ []) (scripts-off-reads-as-older b words rest)
+      (λ long. log-off-reads-as-older (newer b) words rest long shape (scripts-off b ∙ e)) short
+
+  -- A VERSION 04 PAPER'S ALSO OF A CPA CARD
+  pub four-reads-as-seven : (b : List ℕ) → length (paperOf 7 (b ++ 0 ∷ 0 ∷ 0 ∷ []) rest) ≤ 65536 → (shape : Shape) → shapeOf 4 b ≡ Taken shape
+      → MasksBelow (basePart shape b) (2 ^ 25) → sittingLines words (paperOf 7 (b ++ 0 ∷ 0 ∷ 0 ∷ []) rest) ≡ sittingLines words (paperOf 4 b rest)
+  four-reads-as-seven b short shape e low =
+      chain words rest 4 5 7 (lit≤ tt, lit≤ tt) b (0 ∷ []) (0 ∷ 0 ∷ []) (λ fits. family-off-reads-as-older b words rest fits shape e low)
+      (λ long. five-reads-as-seven (newer b) long (families shape Cpa) (family-off b shape e)) short
+
+  -- A VERSION 03 PAPER'S ALSO WITH DATES OFF
+  pub three-reads-as-seven : (b : List ℕ) → length (paperOf 7 (b ++ 0 ∷ 0 ∷ 0 ∷ 0 ∷ []) rest) ≤ 65536 → (shape : Shape) → shapeOf 3 b ≡ Taken shape
+      → MasksBelow (basePart shape b) (2 ^ 22)
+      → sittingLines words (paperOf 7 (b ++ 0 ∷ 0 ∷ 0 ∷ 0 ∷ []) rest) ≡ sittingLines words (paperOf 3 b rest)
+  three-reads-as-seven b short shape e low =
+      let below = below-more _ (2 ^ 22) (2 ^ 25) (lit≤ tt) (still-below b shape 3 (2 ^ 22) e low) in
+      chain words rest 3 4 7 (lit≤ tt, lit≤ tt) b (0 ∷ []) (0 ∷ 0 ∷ 0 ∷ []) (λ fits. dates-off-read-as-older b words rest fits shape e low)
+      (λ long. four-reads-as-seven (newer b) long (dates shape DatesOff) (dates-off b shape e) below) short
+
+  -- A VERSION 02 PAPER'S ALSO WITH SYLLABUS 0
+  pub two-reads-as-seven : (b : List ℕ) → length (paperOf 7 (b ++ 0 ∷ 0 ∷ 0 ∷ 0 ∷ 0 ∷ []) rest) ≤ 65536 → (shape : Shape) → shapeOf 2 b ≡ Taken shape
+      → MasksBelow (basePart shape b) (2 ^ 22)
+      → sittingLines words (paperOf 7 (b ++ 0 ∷ 0 ∷ 0 ∷ 0 ∷ 0 ∷ []) rest) ≡ sittingLines words (paperOf 2 b rest)
+  two-reads-as-seven b short shape e low =
+      chain words rest 2 3 7 (lit≤ tt, lit≤ tt) b (0 ∷ []) (0 ∷ 0 ∷ 0 ∷ 0 ∷ []) (syllabus-0-reads-as-older b words rest)
+      (λ long. three-reads-as-seven (newer b) long shape (syllabus-off b ∙ e) (still-below b shape 2 (2 ^ 22) e low)) short
+
+  -- A VERSION 01 PAPER'S WITH ALL SIX OFF
+  pub one-reads-as-seven : (s : List ℕ) → length s ≡ 52 + 107 * byte s 3 + 7 * byte s 4
+      → length (paperOf 7 (s ++ 0 ∷ 0 ∷ 0 ∷ 0 ∷ 0 ∷ 0 ∷ []) rest) ≤ 65536 → MasksBelow s (2 ^ 22)
+      → sittingLines words (paperOf 7 (s ++ 0 ∷ 0 ∷ 0 ∷ 0 ∷ 0 ∷ 0 ∷ []) rest) ≡ sittingLines words (paperOf 1 s rest)
+  one-reads-as-seven s sized short low =
+      chain words rest 1 2 7 (lit≤ tt, lit≤ tt) s (0 ∷ []) (0 ∷ 0 ∷ 0 ∷ 0 ∷ 0 ∷ []) (off-reads-as-older words rest s sized)
+      (λ long. two-reads-as-seven (newer s) long (based (length s)) (off-shape words rest s sized) (off-below words rest s sized low)) short

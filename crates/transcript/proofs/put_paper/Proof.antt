@@ -5,45 +5,48 @@ use mathlib.Core.Path.{sym, ap, _∙_}
 use native.Mathlib.Omega.{arith}
 use lib.ListN.{length}
 use lib.Seq.{length-sets}
-use Rattle.lines.specs.Lines.{refusalLine}
+use Rattle.lines.specs.Lines.{refusalLine, placed, placeBehind}
+use Rattle.transcript.specs.Transcript.{setUpNumber}
 use Rattle.transcript.proofs.Going.{behind-is, placed-is, whole-text}
 use Rattle.transcript.proofs.Short.{refusal-short}
-use Rattle.transcript.proofs.Steps.{set-up-if, not-set-up, words-not-set-up}
+use Rattle.transcript.proofs.Steps.{set-up-in, refused-text}
 use Rattle.transcript.proofs.put_paper.Statement.{statement}
 use Rattle.transcript.proofs.put_paper.Tie as tie
 
 returns : tie.Need-returns
 returns c =
-    let put = c .before .before in
+    let put = c .before .before .before in
     let number = put .before in
-    let told = number .before .before .before in
-    let begin = told .before .before in
+    let begin = number .before .before in
     let start = begin .before .before .before in
     let a = start .before .args in
-    let e = ap (λ b. b .event) (sym (begin .begin .ensures .0)) ∙ told .event .given .1 in
-    let text = not-set-up (now (a .words)) (now (a .paper)) _ e in
+    let begun = begin .begin .ensures .0 in
+    let not-taken = refused-text (now (a .words)) (now (a .paper)) (rw (← begun) (c .match .keys2)) in
+    let said = number .number-of .ensures ∙ ap (λ b. setUpNumber (b .event)) begun in
     let pre = start .before .pre in
-    let short = refusal-short 0 (number .number .result) in (
-      rw (text, ← number .number .ensures) (put .put-refusal .ensures .0 ∙ behind-is _ _ _ (omega (arith, pre))),
-      rw (text, ← number .number .ensures) (put .put-refusal .ensures .1 ∙ placed-is _ _ _ (omega (arith, pre)) (omega arith)),
-      begin .begin .ensures .1 ∙ sym (words-not-set-up (now (a .words)) (now (a .paper)) _ e),
+    let short = refusal-short 0 (number .number-of .result) in (
+      rw (not-taken .0, ← said) (put .put-refusal .ensures .0 ∙ behind-is _ _ _ (omega (arith, pre))),
+      rw (not-taken .0, ← said) (put .put-refusal .ensures .1 ∙ placed-is _ _ _ (omega (arith, pre)) (omega arith)),
+      begin .begin .ensures .1 ∙ sym (not-taken .1),
     )
 
 put-records-requires : tie.Need-put-records-requires
 put-records-requires c κs =
-    let shape = c .before .before .before in
-    let put = shape .before .before .before in
-    let other = put .before .before in
-    let begin = other .before in
+    let told = c .before .before .before .before in
+    let put = told .before .before .before .before in
+    let number = put .before in
+    let begin = number .before .before in
     let start = begin .before .before .before in
     let a = start .before .args in
     let pre = start .before .pre in
     let begun = begin .begin .ensures .0 in
-    let opening = set-up-if (now (a .paper)) (rw (← begun) (other .match .keys2)) .1 in
-    let short = refusal-short 0 0 in
-    let behind = put .put-refusal2 .ensures .0 ∙ behind-is _ _ (refusalLine 0 0) (omega (arith, pre)) in
-    let there = put .put-refusal2 .ensures .1 ∙ placed-is _ _ (refusalLine 0 0) (omega (arith, pre)) (omega arith) in
-    let size = ap length there ∙ length-sets (now (a .room)) (a .at) (refusalLine 0 0) in
+    let taken = ap (λ b. b .event) (sym begun) ∙ told .enum-told .given .1 in
+    let opening = set-up-in (now (a .paper)) taken in
+    let text = refusalLine 0 (number .number-of .result) in
+    let short = refusal-short 0 (number .number-of .result) in
+    let behind = put .put-refusal .ensures .0 ∙ behind-is _ _ text (omega (arith, pre)) in
+    let there = put .put-refusal .ensures .1 ∙ placed-is _ _ text (omega (arith, pre)) (omega arith) in
+    let size = ap length there ∙ length-sets (now (a .room)) (a .at) text in
     let at = ap (λ b. b .at) begun in
     let begins = opening .begins in
     let inside = opening .inside in
@@ -52,19 +55,19 @@ put-records-requires c κs =
 returns-2 : tie.Need-returns-2
 returns-2 c =
     let records = c .before .before in
-    let fresh = records .before .before .before in
-    let shape = fresh .before .before in
-    let put = shape .before .before in
-    let other = put .before .before in
-    let begin = other .before in
+    let told = records .before .before .before .before .before in
+    let put = told .before .before .before .before in
+    let number = put .before in
+    let begin = number .before .before in
     let start = begin .before .before .before in
     let a = start .before .args in
     let pre = start .before .pre in
     let begun = begin .begin .ensures .0 in
-    let taken = set-up-if (now (a .paper)) (rw (← begun) (other .match .keys2)) .0 in
+    let taken = ap (λ b. b .event) (sym begun) ∙ told .enum-told .given .1 in
+    let said = number .number-of .ensures ∙ ap setUpNumber (told .enum-told .given .1) in
     let short = refusal-short 0 0 in
-    let behind = put .put-refusal2 .ensures .0 ∙ behind-is _ _ (refusalLine 0 0) (omega (arith, pre)) in
-    let there = put .put-refusal2 .ensures .1 ∙ placed-is _ _ (refusalLine 0 0) (omega (arith, pre)) (omega arith) in
+    let behind = put .put-refusal .ensures .0 ∙ ap (λ n. placeBehind (length (now (a .room))) (a .at) (refusalLine 0 n)) said ∙ behind-is _ _ (refusalLine 0 0) (omega (arith, pre)) in
+    let there = put .put-refusal .ensures .1 ∙ ap (λ n. placed (now (a .room)) (a .at) (refusalLine 0 n)) said ∙ placed-is _ _ (refusalLine 0 0) (omega (arith, pre)) (omega arith) in
     let kept = begin .begin .ensures .1 in
     let p = records .put-records .ensures in
     let text = whole-text (now (a .words)) (now (a .paper)) (now (a .room)) (a .at) begun kept taken there behind (p .0) (p .1) (p .2) in
@@ -73,5 +76,5 @@ returns-2 c =
 pub put-paper-spec : {M : Type 1} → statement M
 put-paper-spec =
     tie.close
-    (tie.spec (search needs) (search needs) (search needs) (search needs) (search needs) returns (search needs) put-records-requires
+    (tie.spec (search needs) (search needs) (search needs) (search needs) (search needs) returns put-records-requires
     (search needs) returns-2)
