@@ -1,2 +1,6 @@
 pub mod Said
 pub mod Answers
+pub mod Seen
+pub mod Adds
+pub mod Rings
+pub mod Log

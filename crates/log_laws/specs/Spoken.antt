@@ -6,6 +6,9 @@ use mathlib.Core.List.{List, [], _∷_}
 use Rattle.rules.specs.Rules.{Rules}
 use Rattle.shape.specs.declared.Shape.{Shape}
 use Rattle.command.specs.declared.Command.the-variants.{Start as StartCommand, First as FirstCommand, Second as SecondCommand}
+use Rattle.state.specs.declared.Kind.the-variants.{Aac, Tc, Arqc}
+use Rattle.state.specs.declared.Answer.{Answer}
+use Rattle.state.specs.declared.Answer.the-variants.{Refused as AnswerRefused, Started, Given, Done}
 use Rattle.state.specs.declared.State.{State}
 use Rattle.script.specs.Script.{rulesAfter}
 use Rattle.records.specs.declared.Said.{Said}
@@ -23,6 +26,15 @@ heardOf (SaidCommand (StartCommand start)) = Other
 heardOf (SaidCommand (FirstCommand first)) = First
 heardOf (SaidCommand (SecondCommand second)) = Second (second .code)
 heardOf Script = Other
+
+-- an answer that closes a transaction: a TC or an AAC
+abbrev pub isClosing : Answer → Bool
+isClosing (AnswerRefused refusal) = false
+isClosing (Started atc visits) = false
+isClosing (Given Aac atc iad) = true
+isClosing (Given Tc atc iad) = true
+isClosing (Given Arqc atc iad) = false
+isClosing Done = false
 
 -- the record at a place is answered, its body standing behind its length (2) and its kind (1), and then those behind it
 abbrev pub seenThen : (at : ℕ) → Event → List Seen → List Seen
