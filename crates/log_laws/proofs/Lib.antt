@@ -4,3 +4,4 @@ pub mod Seen
 pub mod Adds
 pub mod Rings
 pub mod Log
+pub mod Text
