@@ -5,3 +5,4 @@ pub mod Adds
 pub mod Rings
 pub mod Log
 pub mod Text
+pub mod Samples
