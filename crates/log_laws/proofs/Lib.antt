@@ -2,6 +2,7 @@ pub mod Said
 pub mod Answers
 pub mod Seen
 pub mod Adds
+pub mod Whole
 pub mod Rings
 pub mod Log
 pub mod Text
