@@ -10,7 +10,7 @@ use lib.ListN.{length, take, drop, length-drop}
 use lib.Seq.{length-take-le}
 use Rattle.conversation.specs.Events.{wordsLeft}
 use Rattle.transcript.specs.declared.Transcript.{Transcript}
-use Rattle.transcript.specs.Transcript.{roomFor, wordsAfter}
+use Rattle.paper_text.specs.PaperText.{roomForText, wordsPut}
 use Rattle.blocks.specs.declared.Front.the-variants.{Done, Paper}
 use Rattle.blocks.specs.declared.Turned.{Turned}
 use Rattle.blocks.specs.declared.Wants.the-variants.{Turn, Input}
@@ -37,7 +37,7 @@ module _ (words room input : List ℕ) (to skip : ℕ) where
         → let deal = cond some (passing skip words input)
         (cond none (hold 0 0 Input)
         (cond long (hold 4 (sizeOf input) Turn)
-        (cond few (hold 0 0 Input) (page (4 + sizeOf input) (roomFor (sizeOf input)) (pageOf words (paperOf input)) (wordsLeft words (paperOf input)))))) in
+        (cond few (hold 0 0 Input) (page (4 + sizeOf input) (roomForText (sizeOf input)) (pageOf words (paperOf input)) (wordsLeft words (paperOf input)))))) in
         (said ≡ saidBy (length room) to skip deal) × (cond some (roomBy room to (passing skip [] input)) room ≡ roomBy room to deal)
         × (words ≡ wordsBy (length room) to words deal)
     by true none long few e =
@@ -49,7 +49,7 @@ module _ (words room input : List ℕ) (to skip : ℕ) where
 
   -- a paper is at hand
   pub at-hand : {end : ℕ} → frontOf (length room) to skip input ≡ Paper end
-      → (dealOf skip words input ≡ page (4 + sizeOf input) (roomFor (sizeOf input)) (pageOf words (paperOf input)) (wordsLeft words (paperOf input)))
+      → (dealOf skip words input ≡ page (4 + sizeOf input) (roomForText (sizeOf input)) (pageOf words (paperOf input)) (wordsLeft words (paperOf input)))
       × (frontRoom room to skip input ≡ room) × (end ≡ 4 + sizeOf input) × (end ≤ length input) × (skip ≡ 0)
   unfolding frontOf frontRoom dealOf
   at-hand {end} = by (ltb 0 skip) (ltb (length input) 4) (ltb longestPaper (sizeOf input)) (ltb (length input - 4) (sizeOf input)) refl refl refl where
@@ -61,8 +61,8 @@ module _ (words room input : List ℕ) (to skip : ℕ) where
         → (cond some (passing skip words input)
         (cond none (hold 0 0 Input)
         (cond long (hold 4 (sizeOf input) Turn)
-        (cond few (hold 0 0 Input) (page (4 + sizeOf input) (roomFor (sizeOf input)) (pageOf words (paperOf input)) (wordsLeft words (paperOf input))))))
-        ≡ page (4 + sizeOf input) (roomFor (sizeOf input)) (pageOf words (paperOf input)) (wordsLeft words (paperOf input)))
+        (cond few (hold 0 0 Input) (page (4 + sizeOf input) (roomForText (sizeOf input)) (pageOf words (paperOf input)) (wordsLeft words (paperOf input))))))
+        ≡ page (4 + sizeOf input) (roomForText (sizeOf input)) (pageOf words (paperOf input)) (wordsLeft words (paperOf input)))
         × (cond some (roomBy room to (passing skip [] input)) room ≡ room) × (end ≡ 4 + sizeOf input) × (end ≤ length input) × (skip ≡ 0)
     by true none long few s n f e = absurd (let z : _≡_ {A = ℕ} 0 1 = cc in omega arith)
     by false true long few s n f e = absurd (let z : _≡_ {A = ℕ} 0 1 = cc in omega arith)
@@ -77,10 +77,10 @@ module _ (words room input : List ℕ) (to skip : ℕ) where
 
 -- a page, by its paper's length
 by-length : (words paper room : List ℕ) (to taken n : ℕ) → length paper ≡ n
-    → let deal = page taken (roomFor n) (pageOf words paper) (wordsLeft words paper) in
+    → let deal = page taken (roomForText n) (pageOf words paper) (wordsLeft words paper) in
     (turnedOver taken 0 to (pagePut words paper (length room) to) ≡ saidBy (length room) to 0 deal)
-    × (pageRoom words paper room to ≡ roomBy room to deal) × (wordsAfter words paper room to ≡ wordsBy (length room) to words deal)
-unfolding wordsAfter
+    × (pageRoom words paper room to ≡ roomBy room to deal) × (wordsPut words paper room to ≡ wordsBy (length room) to words deal)
+unfolding wordsPut
 by-length words paper room to taken n e =
     rw (← e) (page-said (length room) to 0 taken words paper (wordsLeft words paper), refl, refl)
 
@@ -89,7 +89,7 @@ pub paged : (words input room : List ℕ) (to skip : ℕ) {end : ℕ} {room′ a
     → frontOf (length room) to skip input ≡ Paper end → room′ ≡ frontRoom room to skip input
     → put ≡ pagePut words (take (end - 4) (drop 4 input)) (length room′) to
     → after ≡ pageRoom words (take (end - 4) (drop 4 input)) room′ to
-    → kept ≡ wordsAfter words (take (end - 4) (drop 4 input)) room′ to
+    → kept ≡ wordsPut words (take (end - 4) (drop 4 input)) room′ to
     → said ≡ turnedOver end 0 to put
     → (said ≡ saidBy (length room) to skip (dealOf skip words input)) × (after ≡ roomBy room to (dealOf skip words input))
     × (kept ≡ wordsBy (length room) to words (dealOf skip words input))

@@ -8,7 +8,7 @@ use borrow.Author.Tests.{ltb-true, ltb-false}
 use lib.Dec.{ltb, leb}
 use lib.ListN.{length}
 use Rattle.conversation.specs.Events.{wordsLeft}
-use Rattle.transcript.specs.Transcript.{roomFor}
+use Rattle.paper_text.specs.PaperText.{roomForText}
 use Rattle.blocks.specs.declared.Turned.{Turned}
 use Rattle.blocks.specs.declared.Wants.{Wants}
 use Rattle.blocks.specs.declared.Wants.the-variants.{Turn, Input, Room}
@@ -44,7 +44,7 @@ inside room to skip words input = by (ltb 0 skip) where
       (saidBy room to skip
       (cond long (hold 4 (sizeOf input) Turn)
       (cond few (hold 0 0 Input)
-      (page (4 + sizeOf input) (roomFor (sizeOf input)) (pageOf words (paperOf input)) (wordsLeft words (paperOf input))))))
+      (page (4 + sizeOf input) (roomForText (sizeOf input)) (pageOf words (paperOf input)) (wordsLeft words (paperOf input))))))
   by-size true few four l f =
       let h = ltb-false (length input) 4 four in
       held room to skip (length input) 4 (sizeOf input) Turn h (λ w. absurd (let z : _≡_ {A = ℕ} 0 1 = cc in omega arith))
@@ -55,7 +55,7 @@ inside room to skip words input = by (ltb 0 skip) where
   by-size false false four l f =
       let h = ltb-false (length input) 4 four in
       let there = ltb-false (length input - 4) (sizeOf input) f in
-      paged room to skip (length input) (4 + sizeOf input) (roomFor (sizeOf input)) (pageOf words (paperOf input)) (wordsLeft words (paperOf input))
+      paged room to skip (length input) (4 + sizeOf input) (roomForText (sizeOf input)) (pageOf words (paperOf input)) (wordsLeft words (paperOf input))
       (omega arith)
 
   by-opening : (none : Bool) → ltb (length input) 4 ≡ none
@@ -64,7 +64,7 @@ inside room to skip words input = by (ltb 0 skip) where
       (cond none (hold 0 0 Input)
       (cond (ltb longestPaper (sizeOf input)) (hold 4 (sizeOf input) Turn)
       (cond (ltb (length input - 4) (sizeOf input)) (hold 0 0 Input)
-      (page (4 + sizeOf input) (roomFor (sizeOf input)) (pageOf words (paperOf input)) (wordsLeft words (paperOf input)))))))
+      (page (4 + sizeOf input) (roomForText (sizeOf input)) (pageOf words (paperOf input)) (wordsLeft words (paperOf input)))))))
   by-opening true e =
       let few = ltb-true (length input) 4 e in held room to skip (length input) 0 0 Input (omega arith) (λ w. omega arith)
   by-opening false e = by-size (ltb longestPaper (sizeOf input)) (ltb (length input - 4) (sizeOf input)) e refl refl

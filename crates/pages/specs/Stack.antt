@@ -6,11 +6,11 @@ use Prim.Native.Nat.{ℕ, zero, suc, _+_}
 use lib.Dec.{eqb, ltb}
 use lib.ListN.{length}
 use Rattle.conversation.specs.Events.{wordsLeft}
-use Rattle.transcript.specs.Transcript.{transcriptOf}
+use Rattle.paper_text.specs.PaperText.{textOf}
 pub use Rattle.blocks.specs.Blocks.{cutShort, sizeOf, paperOf, behind}
 
 abbrev pub pageOf : (words paper : List ℕ) → List ℕ
-pageOf words paper = transcriptOf words paper ++ 10 ∷ []
+pageOf words paper = textOf words paper ++ 10 ∷ []
 
 -- the pages of n papers; a paper's rules are read into the words that the one before it left
 unfoldable pub pagesIn : ℕ → (words stack : List ℕ) → List ℕ

@@ -8,7 +8,7 @@ use lib.Seq.{sets}
 use Rattle.conversation.specs.Events.{wordsLeft}
 use Rattle.transcript.specs.declared.Transcript.{Transcript}
 use Rattle.transcript.specs.declared.Transcript.the-variants.{Whole, NoRoom}
-use Rattle.transcript.specs.Transcript.{roomFor, hasRoom}
+use Rattle.paper_text.specs.PaperText.{roomForText, hasTextRoom}
 use Rattle.blocks.specs.declared.Wants.the-variants.{Turn, Input}
 pub use Rattle.blocks.specs.Blocks.{tooLong, longestPaper, placedText, textRoom, Deal, hold, page, passing, turnedOver, saidBy, roomBy, lastText}
 use Rattle.pages.specs.Stack.{pageOf, cutShort, sizeOf, paperOf, stackOf}
@@ -20,10 +20,10 @@ owed skip words stack =
 
 -- a page in the room, and where it ends, where its paper has the room that it is asked
 abbrev pub pagePut : (words paper : List ℕ) (room to : ℕ) → Transcript
-pagePut words paper room to = cond (hasRoom room to (length paper)) (Whole (to + length (pageOf words paper))) NoRoom
+pagePut words paper room to = cond (hasTextRoom room to (length paper)) (Whole (to + length (pageOf words paper))) NoRoom
 
 abbrev pub pageRoom : (words paper room : List ℕ) (to : ℕ) → List ℕ
-pageRoom words paper room to = cond (hasRoom (length room) to (length paper)) (sets room to (pageOf words paper)) room
+pageRoom words paper room to = cond (hasTextRoom (length room) to (length paper)) (sets room to (pageOf words paper)) room
 
 -- the block at the front: too few bytes for its length, a paper that is too long, too few bytes for the paper, a paper
 abbrev pub opening : (words input : List ℕ) → Deal
@@ -31,7 +31,7 @@ opening words input =
     cond (ltb (length input) 4) (hold 0 0 Input)
     (cond (ltb longestPaper (sizeOf input)) (hold 4 (sizeOf input) Turn)
     (cond (ltb (length input - 4) (sizeOf input)) (hold 0 0 Input)
-    (page (4 + sizeOf input) (roomFor (sizeOf input)) (pageOf words (paperOf input)) (wordsLeft words (paperOf input)))))
+    (page (4 + sizeOf input) (roomForText (sizeOf input)) (pageOf words (paperOf input)) (wordsLeft words (paperOf input)))))
 
 unfoldable pub dealOf : (skip : ℕ) (words input : List ℕ) → Deal
 dealOf skip words input = cond (ltb 0 skip) (passing skip words input) (opening words input)

@@ -2,7 +2,7 @@
 // an empty one.
 ghost use mathlib.Core.Path.{_≡_};
 ghost use lib.ListN.{length};
-ghost use Rattle.transcript.specs.Transcript.{wordsAfter};
+ghost use Rattle.paper_text.specs.PaperText.{wordsPut};
 ghost use Rattle.pages.specs.Turn.{pagePut, pageRoom, dealOf, saidBy, roomBy, wordsBy};
 use blocks::Front;
 use blocks::Turned;
@@ -11,7 +11,7 @@ use transcript::Transcript;
 
 // The page of a paper.
 fn put_page(paper: &[u8], words: &mut Words, room: &mut [u8], at: usize) -> Transcript
-    ensures { λ r. ⌜ (r ≡ pagePut (now (words .entry)) (now (paper .entry)) (length (now (room .entry))) at) × (now (room .exit) ≡ pageRoom (now (words .entry)) (now (paper .entry)) (now (room .entry)) at) × (now (words .exit) ≡ wordsAfter (now (words .entry)) (now (paper .entry)) (now (room .entry)) at) ⌝ }
+    ensures { λ r. ⌜ (r ≡ pagePut (now (words .entry)) (now (paper .entry)) (length (now (room .entry))) at) × (now (room .exit) ≡ pageRoom (now (words .entry)) (now (paper .entry)) (now (room .entry)) at) × (now (words .exit) ≡ wordsPut (now (words .entry)) (now (paper .entry)) (now (room .entry)) at) ⌝ }
 {
     let Transcript::Whole { end } = paper_text::put_text(paper, words, room, at) else {
         return Transcript::NoRoom;

@@ -1,11 +1,10 @@
 -- The lines stand in the room, and the log's text behind them. Assumes nothing.
 use mathlib.Core.Path.{_≡_, refl, sym, ap, _∙_}
-use mathlib.Core.Bool.{Bool, true, false, cond, _&&_}
+use mathlib.Core.Bool.{Bool, true, false, cond}
 use mathlib.Core.List.{List, [], _++_, append-assoc}
-use Prim.Native.Nat.{ℕ, _+_, _*_, _-_, _≤_}
+use Prim.Native.Nat.{ℕ, _+_, _*_, _-_, _≤_, _<_}
 use native.Mathlib.Omega.{arith}
-use borrow.Author.Tests.{leb-true, le-leb}
-use lib.Dec.{leb}
+use borrow.Author.Tests.{leb-true, leb-false, le-leb, lt-leb}
 use lib.ListN.{length, take, drop, length-append}
 use lib.Seq.{sets, length-sets, sets-eq, length-take-le, take-at, drop-at}
 use Rattle.log.specs.Log.{tailAt}
@@ -16,20 +15,14 @@ use Rattle.transcript.proofs.Going.{sets-on}
 use Rattle.transcript.proofs.Long.{long}
 use Rattle.conversation.specs.Events.{wordsLeft}
 use Rattle.log_text.specs.LogText.{longest, placed, placeBehind}
-use Rattle.paper_text.specs.PaperText.{logBehind, textOf, hasTextRoom}
+use Rattle.paper_text.specs.PaperText.{logBehind, textOf, roomForText, hasTextRoom}
 
-both : (a b : Bool) → (a && b) ≡ true → (a ≡ true) × (b ≡ true)
-both true b e = (refl, e)
-both false b e = let z : _≡_ {A = ℕ} 0 1 = cc in absurd (omega arith)
-
--- room for the text is room for the lines, and behind them for the longest log
-pub roomy : (room at paper : ℕ) → hasTextRoom room at paper ≡ true → at + roomFor paper + longest ≤ room
-unfolding hasTextRoom
-roomy room at paper e =
-    let asked = both (leb longest room) (hasRoom (room - longest) at paper) e in
-    let log = leb-true longest room (asked .0) in
-    let lines = leb-true (at + roomFor paper) (room - longest) (asked .1) in
-    omega (arith, log, lines)
+-- room for the text is room for the lines in what is left without the longest log
+pub less-longest : (room at bytes : ℕ) → longest ≤ room → hasRoom (room - longest) at bytes ≡ hasTextRoom room at bytes
+less-longest room at bytes h = by (hasTextRoom room at bytes) refl where
+  by : (b : Bool) → hasTextRoom room at bytes ≡ b → hasRoom (room - longest) at bytes ≡ b
+  by true e = le-leb (at + roomFor bytes) (room - longest) (omega (arith, leb-true (at + roomForText bytes) room e))
+  by false e = lt-leb (at + roomFor bytes) (room - longest) (omega (arith, leb-false (at + roomForText bytes) room e))
 
 -- a text that was put is found again
 found-again : (room text : List ℕ) (at : ℕ) → at + length text ≤ length room → tailAt (sets room at text) at (at + length text) ≡ text
@@ -55,7 +48,7 @@ module _ (words paper room : List ℕ) (at : ℕ) (fits : hasTextRoom (length ro
   lines = transcriptOf words paper
 
   room-for : hasRoom (length room) at (length paper) ≡ true
-  room-for = le-leb (at + roomFor (length paper)) (length room) (omega (arith, roomy (length room) at (length paper) fits))
+  room-for = le-leb (at + roomFor (length paper)) (length room) (omega (arith, leb-true (at + roomForText (length paper)) (length room) fits))
 
   -- the lines are put
   pub lines-put : (transcribed words paper room at ≡ Whole (at + length lines)) × (roomAfter words paper room at ≡ sets room at lines)
@@ -67,10 +60,10 @@ module _ (words paper room : List ℕ) (at : ℕ) (fits : hasTextRoom (length ro
   pub log-put : {between after : List ℕ} {end r : ℕ} → end ≡ at + length lines → between ≡ sets room at lines
       → r ≡ placeBehind (length between) end (logBehind paper (tailAt between at end))
       → after ≡ placed between end (logBehind paper (tailAt between at end)) → r ≤ end + longest
-      → (r ≡ at + length (textOf words paper)) × (after ≡ sets room at (textOf words paper)) × (r ≤ at + roomFor (length paper) + longest)
+      → (r ≡ at + length (textOf words paper)) × (after ≡ sets room at (textOf words paper)) × (r < at + roomForText (length paper))
   unfolding textOf placed placeBehind
   log-put {between} {after} {end} {r} ends there behind put most =
-      let asked = roomy (length room) at (length paper) fits in
+      let asked = leb-true (at + roomForText (length paper)) (length room) fits in
       let short = long words paper in
       let log = logBehind paper lines in
       let size = length-append lines log in

@@ -1,6 +1,6 @@
 -- The text of a whole paper (document 01, "A sitting in full"; document 02, Eight): its lines, and behind them those of its log.
-use Prim.Native.Nat.{ℕ, _+_, _-_, _≤_}
-use mathlib.Core.Bool.{Bool, cond, _&&_}
+use Prim.Native.Nat.{ℕ, _+_, _<_}
+use mathlib.Core.Bool.{Bool, cond}
 use mathlib.Core.List.{List, [], _++_}
 use lib.Dec.{leb, ltb}
 use lib.ListN.{length}
@@ -12,7 +12,7 @@ use Rattle.opening.specs.Opening.{begunOf, wordsBegun}
 use Rattle.conversation.specs.Events.{wordsLeft}
 use Rattle.transcript.specs.declared.Transcript.{Transcript}
 use Rattle.transcript.specs.declared.Transcript.the-variants.{Whole, NoRoom}
-use Rattle.transcript.specs.Transcript.{transcriptOf, roomFor, hasRoom}
+use Rattle.transcript.specs.Transcript.{transcriptOf, roomFor}
 use Rattle.log_text.specs.LogText.{longest}
 use Rattle.logbook.specs.Logbook.{shapedBehind}
 
@@ -27,9 +27,12 @@ logBehind paper text =
 unfoldable pub textOf : (words paper : List ℕ) → List ℕ
 textOf words paper = let lines = transcriptOf words paper in lines ++ logBehind paper lines
 
--- there is room for its lines and for the longest log
-unfoldable pub hasTextRoom : (room at paper : ℕ) → Bool
-hasTextRoom room at paper = leb longest room && hasRoom (room - longest) at paper
+-- the room that a paper of so many bytes is asked: that for its lines, and the longest log
+abbrev pub roomForText : (bytes : ℕ) → ℕ
+roomForText bytes = roomFor bytes + longest
+
+abbrev pub hasTextRoom : (room at bytes : ℕ) → Bool
+hasTextRoom room at bytes = leb (at + roomForText bytes) room
 
 -- where the text ends, or that there is no room
 unfoldable pub textPut : (words paper room : List ℕ) (at : ℕ) → Transcript
@@ -42,7 +45,7 @@ roomPut words paper room at = cond (hasTextRoom (length room) at (length paper))
 unfoldable pub wordsPut : (words paper room : List ℕ) (at : ℕ) → List ℕ
 wordsPut words paper room at = cond (hasTextRoom (length room) at (length paper)) (wordsLeft words paper) words
 
--- it ends in the room that it was asked
-abbrev pub EndsIn : (at paper : ℕ) → Transcript → Type 0
-EndsIn at paper (Whole end) = end ≤ at + roomFor paper + longest
-EndsIn at paper NoRoom = Unit
+-- it ends in the room that it was asked, with a byte to spare
+abbrev pub EndsIn : (at bytes : ℕ) → Transcript → Type 0
+EndsIn at bytes (Whole end) = end < at + roomForText bytes
+EndsIn at bytes NoRoom = Unit

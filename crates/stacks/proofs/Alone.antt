@@ -36,6 +36,7 @@ use Rattle.conversation.specs.Conversation.{takenOf, takenWrites}
 use Rattle.conversation.specs.Events.{ending, wordsFrom, wordsLeft}
 use Rattle.lines.specs.Lines.{refusalLine}
 use Rattle.transcript.specs.Transcript.{transcriptOf, restOf}
+use Rattle.paper_text.specs.PaperText.{textOf}
 use Rattle.transcript.proofs.Steps.{Beginning, accepted, refused, begins, set-up, not-set-up}
 use Rattle.pages.specs.Stack.{paperOf, behind, pagesIn, stackOf}
 use Rattle.stacks.specs.Alone.{apartIn, apartOf}
@@ -150,6 +151,11 @@ module _ (words words′ paper : List ℕ) (lent : length words ≡ wordCount) (
         set-up words paper e ∙ rest ∙ sym (set-up words′ paper e)
     by (refused refusal e) = not-set-up words paper refusal e ∙ sym (not-set-up words′ paper refusal e)
 
+  -- and with it the log's lines, which are read from that
+  pub text-alone : textOf words paper ≡ textOf words′ paper
+  unfolding textOf
+  text-alone = rw each-alone
+
 -- ---- a stack
 
 apart-in : (n : ℕ) (words words′ stack : List ℕ) → length words ≡ wordCount → length words′ ≡ wordCount
@@ -158,7 +164,7 @@ unfolding pagesIn apartIn
 apart-in zero words words′ stack lent lent′ = refl
 apart-in (suc n) words words′ stack lent lent′ =
     let paper = paperOf stack in
-    rw (each-alone words words′ paper lent lent′, apart-in n (wordsLeft words paper) words′ (behind stack) (words-length words paper ∙ lent) lent′)
+    rw (text-alone words words′ paper lent lent′, apart-in n (wordsLeft words paper) words′ (behind stack) (words-length words paper ∙ lent) lent′)
 
 -- the text of a stack is each paper's own page
 pub apart : (words words′ stack : List ℕ) → length words ≡ wordCount → length words′ ≡ wordCount

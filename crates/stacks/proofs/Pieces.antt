@@ -9,7 +9,8 @@ use lib.Dec.{eqb, ltb}
 use lib.ListN.{length, drop, length-append, length-drop}
 use lib.Seq.{drop-length, take-append-le, drop-append-le, drop-append-add}
 use Rattle.conversation.specs.Events.{wordsLeft}
-use Rattle.transcript.specs.Transcript.{joined, roomFor}
+use Rattle.transcript.specs.Transcript.{joined}
+use Rattle.paper_text.specs.PaperText.{roomForText}
 use Rattle.blocks.specs.declared.Wants.the-variants.{Turn, Input, Room}
 use Rattle.pages.specs.Stack.{pageOf, sizeOf, paperOf, stackOf}
 use Rattle.pages.specs.Turn.{tooLong, longestPaper, owed, Deal, hold, page, passing, opening, dealOf, lastText}
@@ -17,7 +18,7 @@ use Rattle.stacks.specs.Pieces.{dealt, toldIn, toldOf}
 use Rattle.stacks.proofs.Stack.{number-front, none, cut, front, owed-cut, owed-page, owed-long}
 
 abbrev paged : (words input : List ℕ) → Deal
-paged words input = page (4 + sizeOf input) (roomFor (sizeOf input)) (pageOf words (paperOf input)) (wordsLeft words (paperOf input))
+paged words input = page (4 + sizeOf input) (roomForText (sizeOf input)) (pageOf words (paperOf input)) (wordsLeft words (paperOf input))
 
 -- what holds of each of the five deals holds of the turn's
 module _ (skip : ℕ) (words input : List ℕ) (P : Deal → Type 0)

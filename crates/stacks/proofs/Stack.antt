@@ -16,7 +16,11 @@ use Rattle.opening.specs.Opening.{begunOf, openedBegun, wordsBegun, openedWords
 use Rattle.conversation.specs.Events.{wordsLeft}
 use Rattle.lines.specs.Lines.{digit, decimal, refusalLine}
 use Rattle.transcript.proofs.Steps.{not-set-up, words-not-set-up}
-use Rattle.pages.specs.Stack.{pageOf, cutShort, sizeOf, paperOf, behind, pagesIn, stackOf}
+use Rattle.replies.specs.Replies.{placeOf, behind}
+use Rattle.paper_text.specs.PaperText.{textOf}
+use Rattle.paper_text.proofs.Logged.{no-further-line}
+use Rattle.pages.specs.Stack.{pageOf, cutShort, sizeOf, paperOf, pagesIn, stackOf}
+use Rattle.pages.specs.Stack as Stack
 use Rattle.pages.specs.Turn.{tooLong, longestPaper, owed}
 
 -- the length at the front does not hang on what stands behind it
@@ -34,7 +38,7 @@ settled zero zero words stack h l = refl
 settled zero (suc m) words stack h l = rw (eq-eqb (length stack) 0 (omega arith))
 settled (suc n) zero words stack h l = let z : ⊥ = omega arith in absurd z
 settled (suc n) (suc m) words stack h l =
-    rw (settled n m (wordsLeft words (paperOf stack)) (behind stack) (omega (arith, length-drop (4 + sizeOf stack) stack)) (omega arith))
+    rw (settled n m (wordsLeft words (paperOf stack)) (Stack.behind stack) (omega (arith, length-drop (4 + sizeOf stack) stack)) (omega arith))
 
 module _ (words stack : List ℕ) where
   pub none : length stack ≡ 0 → stackOf words stack ≡ []
@@ -52,12 +56,12 @@ module _ (words stack : List ℕ) where
       ∙ (let no = ne-eqb (length stack) 0 (λ z. omega arith) in rw (no, lt-ltb (length stack) (4 + sizeOf stack) few))
 
   pub front : 4 + sizeOf stack ≤ length stack
-      → stackOf words stack ≡ pageOf words (paperOf stack) ++ stackOf (wordsLeft words (paperOf stack)) (behind stack)
+      → stackOf words stack ≡ pageOf words (paperOf stack) ++ stackOf (wordsLeft words (paperOf stack)) (Stack.behind stack)
   unfolding pagesIn stackOf
   front there =
       let m = length stack - 1 in
       let no = ne-eqb (length stack) 0 (λ z. omega arith) in
-      let enough = settled (length (behind stack)) m (wordsLeft words (paperOf stack)) (behind stack) (omega arith)
+      let enough = settled (length (Stack.behind stack)) m (wordsLeft words (paperOf stack)) (Stack.behind stack) (omega arith)
       (omega (arith, length-drop (4 + sizeOf stack) stack)) in
       first m (omega arith) ∙ rw (no, le-ltb (length stack) (4 + sizeOf stack) there) (ap (λ t. pageOf words (paperOf stack) ++ t) enough)
 
@@ -69,8 +73,9 @@ module _ (words paper : List ℕ) (long : longestPaper < length paper) where
   unread = rw (ne-eqb (length paper) 0 (λ z. omega arith), lt-ltb 65536 (length paper) long)
 
   pub long-page : pageOf words paper ≡ tooLong
-  unfolding refusalLine decimal digit begunOf
-  long-page = rw (not-set-up words paper Unreadable (ap (λ o. openedBegun paper o .event) unread))
+  unfolding textOf behind placeOf refusalLine decimal digit begunOf
+  long-page =
+      rw (not-set-up words paper Unreadable (ap (λ o. openedBegun paper o .event) unread), no-further-line paper (refusalLine 0 9) refl)
 
   pub long-words : wordsLeft words paper ≡ words
   unfolding wordsBegun begunOf

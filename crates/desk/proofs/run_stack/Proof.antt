@@ -8,5 +8,5 @@ use Rattle.desk.proofs.run_stack.Tie as tie
 pub run-stack-spec : {M : Type 1} → statement M
 run-stack-spec =
     tie.close
-    (tie.spec (search needs) (λ c. sym (length-replicate {A = ℕ} 65540 0)) (λ c. sym (length-replicate {A = ℕ} 524378 0)) (search needs) (search needs)
+    (tie.spec (search needs) (λ c. sym (length-replicate {A = ℕ} 65540 0)) (λ c. sym (length-replicate {A = ℕ} 770118 0)) (search needs) (search needs)
     (search needs))

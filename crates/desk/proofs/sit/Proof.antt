@@ -5,8 +5,8 @@ use lib.Seq.{length-take-le}
 use Rattle.desk.proofs.sit.Statement.{statement}
 use Rattle.desk.proofs.sit.Tie as tie
 
-slice-aggregate-transcribe : tie.Need-slice-aggregate-transcribe
-slice-aggregate-transcribe c =
+slice-aggregate-put-text : tie.Need-slice-aggregate-put-text
+slice-aggregate-put-text c =
     let asked = c .before .before in
     let read = asked .before .before in
     sym (length-take-le _ (read .read-all .last .0) (search needs))
@@ -14,6 +14,6 @@ slice-aggregate-transcribe c =
 pub sit-spec : {M : Type 1} → statement M
 sit-spec =
     tie.close
-    (tie.spec (search needs) (λ c. omega arith) (search needs) (λ c. omega arith) slice-aggregate-transcribe (search needs) (search needs)
+    (tie.spec (search needs) (λ c. omega arith) (search needs) (λ c. omega arith) slice-aggregate-put-text (search needs) (search needs)
     (search needs) (λ c. omega arith) (λ c. omega arith) (search needs) (search needs) (λ c. omega arith) (λ c. omega arith) (search needs)
     (λ c. omega arith) (λ c. omega arith) (search needs))

@@ -1,16 +1,18 @@
 use borrow.Author.Needs.{needs}
-use borrow.Author.Tests.{le-leb, lt-leb}
-use Rattle.paper_text.specs.PaperText.{hasTextRoom}
+use borrow.Author.Tests.{lt-leb}
+use mathlib.Core.Path.{_∙_}
+use Prim.Native.Nat.{_+_}
+use native.Mathlib.Omega.{arith}
+use Rattle.paper_text.specs.PaperText.{roomForText}
+use Rattle.paper_text.proofs.Text.{less-longest}
 use Rattle.paper_text.proofs.has_room.Statement.{statement}
 use Rattle.paper_text.proofs.has_room.Tie as tie
 
 returns : tie.Need-returns
-unfolding hasTextRoom
-returns c = rw (lt-leb _ _ (c .if1 .taken))
+returns c = let a = c .before .args in rw (lt-leb (a .at + roomForText (a .paper)) (a .room) (omega (arith, c .if1 .taken)))
 
 returns-2 : tie.Need-returns-2
-unfolding hasTextRoom
-returns-2 c = rw (le-leb _ _ (c .before .if1 .left)) (c .has-room .ensures)
+returns-2 c = let a = c .before .before .args in c .has-room .ensures ∙ less-longest (a .room) (a .at) (a .paper) (c .before .if1 .left)
 
 pub has-room-spec : {M : Type 1} → statement M
 has-room-spec = tie.close (tie.spec returns (search needs) returns-2)
