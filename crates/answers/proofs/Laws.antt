@@ -4,10 +4,10 @@ use mathlib.Core.List.{_++_}
 use Prim.Native.Nat.{ℕ, _+_}
 use lib.ListN.{length, length-append}
 use Rattle.iad.specs.Iad.{written}
+use Rattle.iad.proofs.RoundTrip.{written-size}
 use Rattle.state.specs.declared.Answer.{Answer}
 use Rattle.state.specs.declared.Answer.the-variants.{Refused, Started, Given, Done}
 use Rattle.state.specs.State.{cidOf}
-use Rattle.lines.proofs.Laws.{written-size}
 use Rattle.answers.specs.Answers.{size, headOf, noIad, answerBytes}
 
 pub answer-size : (answer : Answer) → length (answerBytes answer) ≡ size

@@ -32,7 +32,7 @@ fn store(room: &mut [u8], at: usize, answer: Answer)
         Answer::Refused(refusal) => put_fields(room, at, refusal.number(), 0, 0, &[0; 32]),
         Answer::Started { atc, .. } => put_fields(room, at, 0, 0, atc, &[0; 32]),
         Answer::Given { kind, atc, iad } => {
-            put_fields(room, at, 0, kind.cid(), atc, &lines::iad_bytes(iad))
+            put_fields(room, at, 0, kind.cid(), atc, &iad::bytes_of(iad))
         }
         Answer::Done => put_fields(room, at, 0, 0, 0, &[0; 32]),
     }

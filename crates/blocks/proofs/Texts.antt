@@ -7,7 +7,7 @@ use borrow.Author.Tests.{le-leb, lt-leb}
 use lib.Dec.{leb}
 use lib.ListN.{length}
 use lib.Seq.{sets}
-use Rattle.transcript.specs.declared.Transcript.the-variants.{Whole, NoRoom}
+use Rattle.paper_room.specs.declared.Transcript.the-variants.{Whole, NoRoom}
 use Rattle.blocks.specs.declared.Wants.the-variants as Wants
 use Rattle.blocks.specs.Blocks.{placedText, textRoom, turnedOver, saidBy}
 use Rattle.blocks.specs.Blocks as Blocks

@@ -6,8 +6,8 @@ use lib.Dec.{eqb, ltb, leb}
 use lib.ListN.{length, take, drop}
 use lib.Seq.{sets}
 use Rattle.wire.specs.Wire.{number}
-use Rattle.transcript.specs.declared.Transcript.{Transcript}
-use Rattle.transcript.specs.declared.Transcript.the-variants.{Whole, NoRoom}
+use Rattle.paper_room.specs.declared.Transcript.{Transcript}
+use Rattle.paper_room.specs.declared.Transcript.the-variants.{Whole, NoRoom}
 use Rattle.blocks.specs.declared.Front.{Front}
 use Rattle.blocks.specs.declared.Front.the-variants.{Done, Paper}
 use Rattle.blocks.specs.declared.Turned.{Turned}

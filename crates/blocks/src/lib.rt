@@ -6,7 +6,7 @@ ghost use Prim.Native.Nat.{_+_, _≤_};
 ghost use lib.ListN.{length};
 ghost use lib.Seq.{sets};
 ghost use Rattle.blocks.specs.Blocks.{placedText, textRoom, waiting, turnedOver, passing, saidBy, roomBy, frontOf, frontRoom, lastText};
-use transcript::Transcript;
+use paper_room::Transcript;
 
 const LONGEST_PAPER: usize = 65_536;
 

@@ -1,6 +1,6 @@
 -- The card: a ruling, then a performance (document 01, "Refusal numbers", "Start and the checks"; document 02, Three, Five and Thirteen).
 use Prim.Native.Nat.{ℕ}
-use mathlib.Core.Bool.{Bool, true, false, cond, _&&_}
+use mathlib.Core.Bool.{Bool, true, cond, _&&_}
 use lib.Dec.{ltb, leb}
 use Rattle.wire.specs.Wire.{isCurrency}
 use Rattle.money.specs.Money.{max}
@@ -9,7 +9,6 @@ use Rattle.refusal.specs.declared.Refusal.the-variants.{OutOfTurn, BadType, Out
 use Rattle.refusal.specs.Refusal.{refusalNumber}
 use Rattle.rules.specs.declared.Place.{Place}
 use Rattle.rules.specs.Rules.{Rules}
-use Rattle.setup.specs.declared.Fresh.{Fresh}
 use Rattle.command.specs.declared.Start.{Start}
 use Rattle.command.specs.declared.When.{When}
 use Rattle.command.specs.declared.When.the-variants.{Undated, On}
@@ -25,23 +24,10 @@ use Rattle.state.specs.declared.Phase.the-variants.{Idle, Opened, Asked}
 use Rattle.state.specs.declared.State.{State}
 use Rattle.state.specs.declared.Outcome.{Outcome}
 use Rattle.state.specs.Ruling.{Ruling, refuse, take, carried}
-use Rattle.marks.specs.Marks.{freshScripts}
 pub use Rattle.start.specs.Start.{ruleOpening, ruleChosen, ruleStart, startPerformed}
 unfoldable pub use Rattle.start.specs.Start.{openingStep, startStep}
 use Rattle.first.specs.First.{firstPerformed}
 use Rattle.second.specs.Second.{secondPerformed}
-
--- a fresh card's history is clear but for go online next, and no transaction is open
-unfoldable pub freshState : Fresh → State
-freshState fresh =
-    record {
-      values = fresh .values;
-      phase = Idle;
-      atc = fresh .atc;
-      last = fresh .last;
-      history = record { uncompleted = false; online = fresh .online; failed = false; unable = false; missing = false };
-      scripts = freshScripts;
-    }
 
 -- First: 2, 5, 6, and 13 for a date that isn't a calendar day
 abbrev pub isDated : When → Bool

@@ -1,45 +1,20 @@
 // The card: which commands it takes, and what each comes to.
 ghost use mathlib.Core.Path.{_≡_};
 ghost use Rattle.rules.specs.Rules.{rulesOf};
-ghost use Rattle.card.specs.Card.{freshState, isDated, firstTaken, firstStep, secondTaken, secondStep, stepOf};
+ghost use Rattle.card.specs.Card.{isDated, firstTaken, firstStep, secondTaken, secondStep, stepOf};
 use command::Command;
 use command::First;
 use command::Second;
 use command::When;
-use marks::Scripts;
 use refusal::Refusal;
 use rules::Place;
 use rules::Words;
-use setup::Fresh;
 use start::answer_start;
-use state::History;
 use state::Outcome;
 use state::Pending;
 use state::Phase;
 use state::State;
 use state::refuse;
-
-// A fresh card's history is clear but for "go online next", and no transaction is open.
-pub fn fresh_card(fresh: Fresh) -> State
-    ensures { λ r. ⌜ r ≡ freshState fresh ⌝ }
-{
-    let values = fresh.values;
-    let last = fresh.last;
-    State {
-        values,
-        phase: Phase::Idle,
-        atc: fresh.atc,
-        last,
-        history: History {
-            uncompleted: false,
-            online: fresh.online,
-            failed: false,
-            unable: false,
-            missing: false,
-        },
-        scripts: Scripts::fresh(),
-    }
-}
 
 // Whether a First's date, if it has one, is a calendar day.
 fn is_dated(when: When) -> bool

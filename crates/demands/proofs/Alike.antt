@@ -53,7 +53,8 @@ use Rattle.closing.specs.Closing.{closed, recovered, ordered}
 use Rattle.second.specs.Second.{isUnable, unableBits, issuerUnable, unablePerformed, updateByte}
 use Rattle.second.specs.Second.{verifiedPerformed, failedPerformed, absentPerformed, secondPerformed}
 use Rattle.state.specs.Ruling.{Ruling, refuse, take, refused, carried}
-use Rattle.card.specs.Card.{freshState, ruleChosen, ruleFirstFields, startPerformed, startStep, firstStep, secondStep}
+use Rattle.fresh.specs.Fresh.{freshState}
+use Rattle.card.specs.Card.{ruleChosen, ruleFirstFields, startPerformed, startStep, firstStep, secondStep}
 use Rattle.scripting.specs.Scripting.{ruleScriptFields, scriptPerformed, scriptStep, scriptWrites}
 use Rattle.demands.specs.Setup.{Setup, AcceptedSetup}
 use Rattle.demands.specs.Conversation.{Exchange, Sitting, run, rulesWritten, rulesBy, sat}

@@ -47,7 +47,8 @@ use Rattle.second.specs.Second.{isUnable, unableBits, issuerUnable, unablePerfo
 use Rattle.second.specs.Second.{failedPerformed, absentPerformed, secondPerformed, updateByte}
 use Rattle.state.specs.Ruling.{refused}
 use Rattle.scripting.specs.Scripting.{scriptPerformed}
-use Rattle.card.specs.Card.{isDated, freshState}
+use Rattle.fresh.specs.Fresh.{freshState}
+use Rattle.card.specs.Card.{isDated}
 use Rattle.demands.specs.Setup.{Setup, byteAt, numberAt, AcceptedSetup}
 use Rattle.purchase.specs.Meter.{Meter, valueOf}
 use Rattle.demands.specs.Conversation.{Exchange, Sitting, after, told, run, rulesBy, sat, next, IsSpoken, Spoken}

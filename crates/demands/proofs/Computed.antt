@@ -51,7 +51,8 @@ use Rattle.first.specs.First.{decision, settled, asked, concluded, firstAnswere
 use Rattle.closing.specs.Closing.{closed, ordered}
 use Rattle.second.specs.Second.{unablePerformed, verifiedPerformed, failedPerformed, absentPerformed, secondPerformed}
 use Rattle.scripting.specs.Scripting.{scriptPerformed, scriptStep, scriptWrites}
-use Rattle.card.specs.Card.{freshState, startStep, firstStep, secondStep}
+use Rattle.fresh.specs.Fresh.{freshState}
+use Rattle.card.specs.Card.{startStep, firstStep, secondStep}
 use Rattle.demands.specs.Setup.{Setup}
 use Rattle.demands.specs.Ledger.{owed}
 use Rattle.demands.specs.Conversation.{Exchange, Sitting, run, rulesBy, sat}

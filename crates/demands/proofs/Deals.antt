@@ -45,7 +45,8 @@ use Rattle.closing.specs.Closing.{closed, recovered as cardRecovered}
 use Rattle.second.specs.Second.{isUnable, unablePerformed, verifiedPerformed, failedPerformed, absentPerformed, secondPerformed}
 use Rattle.state.specs.Ruling.{refused}
 use Rattle.scripting.specs.Scripting.{scriptPerformed}
-use Rattle.card.specs.Card.{isDated, freshState}
+use Rattle.fresh.specs.Fresh.{freshState}
+use Rattle.card.specs.Card.{isDated}
 use Rattle.demands.specs.Setup.{Setup, AcceptedSetup}
 use Rattle.demands.specs.Conversation.{Exchange, Sitting, after, run, rulesBy, sat, Spoken}
 use Rattle.demands.specs.Scripts.{remembered, trialOf}

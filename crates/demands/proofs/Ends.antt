@@ -30,7 +30,7 @@ use Rattle.marks.specs.declared.Scripts.{Scripts}
 use Rattle.closing.specs.Closing.{closed}
 use Rattle.second.specs.Second.{secondPerformed, isUnable, unablePerformed, verifiedPerformed, failedPerformed, absentPerformed}
 use Rattle.scripting.specs.Scripting.{scriptPerformed}
-use Rattle.card.specs.Card.{freshState}
+use Rattle.fresh.specs.Fresh.{freshState}
 use Rattle.demands.specs.Setup.{Setup}
 use Rattle.demands.specs.Conversation.{Sitting, told, satBy, isAccepted}
 use Rattle.demands.specs.Due.{Due, nothing, dueBy, due, dueIn, InKind}

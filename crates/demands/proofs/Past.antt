@@ -31,7 +31,7 @@ use Rattle.second.specs.Second.{isUnable, unablePerformed, verifiedPerformed, f
 use Rattle.closing.specs.Closing.{closed}
 use Rattle.state.specs.Ruling.{refused}
 use Rattle.scripting.specs.Scripting.{scriptPerformed}
-use Rattle.card.specs.Card.{freshState}
+use Rattle.fresh.specs.Fresh.{freshState}
 use Rattle.demands.specs.Setup.{Setup, AcceptedSetup}
 use Rattle.demands.specs.Conversation.{Sitting, after, told, run, rulesBy, sat, next, Spoken}
 use Rattle.demands.specs.Audit.{inForce}

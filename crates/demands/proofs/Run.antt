@@ -13,7 +13,7 @@ use Rattle.setup.proofs.Faithful.{faithful}
 use Rattle.element.specs.declared.Write.{Write}
 use Rattle.script.specs.Script.{rulesAfter}
 use Rattle.auditor.specs.Template.{InRange}
-use Rattle.card.specs.Card.{freshState}
+use Rattle.fresh.specs.Fresh.{freshState}
 use Rattle.card.specs.Message.{Message, messageStep}
 use Rattle.demands.specs.Setup.{Setup, byteAt, AcceptedSetup}
 use Rattle.demands.specs.Conversation.{Exchange, Sitting, outcomeOf, told, run, satBy, rulesWritten, rulesBy, sat, satOver, IsSpoken, Spoken}

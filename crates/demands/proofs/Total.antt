@@ -49,7 +49,8 @@ use Rattle.closing.specs.Closing.{closed, ordered as orderedValues}
 use Rattle.second.specs.Second.{isUnable, unableBits, unablePerformed, verifiedPerformed, failedPerformed, absentPerformed, secondPerformed}
 use Rattle.second.specs.Second.{updateByte}
 use Rattle.scripting.specs.Scripting.{scriptPerformed}
-use Rattle.card.specs.Card.{startPerformed, isDated, freshState}
+use Rattle.fresh.specs.Fresh.{freshState}
+use Rattle.card.specs.Card.{startPerformed, isDated}
 use Rattle.state.specs.Ruling.{refused as refusal}
 use Rattle.purchase.specs.declared.Timing.{Timing}
 use Rattle.purchase.specs.declared.Purchase.{Purchase}

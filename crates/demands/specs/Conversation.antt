@@ -13,7 +13,7 @@ use Rattle.state.specs.declared.Answer.{Answer}
 use Rattle.state.specs.declared.Answer.the-variants.{Refused, Started, Given, Done}
 use Rattle.state.specs.declared.State.{State}
 use Rattle.state.specs.declared.Outcome.{Outcome}
-use Rattle.card.specs.Card.{freshState}
+use Rattle.fresh.specs.Fresh.{freshState}
 use Rattle.card.specs.Message.{Message, StartCommand, FirstCommand, SecondCommand, ScriptCommand, messageStep, messageWrites}
 use Rattle.demands.specs.Setup.{Setup}
 

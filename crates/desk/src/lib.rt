@@ -4,10 +4,10 @@ ghost use Prim.Native.Nat.{_+_, _≤_};
 ghost use lib.ListN.{length};
 use blocks::Turned;
 use blocks::Wants;
+use paper_room::Transcript;
 use rules::Words;
 use streams::Ending;
 use streams::Read;
-use transcript::Transcript;
 
 // One paper, read into a buffer of a byte more than the longest.
 fn sit(buffer: &mut [u8], words: &mut Words, room: &mut [u8]) -> Ending {

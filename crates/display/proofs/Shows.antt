@@ -2,20 +2,21 @@
 use mathlib.Core.Path.{_≡_, refl, sym, ap, _∙_}
 use mathlib.Core.Bool.{true, false}
 use mathlib.Core.List.{List}
-use Prim.Native.Nat.{ℕ, _+_, _%_, _^_}
+use Prim.Native.Nat.{ℕ, _+_}
 use lib.ListN.{length}
 use Rattle.rules.specs.Rules.{Rules, rulesOf}
 use Rattle.script.specs.Script.{rulesAfter, wordsAfter}
-use Rattle.opening.specs.declared.Begun.{Begun}
+use Rattle.begun.specs.declared.Begun.{Begun}
 use Rattle.records.specs.declared.Taken.{Taken}
 use Rattle.conversation.specs.Conversation.{takenOf, takenWrites}
 use Rattle.opening.specs.Opening.{begunOf, wordsBegun}
 use Rattle.keeper.specs.Keeper.{roomsTaken, roomsBegun}
 use Rattle.record_lines.specs.declared.Showing.{Showing}
 use Rattle.record_lines.specs.RecordLines.{hasRoom, setUpText, recordText, placed, placeBehind}
-use Rattle.display.specs.declared.Wants.{Wants}
-use Rattle.display.specs.declared.Shown.{Shown}
-use Rattle.display.specs.Shown.{wantsAfter, begunText, begunShown, unshown, setUpShown, setUpWords, setUpRooms, setUpRoom}
+use Rattle.shown.specs.declared.Wants.{Wants}
+use Rattle.shown.specs.declared.Shown.{Shown}
+use Rattle.shown.specs.Shown.{wantsAfter, unshown, shownBehind}
+use Rattle.display.specs.Shown.{begunText, begunShown, setUpShown, setUpWords, setUpRooms, setUpRoom}
 use Rattle.display.specs.Shown.{nextRules, nextRooms, nextText, nextShown, stillShown, recordShown, recordWords, recordRules, recordRooms, recordRoom}
 
 -- ---- the set-up
@@ -57,18 +58,17 @@ module _ (showing : Showing) (words rooms : List ℕ) (shown : Shown) (paper roo
   unfolding recordShown recordWords recordRules recordRooms recordRoom
   no-record full e = (rw full e, rw full, rw full, rw full, rw full)
 
-  pub recorded : {taken : Taken} {words′ rooms′ room′ : List ℕ} {number end : ℕ} {wants : Wants} → hasRoom (length room) to ≡ true
+  pub recorded : {taken : Taken} {shown′ : Shown} {words′ rooms′ room′ : List ℕ} {end : ℕ} → hasRoom (length room) to ≡ true
       → taken ≡ takenOf (rulesOf words) (shown .shape) (shown .state) paper (shown .at)
       → words′ ≡ wordsAfter words (takenWrites (shown .shape) (shown .state) paper (shown .at))
       → rulesOf words′ ≡ rulesAfter (rulesOf words) (takenWrites (shown .shape) (shown .state) paper (shown .at))
       → rooms′ ≡ roomsTaken (rulesOf words) (shown .shape) (shown .state) paper (shown .at) rooms
       → end ≡ placeBehind (length room) to (recordText showing (rulesOf words′) rooms′ (shown .number) (taken .event))
       → room′ ≡ placed room to (recordText showing (rulesOf words′) rooms′ (shown .number) (taken .event))
-      → number ≡ (shown .number + 1) % 65536
-      → wants ≡ wantsAfter (taken .event)
-      → Recorded (record { shape = shown .shape; state = taken .state; at = taken .at; number = number; end = end; wants = wants }) words′ rooms′ room′
+      → shown′ ≡ shownBehind shown taken end
+      → Recorded shown′ words′ rooms′ room′
   unfolding recordShown recordWords recordRules recordRooms recordRoom nextShown nextText nextRules nextRooms placed placeBehind
-  recorded {taken} {words′} {rooms′} {room′} {number} {end} {wants} fits t w u r e p k n =
+  recorded {taken} {shown′} {words′} {rooms′} {room′} {end} fits t w u r e p n =
       let text : recordText showing (rulesOf words′) rooms′ (shown .number) (taken .event) ≡ nextText (rulesOf words) shown paper showing rooms = rw (u, r, t) in
       let ends : end ≡ to + length (nextText (rulesOf words) shown paper showing rooms) = rw (← text) (rw fits at e) in
-      (rw (fits, n, ends, k, t), rw fits w, rw fits u, rw fits r, rw (fits, ← text) (rw fits at p))
+      (rw (fits, n, ends, t), rw fits w, rw fits u, rw fits r, rw (fits, ← text) (rw fits at p))

@@ -1,32 +1,20 @@
 -- A paper shown record by record, in lent room: what a step leaves where the longest text fits, and that otherwise all stays and room is wanted.
 use mathlib.Core.Bool.{cond}
 use mathlib.Core.List.{List}
-use Prim.Native.Nat.{ℕ, _+_, _%_}
+use Prim.Native.Nat.{ℕ, _+_}
 use lib.ListN.{length}
 use lib.Seq.{sets}
 use Rattle.rules.specs.Rules.{Rules, rulesOf}
-use Rattle.setup.specs.Setup.{noCard}
-use Rattle.shape.specs.Shape.{based}
 use Rattle.script.specs.Script.{rulesAfter, wordsAfter}
-use Rattle.card.specs.Card.{freshState}
-use Rattle.records.specs.declared.Event.{Event}
-use Rattle.records.specs.declared.Event.the-variants.{SetUp, End, Refused, Answered}
 use Rattle.records.specs.declared.Taken.{Taken}
 use Rattle.conversation.specs.Conversation.{takenOf, takenWrites}
 use Rattle.opening.specs.Opening.{begunOf, wordsBegun}
 use Rattle.keeper.specs.Keeper.{roomsTaken, roomsBegun}
 use Rattle.record_lines.specs.declared.Showing.{Showing}
 use Rattle.record_lines.specs.RecordLines.{setUpText, recordText, hasRoom}
-use Rattle.display.specs.declared.Wants.{Wants}
-use Rattle.display.specs.declared.Wants.the-variants.{Record, Room, Run, Nothing}
-use Rattle.display.specs.declared.Shown.{Shown}
-
--- at a paper's end a run may follow; a refusal that ends the paper wants nothing more
-abbrev pub wantsAfter : Event → Wants
-wantsAfter SetUp = Record
-wantsAfter End = Run
-wantsAfter (Refused refusal) = Nothing
-wantsAfter (Answered said answer) = Record
+use Rattle.shown.specs.declared.Wants.the-variants.{Room}
+use Rattle.shown.specs.declared.Shown.{Shown}
+use Rattle.shown.specs.Shown.{wantsAfter, unshown, shownBehind}
 
 -- THE SET-UP: its text, and where the paper then is
 unfoldable pub begunText : Showing → (words rooms paper : List ℕ) → List ℕ
@@ -36,10 +24,6 @@ unfoldable pub begunShown : (paper : List ℕ) (end : ℕ) → Shown
 begunShown paper end =
     let begun = begunOf paper in
     record { shape = begun .shape; state = begun .state; at = begun .at; number = 1; end = end; wants = wantsAfter (begun .event) }
-
--- without room there is no card
-unfoldable pub unshown : (to : ℕ) → Shown
-unshown to = record { shape = based 0; state = freshState noCard; at = 0; number = 0; end = to; wants = Room }
 
 unfoldable pub setUpShown : Showing → (words rooms paper : List ℕ) (bytes to : ℕ) → Shown
 setUpShown showing words rooms paper bytes to =
@@ -70,15 +54,7 @@ module _ (rules : Rules) (shown : Shown) (paper : List ℕ) where
   nextText showing rooms = recordText showing nextRules (nextRooms rooms) (shown .number) (takenNext .event)
 
   unfoldable pub nextShown : (end : ℕ) → Shown
-  nextShown end =
-      record {
-        shape = shown .shape;
-        state = takenNext .state;
-        at = takenNext .at;
-        number = (shown .number + 1) % 65536;
-        end = end;
-        wants = wantsAfter (takenNext .event);
-      }
+  nextShown end = shownBehind shown takenNext end
 
 -- without room the paper is where it was
 unfoldable pub stillShown : Shown → (to : ℕ) → Shown

@@ -21,10 +21,11 @@ use Rattle.transcript.proofs.Short.{LineOf, record-short}
 use Rattle.transcript.proofs.Steps.{Beginning, accepted, refused, begins, never-set-up}
 use Rattle.record_lines.specs.declared.Showing.{Showing}
 use Rattle.record_lines.specs.declared.Showing.the-variants.{Lines, Rooms}
-use Rattle.display.specs.declared.Shown.{Shown}
+use Rattle.shown.specs.declared.Shown.{Shown}
 use Rattle.room_lines.specs.RoomLines.{roomLines}
 use Rattle.record_lines.specs.RecordLines.{shownLines, setUpLines, setUpText, recordText}
-use Rattle.display.specs.Shown.{wantsAfter, begunText, begunShown, nextText, nextRules, nextRooms, nextShown}
+use Rattle.shown.specs.Shown.{wantsAfter}
+use Rattle.display.specs.Shown.{begunText, begunShown, nextText, nextRules, nextRooms, nextShown}
 use Rattle.display_laws.specs.Display.{Entry, entered, entriesFrom, entriesOf, textOf, displayOf, goesOn, stepsFrom, stepsOf}
 use Rattle.display_laws.proofs.Lines.{lines-same}
 

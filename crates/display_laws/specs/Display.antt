@@ -12,11 +12,11 @@ use Rattle.conversation.specs.Conversation.{takenOf, takenWrites}
 use Rattle.opening.specs.Opening.{begunOf, wordsBegun}
 use Rattle.keeper.specs.Keeper.{roomsTaken, roomsBegun}
 use Rattle.lines.specs.Sitting.{eventLine}
-use Rattle.display.specs.declared.Wants.{Wants}
-use Rattle.display.specs.declared.Wants.the-variants.{Record, Room, Run, Nothing}
+use Rattle.shown.specs.declared.Wants.{Wants}
+use Rattle.shown.specs.declared.Wants.the-variants.{Record, Room, Run, Nothing}
 use Rattle.record_lines.specs.declared.Showing.{Showing}
 use Rattle.record_lines.specs.declared.Showing.the-variants.{Rooms}
-use Rattle.display.specs.declared.Shown.{Shown}
+use Rattle.shown.specs.declared.Shown.{Shown}
 use Rattle.room_lines.specs.RoomLines.{roomLines}
 use Rattle.record_lines.specs.RecordLines.{shownLines, setUpLines}
 use Rattle.display.specs.Shown.{begunText, begunShown, nextText, nextRules, nextRooms, nextShown}

@@ -163,6 +163,14 @@ module _ (iad : Iad) (room : List ℕ) where
         λ refusal e. rw e,
       )
 
+-- 32 zeros that an IAD is written into, or refused, are 32 bytes then
+pub written-size : (iad : Iad) → length (written iad (replicate 32 0)) ≡ 32
+unfolding written writeIad iadBytes pairsOf
+written-size iad = by (isWritable iad) refl where
+  by : (t : Bool) → isWritable iad ≡ t → length (written iad (replicate 32 0)) ≡ 32
+  by true e = rw e
+  by false e = rw e
+
 -- the IAD of line 2 of the printed sitting
 abbrev pub printed : Iad
 printed =

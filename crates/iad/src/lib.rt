@@ -1,6 +1,7 @@
 // The Issuer Application Data: 32 bytes from its fields, and back.
 ghost use mathlib.Core.Path.{_≡_};
 ghost use Prim.Native.Nat.{_<_};
+ghost use lib.ListN.{length, replicate};
 ghost use Rattle.wire.specs.Wire.{pairOf};
 ghost use Rattle.iad.specs.Iad.{iadBytes, cvrOf, pairsValue, iadOf, areZeros, hasFixedBytes, isCvr, arePairs, isProfile};
 ghost use Rattle.iad.specs.Iad.{isIad, readIad, isWritable, writeIad, written};
@@ -108,6 +109,15 @@ pub fn write(iad: Iad, room: &mut [u8]) -> Written
     let bytes = encode(iad);
     bytes::copy(&bytes, room);
     Written::Done
+}
+
+// The bytes that an IAD is written as; zeros for one that is out of range.
+pub fn bytes_of(iad: Iad) -> [u8; LENGTH]
+    ensures { λ r. ⌜ (r ≡ written iad (replicate 32 0)) × (length r ≡ 32) ⌝ }
+{
+    let mut room = [0u8; LENGTH];
+    write(iad, &mut room);
+    room
 }
 
 // The 14 bytes behind the profile are zeros.

@@ -10,7 +10,7 @@ use mathlib.Core.Bool.{Bool, true, false}
 use lib.Dec.{ltb}
 use lib.ListN.{length}
 use Rattle.io.specs.Digits.{glyph, digits, Fewest}
-use Rattle.lines.specs.Stored.{Stored}
+use Rattle.text.specs.Stored.{Stored}
 use Rattle.imports.specs.Imports.{digitsOf, numeral}
 use Rattle.imports.proofs.Told.{told}
 

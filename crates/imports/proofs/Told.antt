@@ -9,8 +9,8 @@ use lib.ListN.{length, take, drop, replicate, length-drop}
 use lib.Seq.{sets, take-all}
 use Rattle.refusal.specs.declared.Refusal.{Refusal}
 use Rattle.refusal.specs.Refusal.{refusalNumber}
-use Rattle.lines.specs.Lines.{hex}
-use Rattle.lines.specs.Stored.{Stored}
+use Rattle.hex.specs.Hex.{hex}
+use Rattle.text.specs.Stored.{Stored}
 use Rattle.import.specs.declared.Imported.the-variants.{Done, Refused}
 use Rattle.import.specs.Import.{importRecord, imported}
 use Rattle.imports.specs.declared.Answered.{Answered}

@@ -6,7 +6,8 @@ use lib.Dec.{ltb, leb}
 use lib.ListN.{length, take, drop, replicate}
 use lib.Seq.{sets}
 use Rattle.refusal.specs.Refusal.{refusalNumber}
-use Rattle.lines.specs.Lines.{hex, line}
+use Rattle.hex.specs.Hex.{hex}
+use Rattle.text.specs.Text.{line}
 use Rattle.import.specs.declared.Imported.{Imported}
 use Rattle.import.specs.declared.Imported.the-variants.{Done, Refused}
 use Rattle.import.specs.Import.{importRecord, imported}

@@ -3,8 +3,8 @@
 ghost use mathlib.Core.Path.{_≡_};
 ghost use Prim.Native.Nat.{_+_, _*_, _≤_};
 ghost use lib.ListN.{length, take, drop};
-ghost use Rattle.lines.specs.Lines.{hex};
-ghost use Rattle.lines.specs.Stored.{Stored};
+ghost use Rattle.hex.specs.Hex.{hex};
+ghost use Rattle.text.specs.Stored.{Stored};
 ghost use Rattle.imports.specs.Imports.{numeral, recordLine, recordsIn, linesIn, answered, roomAfter};
 use import::Imported;
 

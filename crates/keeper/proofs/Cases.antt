@@ -11,7 +11,7 @@ use Rattle.rooms.specs.Rooms.{filled}
 use Rattle.shape.specs.declared.Shape.{Shape}
 use Rattle.script.specs.Script.{rulesAfter}
 use Rattle.state.specs.declared.State.{State}
-use Rattle.opening.specs.declared.Begun.{Begun}
+use Rattle.begun.specs.declared.Begun.{Begun}
 use Rattle.records.specs.declared.Taken.{Taken}
 use Rattle.records.specs.declared.Event.{Event}
 use Rattle.records.specs.declared.Event.the-variants.{SetUp, End, Refused, Answered}

@@ -7,7 +7,7 @@ ghost use Rattle.records.specs.Records.{recordTaken, recordWrites};
 ghost use Rattle.conversation.specs.Conversation.{takenOf, takenWrites};
 ghost use Rattle.opening.specs.Opening.{begunOf, wordsBegun};
 ghost use Rattle.keeper.specs.Keeper.{roomsRecorded, roomsTaken, roomsBegun};
-use opening::Begun;
+use begun::Begun;
 use records::Event;
 use records::Taken;
 use rooms::Rooms;

@@ -9,7 +9,7 @@ use borrow.Author.Tests.{ltb-true, ltb-false, lt-ltb, le-ltb}
 use lib.Dec.{ltb}
 use lib.ListN.{length, length-append}
 use Rattle.lines.specs.Lines.{digit, decimal}
-use Rattle.lines.proofs.Each.{Each, none, more, append}
+use Rattle.text.proofs.Each.{Each, none, more, append}
 
 pub zero : decimal 0 ≡ 48 ∷ []
 unfolding decimal digit

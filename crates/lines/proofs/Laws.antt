@@ -8,13 +8,16 @@ use lib.ListN.{length, take, replicate, length-append}
 use Rattle.iad.specs.declared.Iad.{Iad}
 use Rattle.iad.specs.declared.ReadIad.the-variants.{Fields}
 use Rattle.iad.specs.declared.Written.the-variants.{Done}
-use Rattle.iad.specs.Iad.{iadBytes, pairsOf, isWritable, readIad, writeIad, written}
-use Rattle.iad.proofs.RoundTrip.{whole}
-use Rattle.lines.specs.Lines.{decimal, hexByte, hex, refusalLine, startLine, selectedLine, cryptogramLine}
-use Rattle.lines.proofs.Each.{Each, none, more}
+use Rattle.iad.specs.Iad.{isWritable, readIad, writeIad, written}
+use Rattle.iad.proofs.RoundTrip.{written-size, whole}
+use Rattle.hex.specs.Hex.{hexByte, hex}
+use Rattle.lines.specs.Lines.{decimal, refusalLine, startLine, selectedLine, cryptogramLine}
+use Rattle.text.proofs.Each.{Each, none, more}
 use Rattle.lines.proofs.Decimal as Decimal
-use Rattle.lines.proofs.Hex as Hex
-use Rattle.lines.proofs.Fields.{Plain, decimal-plain, hex-plain, OneLine, one-line, same-fields}
+use Rattle.hex.proofs.Bytes as Hex
+use Rattle.text.proofs.Fields.{Plain, same-fields}
+use Rattle.hex.proofs.Bytes.{hex-plain}
+use Rattle.lines.proofs.Fields.{decimal-plain, OneLine, one-line}
 
 abbrev zeros : List ℕ
 zeros = replicate 32 0
@@ -56,13 +59,6 @@ unfolding selectedLine
 selected-line number atc visits =
     one-line _ _ (selected-plain number atc visits)
     (simp length-append (omega (arith, Decimal.size number, ap length Decimal.zero, Decimal.size atc, Decimal.size visits)))
-
-pub written-size : (iad : Iad) → length (written iad zeros) ≡ 32
-unfolding written writeIad iadBytes pairsOf
-written-size iad = by (isWritable iad) refl where
-  by : (t : Bool) → isWritable iad ≡ t → length (written iad zeros) ≡ 32
-  by true e = rw e
-  by false e = rw e
 
 pub cryptogram-line : (number cid atc : ℕ) (iad : Iad) → OneLine (cryptogramLine number cid atc iad)
 unfolding cryptogramLine

@@ -1,10 +1,9 @@
 pub mod Stores
 pub mod Placed
-pub mod Each
 pub mod Decimal
 pub mod Tens
-pub mod Hex
 pub mod Fields
 pub mod Laws
+pub mod Short
 pub mod Sitting
 pub mod Numbers

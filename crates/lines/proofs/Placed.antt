@@ -1,5 +1,6 @@
--- The room after a line: what stands before the place behind it, what stands from there on, and that it is as long. Assumes nothing.
-use mathlib.Core.Path.{_≡_, refl, ap, _∙_}
+-- The room after a line: where the longest fits it holds the line; what stands before the place behind it, what stands from there on, and that it is
+-- as long. Assumes nothing.
+use mathlib.Core.Path.{_≡_, refl, sym, ap, _∙_}
 use mathlib.Core.Bool.{Bool, true, false}
 use mathlib.Core.List.{List, _++_}
 use Prim.Native.Nat.{ℕ, _+_, _≤_}
@@ -7,16 +8,25 @@ use native.Mathlib.Omega.{arith}
 use borrow.Author.Tests.{le-leb, leb-true}
 use lib.Dec.{leb}
 use lib.ListN.{length, take, drop, length-append, length-drop}
-use lib.Seq.{length-take-le, take-at, drop-at}
+use lib.Seq.{sets, sets-eq, length-take-le, take-at, drop-at}
 use Rattle.lines.specs.Lines.{longest, placed, placeBehind}
+
+-- where the longest fits, the place is behind the line, and the room holds it
+pub behind-is : (room at : ℕ) (text : List ℕ) → at + longest ≤ room → placeBehind room at text ≡ at + length text
+unfolding placeBehind
+behind-is room at text fits = rw (le-leb (at + longest) room fits)
+
+pub placed-is : (room : List ℕ) (at : ℕ) (text : List ℕ) → at + longest ≤ length room → length text ≤ longest
+    → placed room at text ≡ sets room at text
+unfolding placed
+placed-is room at text fits short = rw (le-leb (at + longest) (length room) fits) (sym (sets-eq text room at (omega arith)))
 
 module _ (room text : List ℕ) (at : ℕ) (fits : at + longest ≤ length room) where
   before : length (take at room ++ text) ≡ at + length text
   before = length-append (take at room) text ∙ ap (λ (n : ℕ). n + length text) (length-take-le at room (omega arith))
 
   pub behind : placeBehind (length room) at text ≡ at + length text
-  unfolding placeBehind
-  behind = rw (le-leb (at + longest) (length room) fits)
+  behind = behind-is (length room) at text fits
 
   pub front : take (at + length text) (placed room at text) ≡ take at room ++ text
   unfolding placed

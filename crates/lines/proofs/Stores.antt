@@ -1,4 +1,4 @@
--- A text that fits is placed; texts stored one behind the other are one (`text`). Assumes nothing.
+-- A text that fits is placed. Assumes nothing.
 use mathlib.Core.Path.{_≡_, refl, _∙_}
 use mathlib.Core.List.{List}
 use Prim.Native.Nat.{ℕ, _+_, _≤_, _<_}
@@ -6,9 +6,8 @@ use native.Mathlib.Omega.{arith}
 use borrow.Author.Tests.{le-leb, lt-leb}
 use lib.ListN.{length}
 use lib.Seq.{sets-eq}
-pub use Rattle.text.proofs.Stores.{next, within}
+use Rattle.text.specs.Stored.{Stored}
 use Rattle.lines.specs.Lines.{longest, placed, placeBehind}
-use Rattle.lines.specs.Stored.{Stored}
 
 pub place : {room after text : List ℕ} {at end most : ℕ} → Stored room at text most end after → most ≤ longest → at + longest ≤ length room
     → (end ≡ placeBehind (length room) at text) × (after ≡ placed room at text)

@@ -4,9 +4,9 @@ use mathlib.Core.List.{List, [], _∷_, _++_}
 use Prim.Native.Nat.{ℕ, _+_, _*_, _-_, _/_, _%_, _≤_, _<_}
 use native.Mathlib.Omega.{arith}
 use Rattle.lines.specs.Lines.{decimal}
-use Rattle.lines.specs.Stored.{Stored}
+use Rattle.text.specs.Stored.{Stored}
 use Rattle.lines.proofs.Decimal.{ones, tens}
-use Rattle.lines.proofs.Stores.{next}
+use Rattle.text.proofs.Stores.{next}
 
 pub one-digit : {room after : List ℕ} {at end : ℕ} (n : ℕ) → n < 10 → Stored room at ((48 + n) ∷ []) 1 end after
     → Stored room at (decimal n) 1 end after

@@ -6,8 +6,8 @@ use lib.Dec.{leb, ltb}
 use lib.ListN.{length, take, drop, replicate}
 use Rattle.iad.specs.declared.Iad.{Iad}
 use Rattle.iad.specs.Iad.{written}
-pub use Rattle.hex.specs.Hex.{hexDigit, hexByte}
-unfoldable pub use Rattle.hex.specs.Hex.{hex}
+use Rattle.hex.specs.Hex.{hexByte, hex}
+use Rattle.text.specs.Text.{line}
 
 -- the digit of a unit (1, 10, 100, ..), none where the number is smaller
 unfoldable pub digit : ℕ → ℕ → List ℕ
@@ -16,11 +16,6 @@ digit n unit = cond (ltb n unit) [] ((48 + n / unit % 10) ∷ [])
 -- a number below 100,000: no zero in front, and 0 is "0"
 unfoldable pub decimal : ℕ → List ℕ
 decimal n = digit n 10_000 ++ digit n 1_000 ++ digit n 100 ++ digit n 10 ++ (48 + n % 10) ∷ []
-
--- fields with one space between them, and a line feed at the end
-abbrev pub line : List ℕ → List (List ℕ) → List ℕ
-line field [] = field ++ 10 ∷ []
-line field (next ∷ more) = field ++ 32 ∷ [] ++ line next more
 
 -- record number, refusal
 unfoldable pub refusalLine : ℕ → ℕ → List ℕ

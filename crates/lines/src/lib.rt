@@ -3,13 +3,13 @@
 ghost use mathlib.Core.Path.{_≡_};
 ghost use mathlib.Core.List.{[], _∷_, _++_};
 ghost use Prim.Native.Nat.{_+_, _*_, _-_, _≤_, _<_};
-ghost use lib.ListN.{length, replicate};
-ghost use Rattle.iad.specs.Iad.{written};
-ghost use Rattle.lines.specs.Lines.{decimal, hexByte, hex};
+ghost use lib.ListN.{length};
+ghost use Rattle.hex.specs.Hex.{hexByte, hex};
+ghost use Rattle.lines.specs.Lines.{decimal};
 ghost use Rattle.lines.specs.Lines.{refusalLine, cryptogramLine, placed, placeBehind};
 ghost use Rattle.lines.specs.Sitting.{startedLine, answerLine};
 ghost use Rattle.card.specs.Card.{answerNumber};
-ghost use Rattle.lines.specs.Stored.{Stored};
+ghost use Rattle.text.specs.Stored.{Stored};
 use hex::lower_digit;
 use hex::upper_digit;
 use iad::Iad;
@@ -112,15 +112,6 @@ fn put_hex(room: &mut [u8], at: usize, bytes: &[u8], mark: u8) -> usize
     put_byte(room, end, mark)
 }
 
-// The bytes that an IAD is written as; zeros for one that is out of range.
-pub fn iad_bytes(iad: Iad) -> [u8; 32]
-    ensures { λ r. ⌜ (r ≡ written iad (replicate 32 0)) × (length r ≡ 32) ⌝ }
-{
-    let mut bytes = [0u8; 32];
-    iad::write(iad, &mut bytes);
-    bytes
-}
-
 // Refusal 0, done, and the space behind it.
 fn put_done(room: &mut [u8], at: usize) -> usize
     requires { ⌜ at + 2 ≤ length (now room) ⌝ }
@@ -158,7 +149,7 @@ fn put_cryptogram(room: &mut [u8], at: usize, number: u16, cid: u8, atc: u16, ia
     requires { ⌜ at + 82 ≤ length (now room) ⌝ }
     ensures { λ r. ⌜ Stored (now (room .entry)) at (cryptogramLine number cid atc iad) 82 r (now (room .exit)) ⌝ }
 {
-    let bytes = iad_bytes(iad);
+    let bytes = iad::bytes_of(iad);
     let at = put_decimal(room, at, number, b' ');
     let at = put_done(room, at);
     let at = put_hex(room, at, &[cid], b' ');

@@ -11,7 +11,7 @@ use Rattle.state.specs.declared.Answer.{Answer}
 use Rattle.state.specs.declared.Answer.the-variants.{Refused, Started, Given, Done}
 use Rattle.records.specs.declared.Said.{Said}
 use Rattle.records.specs.declared.Said.the-variants.{Command as SaidCommand, Script}
-use Rattle.lines.proofs.Each.{Each, none, more}
+use Rattle.text.proofs.Each.{Each, none, more}
 use Rattle.journal.specs.declared.Logging.{Logging}
 use Rattle.journal.specs.declared.Heard.{Heard}
 use Rattle.journal.specs.declared.Heard.the-variants.{Other}

@@ -24,7 +24,7 @@ use Rattle.command.specs.declared.Second.{Second}
 use Rattle.opening.specs.Opening.{begunOf, wordsBegun}
 use Rattle.conversation.specs.Events.{eventsFrom, eventsOf}
 use Rattle.trees.specs.Tree.{Fault, malformed, tooDeep, inside, TemplateFault, unframed, framed}
-use Rattle.lines.proofs.Each.{Each, none, more, append}
+use Rattle.text.proofs.Each.{Each, none, more, append}
 use Rattle.demands.specs.Setup.{Setup, AcceptedSetup}
 use Rattle.demands.specs.Conversation.{Exchange, Sitting, run, rulesBy, sat, told, next, IsSpoken, Spoken}
 use Rattle.demands.specs.Audit.{inForce}

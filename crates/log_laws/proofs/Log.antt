@@ -24,8 +24,9 @@ use Rattle.log_tail.specs.declared.Judged.the-variants.{Sound, Wrong, PastData 
 use Rattle.paper.specs.declared.Opened.the-variants.{Setup}
 use Rattle.paper.specs.Paper.{openPaper}
 use Rattle.paper.specs.Walk.{part}
-use Rattle.opening.specs.declared.Begun.{Begun}
-use Rattle.opening.specs.Opening.{baseBegun, logJudged, pastBegun, loggedBegun, shapedBegun, setupBegun, begunOf, wordsBegun}
+use Rattle.begun.specs.declared.Begun.{Begun}
+use Rattle.begun.specs.Begun.{baseBegun, pastBegun}
+use Rattle.opening.specs.Opening.{logJudged, loggedBegun, shapedBegun, setupBegun, begunOf, wordsBegun}
 use Rattle.conversation.specs.Events.{eventsOf}
 use Rattle.lines.specs.Sitting.{linesOf, sittingLines}
 use Rattle.lines.proofs.Laws.{refusal-line}

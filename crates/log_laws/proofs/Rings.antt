@@ -30,8 +30,9 @@ use Rattle.journal.specs.declared.Heard.{Heard}
 use Rattle.journal.specs.Logged.{Seen, heardOut, ringThrough}
 use Rattle.lines.specs.Lines.{refusalLine, startLine, selectedLine}
 use Rattle.lines.specs.Sitting.{answerLine, linesOf}
-use Rattle.lines.proofs.Each.{Each, more}
-use Rattle.lines.proofs.Fields.{OneLine, Fed}
+use Rattle.text.proofs.Each.{Each, more}
+use Rattle.text.proofs.Fields.{Fed}
+use Rattle.lines.proofs.Fields.{OneLine}
 use Rattle.lines.proofs.Laws.{refusal-line, start-line, selected-line, cryptogram-line}
 use Rattle.replies.specs.Replies.{replyIn, isEnding}
 use Rattle.log.specs.Log.{heardIn}

@@ -16,7 +16,7 @@ use Rattle.closing.specs.Closing.{closed}
 use Rattle.card.specs.Card.{secondStep}
 use Rattle.spelling.proofs.Computed.{answered}
 use Rattle.wire.specs.Wire.{number}
-use Rattle.lines.specs.Lines.{hex}
+use Rattle.hex.specs.Hex.{hex}
 use Rattle.numerals.specs.Numeral.{digitsOf, numeral}
 use Rattle.field.specs.Field.{stretchOf, fieldOf}
 use Rattle.journal.specs.Journal.{isLogging, closedBy}

@@ -8,8 +8,8 @@ use lib.Dec.{eqb}
 use lib.ListN.{length, length-append}
 use Rattle.wire.specs.Wire.{byte, number}
 use Rattle.iad.specs.Iad.{pairsOf}
-use Rattle.lines.specs.Lines.{hex}
-use Rattle.lines.proofs.Hex as Hex
+use Rattle.hex.specs.Hex.{hex}
+use Rattle.hex.proofs.Bytes as Hex
 use Rattle.numerals.specs.Numeral.{numeral}
 use Rattle.numerals.proofs.Numerals.{size-below}
 use Rattle.log_tail.specs.LogTail.{switchesIn}

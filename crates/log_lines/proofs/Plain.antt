@@ -4,9 +4,10 @@ use mathlib.Core.List.{List, [], _∷_, _++_}
 use Prim.Native.Nat.{ℕ, zero, suc, _+_, _/_, _%_}
 use native.Mathlib.Omega.{arith}
 use lib.Dec.{ltb}
-use Rattle.lines.specs.Lines.{hex}
-use Rattle.lines.proofs.Each.{Each, none, more, append}
-use Rattle.lines.proofs.Fields.{Plain, hex-plain, Fed, fed-line}
+use Rattle.hex.specs.Hex.{hex}
+use Rattle.text.proofs.Each.{Each, none, more, append}
+use Rattle.text.proofs.Fields.{Plain, Fed, fed-line}
+use Rattle.hex.proofs.Bytes.{hex-plain}
 use Rattle.numerals.specs.Numeral.{digitsOf, numeral}
 use Rattle.log_tail.specs.LogTail.{switchesIn}
 use Rattle.ring.specs.declared.Record.{Record}

@@ -6,7 +6,7 @@ use Prim.Native.Nat.{ℕ, _+_}
 use lib.ListN.{take, drop}
 use Rattle.wire.specs.Wire.{number}
 use Rattle.iad.specs.Iad.{pairsOf}
-use Rattle.lines.specs.Lines.{hex}
+use Rattle.hex.specs.Hex.{hex}
 use Rattle.numerals.specs.Numeral.{digitsOf, numeral}
 use Rattle.log_tail.specs.LogTail.{entryIn}
 use Rattle.field.specs.Field.{stretchOf, fieldOf}

@@ -6,7 +6,7 @@ use native.Mathlib.Omega.{arith}
 use borrow.Author.Tests.{le-leb, lt-leb}
 use lib.ListN.{length}
 use lib.Seq.{length-sets}
-use Rattle.lines.specs.Stored.{Stored}
+use Rattle.text.specs.Stored.{Stored}
 use Rattle.log_lines.specs.LogLines.{longest, placed, placeBehind}
 
 -- the room keeps its length

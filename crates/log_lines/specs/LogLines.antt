@@ -5,7 +5,8 @@ use mathlib.Core.List.{List, [], _∷_, _++_}
 use lib.Dec.{leb}
 use lib.ListN.{length}
 use lib.Seq.{sets}
-use Rattle.lines.specs.Lines.{hex, line}
+use Rattle.hex.specs.Hex.{hex}
+use Rattle.text.specs.Text.{line}
 use Rattle.numerals.specs.Numeral.{numeral}
 use Rattle.log_tail.specs.LogTail.{switchesIn}
 use Rattle.ring.specs.declared.Record.{Record}

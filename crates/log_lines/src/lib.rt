@@ -3,7 +3,7 @@
 ghost use mathlib.Core.Path.{_≡_};
 ghost use Prim.Native.Nat.{_+_, _≤_};
 ghost use lib.ListN.{length};
-ghost use Rattle.lines.specs.Stored.{Stored};
+ghost use Rattle.text.specs.Stored.{Stored};
 ghost use Rattle.log_lines.specs.LogLines.{fieldsText, valuesText, heading, logLine, longest, placed, placeBehind};
 use log_fields::Form;
 use log_values::put_answer;

@@ -10,8 +10,8 @@ use lib.ListN.{length, take, drop, getD, length-append, length-take, List·getD-
 use lib.Seq.{getD-take, getD-drop}
 use Rattle.wire.specs.Wire.{byte}
 use Rattle.text.specs.Text.{joined}
-use Rattle.lines.proofs.Each.{Each, none, more, append}
-use Rattle.lines.proofs.Fields.{Fed}
+use Rattle.text.proofs.Each.{Each, none, more, append}
+use Rattle.text.proofs.Fields.{Fed}
 use Rattle.ring.specs.declared.Found.{Found}
 use Rattle.ring.specs.declared.Found.the-variants.{Record as Kept, Nothing}
 use Rattle.ring.specs.Ring.{slotsOf, countKept, countIn, found}

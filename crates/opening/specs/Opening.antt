@@ -1,13 +1,10 @@
 -- A paper's set-up (document 01, "The paper").
 use Prim.Native.Nat.{ℕ}
-use mathlib.Core.Bool.{Bool, cond}
+use mathlib.Core.Bool.{Bool}
 use mathlib.Core.List.{List}
-use Rattle.refusal.specs.declared.Refusal.{Refusal}
-use Rattle.refusal.specs.declared.Refusal.the-variants.{BadSetup, PastData}
+use Rattle.refusal.specs.declared.Refusal.the-variants.{BadSetup}
 use Rattle.wire.specs.Wire.{byte}
-use Rattle.setup.specs.declared.SetupAnswer.{SetupAnswer}
-use Rattle.setup.specs.declared.SetupAnswer.the-variants.{Done, Refused as SetupRefused}
-use Rattle.setup.specs.Setup.{isAccepted, readSetup, noCard, wordsAfter}
+use Rattle.setup.specs.Setup.{isAccepted, wordsAfter}
 use Rattle.log_tail.specs.declared.Judged.{Judged}
 use Rattle.log_tail.specs.declared.Judged.the-variants.{Sound, Wrong, PastData as TableFault}
 use Rattle.log_tail.specs.LogTail.{judged}
@@ -17,28 +14,13 @@ use Rattle.shape.specs.declared.Logging.the-variants.{Off, On}
 use Rattle.shape.specs.declared.Shape.{Shape}
 use Rattle.shape.specs.declared.ReadShape.{ReadShape}
 use Rattle.shape.specs.declared.ReadShape.the-variants.{Taken as ShapeTaken, Refused as ShapeRefused}
-use Rattle.shape.specs.Shape.{based, basePart, cyclesPart, familyPart, logPart, shapeOf, shapeAt}
+use Rattle.shape.specs.Shape.{basePart, cyclesPart, familyPart, logPart, shapeOf, shapeAt}
 use Rattle.paper.specs.declared.Opened.{Opened}
 use Rattle.paper.specs.declared.Opened.the-variants.{Setup, Refused as OpenRefused}
 use Rattle.paper.specs.Paper.{openPaper}
 use Rattle.paper.specs.Walk.{part}
-use Rattle.card.specs.Card.{freshState}
-use Rattle.records.specs.declared.Event.{Event}
-use Rattle.records.specs.declared.Event.the-variants.{SetUp, Refused}
-use Rattle.opening.specs.declared.Begun.{Begun}
-
--- refused, it ends the paper; there is no card, and no shape that matters
-abbrev pub refusedAt : Refusal → (at : ℕ) → Begun
-refusedAt refusal at = record { shape = based 0; state = freshState noCard; at = at; event = Refused refusal }
-
-abbrev pub setUpEvent : SetupAnswer → Event
-setUpEvent Done = SetUp
-setUpEvent (SetupRefused refusal) = Refused refusal
-
-unfoldable pub baseBegun : Shape → (base cycles family : List ℕ) (end : ℕ) → Begun
-baseBegun shape base cycles family end =
-    let read = readSetup base cycles family (shape .unnamed) in
-    record { shape = shape; state = freshState (read .fresh); at = end; event = setUpEvent (read .answer) }
+use Rattle.begun.specs.declared.Begun.{Begun}
+use Rattle.begun.specs.Begun.{refusedAt, baseBegun, pastBegun}
 
 -- the log, where it is on (document 02, Eight): the ranges of its tail, and whether a table reaches past its data
 abbrev pub logFound : Logging → Shape → (body : List ℕ) → Judged
@@ -47,10 +29,6 @@ logFound (On start end) shape body = judged (logPart (On start end) body) (byte 
 
 unfoldable pub logJudged : Shape → (body : List ℕ) → Judged
 logJudged shape body = logFound (shape .logging) shape body
-
--- refusal 14 comes after every cause of 1
-unfoldable pub pastBegun : (accepted : Bool) (end : ℕ) → Begun
-pastBegun accepted end = refusedAt (cond accepted PastData BadSetup) end
 
 abbrev pub loggedBegun : Judged → (accepted : Bool) (end : ℕ) → Begun → Begun
 loggedBegun Sound accepted end begun = begun

@@ -2,89 +2,21 @@
 ghost use mathlib.Core.Path.{_≡_};
 ghost use Prim.Native.Nat.{_+_, _<_, _^_};
 ghost use lib.ListN.{length};
-ghost use Rattle.setup.specs.Setup.{isAccepted, wordsAfter};
 ghost use Rattle.shape.specs.Shape.{cyclesPart, familyPart, Lies, Spans, Holds, Keeps, selectingAt, datingAt, familyAt, loggingAt, shapeAt};
 ghost use Rattle.shape.specs.declared.ReadShape.the-variants.{Taken as ShapeTaken};
 ghost use Rattle.shape.proofs.Inside.{Inside};
-ghost use Rattle.opening.specs.Opening.{setUpEvent, refusedAt, baseBegun, logJudged, pastBegun, shapedBegun, shapedWords};
-ghost use Rattle.opening.specs.Opening.{setupBegun, setupWords, begunOf, wordsBegun};
+ghost use Rattle.opening.specs.Opening.{logJudged, shapedBegun, shapedWords, setupBegun, setupWords, begunOf, wordsBegun};
+use begun::Begun;
 use log_tail::Judged;
 use paper::Opened;
-use records::Event;
 use refusal::Refusal;
 use rules::Words;
-use setup::SetupAnswer;
 use shape::Dating;
 use shape::Family;
 use shape::Logging;
 use shape::ReadShape;
 use shape::Selecting;
 use shape::Shape;
-use state::State;
-
-// After the set-up: the paper's shape, the card, the place of the first record, and what happened.
-pub struct Begun {
-    pub shape: Shape,
-    pub state: State,
-    pub at: usize,
-    pub event: Event,
-}
-
-fn event_of(answer: SetupAnswer) -> Event
-    ensures { λ r. ⌜ r ≡ setUpEvent answer ⌝ }
-{
-    match answer {
-        SetupAnswer::Done => Event::SetUp,
-        SetupAnswer::Refused(refusal) => Event::Refused(refusal),
-    }
-}
-
-// A paper that ends with its set-up: no card.
-fn refuse(refusal: Refusal, at: usize) -> Begun
-    ensures { λ r. ⌜ r ≡ refusedAt refusal at ⌝ }
-{
-    let none = setup::no_card();
-    Begun {
-        shape: Shape {
-            base: 0,
-            selecting: Selecting::Off,
-            syllabus: 0,
-            dating: Dating::Off,
-            family: Family::Cpa,
-            scripting: false,
-            logging: Logging::Off,
-            unnamed: 4_194_304,
-        },
-        state: card::fresh_card(none),
-        at,
-        event: Event::Refused(refusal),
-    }
-}
-
-// The set-up's base, the tail with its cyclic accumulators and that with a CPACE card's controls, read
-// into lent words.
-fn take_base(
-    shape: Shape,
-    base: &[u8],
-    cycles: &[u8],
-    family: &[u8],
-    end: usize,
-    words: &mut Words,
-) -> Begun
-    ensures { λ r. ⌜ (r ≡ baseBegun shape (now (base .entry)) (now (cycles .entry)) (now (family .entry)) end)
-        × (now (words .exit) ≡ wordsAfter (now (words .entry)) (now (base .entry)) (now (cycles .entry)) (now (family .entry))
-        (shape .syllabus) (shape .unnamed)) ⌝ }
-{
-    let read = setup::read_setup(base, cycles, family, shape.syllabus, shape.unnamed, words);
-    let fresh = read.fresh;
-    let answer = read.answer;
-    Begun {
-        shape,
-        state: card::fresh_card(fresh),
-        at: end,
-        event: event_of(answer),
-    }
-}
 
 // The file's places in the paper, where its body of so many bytes stands at a place of it.
 fn select_in(selecting: Selecting, place: usize, bytes: usize) -> Selecting
@@ -213,16 +145,6 @@ fn judge_log(shape: Shape, body: &[u8]) -> Judged
     )
 }
 
-// A log whose tables reach past their data: refusal 14, where everything else is accepted.
-fn refuse_log(base: &[u8], cycles: &[u8], family: &[u8], unnamed: u32, end: usize) -> Begun
-    ensures { λ r. ⌜ r ≡ pastBegun (isAccepted (now (base .entry)) (now (cycles .entry)) (now (family .entry)) unnamed) end ⌝ }
-{
-    if setup::is_accepted(base, cycles, family, unnamed) {
-        return refuse(Refusal::PastData, end);
-    }
-    refuse(Refusal::BadSetup, end)
-}
-
 // A set-up of this shape: its base, its tail with dates where there is one, a CPACE card's, and the
 // log's.
 fn take_shaped(shape: Shape, body: &[u8], place: usize, end: usize, words: &mut Words) -> Begun
@@ -237,9 +159,9 @@ fn take_shaped(shape: Shape, body: &[u8], place: usize, end: usize, words: &mut 
     let family = shape.family;
     let controls = controls_in(family, body);
     match judge_log(shape, body) {
-        Judged::Sound => take_base(placed, &body[..base], cycles, controls, end, words),
-        Judged::Wrong => refuse(Refusal::BadSetup, end),
-        Judged::PastData => refuse_log(&body[..base], cycles, controls, shape.unnamed, end),
+        Judged::Sound => begun::take_base(placed, &body[..base], cycles, controls, end, words),
+        Judged::Wrong => begun::refuse(Refusal::BadSetup, end),
+        Judged::PastData => begun::refuse_log(&body[..base], cycles, controls, shape.unnamed, end),
     }
 }
 
@@ -250,7 +172,7 @@ fn take_setup(version: u8, body: &[u8], place: usize, end: usize, words: &mut Wo
         × (now (words .exit) ≡ setupWords (now (words .entry)) version (now (body .entry))) ⌝ }
 {
     match additions::read_shape(version, body) {
-        ReadShape::Refused(refusal) => refuse(refusal, end),
+        ReadShape::Refused(refusal) => begun::refuse(refusal, end),
         ReadShape::Taken(shape) => take_shaped(shape, body, place, end, words),
     }
 }
@@ -260,7 +182,7 @@ pub fn begin(paper: &[u8], words: &mut Words) -> Begun
     ensures { λ r. ⌜ (r ≡ begunOf (now (paper .entry))) × (now (words .exit) ≡ wordsBegun (now (words .entry)) (now (paper .entry))) ⌝ }
 {
     match paper::open_paper(paper) {
-        Opened::Refused(refusal) => refuse(refusal, 0),
+        Opened::Refused(refusal) => begun::refuse(refusal, 0),
         Opened::Setup {
             version,
             start,

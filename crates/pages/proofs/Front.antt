@@ -9,7 +9,7 @@ use lib.Dec.{ltb}
 use lib.ListN.{length, take, drop, length-drop}
 use lib.Seq.{length-take-le}
 use Rattle.conversation.specs.Events.{wordsLeft}
-use Rattle.transcript.specs.declared.Transcript.{Transcript}
+use Rattle.paper_room.specs.declared.Transcript.{Transcript}
 use Rattle.paper_text.specs.PaperText.{roomForText, wordsPut}
 use Rattle.blocks.specs.declared.Front.the-variants.{Done, Paper}
 use Rattle.blocks.specs.declared.Turned.{Turned}

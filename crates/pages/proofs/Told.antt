@@ -8,9 +8,9 @@ use borrow.Author.Tests.{leb-true}
 use lib.Dec.{leb, ltb}
 use lib.ListN.{length, set, length-append, length-set}
 use lib.Seq.{sets, length-sets}
-use Rattle.transcript.specs.declared.Transcript.the-variants.{Whole, NoRoom}
-use Rattle.transcript.specs.declared.Transcript.{Transcript}
-use Rattle.transcript.proofs.Going.{sets-on}
+use Rattle.paper_room.specs.declared.Transcript.{Transcript}
+use Rattle.paper_room.specs.declared.Transcript.the-variants.{Whole, NoRoom}
+use Rattle.text.proofs.Laws.{sets-on}
 use Rattle.paper_text.specs.PaperText.{textOf, roomForText, hasTextRoom, textPut, roomPut, EndsIn}
 use Rattle.blocks.specs.declared.Wants.the-variants as Wants
 use Rattle.pages.specs.Stack.{pageOf}

@@ -6,8 +6,8 @@ use lib.Dec.{eqb, ltb, leb}
 use lib.ListN.{length, drop}
 use lib.Seq.{sets}
 use Rattle.conversation.specs.Events.{wordsLeft}
-use Rattle.transcript.specs.declared.Transcript.{Transcript}
-use Rattle.transcript.specs.declared.Transcript.the-variants.{Whole, NoRoom}
+use Rattle.paper_room.specs.declared.Transcript.{Transcript}
+use Rattle.paper_room.specs.declared.Transcript.the-variants.{Whole, NoRoom}
 use Rattle.paper_text.specs.PaperText.{roomForText, hasTextRoom}
 use Rattle.blocks.specs.declared.Wants.the-variants.{Turn, Input}
 pub use Rattle.blocks.specs.Blocks.{tooLong, longestPaper, placedText, textRoom, Deal, hold, page, passing, turnedOver, saidBy, roomBy, lastText}

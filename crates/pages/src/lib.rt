@@ -6,8 +6,8 @@ ghost use Rattle.paper_text.specs.PaperText.{wordsPut};
 ghost use Rattle.pages.specs.Turn.{pagePut, pageRoom, dealOf, saidBy, roomBy, wordsBy};
 use blocks::Front;
 use blocks::Turned;
+use paper_room::Transcript;
 use rules::Words;
-use transcript::Transcript;
 
 // The page of a paper.
 fn put_page(paper: &[u8], words: &mut Words, room: &mut [u8], at: usize) -> Transcript

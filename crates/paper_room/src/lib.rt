@@ -1,6 +1,15 @@
-// The room that a paper's text is asked.
+// The room that a paper's text is asked, and what becomes of the text.
 ghost use mathlib.Core.Path.{_≡_};
 ghost use Rattle.paper_room.specs.PaperRoom.{hasRoom};
+
+// The bytes of one line more.
+const LINE: usize = 82;
+
+// The lines end at a place of the room, or it is too small and nothing was written.
+pub enum Transcript {
+    Whole { end: usize },
+    NoRoom,
+}
 
 // Whether from a place on there is room for 8 bytes of each byte of a paper and for one line more.
 pub fn has_room(room: usize, at: usize, paper: usize) -> bool
@@ -10,8 +19,8 @@ pub fn has_room(room: usize, at: usize, paper: usize) -> bool
         return false;
     }
     let left = room - at;
-    if left < lines::LONGEST {
+    if left < LINE {
         return false;
     }
-    paper <= (left - lines::LONGEST) / 8
+    paper <= (left - LINE) / 8
 }

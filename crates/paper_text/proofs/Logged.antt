@@ -9,8 +9,8 @@ use lib.Dec.{ltb}
 use lib.ListN.{length}
 use Rattle.wire.specs.Wire.{byte}
 use Rattle.text.specs.Text.{joined}
-use Rattle.lines.proofs.Each.{Each, none}
-use Rattle.lines.proofs.Fields.{Fed}
+use Rattle.text.proofs.Each.{Each, none}
+use Rattle.text.proofs.Fields.{Fed}
 use Rattle.rules.specs.Rules.{rulesOf, blankWords}
 use Rattle.opening.specs.Opening.{begunOf, wordsBegun}
 use Rattle.replies.specs.Replies.{behind}

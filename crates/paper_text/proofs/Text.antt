@@ -8,10 +8,10 @@ use borrow.Author.Tests.{leb-true, leb-false, le-leb, lt-leb}
 use lib.ListN.{length, take, drop, length-append}
 use lib.Seq.{sets, length-sets, sets-eq, length-take-le, take-at, drop-at}
 use Rattle.log.specs.Log.{tailAt}
-use Rattle.transcript.specs.declared.Transcript.{Transcript}
-use Rattle.transcript.specs.declared.Transcript.the-variants.{Whole, NoRoom}
+use Rattle.paper_room.specs.declared.Transcript.{Transcript}
+use Rattle.paper_room.specs.declared.Transcript.the-variants.{Whole, NoRoom}
 use Rattle.transcript.specs.Transcript.{transcriptOf, roomFor, hasRoom, transcribed, roomAfter, wordsAfter}
-use Rattle.transcript.proofs.Going.{sets-on}
+use Rattle.text.proofs.Laws.{sets-on}
 use Rattle.transcript.proofs.Long.{long}
 use Rattle.conversation.specs.Events.{wordsLeft}
 use Rattle.log_text.specs.LogText.{longest, placed, placeBehind}

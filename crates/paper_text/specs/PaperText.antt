@@ -10,8 +10,8 @@ use Rattle.wire.specs.Wire.{byte}
 use Rattle.rules.specs.Rules.{rulesOf, blankWords}
 use Rattle.opening.specs.Opening.{begunOf, wordsBegun}
 use Rattle.conversation.specs.Events.{wordsLeft}
-use Rattle.transcript.specs.declared.Transcript.{Transcript}
-use Rattle.transcript.specs.declared.Transcript.the-variants.{Whole, NoRoom}
+use Rattle.paper_room.specs.declared.Transcript.{Transcript}
+use Rattle.paper_room.specs.declared.Transcript.the-variants.{Whole, NoRoom}
 use Rattle.transcript.specs.Transcript.{transcriptOf, roomFor}
 use Rattle.log_text.specs.LogText.{longest}
 use Rattle.logbook.specs.Logbook.{shapedBehind}

@@ -12,7 +12,7 @@ use Rattle.rules.specs.Word.{wordCount}
 use Rattle.setup.specs.Setup.{setupNumber}
 use Rattle.log_tail.specs.declared.Judged.the-variants.{Sound, PastData as TableFault}
 use Rattle.shape.specs.declared.Shape.{Shape}
-use Rattle.opening.specs.declared.Begun.{Begun}
+use Rattle.begun.specs.declared.Begun.{Begun}
 use Rattle.records.specs.declared.Event.{Event}
 use Rattle.records.specs.declared.Event.the-variants.{SetUp, Refused}
 use Rattle.opening.specs.Opening.{begunOf, setupBegun}

@@ -26,7 +26,8 @@ use Rattle.command.specs.declared.When.the-variants.{Undated, On}
 use Rattle.command.specs.declared.Command.the-variants.{Start, First, Second}
 use Rattle.command.specs.Command.{startOf, firstOf, commandOf, commandIn}
 use Rattle.state.specs.declared.Answer.the-variants.{Refused as AnswerRefused, Started, Given, Done}
-use Rattle.card.specs.Card.{freshState, stepOf}
+use Rattle.fresh.specs.Fresh.{freshState}
+use Rattle.card.specs.Card.{stepOf}
 use Rattle.card.specs.Message.{Message, StartCommand, FirstCommand, SecondCommand, ScriptCommand}
 use Rattle.records.specs.declared.Event.{Event}
 use Rattle.records.specs.declared.Event.the-variants.{SetUp, End, Refused, Answered}

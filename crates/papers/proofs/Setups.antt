@@ -21,7 +21,8 @@ use Rattle.shape.specs.declared.Shape.{Shape}
 use Rattle.shape.specs.declared.ReadShape.the-variants.{Taken}
 use Rattle.shape.specs.Shape.{basePart, cyclesPart, familyPart, logPart, shapeOf, shapeAt}
 use Rattle.records.specs.declared.Event.the-variants.{SetUp}
-use Rattle.opening.specs.Opening.{logFound, logJudged, begunOf, baseBegun, setupBegun, setupWords, wordsBegun}
+use Rattle.begun.specs.Begun.{baseBegun}
+use Rattle.opening.specs.Opening.{logFound, logJudged, begunOf, setupBegun, setupWords, wordsBegun}
 use Rattle.demands.specs.Setup.{Setup, AcceptedSetup}
 use Rattle.demands.specs.Conversation.{rulesBy}
 use Rattle.rows.specs.Rows.{body as spelledBase, cyclesBytes, controlsBytes}

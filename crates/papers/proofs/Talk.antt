@@ -8,7 +8,7 @@ use lib.ListN.{length}
 use Rattle.command.specs.declared.Command.the-variants.{Start, First, Second}
 use Rattle.state.specs.declared.Answer.{Answer}
 use Rattle.setup.specs.Setup.{readSetup}
-use Rattle.card.specs.Card.{freshState}
+use Rattle.fresh.specs.Fresh.{freshState}
 use Rattle.card.specs.Message.{Message, StartCommand, FirstCommand, SecondCommand, ScriptCommand}
 use Rattle.records.specs.declared.Event.{Event}
 use Rattle.records.specs.declared.Event.the-variants.{Answered}

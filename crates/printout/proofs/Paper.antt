@@ -25,10 +25,11 @@ use Rattle.conversation.specs.Conversation.{takenOf, takenWrites}
 use Rattle.conversation.specs.Events.{following, eventsFrom, eventsOf, wordsLeft}
 use Rattle.lines.specs.Lines.{refusalLine, startLine, selectedLine}
 use Rattle.lines.specs.Sitting.{answerLine, eventLine, linesOf, sittingLines}
-use Rattle.lines.proofs.Each.{Each, none, more, weaken}
-use Rattle.lines.proofs.Fields.{OneLine, Fed}
+use Rattle.text.proofs.Each.{Each, none, more, weaken}
+use Rattle.text.proofs.Fields.{Fed}
+use Rattle.lines.proofs.Fields.{OneLine}
 use Rattle.lines.proofs.Laws.{refusal-line, start-line, selected-line, cryptogram-line}
-use Rattle.transcript.specs.declared.Transcript.the-variants.{Whole, NoRoom}
+use Rattle.paper_room.specs.declared.Transcript.the-variants.{Whole, NoRoom}
 use Rattle.transcript.specs.Transcript.{transcriptOf}
 use Rattle.transcript.proofs.Long.{long}
 use Rattle.replies.specs.Replies.{behind}

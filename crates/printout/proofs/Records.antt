@@ -23,11 +23,13 @@ use Rattle.import.specs.Import.{oldRecord, takeOver, bytesOf, newBytes, importR
 use Rattle.import_laws.specs.Moved.{Moved}
 use Rattle.import_laws.proofs.Kept.{kept}
 use Rattle.import_laws.proofs.Written.{in-range, read-back, room-is}
-use Rattle.lines.specs.Lines.{hex}
-use Rattle.lines.proofs.Each.{Each, none, more, append, weaken}
+use Rattle.hex.specs.Hex.{hex}
+use Rattle.text.proofs.Each.{Each, none, more, append, weaken}
 use Rattle.lines.proofs.Decimal.{IsDigit}
-use Rattle.lines.proofs.Fields.{Plain, hex-plain, OneLine, one-line}
-use Rattle.lines.proofs.Hex as Hex
+use Rattle.text.proofs.Fields.{Plain}
+use Rattle.hex.proofs.Bytes.{hex-plain}
+use Rattle.lines.proofs.Fields.{OneLine, one-line}
+use Rattle.hex.proofs.Bytes as Hex
 use Rattle.readback.specs.WellFormed.{octet}
 use Rattle.readback.specs.Fields.{areDigits, isUnpadded, valueIn}
 use Rattle.readback.proofs.Words.{reads-words, are-digits, one-more, other, Says, spells}

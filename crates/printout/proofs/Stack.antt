@@ -13,7 +13,7 @@ use Rattle.rules.specs.Word.{wordCount}
 use Rattle.conversation.specs.Events.{wordsLeft}
 use Rattle.lines.specs.Lines.{digit, decimal, refusalLine}
 use Rattle.lines.specs.Sitting.{sittingLines}
-use Rattle.lines.proofs.Each.{Each, none, more}
+use Rattle.text.proofs.Each.{Each, none, more}
 use Rattle.transcript.specs.Transcript.{transcriptOf}
 use Rattle.pages.specs.Stack.{pageOf, sizeOf, paperOf, behind, stackOf}
 use Rattle.stacks.proofs.Stack as Front

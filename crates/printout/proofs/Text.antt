@@ -6,8 +6,8 @@ use native.Mathlib.Omega.{arith}
 use borrow.Author.Tests.{ne-eqb}
 use lib.ListN.{length, take, drop, getD, length-append}
 use lib.Seq.{sets, sets-eq, length-take-le, take-at, drop-at}
-use Rattle.lines.proofs.Each.{Each, none, more}
-use Rattle.lines.proofs.Fields.{Fed}
+use Rattle.text.proofs.Each.{Each, none, more}
+use Rattle.text.proofs.Fields.{Fed}
 use Rattle.transcript.specs.Transcript.{joined}
 use Rattle.printout.specs.Text.{linesRead, Holds}
 

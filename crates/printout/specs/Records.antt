@@ -10,7 +10,7 @@ use Rattle.refusal.specs.Refusal.{refusalNumber}
 use Rattle.import.specs.declared.Imported.{Imported}
 use Rattle.import.specs.declared.Imported.the-variants.{Done, Refused}
 use Rattle.import.specs.Import.{importRecord, imported}
-use Rattle.lines.proofs.Each.{Each}
+use Rattle.text.proofs.Each.{Each}
 use Rattle.readback.specs.Fields.{Line, Words, NoLine, wordsIn, isDecimal, valueIn, isHex, bytesIn}
 
 -- a record has 20 bytes; the last may be cut short

@@ -4,7 +4,7 @@ use mathlib.Core.List.{List, [], _∷_, _++_}
 use Prim.Native.Nat.{ℕ, _^_, _<_}
 use lib.ListN.{length, take}
 use Rattle.lines.specs.Sitting.{sittingLines}
-use Rattle.lines.proofs.Each.{Each}
+use Rattle.text.proofs.Each.{Each}
 use Rattle.spelling.specs.Spelling.{big}
 use Rattle.spelling.specs.Printed as Printed
 use Rattle.printout.specs.Text.{logged}

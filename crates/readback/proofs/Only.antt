@@ -9,7 +9,9 @@ use borrow.Author.Tests.{eqb-true}
 use lib.Dec.{eqb}
 use Rattle.wire.proofs.Pairs.{both}
 use Rattle.iad.specs.declared.Iad.{Iad}
-use Rattle.lines.specs.Lines.{decimal, hex, line, refusalLine, startLine, selectedLine, cryptogramLine}
+use Rattle.hex.specs.Hex.{hex}
+use Rattle.text.specs.Text.{line}
+use Rattle.lines.specs.Lines.{decimal, refusalLine, startLine, selectedLine, cryptogramLine}
 use Rattle.readback.specs.WellFormed.{Writable, OfBytes, LaidOut}
 use Rattle.readback.specs.Fields.{Line, Words, NoLine, grown, spaced, closed, wordsIn, isDecimal, valueIn, isHex, bytesIn}
 use Rattle.readback.specs.Fields.{Fields, Two, Three, Four, Five, Other, fieldsOf, fieldsIn}

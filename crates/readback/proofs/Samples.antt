@@ -11,7 +11,8 @@ use Rattle.iad.specs.declared.ReadIad.the-variants.{Fields as ReadFields}
 use Rattle.iad.specs.Iad.{cvrOf, pairsValue, iadOf, hasFixedBytes, isCvr, arePairs, isIad, readIad, readNumber}
 use Rattle.iad.specs.Iad.{pairsOf, iadBytes, isWritable, writeIad, written, writtenNumber}
 use Rattle.wire.specs.Wire.{number}
-use Rattle.lines.specs.Lines.{digit, decimal, hex, startLine, cryptogramLine}
+use Rattle.hex.specs.Hex.{hex}
+use Rattle.lines.specs.Lines.{digit, decimal, startLine, cryptogramLine}
 use Rattle.readback.specs.WellFormed.{WellFormed, Writable, OfBytes, LaidOut}
 use Rattle.readback.specs.Fields.{wordsIn, areDigits, valueIn, isHex, bytesIn, Fields, Two, Three, Four, Five, Other, fieldsIn}
 use Rattle.readback.proofs.Readable.{exactly-readable, exactly-read}

@@ -7,9 +7,11 @@ use lib.ListN.{length, take, drop, replicate}
 use Rattle.iad.specs.declared.Iad.{Iad}
 use Rattle.iad.specs.declared.Written.the-variants.{Done}
 use Rattle.iad.specs.Iad.{iadBytes, writeIad, written}
-use Rattle.lines.specs.Lines.{decimal, hexByte, hex, refusalLine, startLine, selectedLine, cryptogramLine}
-use Rattle.lines.proofs.Each.{none, more}
-use Rattle.lines.proofs.Fields.{decimal-plain, hex-plain}
+use Rattle.hex.specs.Hex.{hexByte, hex}
+use Rattle.lines.specs.Lines.{decimal, refusalLine, startLine, selectedLine, cryptogramLine}
+use Rattle.text.proofs.Each.{none, more}
+use Rattle.hex.proofs.Bytes.{hex-plain}
+use Rattle.lines.proofs.Fields.{decimal-plain}
 use Rattle.readback.specs.WellFormed.{Octets, Writable, OfBytes, LaidOut}
 use Rattle.readback.specs.Fields.{Two, Three, Four, Five, fieldsIn}
 use Rattle.readback.proofs.Octets.{octets}

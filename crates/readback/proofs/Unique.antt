@@ -10,7 +10,7 @@ use borrow.Author.Tests.{lt-ltb, le-ltb, lt-leb, leb-true, eqb-false, not-true}
 use lib.Dec.{leb, eqb, lit<}
 use lib.ListN.{length}
 use Rattle.wire.proofs.Pairs.{both}
-use Rattle.lines.specs.Lines.{hexDigit, hex}
+use Rattle.hex.specs.Hex.{hexDigit, hex}
 use Rattle.readback.specs.Fields.{isDigit, areDigits, isUnpadded, isDecimal, valueIn, isHexDigit, hexValue, isHex, bytesIn}
 use Rattle.readback.proofs.Places.{sides, on}
 

@@ -9,10 +9,12 @@ use native.Mathlib.Omega.{arith}
 use borrow.Author.Tests.{ltb-true, ltb-false, lt-ltb, le-ltb, le-leb, lt-leb, ne-eqb}
 use lib.Dec.{ltb}
 use lib.ListN.{length, length-append}
-use Rattle.lines.specs.Lines.{digit, decimal, hexDigit, hexByte, hex, line}
-use Rattle.lines.proofs.Each.{Each, none, more}
+use Rattle.hex.specs.Hex.{hexDigit, hexByte, hex}
+use Rattle.text.specs.Text.{line}
+use Rattle.lines.specs.Lines.{digit, decimal}
+use Rattle.text.proofs.Each.{Each, none, more}
 use Rattle.lines.proofs.Decimal.{IsDigit, digits}
-use Rattle.lines.proofs.Fields.{Plain}
+use Rattle.text.proofs.Fields.{Plain}
 use Rattle.readback.specs.WellFormed.{octet}
 use Rattle.readback.specs.Fields.{isDigit, areDigits, isUnpadded, isDecimal, valueIn, isHexDigit, hexValue, isHex, bytesIn, wordsIn}
 use Rattle.readback.specs.Fields.{Words}

@@ -13,12 +13,12 @@ use Rattle.rules.specs.Rules.{Rules}
 use Rattle.records.specs.declared.Event.{Event}
 use Rattle.records.specs.declared.Event.the-variants.{SetUp, End, Refused, Answered}
 use Rattle.records.proofs.Event as E
+use Rattle.text.specs.Stored.{Stored}
+use Rattle.text.proofs.Stores.{next, within}
 use Rattle.lines.specs.Lines as lines
-use Rattle.lines.specs.Stored.{Stored}
 use Rattle.lines.specs.Sitting.{eventLine}
-use Rattle.lines.proofs.Stores.{next, within}
+use Rattle.lines.proofs.Placed.{behind-is, placed-is}
 use Rattle.room_lines.specs.RoomLines.{roomLines}
-use Rattle.transcript.proofs.Going.{behind-is, placed-is}
 use Rattle.record_lines.specs.declared.Showing.{Showing}
 use Rattle.record_lines.specs.RecordLines.{longest, hasRoom, shownLines, setUpText, recordText, placed, placeBehind}
 

@@ -4,7 +4,7 @@ ghost use mathlib.Core.Path.{_≡_};
 ghost use Prim.Native.Nat.{_+_, _≤_};
 ghost use lib.ListN.{length};
 ghost use Rattle.rules.specs.Rules.{rulesOf};
-ghost use Rattle.lines.specs.Stored.{Stored};
+ghost use Rattle.text.specs.Stored.{Stored};
 ghost use Rattle.lines.specs.Sitting.{eventLine};
 ghost use Rattle.room_lines.specs.RoomLines.{roomLines};
 ghost use Rattle.record_lines.specs.RecordLines.{hasRoom, shownLines, setUpText, recordText, placed, placeBehind};

@@ -19,10 +19,12 @@ use Rattle.state.specs.declared.Answer.{Answer}
 use Rattle.state.specs.declared.Answer.the-variants.{Refused, Started, Given, Done}
 use Rattle.state.specs.State.{cidOf}
 use Rattle.card.specs.Card.{answerNumber}
-use Rattle.lines.specs.Lines.{decimal, hexByte, hex, refusalLine, startLine, selectedLine, cryptogramLine}
+use Rattle.hex.specs.Hex.{hexByte, hex}
+use Rattle.lines.specs.Lines.{decimal, refusalLine, startLine, selectedLine, cryptogramLine}
 use Rattle.lines.specs.Sitting.{answerLine}
 use Rattle.lines.proofs.Decimal as Decimal
-use Rattle.lines.proofs.Fields.{Plain, decimal-plain}
+use Rattle.text.proofs.Fields.{Plain}
+use Rattle.lines.proofs.Fields.{decimal-plain}
 use Rattle.replies.specs.Replies.{before, isEnding}
 use Rattle.reply_laws.proofs.Words.{said, last-said, more-said, other-words}
 

@@ -7,8 +7,8 @@ use native.Mathlib.Omega.{arith}
 use borrow.Author.Tests.{eq-eqb, ne-eqb}
 use lib.ListN.{length, take, drop, getD}
 use lib.Seq.{take-append-add, drop-append-add}
-use Rattle.lines.proofs.Each.{Each, none, more}
-use Rattle.lines.proofs.Fields.{Fed}
+use Rattle.text.proofs.Each.{Each, none, more}
+use Rattle.text.proofs.Fields.{Fed}
 use Rattle.replies.specs.Replies.{placeOf, before, behind}
 
 -- no byte is the mark

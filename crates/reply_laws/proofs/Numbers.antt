@@ -11,7 +11,8 @@ use lib.Dec.{ltb}
 use Rattle.wire.specs.Wire.{number}
 use Rattle.iad.specs.declared.Iad.{Iad}
 use Rattle.journal.specs.Logged.{cvrNumber}
-use Rattle.lines.specs.Lines.{digit, decimal, hexDigit, hex}
+use Rattle.hex.specs.Hex.{hexDigit, hex}
+use Rattle.lines.specs.Lines.{digit, decimal}
 use Rattle.readback.specs.WellFormed.{octet, Octets, LaidOut}
 use Rattle.replies.specs.Replies.{digitValue, pairAt, decimalFrom, decimalIn, cvrIn}
 

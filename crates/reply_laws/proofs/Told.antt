@@ -14,11 +14,14 @@ use Rattle.state.specs.declared.Answer.{Answer}
 use Rattle.state.specs.declared.Answer.the-variants.{Refused, Started, Given, Done}
 use Rattle.state.specs.State.{cidOf}
 use Rattle.journal.specs.Logged.{cryptogram}
-use Rattle.lines.specs.Lines.{decimal, hexByte, hex, refusalLine, startLine, selectedLine, cryptogramLine}
+use Rattle.hex.specs.Hex.{hexByte, hex}
+use Rattle.lines.specs.Lines.{decimal, refusalLine, startLine, selectedLine, cryptogramLine}
 use Rattle.lines.specs.Sitting.{answerLine}
-use Rattle.lines.proofs.Each.{Each, none, more}
-use Rattle.lines.proofs.Fields.{Plain, decimal-plain, hex-plain}
-use Rattle.lines.proofs.Hex as Hex
+use Rattle.text.proofs.Each.{Each, none, more}
+use Rattle.text.proofs.Fields.{Plain}
+use Rattle.hex.proofs.Bytes.{hex-plain}
+use Rattle.lines.proofs.Fields.{decimal-plain}
+use Rattle.hex.proofs.Bytes as Hex
 use Rattle.readback.specs.WellFormed.{Writable, OfBytes, LaidOut}
 use Rattle.readback.proofs.Leaves.{zeros, laid-out, filled}
 use Rattle.readback.proofs.Octets.{octets}

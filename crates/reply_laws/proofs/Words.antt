@@ -3,9 +3,9 @@ use mathlib.Core.Path.{_≡_, ap, _∙_}
 use mathlib.Core.List.{List, [], _∷_, _++_, append-assoc}
 use Prim.Native.Nat.{ℕ, _≤_}
 use native.Mathlib.Omega.{arith}
-use Rattle.lines.specs.Lines.{line}
-use Rattle.lines.proofs.Each.{none, more, append, weaken}
-use Rattle.lines.proofs.Fields.{Plain}
+use Rattle.text.specs.Text.{line}
+use Rattle.text.proofs.Each.{none, more, append, weaken}
+use Rattle.text.proofs.Fields.{Plain}
 use Rattle.replies.specs.Replies.{before, behind}
 use Rattle.reply_laws.proofs.Marks.{Free, before-more, before-first, behind-first, behind-none}
 

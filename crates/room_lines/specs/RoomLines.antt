@@ -9,7 +9,7 @@ use Rattle.rules.specs.declared.Place.{Place}
 use Rattle.rules.specs.declared.Place.the-variants.{One, Two, Three, Four}
 use Rattle.rules.specs.Rules.{Rules, four, profileAt}
 use Rattle.rooms.specs.Rooms.{storedAt}
-use Rattle.lines.specs.Lines.{line}
+use Rattle.text.specs.Text.{line}
 use Rattle.numerals.specs.Numeral.{numeral}
 
 -- "room"

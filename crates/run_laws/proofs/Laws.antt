@@ -23,8 +23,7 @@ use Rattle.iad.specs.declared.Iad.{Iad}
 use Rattle.iad.specs.declared.ReadIad.the-variants.{Fields}
 use Rattle.iad.specs.declared.Written.the-variants.{Done as IadDone}
 use Rattle.iad.specs.Iad.{isWritable, readIad, writeIad, written as writtenIad}
-use Rattle.iad.proofs.RoundTrip.{whole}
-use Rattle.lines.proofs.Laws.{written-size}
+use Rattle.iad.proofs.RoundTrip.{written-size, whole}
 use Rattle.state.specs.declared.State.{State}
 use Rattle.state.specs.declared.Kind.{Kind}
 use Rattle.state.specs.declared.Answer.{Answer}

@@ -14,7 +14,8 @@ use Rattle.shape.specs.declared.Shape.{Shape}
 use Rattle.paper.specs.Paper.{nextAt, placeAfter}
 use Rattle.paper.specs.Walk.{metIn, placeIn}
 use Rattle.command.specs.Command.{startOf, secondOf, commandOf, commandIn}
-use Rattle.card.specs.Card.{freshState, stepOf, startStep, secondStep}
+use Rattle.fresh.specs.Fresh.{freshState}
+use Rattle.card.specs.Card.{stepOf, startStep, secondStep}
 use Rattle.records.specs.Records.{answeredBy, scriptedBy, bodyWrites}
 use Rattle.keeper.specs.Keeper.{roomsAfter, roomsRecorded}
 use Rattle.answers.specs.Answers.{answerBytes}

@@ -31,8 +31,9 @@ use Rattle.paper.specs.declared.Opened.the-variants.{Setup, Refused as OpenRefu
 use Rattle.paper.specs.Paper.{latest, nextAt, isUnreadable, setupIn, openPaper}
 use Rattle.paper.specs.Walk.{part}
 use Rattle.paper.proofs.Walk.{inside}
-use Rattle.opening.specs.declared.Begun.{Begun}
-use Rattle.opening.specs.Opening.{logJudged, pastBegun, loggedBegun, baseBegun, shapedBegun, setupBegun, openedBegun, begunOf, setupWords, openedWords, wordsBegun}
+use Rattle.begun.specs.declared.Begun.{Begun}
+use Rattle.begun.specs.Begun.{pastBegun, baseBegun}
+use Rattle.opening.specs.Opening.{logJudged, loggedBegun, shapedBegun, setupBegun, openedBegun, begunOf, setupWords, openedWords, wordsBegun}
 use Rattle.opening.proofs.Parts.{part-length}
 use Rattle.records.specs.declared.Event.{Event}
 use Rattle.records.specs.declared.Event.the-variants.{SetUp, Refused}

@@ -7,7 +7,7 @@ use lib.ListN.{length, getD}
 use lib.Seq.{sets}
 use Rattle.refusal.specs.Refusal.{refusalNumber}
 use Rattle.hex.specs.Hex.{hexByte}
-use Rattle.lines.specs.Lines.{line}
+use Rattle.text.specs.Text.{line}
 use Rattle.numerals.specs.Numeral.{numeral}
 use Rattle.run_rule.specs.declared.Ran.{Ran}
 use Rattle.run_rule.specs.declared.Ran.the-variants.{Done, Refused}

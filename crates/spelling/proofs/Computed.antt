@@ -43,15 +43,18 @@ use Rattle.state.specs.declared.Outcome.{Outcome}
 use Rattle.cryptogram.specs.Cryptogram.{limitsByte, verification, sentIad}
 use Rattle.cycles.specs.Cycles.{timingOf, dated}
 use Rattle.first.specs.First.{decision, settled, asked, concluded, firstAnswered, firstPerformed}
-use Rattle.card.specs.Card.{freshState, startStep, firstStep, stepOf}
+use Rattle.fresh.specs.Fresh.{freshState}
+use Rattle.card.specs.Card.{startStep, firstStep, stepOf}
 use Rattle.scripting.specs.Scripting.{scriptPerformed, scriptStep, scriptWrites}
-use Rattle.opening.specs.declared.Begun.{Begun}
+use Rattle.begun.specs.declared.Begun.{Begun}
 use Rattle.records.specs.declared.Event.{Event}
 use Rattle.records.specs.Records.{answeredBy, scriptedBy, bodyWrites}
-use Rattle.opening.specs.Opening.{logJudged, pastBegun, baseBegun, setupBegun, begunOf, setupWords, wordsBegun}
+use Rattle.begun.specs.Begun.{pastBegun, baseBegun}
+use Rattle.opening.specs.Opening.{logJudged, setupBegun, begunOf, setupWords, wordsBegun}
 use Rattle.conversation.specs.Conversation.{takenOf, takenWrites}
 use Rattle.conversation.specs.Events.{eventsFrom, eventsOf}
-use Rattle.lines.specs.Lines.{digit, decimal, hex, refusalLine, startLine, selectedLine, cryptogramLine}
+use Rattle.hex.specs.Hex.{hex}
+use Rattle.lines.specs.Lines.{digit, decimal, refusalLine, startLine, selectedLine, cryptogramLine}
 use Rattle.lines.specs.Sitting.{answerLine, linesOf, sittingLines}
 
 -- the ranges of a set-up

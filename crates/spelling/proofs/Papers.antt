@@ -40,8 +40,9 @@ use Rattle.paper.specs.Walk.{part}
 use Rattle.lines.specs.Lines.{refusalLine}
 use Rattle.records.specs.declared.Event.{Event}
 use Rattle.records.specs.declared.Event.the-variants.{Refused}
-use Rattle.opening.specs.declared.Begun.{Begun}
-use Rattle.opening.specs.Opening.{logJudged, pastBegun, loggedBegun, setUpEvent, begunOf, baseBegun, setupBegun, shapedBegun, setupWords, wordsBegun}
+use Rattle.begun.specs.declared.Begun.{Begun}
+use Rattle.begun.specs.Begun.{pastBegun, setUpEvent, baseBegun}
+use Rattle.opening.specs.Opening.{logJudged, loggedBegun, begunOf, setupBegun, shapedBegun, setupWords, wordsBegun}
 use Rattle.conversation.specs.Events.{eventsOf}
 use Rattle.lines.specs.Sitting.{linesOf, sittingLines}
 use Rattle.spelling.specs.Spelling.{Bytes, Sent, spellAll, choiceIn, datesIn, familyIn, scriptsIn, Manner, mannerIn, AllFit}

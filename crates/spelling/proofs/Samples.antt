@@ -30,7 +30,7 @@ use Rattle.command.specs.declared.When.{When}
 use Rattle.command.specs.declared.When.the-variants.{Undated, On as DatedOn}
 use Rattle.command.specs.Command.{startOf, firstOf, secondOf, commandOf, startSelected, selectingOf, slotsOf, commandIn}
 use Rattle.state.specs.declared.Answer.the-variants.{Started, Done}
-use Rattle.card.specs.Card.{freshState}
+use Rattle.fresh.specs.Fresh.{freshState}
 use Rattle.card.specs.Message.{StartCommand, FirstCommand, SecondCommand, ScriptCommand}
 use Rattle.lines.specs.Lines.{digit, decimal, refusalLine, startLine, selectedLine}
 use Rattle.records.specs.Records.{answeredBy}

@@ -20,9 +20,11 @@ use Rattle.cycles.specs.Cycles.{timingOf, dated}
 use Rattle.first.specs.First.{decision, settled, asked, concluded, firstAnswered, firstPerformed}
 use Rattle.closing.specs.Closing.{closed}
 use Rattle.second.specs.Second.{unablePerformed, secondPerformed}
-use Rattle.card.specs.Card.{freshState, startStep, firstStep, secondStep}
+use Rattle.fresh.specs.Fresh.{freshState}
+use Rattle.card.specs.Card.{startStep, firstStep, secondStep}
 use Rattle.card.specs.Message.{messageStep, messageWrites}
-use Rattle.lines.specs.Lines.{digit, decimal, hex, refusalLine, startLine, cryptogramLine}
+use Rattle.hex.specs.Hex.{hex}
+use Rattle.lines.specs.Lines.{digit, decimal, refusalLine, startLine, cryptogramLine}
 use Rattle.lines.specs.Sitting.{answerLine, sittingLines}
 use Rattle.spelling.specs.Spelling.{standsFor}
 use Rattle.spelling.specs.Sitting.{allStandFor, answers, ended, sittingOf}

@@ -29,7 +29,7 @@ use Rattle.command.specs.declared.ReadCommand.the-variants.{Taken, Refused}
 use Rattle.command.specs.Command.{commandIn}
 use Rattle.state.specs.declared.State.{State}
 use Rattle.script.specs.Script.{rulesAfter}
-use Rattle.card.specs.Card.{freshState}
+use Rattle.fresh.specs.Fresh.{freshState}
 use Rattle.card.specs.Message.{Message, StartCommand, FirstCommand, SecondCommand, ScriptCommand, messageStep, messageWrites}
 use Rattle.opening.specs.Opening.{logJudged}
 use Rattle.lines.specs.Lines.{refusalLine}

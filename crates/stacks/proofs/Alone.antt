@@ -29,8 +29,9 @@ use Rattle.state.specs.declared.State.{State}
 use Rattle.script.specs.Script as script
 use Rattle.records.specs.declared.Event.{Event}
 use Rattle.records.specs.declared.Event.the-variants.{SetUp, End, Refused, Answered}
-use Rattle.opening.specs.declared.Begun.{Begun}
-use Rattle.opening.specs.Opening.{setUpEvent, baseBegun, logJudged, pastBegun, loggedBegun, loggedWords, shapedBegun, setupBegun, openedBegun, begunOf}
+use Rattle.begun.specs.declared.Begun.{Begun}
+use Rattle.begun.specs.Begun.{setUpEvent, baseBegun, pastBegun}
+use Rattle.opening.specs.Opening.{logJudged, loggedBegun, loggedWords, shapedBegun, setupBegun, openedBegun, begunOf}
 use Rattle.opening.specs.Opening.{shapedWords, setupWords, openedWords, wordsBegun}
 use Rattle.conversation.specs.Conversation.{takenOf, takenWrites}
 use Rattle.conversation.specs.Events.{ending, wordsFrom, wordsLeft}

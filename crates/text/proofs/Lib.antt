@@ -1,2 +1,4 @@
 pub mod Laws
 pub mod Stores
+pub mod Each
+pub mod Fields

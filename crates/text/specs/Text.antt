@@ -18,6 +18,11 @@ placed room at text = cond (fits (length room) at (length text)) (sets room at t
 unfoldable pub placeBehind : (room at : ℕ) (text : List ℕ) → ℕ
 placeBehind room at text = cond (fits room at (length text)) (at + length text) at
 
+-- fields with one space between them, and a line feed at the end
+abbrev pub line : List ℕ → List (List ℕ) → List ℕ
+line field [] = field ++ 10 ∷ []
+line field (next ∷ more) = field ++ 32 ∷ [] ++ line next more
+
 -- lines, one behind the other
 unfoldable pub joined : (lines : List (List ℕ)) → List ℕ
 joined [] = []

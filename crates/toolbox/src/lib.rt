@@ -4,12 +4,12 @@
 ghost use Prim.Native.Nat.{_≤_};
 ghost use lib.ListN.{length};
 use bench::Page;
-use display::Shown;
-use display::Wants;
 use record_lines::Showing;
 use rooms::Rooms;
 use rules::Words;
 use shape::Shape;
+use shown::Shown;
+use shown::Wants;
 use state::State;
 use streams::Ending;
 

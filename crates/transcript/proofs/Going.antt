@@ -4,18 +4,17 @@ use mathlib.Core.List.{List, [], _∷_, _++_}
 use mathlib.Core.Logic.{inl, inr}
 use types.Run.{OneOf}
 use denote.Enum.Declared.{tagOf}
-use Prim.Native.Nat.{ℕ, suc, _+_, _*_, _-_, _≤_, _<_}
-use native.Mathlib.Nat.{add-zero, add-suc, suc-add}
+use Prim.Native.Nat.{ℕ, _+_, _*_, _-_, _≤_, _<_}
 use native.Mathlib.Omega.{arith}
-use borrow.Author.Tests.{le-leb}
-use lib.ListN.{length, set, length-append}
-use lib.Seq.{sets, sets-eq, length-sets}
+use lib.ListN.{length, length-append}
+use lib.Seq.{sets, length-sets}
+use Rattle.text.proofs.Laws.{sets-on}
 use Rattle.rules.specs.Rules.{rulesOf}
 use Rattle.shape.specs.declared.Shape.{Shape}
 use Rattle.script.specs.Script.{rulesAfter, wordsAfter}
 use Rattle.state.specs.declared.Answer.{Answer}
 use Rattle.state.specs.declared.State.{State}
-use Rattle.opening.specs.declared.Begun.{Begun}
+use Rattle.begun.specs.declared.Begun.{Begun}
 use Rattle.records.specs.declared.Taken.{Taken}
 use Rattle.records.specs.declared.Event.{Event}
 use Rattle.records.specs.declared.Event.the-variants.{SetUp, End, Refused, Answered}
@@ -27,28 +26,11 @@ use Rattle.conversation.proofs.Events.{GoesOn, further}
 use Rattle.records.proofs.Event as E
 use Rattle.lines.specs.Lines.{longest, refusalLine, placed, placeBehind}
 use Rattle.lines.specs.Sitting.{answerLine}
+use Rattle.lines.proofs.Placed.{behind-is, placed-is}
+use Rattle.lines.proofs.Short.{answer-short}
 use Rattle.transcript.specs.Transcript.{transcriptOf, restOf, lastLine, roomFor}
-use Rattle.transcript.proofs.Short.{answer-short, LineOf, record-short}
+use Rattle.transcript.proofs.Short.{LineOf, record-short}
 use Rattle.transcript.proofs.Steps as Steps
-
--- ---- the room
-
-pub behind-is : (room at : ℕ) (text : List ℕ) → at + longest ≤ room → placeBehind room at text ≡ at + length text
-unfolding placeBehind
-behind-is room at text fits = rw (le-leb (at + longest) room fits)
-
-pub placed-is : (room : List ℕ) (at : ℕ) (text : List ℕ) → at + longest ≤ length room → length text ≤ longest
-    → placed room at text ≡ sets room at text
-unfolding placed
-placed-is room at text fits short = rw (le-leb (at + longest) (length room) fits) (sym (sets-eq text room at (omega arith)))
-
--- two texts, one behind the other, are one
-pub sets-on : (room a b : List ℕ) (at : ℕ) → sets (sets room at a) (at + length a) b ≡ sets room at (a ++ b)
-sets-on room [] b at = ap (λ (k : ℕ). sets room k b) (add-zero at)
-sets-on room (v ∷ a) b at =
-    ap (λ (k : ℕ). sets (sets room at (v ∷ a)) k b) (add-suc at (length a) ∙ sym (suc-add at (length a))) ∙ sets-on (set room at v) a b (suc at)
-
--- ---- the loop
 
 -- by the words as they are: the text and the words that the records from the place on leave
 pub record Going (words : List ℕ) (shape : Shape) (paper whole left : List ℕ) (before : List ℕ) (to : ℕ) (room : List ℕ) (state : State)

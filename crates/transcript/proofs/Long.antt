@@ -1,4 +1,5 @@
--- How long the text of a paper is: at most 8 bytes for each of its bytes, and 12 more. Assumes nothing.
+-- How long the text of a paper is: at most 8 bytes for each of its bytes, and 12 more; the room that it is asked has the longest line more. Assumes
+-- nothing.
 use mathlib.Core.Path.{_≡_, refl, sym, subst}
 use mathlib.Core.List.{List}
 use Prim.Native.Nat.{ℕ, zero, suc, _+_, _*_, _-_, _≤_}
@@ -15,11 +16,16 @@ use Rattle.opening.specs.Opening.{begunOf, wordsBegun}
 use Rattle.conversation.specs.Conversation.{takenOf, takenWrites}
 use Rattle.conversation.specs.Events.{following, eventsFrom}
 use Rattle.conversation.proofs.Events.{GoesOn, further}
-use Rattle.lines.specs.Lines.{refusalLine}
+use Rattle.lines.specs.Lines.{longest, refusalLine}
 use Rattle.lines.specs.Sitting.{linesOf}
+use Rattle.lines.proofs.Short.{refusal-short}
+use Rattle.paper_room.specs.PaperRoom.{lineMore}
 use Rattle.transcript.specs.Transcript.{joined, transcriptOf, restOf}
-use Rattle.transcript.proofs.Short.{refusal-short, LineOf, record-short}
+use Rattle.transcript.proofs.Short.{LineOf, record-short}
 use Rattle.transcript.proofs.Steps.{Beginning, accepted, refused, begins, never-set-up, set-up, not-set-up}
+
+pub line-more : lineMore ≡ longest
+line-more = refl
 
 module _ (shape : Shape) (paper : List ℕ) where
   records-long : (n : ℕ) (rules : Rules) (state : State) (at number : ℕ) → at ≤ length paper

@@ -1,14 +1,13 @@
 -- How long the lines of a paper are: no record of k bytes has a line of more than 8 k. Assumes nothing.
-use mathlib.Core.Path.{_≡_, refl, ap}
+use mathlib.Core.Path.{_≡_, refl}
 use mathlib.Core.Bool.{Bool, true, false, cond, _&&_}
 use mathlib.Core.List.{List, [], _∷_}
 use Prim.Native.Nat.{ℕ, _+_, _*_, _-_, _≤_}
 use native.Mathlib.Omega.{arith}
 use borrow.Author.Tests.{eqb-true}
 use lib.Dec.{eqb}
-use lib.ListN.{length, length-append}
+use lib.ListN.{length}
 use Rattle.refusal.specs.declared.Refusal.the-variants.{Unreadable}
-use Rattle.refusal.specs.Refusal.{refusalNumber}
 use Rattle.rules.specs.declared.Place.{Place}
 use Rattle.rules.specs.Rules.{Rules}
 use Rattle.shape.specs.declared.Selecting.{Selecting}
@@ -31,10 +30,7 @@ use Rattle.command.specs.declared.Command.the-variants.{Start as StartCommand, 
 use Rattle.command.specs.declared.ReadCommand.{ReadCommand}
 use Rattle.command.specs.declared.ReadCommand.the-variants.{Taken, Refused as NotTaken}
 use Rattle.command.specs.Command.{isCpace, interfaceOf, startLength, startOf, plainLength, firstLength, firstOf, secondOf, commandOf, startSelected, selectingOf, slotsOf, fileIn, readBy, commandIn}
-use Rattle.state.specs.declared.Answer.{Answer}
-use Rattle.state.specs.declared.Answer.the-variants.{Refused as AnswerRefused, Started, Given, Done}
 use Rattle.state.specs.declared.State.{State}
-use Rattle.state.specs.State.{cidOf}
 use Rattle.state.specs.Ruling.{Ruling, take as rule, refuse, carried}
 use Rattle.card.specs.Card.{ruleStart, startPerformed, startStep, stepOf}
 use Rattle.scripting.specs.Scripting.{ruleScript, scriptPerformed, scriptStep}
@@ -44,44 +40,8 @@ use Rattle.records.specs.declared.Taken.{Taken as TakenRecord}
 use Rattle.records.specs.Records.{answeredBy, scriptedBy, isScript}
 use Rattle.conversation.specs.Conversation.{nextTaken, takenOf}
 use Rattle.opening.proofs.Parts.{part-length}
-use Rattle.lines.specs.Lines.{refusalLine, startLine, selectedLine, longest}
 use Rattle.lines.specs.Sitting.{answerLine}
-use Rattle.lines.proofs.Decimal as Decimal
-use Rattle.lines.proofs.Laws.{cryptogram-line}
-
--- ---- a line
-
-pub refusal-short : (number refusal : ℕ) → length (refusalLine number refusal) ≤ 12
-unfolding refusalLine
-refusal-short number refusal = simp length-append (omega (arith, Decimal.size number, Decimal.size refusal))
-
-started-short : (number atc visits : ℕ) (b : Bool) → length (cond b (startLine number atc) (selectedLine number atc visits)) ≤ 24
-unfolding startLine selectedLine
-started-short number atc visits true =
-    simp length-append (omega (arith, Decimal.size number, ap length Decimal.zero, Decimal.size atc))
-started-short number atc visits false =
-    simp length-append (omega (arith, Decimal.size number, ap length Decimal.zero, Decimal.size atc, Decimal.size visits))
-
--- no cryptogram
-abbrev NotGiven : Answer → Type 0
-NotGiven (AnswerRefused refusal) = Unit
-NotGiven (Started atc visits) = Unit
-NotGiven (Given kind atc iad) = ⊥
-NotGiven Done = Unit
-
-not-given-short : (number : ℕ) (answer : Answer) → NotGiven answer → length (answerLine number answer) ≤ 24
-unfolding answerLine
-not-given-short number (AnswerRefused refusal) n = omega (arith, refusal-short number (refusalNumber refusal))
-not-given-short number (Started atc visits) n = started-short number atc visits (eqb visits 0)
-not-given-short number (Given kind atc iad) n = absurd n
-not-given-short number Done n = omega (arith, refusal-short number 0)
-
-pub answer-short : (number : ℕ) (answer : Answer) → length (answerLine number answer) ≤ longest
-unfolding answerLine
-answer-short number (AnswerRefused refusal) = omega (arith, refusal-short number (refusalNumber refusal))
-answer-short number (Started atc visits) = omega (arith, started-short number atc visits (eqb visits 0))
-answer-short number (Given kind atc iad) = cryptogram-line number (cidOf kind) atc iad .short
-answer-short number Done = omega (arith, refusal-short number 0)
+use Rattle.lines.proofs.Short.{NotGiven, not-given-short, answer-short}
 
 -- ---- a command
 

@@ -37,12 +37,13 @@ use Rattle.command.specs.declared.ReadCommand.the-variants.{Taken as CommandTak
 use Rattle.command.specs.Command.{commandIn}
 use Rattle.state.specs.declared.Answer.{Answer}
 use Rattle.state.specs.declared.State.{State}
-use Rattle.opening.specs.declared.Begun.{Begun}
+use Rattle.begun.specs.declared.Begun.{Begun}
 use Rattle.records.specs.declared.Taken.{Taken}
 use Rattle.records.specs.declared.Event.{Event}
 use Rattle.records.specs.declared.Event.the-variants.{SetUp, End, Refused, Answered}
 use Rattle.records.specs.Records.{answeredBy, scriptedBy}
-use Rattle.opening.specs.Opening.{setUpEvent, baseBegun, logJudged, pastBegun, loggedBegun, shapedBegun, setupBegun, openedBegun, begunOf}
+use Rattle.begun.specs.Begun.{setUpEvent, baseBegun, pastBegun}
+use Rattle.opening.specs.Opening.{logJudged, loggedBegun, shapedBegun, setupBegun, openedBegun, begunOf}
 use Rattle.records.specs.Records.{isScript}
 use Rattle.opening.specs.Opening.{wordsBegun}
 use Rattle.conversation.specs.Conversation.{nextTaken, takenOf, takenWrites}

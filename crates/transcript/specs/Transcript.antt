@@ -14,9 +14,9 @@ use Rattle.records.specs.declared.Event.the-variants.{SetUp, End, Refused, Answ
 use Rattle.conversation.specs.Events.{eventsFrom, wordsLeft}
 use Rattle.lines.specs.Lines.{refusalLine}
 use Rattle.lines.specs.Sitting.{linesOf, sittingLines}
+use Rattle.paper_room.specs.declared.Transcript.{Transcript}
+use Rattle.paper_room.specs.declared.Transcript.the-variants.{Whole, NoRoom}
 pub use Rattle.paper_room.specs.PaperRoom.{roomFor, hasRoom}
-use Rattle.transcript.specs.declared.Transcript.{Transcript}
-use Rattle.transcript.specs.declared.Transcript.the-variants.{Whole, NoRoom}
 
 -- what is printed of a paper, with the words that it was lent
 unfoldable pub transcriptOf : (words paper : List ℕ) → List ℕ

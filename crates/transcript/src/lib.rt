@@ -6,16 +6,11 @@ ghost use lib.Seq.{sets};
 ghost use Rattle.rules.specs.Rules.{rulesOf};
 ghost use Rattle.conversation.specs.Events.{wordsFrom, wordsLeft};
 ghost use Rattle.transcript.specs.Transcript.{lastLine, setUpNumber, restOf, transcriptOf, roomFor, transcribed, roomAfter, wordsAfter};
+use paper_room::Transcript;
 use records::Event;
 use rules::Words;
 use shape::Shape;
 use state::State;
-
-// The lines end at a place of the room, or it is too small and nothing was written.
-pub enum Transcript {
-    Whole { end: usize },
-    NoRoom,
-}
 
 // The line of a record that ends the paper.
 fn put_last(room: &mut [u8], at: usize, number: u16, event: Event) -> usize

@@ -34,8 +34,9 @@ use Rattle.paper.specs.Walk.{part}
 use Rattle.command.specs.Command.{isCpace, startSelected, selectingOf, slotsOf, commandIn}
 use Rattle.command.specs.declared.Command.the-variants.{Start as StartCommand}
 use Rattle.command.specs.declared.ReadCommand.the-variants.{Taken as CommandTaken}
-use Rattle.opening.specs.declared.Begun.{Begun}
-use Rattle.opening.specs.Opening.{logJudged, baseBegun, setupBegun, begunOf}
+use Rattle.begun.specs.declared.Begun.{Begun}
+use Rattle.begun.specs.Begun.{baseBegun}
+use Rattle.opening.specs.Opening.{logJudged, setupBegun, begunOf}
 use Rattle.opening.proofs.Unlogged.{sound-off}
 use Rattle.versions.proofs.Papers.{Known, Reads, readsOf, paperOf, file-there, by-body, begun-is}
 

@@ -35,14 +35,15 @@ use Rattle.command.specs.Command.{startOf, firstOf, commandOf, startSelected, s
 use Rattle.command.specs.declared.ReadCommand.{ReadCommand}
 use Rattle.command.specs.declared.ReadCommand.the-variants.{Taken as CommandTaken, Refused as CommandRefused}
 use Rattle.state.specs.declared.State.{State}
-use Rattle.card.specs.Card.{freshState}
+use Rattle.fresh.specs.Fresh.{freshState}
 use Rattle.records.specs.declared.Event.{Event}
 use Rattle.records.specs.declared.Event.the-variants.{End as EndEvent, Refused}
 use Rattle.records.specs.declared.Taken.{Taken}
 use Rattle.script.specs.Script.{rulesAfter}
 use Rattle.records.specs.Records.{answeredBy, scriptedBy, isScript}
 use Rattle.conversation.specs.Conversation.{nextTaken, takenOf, nextWrites, takenWrites}
-use Rattle.opening.specs.Opening.{setUpEvent, baseBegun, setupBegun, begunOf, setupWords, wordsBegun}
+use Rattle.begun.specs.Begun.{setUpEvent, baseBegun}
+use Rattle.opening.specs.Opening.{setupBegun, begunOf, setupWords, wordsBegun}
 use Rattle.opening.proofs.Unlogged.{sound-off}
 use Rattle.conversation.specs.Events.{following, eventsFrom, eventsOf}
 use Rattle.conversation.proofs.Events.{settled}

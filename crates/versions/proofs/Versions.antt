@@ -36,9 +36,10 @@ use Rattle.shape.proofs.Older.{selection-off, syllabus-off, dates-off, family-o
 use Rattle.shape.proofs.Scripting.{unlogged-below}
 use Rattle.slot.specs.declared.Slots.{Slots}
 use Rattle.command.specs.Command.{selectingOf, fileIn, readBy, slotsOf, commandIn}
-use Rattle.opening.specs.declared.Begun.{Begun}
+use Rattle.begun.specs.declared.Begun.{Begun}
 use Rattle.records.specs.declared.Event.the-variants.{SetUp, Refused as EndRefused}
-use Rattle.opening.specs.Opening.{setUpEvent, baseBegun, shapedBegun, setupBegun, begunOf}
+use Rattle.begun.specs.Begun.{setUpEvent, baseBegun}
+use Rattle.opening.specs.Opening.{shapedBegun, setupBegun, begunOf}
 use Rattle.opening.proofs.Unlogged.{sound-below}
 use Rattle.conversation.specs.Events.{eventsOf}
 use Rattle.lines.specs.Sitting.{linesOf, sittingLines}

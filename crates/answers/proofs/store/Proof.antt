@@ -25,7 +25,7 @@ returns-3 c =
     let bytes = put .before .before in
     let cid = bytes .before in
     let told = cid .before .before .before in
-    simp (told .answer3 .given .1) (simp (cid .cid .ensures, bytes .iad-bytes .ensures .0) at (put .put-fields3 .ensures))
+    simp (told .answer3 .given .1) (simp (cid .cid .ensures, bytes .bytes-of .ensures .0) at (put .put-fields3 .ensures))
 
 returns-4 : tie.Need-returns-4
 unfolding answerBytes

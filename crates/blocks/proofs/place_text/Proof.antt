@@ -2,7 +2,7 @@ use borrow.Author.Needs.{needs}
 use denote.Ref.{now}
 use mathlib.Core.Path.{ap, _∙_}
 use native.Mathlib.Omega.{arith}
-use Rattle.transcript.specs.declared.Transcript.the-variants.{Whole}
+use Rattle.paper_room.specs.declared.Transcript.the-variants.{Whole}
 use Rattle.blocks.proofs.Texts.{text-placed, text-stays}
 use Rattle.blocks.proofs.place_text.Statement.{statement}
 use Rattle.blocks.proofs.place_text.Tie as tie

@@ -18,9 +18,7 @@ returns c =
 
 returns-2 : tie.Need-returns-2
 returns-2 c =
-    let counted = c .before in
-    let lent = counted .before .before in
-    let put = lent .before .before in
+    let put = c .before .before .before in
     let to-put = put .before .before .before in
     let read = to-put .before in
     let tested = read .before .before .before in
@@ -31,10 +29,9 @@ returns-2 c =
     let taken = read .take .ensures in
     recorded (a .showing) (now (a .words)) (now (a .rooms)) (a .shown) (now (a .paper)) (now (a .room)) (a .to) fits (taken .0) (taken .1) (taken .2) (taken .3)
     (put .put-record .ensures .0) (put .put-record .ensures .1)
-    (counted .wrapping-add-u16 .ensures)
-    (c .wanted .ensures)
+    (c .show-behind .ensures)
 
 pub show-record-spec : {M : Type 1} → statement M
 show-record-spec =
     tie.close
-    (tie.spec (search needs) returns (search needs) (search needs) (search needs) (search needs) (search needs) returns-2)
+    (tie.spec (search needs) returns (search needs) (search needs) (search needs) (search needs) returns-2)

@@ -7,10 +7,10 @@ use native.Mathlib.Numerals.{add-one}
 use native.Mathlib.Omega.{arith}
 use lib.ListN.{length, take, getD, set, replicate, length-set}
 use lib.Seq.{take-length, sets-eq}
-use Rattle.lines.specs.Lines.{hexDigit, hexByte, hex}
-use Rattle.lines.specs.Stored.{Stored}
-use Rattle.lines.proofs.Stores.{next}
-use Rattle.lines.proofs.Hex.{hex-more, size}
+use Rattle.hex.specs.Hex.{hexDigit, hexByte, hex}
+use Rattle.text.specs.Stored.{Stored}
+use Rattle.text.proofs.Stores.{next}
+use Rattle.hex.proofs.Bytes.{hex-more, size}
 use Rattle.imports.proofs.hex_of.Statement.{statement}
 use Rattle.imports.proofs.hex_of.Tie as tie
 

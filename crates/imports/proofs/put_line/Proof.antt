@@ -3,8 +3,8 @@ use borrow.Author.Needs.{needs}
 use denote.Ref.{now}
 use mathlib.Core.Path.{sym, ap, _∙_}
 use native.Mathlib.Omega.{arith}
-use Rattle.lines.specs.Lines.{hex}
-use Rattle.lines.proofs.Stores.{next}
+use Rattle.hex.specs.Hex.{hex}
+use Rattle.text.proofs.Stores.{next}
 use Rattle.imports.proofs.Told.{told, done, refused}
 use Rattle.imports.proofs.put_line.Statement.{statement}
 use Rattle.imports.proofs.put_line.Tie as tie

@@ -6,8 +6,8 @@ use Prim.Native.Nat.{_*_, _-_, _≤_}
 use native.Mathlib.Omega.{arith}
 use native.Mathlib.Numerals.{add-one}
 use lib.ListN.{length}
-use Rattle.lines.specs.Stored.{Stored}
-use Rattle.lines.proofs.Stores.{next}
+use Rattle.text.specs.Stored.{Stored}
+use Rattle.text.proofs.Stores.{next}
 use Rattle.imports.specs.Imports.{linesIn}
 use Rattle.imports.proofs.Lines.{one-more}
 use Rattle.imports.proofs.Told.{told}

@@ -8,8 +8,8 @@ use native.Mathlib.Omega.{arith}
 use native.Mathlib.Numerals.{add-one}
 use lib.ListN.{length, take, set, getD}
 use lib.Seq.{sets, length-sets, take-suc, take-all}
-use Rattle.lines.specs.Stored.{Stored}
-use Rattle.lines.proofs.Stores.{next}
+use Rattle.text.specs.Stored.{Stored}
+use Rattle.text.proofs.Stores.{next}
 use Rattle.imports.proofs.put_text.Statement.{statement}
 use Rattle.imports.proofs.put_text.Tie as tie
 

@@ -1,7 +1,7 @@
 -- Two digits, or the tens and one more.
 use borrow.Author.Needs.{needs}
 use native.Mathlib.Omega.{arith}
-use Rattle.lines.proofs.Stores.{within}
+use Rattle.text.proofs.Stores.{within}
 use Rattle.lines.proofs.Tens.{one-more}
 use Rattle.lines.proofs.put_below_1000.Statement.{statement}
 use Rattle.lines.proofs.put_below_1000.Tie as tie

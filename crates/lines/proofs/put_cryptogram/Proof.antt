@@ -1,8 +1,9 @@
 -- Five fields.
 use borrow.Author.Needs.{needs}
 use native.Mathlib.Omega.{arith}
-use Rattle.lines.proofs.Stores.{next, within}
-use Rattle.lines.specs.Lines.{hex, cryptogramLine}
+use Rattle.text.proofs.Stores.{next, within}
+use Rattle.hex.specs.Hex.{hex}
+use Rattle.lines.specs.Lines.{cryptogramLine}
 use Rattle.lines.proofs.put_cryptogram.Statement.{statement}
 use Rattle.lines.proofs.put_cryptogram.Tie as tie
 
@@ -20,8 +21,8 @@ returns c =
     let number = to-number .before .before in
     let bytes = number .before .before in
     let told = next (cid .put-hex .ensures) (next (atc .put-decimal2 .ensures) (iad .put-hex2 .ensures)) in
-    let size = bytes .iad-bytes .ensures .1 in
-    rw (← bytes .iad-bytes .ensures .0)
+    let size = bytes .bytes-of .ensures .1 in
+    rw (← bytes .bytes-of .ensures .0)
     (within (next (number .put-decimal .ensures) (next (done .put-done .ensures) told)) (omega (arith, size)))
 
 pub put-cryptogram-spec : {M : Type 1} → statement M

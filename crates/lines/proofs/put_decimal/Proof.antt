@@ -1,7 +1,7 @@
 -- The number, and the mark.
 use borrow.Author.Needs.{needs}
 use native.Mathlib.Omega.{arith}
-use Rattle.lines.proofs.Stores.{next, within}
+use Rattle.text.proofs.Stores.{next, within}
 use Rattle.lines.proofs.put_decimal.Statement.{statement}
 use Rattle.lines.proofs.put_decimal.Tie as tie
 

@@ -1,6 +1,6 @@
 -- "0" is 0 in decimal.
 use borrow.Author.Needs.{needs}
-use Rattle.lines.proofs.Stores.{next}
+use Rattle.text.proofs.Stores.{next}
 use Rattle.lines.specs.Lines.{digit, decimal}
 use Rattle.lines.proofs.put_done.Statement.{statement}
 use Rattle.lines.proofs.put_done.Tie as tie

@@ -5,10 +5,10 @@ use Prim.Native.Nat.{_+_, _*_, _-_, _≤_}
 use native.Mathlib.Omega.{arith}
 use lib.ListN.{length, take}
 use lib.Seq.{take-length}
-use Rattle.lines.specs.Lines.{hex}
-use Rattle.lines.specs.Stored.{Stored}
-use Rattle.lines.proofs.Stores.{next}
-use Rattle.lines.proofs.Hex.{hex-more}
+use Rattle.hex.specs.Hex.{hex}
+use Rattle.text.specs.Stored.{Stored}
+use Rattle.text.proofs.Stores.{next}
+use Rattle.hex.proofs.Bytes.{hex-more}
 use Rattle.lines.proofs.put_hex.Statement.{statement}
 use Rattle.lines.proofs.put_hex.Tie as tie
 

@@ -1,6 +1,6 @@
 -- The upper digit, then the lower.
 use borrow.Author.Needs.{needs}
-use Rattle.lines.proofs.Stores.{next}
+use Rattle.text.proofs.Stores.{next}
 use Rattle.lines.proofs.put_hex_byte.Statement.{statement}
 use Rattle.lines.proofs.put_hex_byte.Tie as tie
 

@@ -2,7 +2,7 @@
 use borrow.Author.Needs.{needs}
 use lib.Dec.{lit≤}
 use borrow.Author.Tests.{eq-eqb, ne-eqb}
-use Rattle.lines.proofs.Stores.{next, within}
+use Rattle.text.proofs.Stores.{next, within}
 use Rattle.lines.specs.Lines.{startLine, selectedLine}
 use Rattle.lines.proofs.put_started.Statement.{statement}
 use Rattle.lines.proofs.put_started.Tie as tie

@@ -1,7 +1,7 @@
 use borrow.Author.Needs.{needs}
 use lib.Dec.{lit≤}
 use Rattle.lines.proofs.Numbers.{line-is}
-use Rattle.lines.proofs.Stores.{within}
+use Rattle.text.proofs.Stores.{within}
 use Rattle.lines.specs.Sitting.{answerLine}
 use Rattle.lines.proofs.store_answer.Statement.{statement}
 use Rattle.lines.proofs.store_answer.Tie as tie

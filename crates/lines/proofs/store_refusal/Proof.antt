@@ -1,6 +1,6 @@
 -- Two fields.
 use borrow.Author.Needs.{needs}
-use Rattle.lines.proofs.Stores.{next}
+use Rattle.text.proofs.Stores.{next}
 use Rattle.lines.specs.Lines.{refusalLine}
 use Rattle.lines.proofs.store_refusal.Statement.{statement}
 use Rattle.lines.proofs.store_refusal.Tie as tie

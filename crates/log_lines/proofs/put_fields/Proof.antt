@@ -6,8 +6,8 @@ use Prim.Native.Nat.{_*_, _-_, _≤_}
 use native.Mathlib.Numerals.{add-one}
 use native.Mathlib.Omega.{arith}
 use lib.ListN.{length}
-use Rattle.lines.specs.Stored.{Stored}
-use Rattle.lines.proofs.Stores.{next, within}
+use Rattle.text.specs.Stored.{Stored}
+use Rattle.text.proofs.Stores.{next, within}
 use Rattle.log_values.proofs.Stores.{stored}
 use Rattle.log_fields.specs.LogFields.{fieldCount}
 use Rattle.log_fields.proofs.Lengths.{field-short}

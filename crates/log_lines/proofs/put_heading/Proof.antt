@@ -4,7 +4,7 @@ use denote.Ref.{now}
 use mathlib.Core.List.{[], _∷_}
 use native.Mathlib.Omega.{arith}
 use lib.ListN.{length-append}
-use Rattle.lines.proofs.Stores.{next}
+use Rattle.text.proofs.Stores.{next}
 use Rattle.numerals.specs.Numeral.{numeral}
 use Rattle.numerals.proofs.Numerals.{size-below, stored}
 use Rattle.log_values.proofs.Stores.{put-in}

@@ -8,7 +8,7 @@ use lib.Seq.{take-length}
 use Rattle.hex.specs.Hex.{hex}
 use Rattle.text.specs.Stored.{Stored}
 use Rattle.text.proofs.Stores.{next}
-use Rattle.lines.proofs.Hex.{hex-more}
+use Rattle.hex.proofs.Bytes.{hex-more}
 use Rattle.log_values.proofs.store_hex.Statement.{statement}
 use Rattle.log_values.proofs.store_hex.Tie as tie
 

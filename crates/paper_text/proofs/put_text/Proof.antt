@@ -6,7 +6,7 @@ use lib.ListN.{length}
 use mathlib.Core.Path.{_≡_, sym, ap, _∙_}
 use Prim.Native.Nat.{ℕ}
 use native.Mathlib.Omega.{arith}
-use Rattle.transcript.specs.declared.Transcript.the-variants.{Whole}
+use Rattle.paper_room.specs.declared.Transcript.the-variants.{Whole}
 use Rattle.log_text.proofs.Stores.{placed-length}
 use Rattle.paper_text.specs.PaperText.{textPut, roomPut, wordsPut}
 use Rattle.paper_text.proofs.Text.{lines-length, lines-put, log-put}

@@ -2,7 +2,7 @@ use borrow.Author.Needs.{needs}
 use lib.Dec.{lit≤}
 use mathlib.Core.Path.{refl}
 use native.Mathlib.Omega.{arith}
-use Rattle.transcript.proofs.Short.{refusal-short, answer-short}
+use Rattle.lines.proofs.Short.{refusal-short, answer-short}
 use Rattle.record_lines.proofs.Stores.{line}
 use Rattle.record_lines.proofs.put_event.Statement.{statement}
 use Rattle.record_lines.proofs.put_event.Tie as tie

@@ -5,7 +5,7 @@ use mathlib.Core.Path.{_≡_, sym, ap, _∙_}
 use mathlib.Core.List.{List}
 use Prim.Native.Nat.{ℕ}
 use Rattle.rules.specs.Rules.{blankWords}
-use Rattle.opening.specs.declared.Begun.{Begun}
+use Rattle.begun.specs.declared.Begun.{Begun}
 use Rattle.opening.specs.Opening.{wordsBegun}
 use Rattle.keeper.specs.Keeper.{roomsBegun}
 use Rattle.card_cells.specs.Seat.{storedIn}

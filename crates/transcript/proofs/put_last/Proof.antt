@@ -10,8 +10,8 @@ use Rattle.records.specs.declared.Event.{Event}
 use Rattle.records.specs.declared.Event.the-variants.{SetUp, End, Refused, Answered}
 use Rattle.records.proofs.Event as E
 use Rattle.transcript.specs.Transcript.{lastLine}
-use Rattle.transcript.proofs.Going.{behind-is, placed-is}
-use Rattle.transcript.proofs.Short.{refusal-short}
+use Rattle.lines.proofs.Placed.{behind-is, placed-is}
+use Rattle.lines.proofs.Short.{refusal-short}
 use Rattle.transcript.proofs.put_last.Statement.{statement}
 use Rattle.transcript.proofs.put_last.Tie as tie
 

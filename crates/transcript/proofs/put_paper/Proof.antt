@@ -6,9 +6,10 @@ use native.Mathlib.Omega.{arith}
 use lib.ListN.{length}
 use lib.Seq.{length-sets}
 use Rattle.lines.specs.Lines.{refusalLine, placed, placeBehind}
+use Rattle.lines.proofs.Placed.{behind-is, placed-is}
+use Rattle.lines.proofs.Short.{refusal-short}
 use Rattle.transcript.specs.Transcript.{setUpNumber}
-use Rattle.transcript.proofs.Going.{behind-is, placed-is, whole-text}
-use Rattle.transcript.proofs.Short.{refusal-short}
+use Rattle.transcript.proofs.Going.{whole-text}
 use Rattle.transcript.proofs.Steps.{set-up-in, refused-text}
 use Rattle.transcript.proofs.put_paper.Statement.{statement}
 use Rattle.transcript.proofs.put_paper.Tie as tie

@@ -6,9 +6,10 @@ use native.Mathlib.Numerals.{add-one}
 use native.Mathlib.Omega.{arith}
 use lib.ListN.{length, take, getD}
 use lib.Seq.{take-suc}
-use Rattle.lines.specs.Lines.{hexByte, hex}
+use Rattle.text.proofs.Each.{Each, none, more, weaken}
+use Rattle.text.proofs.Fields.{Plain}
+use Rattle.hex.specs.Hex.{hexByte, hex}
 use Rattle.hex.proofs.Digits.{unhex, one}
-use Rattle.lines.proofs.Each.{Each, none, more}
 
 append : (s t : List ℕ) → hex (s ++ t) ≡ hex s ++ hex t
 unfolding hex
@@ -23,6 +24,9 @@ pub digits : (s : List ℕ) → Each (λ d. 48 ≤ d) (hex s)
 unfolding hex
 digits [] = none
 digits (b ∷ s) = more (one (b / 16) .least) (more (one (b % 16) .least) (digits s))
+
+pub hex-plain : (s : List ℕ) → Plain (hex s)
+hex-plain s = weaken (λ b h. omega arith) (digits s)
 
 pub size : (s : List ℕ) → length (hex s) ≡ 2 * length s
 unfolding hex

@@ -1,7 +1,7 @@
 use borrow.Author.Needs.{needs}
-use Rattle.opening.specs.Opening.{baseBegun}
-use Rattle.opening.proofs.take_base.Statement.{statement}
-use Rattle.opening.proofs.take_base.Tie as tie
+use Rattle.begun.specs.Begun.{baseBegun}
+use Rattle.begun.proofs.take_base.Statement.{statement}
+use Rattle.begun.proofs.take_base.Tie as tie
 
 returns : tie.Need-returns
 unfolding baseBegun

@@ -1,6 +1,6 @@
 use borrow.Author.Needs.{needs}
-use Rattle.opening.proofs.event_of.Statement.{statement}
-use Rattle.opening.proofs.event_of.Tie as tie
+use Rattle.begun.proofs.event_of.Statement.{statement}
+use Rattle.begun.proofs.event_of.Tie as tie
 
 returns : tie.Need-returns
 returns c = simp (c .enum-told .given .1)

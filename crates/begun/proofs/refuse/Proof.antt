@@ -1,6 +1,6 @@
 use borrow.Author.Needs.{needs}
-use Rattle.opening.proofs.refuse.Statement.{statement}
-use Rattle.opening.proofs.refuse.Tie as tie
+use Rattle.begun.proofs.refuse.Statement.{statement}
+use Rattle.begun.proofs.refuse.Tie as tie
 
 returns : tie.Need-returns
 returns c = simp (c .fresh-card .ensures, c .before .no-card .ensures)

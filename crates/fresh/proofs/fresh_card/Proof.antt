@@ -1,7 +1,7 @@
 use borrow.Author.Needs.{needs}
-use Rattle.card.specs.Card.{freshState}
-use Rattle.card.proofs.fresh_card.Statement.{statement}
-use Rattle.card.proofs.fresh_card.Tie as tie
+use Rattle.fresh.specs.Fresh.{freshState}
+use Rattle.fresh.proofs.fresh_card.Statement.{statement}
+use Rattle.fresh.proofs.fresh_card.Tie as tie
 
 returns : tie.Need-returns
 unfolding freshState

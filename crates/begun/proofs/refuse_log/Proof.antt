@@ -1,8 +1,8 @@
 use borrow.Author.Needs.{needs}
 use mathlib.Core.Path.{sym, _∙_}
-use Rattle.opening.specs.Opening.{pastBegun}
-use Rattle.opening.proofs.refuse_log.Statement.{statement}
-use Rattle.opening.proofs.refuse_log.Tie as tie
+use Rattle.begun.specs.Begun.{pastBegun}
+use Rattle.begun.proofs.refuse_log.Statement.{statement}
+use Rattle.begun.proofs.refuse_log.Tie as tie
 
 returns : tie.Need-returns
 unfolding pastBegun

@@ -1,7 +1,7 @@
 use borrow.Author.Needs.{needs}
-use Rattle.display.specs.Shown.{unshown}
-use Rattle.display.proofs.show_nothing.Statement.{statement}
-use Rattle.display.proofs.show_nothing.Tie as tie
+use Rattle.shown.specs.Shown.{unshown}
+use Rattle.shown.proofs.show_nothing.Statement.{statement}
+use Rattle.shown.proofs.show_nothing.Tie as tie
 
 returns : tie.Need-returns
 unfolding unshown
