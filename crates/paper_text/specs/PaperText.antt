@@ -6,7 +6,6 @@ use lib.Dec.{leb, ltb}
 use lib.ListN.{length}
 use lib.Seq.{sets}
 use Rattle.wire.specs.Wire.{byte}
-
 use Rattle.rules.specs.Rules.{rulesOf, blankWords}
 use Rattle.opening.specs.Opening.{begunOf, wordsBegun}
 use Rattle.conversation.specs.Events.{wordsLeft}

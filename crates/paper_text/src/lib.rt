@@ -5,8 +5,8 @@ ghost use lib.ListN.{length};
 ghost use Rattle.log.specs.Log.{tailAt};
 ghost use Rattle.log_text.specs.LogText.{placed, placeBehind, longest};
 ghost use Rattle.paper_text.specs.PaperText.{hasTextRoom, logBehind, textPut, roomPut, wordsPut, EndsIn};
-use rules::Words;
 use paper_room::Transcript;
+use rules::Words;
 
 // The first version with a log.
 const LOG: u8 = 7;

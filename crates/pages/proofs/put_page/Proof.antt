@@ -34,7 +34,7 @@ add-t11 c =
     let a = start .before .before .args in
     let e = put .put-text .ensures in
     let p = page (now (a .words)) (now (a .paper)) (now (a .room)) (a .at) _ (sym (e .0) ∙ c .before .end .given .1)
-        (ends-in (a .at) _ _ _ (e .3) (c .before .end .given .1)) in
+    (ends-in (a .at) _ _ _ (e .3) (c .before .end .given .1)) in
     omega (arith, p .3, start .before .before .good)
 
 same-length-2 : tie.Need-same-length-2
@@ -53,7 +53,7 @@ returns-2 c =
     let a = start .before .before .args in
     let e = put .put-text .ensures in
     let p = page (now (a .words)) (now (a .paper)) (now (a .room)) (a .at) _ (sym (e .0) ∙ c .before .end .given .1)
-        (ends-in (a .at) _ _ _ (e .3) (c .before .end .given .1)) in
+    (ends-in (a .at) _ _ _ (e .3) (c .before .end .given .1)) in
     (p .1, rw (e .1) (p .2), e .2)
 
 pub put-page-spec : {M : Type 1} → statement M
