@@ -1,6 +1,6 @@
 /* ends WHICH: what a program is given on standard input that its other papers
- * do not show: a paper that is too long, and a stack that has such papers and
- * is cut short. */
+ * do not show: a paper that is too long, and stacks that have one or are cut
+ * short. */
 #include <stdio.h>
 #include <string.h>
 
@@ -78,12 +78,14 @@ static void put_far_too_long(void)
     }
 }
 
-/* An empty paper, and the printed sitting's, which lacks its last byte. */
+/* An empty paper, and of a paper far too long no more than its beginning: its
+ * length, 0100A001, and what follows would serve as a paper themselves. */
 static void put_empty_and_cut(void)
 {
-    put((const uint8_t[]){0, 0, 0, 0}, 4);
     printed_sitting();
-    put_paper(draft->length - 1);
+    put((const uint8_t[]){0, 0, 0, 0}, 4);
+    put((const uint8_t[]){1, 0}, 2);
+    put(draft->bytes + 2, draft->length - 2);
 }
 
 int main(int argc, char **argv)
@@ -100,8 +102,12 @@ int main(int argc, char **argv)
         put_far_too_long();
         put_printed();
         put_empty_and_cut();
+    } else if (strcmp(which, "stack_cut") == 0) {
+        put_printed();
+        printed_sitting(); /* not whole */
+        put_paper(draft->length - 1);
     } else {
-        fprintf(stderr, "usage: ends sitting_long|stack_long\n");
+        fprintf(stderr, "usage: ends sitting_long|stack_long|stack_cut\n");
         return 2;
     }
     return fflush(stdout) != 0;

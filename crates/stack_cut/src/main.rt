@@ -1,0 +1,4 @@
+// A stack that ends one byte before its second paper does.
+fn main() {
+    desk::run_stack();
+}
