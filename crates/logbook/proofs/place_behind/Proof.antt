@@ -19,11 +19,15 @@ returns c =
 
 returns-2 : tie.Need-returns-2
 unfolding placeAfter
-returns-2 c = (rw (← c .before .before .record-at .ensures) (simp (c .enum-told .given .1)), c .before .before .before .before .pre)
+returns-2 c =
+    let read = c .before .before in
+    (rw (← read .record-at .ensures) (simp (c .enum-told .given .1)), read .before .before .pre)
 
 returns-3 : tie.Need-returns-3
 unfolding placeAfter
-returns-3 c = (rw (← c .before .before .record-at .ensures) (simp (c .enum-told2 .given .1)), c .before .before .before .before .pre)
+returns-3 c =
+    let read = c .before .before in
+    (rw (← read .record-at .ensures) (simp (c .enum-told2 .given .1)), read .before .before .pre)
 
 pub place-behind-spec : {M : Type 1} → statement M
 place-behind-spec = tie.close (tie.spec (search needs) (search needs) (search needs) (search needs) returns returns-2 returns-3)

@@ -40,7 +40,8 @@ returns c =
     let line = asked .before in
     let test = line .before .before in
     let loop = test .before .loop in
-    let a = test .before .before .before .before .before .args in
+    let until-a = test .before .before .before in
+    let a = until-a .before .before .args in
     let text = now (a .text) in
     let ends = first-line text (loop .from) _ _ true (line .before2 .ensures .0) (asked .is-ending .ensures) (c .before .if1 .taken) in
     let some : 0 < length (drop (loop .from) text) = omega (arith, length-drop (loop .from) text, test .loop-test .taken) in
@@ -55,14 +56,20 @@ less text from left is some =
 
 sub-from : tie.Need-sub-from Inv-loop μ-loop
 sub-from c =
-    let test = c .before .before .before .before .before .before .before .before in
-    let a = test .before .before .before .before .before .args in
+    let until-test = c .before .before .before in
+    let until-test-2 = until-test .before .before .before in
+    let test = until-test-2 .before .before in
+    let until-a = test .before .before .before in
+    let a = until-a .before .before .args in
     omega (arith, less (now (a .text)) (test .before .loop .from) _ (c .behind .ensures .0) (test .loop-test .taken))
 
 loop-less : tie.Need-loop-less Inv-loop μ-loop
 loop-less c =
-    let test = c .before .before .before .before .before .before .before .before in
-    let a = test .before .before .before .before .before .args in
+    let until-test = c .before .before .before in
+    let until-test-2 = until-test .before .before .before in
+    let test = until-test-2 .before .before in
+    let until-a = test .before .before .before in
+    let a = until-a .before .before .args in
     omega (arith, less (now (a .text)) (test .before .loop .from) _ (c .behind .ensures .0) (test .loop-test .taken))
 
 loop-again : tie.Need-loop-again Inv-loop μ-loop
@@ -73,7 +80,8 @@ loop-again c =
     let line = asked .before in
     let test = line .before .before in
     let loop = test .before .loop in
-    let a = test .before .before .before .before .before .args in
+    let until-a = test .before .before .before in
+    let a = until-a .before .before .args in
     let text = now (a .text) in
     let rest = drop (loop .from) text in
     let goes = first-line text (loop .from) _ _ false (line .before2 .ensures .0) (asked .is-ending .ensures) (watched .before .before .if1 .left) in
@@ -90,13 +98,17 @@ returns-2 : tie.Need-returns-2 Inv-loop μ-loop
 unfolding linesIn ringBy
 returns-2 c =
     let loop = c .before .loop in
-    let a = c .before .before .before .before .before .args in
+    let until-a = c .before .before .before in
+    let a = until-a .before .before .args in
     let none = drop-of-length-le (now (a .text)) {i = loop .from} (omega (arith, c .loop-test .left)) in
     sym (loop .inv .0 ∙ rw none)
+
+watch-line-requires : tie.Need-watch-line-requires Inv-loop μ-loop
+watch-line-requires c κs = let line = c .before .before .before in line .before .before .before .loop .inv .1
 
 pub ring-of-spec : {M : Type 1} → statement M
 ring-of-spec =
     tie.close
     (tie.spec Inv-loop μ-loop (search needs) loop-holds (search needs) (search needs) (search needs) (search needs) (search needs) (search needs)
-    returns (λ c κs. c .before .before .before .before .before .before .loop .inv .1) (search needs) (search needs) sub-from loop-less loop-again
+    returns watch-line-requires (search needs) (search needs) sub-from loop-less loop-again
     returns-2)

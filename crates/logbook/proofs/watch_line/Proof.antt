@@ -16,7 +16,8 @@ returns-2 : tie.Need-returns-2
 unfolding watchedLine
 returns-2 c =
     let heard = c .before in
-    let met = heard .before .before .before .before in
+    let until-met = heard .before .before .before in
+    let met = until-met .before in
     let read = met .before .before in
     let a = read .before .before .before .args in
     let paper = now (a .paper) in

@@ -10,7 +10,8 @@ use Rattle.paper_text.proofs.put_log.Tie as tie
 returns : tie.Need-returns
 unfolding logBehind
 returns c =
-    let a = c .before .before .before .before .args in
+    let until-a = c .before .before .before in
+    let a = until-a .before .args in
     rw (← c .before .byte-at .ensures, lt-ltb _ _ (c .if1 .taken)) (nothing (now (a .room)) (a .end))
 
 same-length : tie.Need-same-length
@@ -20,7 +21,8 @@ returns-2 : tie.Need-returns-2
 unfolding logBehind
 returns-2 c =
     let put = c .before .before in
-    let begin = put .before .before .before .before in
+    let until-begin = put .before .before .before in
+    let begin = until-begin .before in
     let blank = begin .before .before in
     let tested = blank .before in
     rw (← tested .before .byte-at .ensures, le-ltb _ _ (tested .if1 .left), ← begin .begin .ensures .0, ← blank .blank .ensures, ← begin .begin .ensures .1)

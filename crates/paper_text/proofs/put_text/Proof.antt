@@ -24,9 +24,11 @@ returns c =
 
 returns-2 : tie.Need-returns-2
 returns-2 c =
-    let put = c .before .before .before .before in
+    let until-put = c .before .before .before in
+    let put = until-put .before in
     let asked = put .before .before .before in
-    let a = asked .before .before .before .before .args in
+    let until-a = asked .before .before .before in
+    let a = until-a .before .args in
     let fits = sym (asked .before .has-room .ensures) ∙ not-false _ (asked .if1 .left) in
     let whole = sym (put .transcribe .ensures .0 ∙ lines-put (now (a .words)) (now (a .paper)) (now (a .room)) (a .at) fits .0) ∙ c .enum-told .given .1 in
     let z : _≡_ {A = ℕ} 0 1 = cc in
@@ -35,8 +37,12 @@ returns-2 c =
 same-length-2 : tie.Need-same-length-2
 same-length-2 c =
     let log = c .before .before in
-    let put = log .before .before .before .before .before .before .before in
-    let a = put .before .before .before .before .before .before .before .args in
+    let until-put = log .before .before .before in
+    let until-put-2 = until-put .before .before .before in
+    let put = until-put-2 .before in
+    let until-a = put .before .before .before in
+    let until-a-2 = until-a .before .before .before in
+    let a = until-a-2 .before .args in
     rw (log .put-log .ensures .1)
     (placed-length _ _ _ ∙ ap length (put .transcribe .ensures .1) ∙ lines-length (now (a .words)) (now (a .paper)) (now (a .room)) (a .at))
 
@@ -45,9 +51,11 @@ unfolding textPut roomPut wordsPut
 returns-3 c =
     let log = c .before .before in
     let told = log .before .before .before in
-    let put = told .before .before .before .before in
+    let until-put = told .before .before .before in
+    let put = until-put .before in
     let asked = put .before .before .before in
-    let a = asked .before .before .before .before .args in
+    let until-a = asked .before .before .before in
+    let a = until-a .before .args in
     let fits = sym (asked .before .has-room .ensures) ∙ not-false _ (asked .if1 .left) in
     let lines = lines-put (now (a .words)) (now (a .paper)) (now (a .room)) (a .at) fits in
     let whole = sym (put .transcribe .ensures .0 ∙ lines .0) ∙ told .end .given .1 in

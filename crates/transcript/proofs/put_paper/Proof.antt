@@ -33,8 +33,10 @@ returns c =
 
 put-records-requires : tie.Need-put-records-requires
 put-records-requires c κs =
-    let told = c .before .before .before .before in
-    let put = told .before .before .before .before in
+    let until-told = c .before .before .before in
+    let told = until-told .before in
+    let until-put = told .before .before .before in
+    let put = until-put .before in
     let number = put .before in
     let begin = number .before .before in
     let start = begin .before .before .before in
@@ -56,8 +58,10 @@ put-records-requires c κs =
 returns-2 : tie.Need-returns-2
 returns-2 c =
     let records = c .before .before in
-    let told = records .before .before .before .before .before in
-    let put = told .before .before .before .before in
+    let until-told = records .before .before .before in
+    let told = until-told .before .before in
+    let until-put = told .before .before .before in
+    let put = until-put .before in
     let number = put .before in
     let begin = number .before .before in
     let start = begin .before .before .before in
