@@ -1,1 +1,3 @@
 pub mod Lengths
+pub mod Bytes
+pub mod Samples
