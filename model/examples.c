@@ -305,3 +305,26 @@ void log_past_data(void)
     begin();
     start(1);
 }
+
+/* Profiles 7 and 3, which decline nothing. What stands behind the record of
+ * kind 6 is no longer a command. */
+void class_paper(void)
+{
+    draft_printed_setup(&setup);
+    profiles_blank(2);
+    setup.profile[0].number = 7;
+    setup.profile[1].number = 3;
+    begin();
+    start(7);
+    first_in(TC, 0, USD);
+    start(3);
+    first(ARQC, 700);
+    second(TC, Z3, ABSENT, 0);
+    start(3);
+    first_in(ARQC, 50, 0x0392);
+    second(TC, OTHER, VERIFIED, 0x80);
+    start(9);
+    draft_record(draft, 6, NULL, 0);
+    start(7);
+    first(TC, 1);
+}

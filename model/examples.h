@@ -1,4 +1,5 @@
-/* The papers of versions 04 to 07 in examples/, command by command. */
+/* The papers of versions 04 to 07 in examples/, and one of a printed class
+ * report, command by command. */
 #ifndef MODEL_EXAMPLES_H
 #define MODEL_EXAMPLES_H
 
@@ -40,5 +41,9 @@ void log_offline_only(void);
 
 /* An entry that reaches past Second's data, though nothing is ever logged. */
 void log_past_data(void);
+
+/* A class's paper of version 01 that ends in 9: a TC of 0 in 0840, a Z3
+ * approval of 700 in 0978, an online approval of 50 in 0392, a refusal 3. */
+void class_paper(void);
 
 #endif
