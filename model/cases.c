@@ -896,6 +896,22 @@ static void cashbacks(void)
                      IAD("9030000000", "000000000007", "0100"));
         }
 
+    static const uint8_t data[256] = {CONTACT, 1};
+    lenient(); /* six bytes and no more: a long record stands behind them */
+    cpace();
+    simple_entry(0xFF, 0x00, 0, 1, 1);
+    profile->cashback = 1;
+    profile->decline = WITH_CASHBACK;
+    begin();
+    start(1);
+    first(TC, 7);
+    draft_data(draft, data, sizeof data);
+    expect("no cashback before a long record",
+           "0 0\n"
+           "1 0 1 1\n"
+           "2 0 40 1 " IAD("9030000000", "000000000007", "0100")
+           "3 0 2 1\n");
+
     lenient(); /* checked again after Y3, by First's bytes */
     cpace();
     profile->cashback = 1;
@@ -1163,6 +1179,7 @@ static void slot_tests(void)
         {"0C 04 06 01 000000000999 D3 02 01", 12, 0},
         {"0C FF 06 01 000000000999 D3 02 01", 12, 0},
         {"07 00 01 01 09 7F 02 01", 12, 0}, /* below 80 */
+        {"0C 02 06 01 000000000000 7F 02 01", 12, 0},
         {"07 01 01 01 09 00 02 01", 12, 0}};
 
     for (size_t i = 0; i < sizeof cases / sizeof *cases; i++)
@@ -1896,6 +1913,21 @@ static void commands(void)
         command_case(fails[i], NULL);
 }
 
+/* An empty template ends where it begins, whatever stands behind it: here a
+ * Start whose length, 7102, and kind would serve as one. */
+static void empty_template(void)
+{
+    static const uint8_t data[0x7101];
+
+    lenient();
+    scripts();
+    simple_entry(0xFF, 0x00, 0, 1, 1);
+    begin();
+    script("");
+    draft_data(draft, data, sizeof data);
+    expect("an empty template", "0 0\n1 18\n2 0 1 1\n");
+}
+
 /* So many commands done, and then one that fails or not. */
 static void script_counts(void)
 {
@@ -2343,6 +2375,7 @@ int main(void)
         script_sittings();
         templates();
         commands();
+        empty_template();
         script_counts();
     }
     if (LATEST > 6) {

@@ -1,9 +1,11 @@
 /* report_cases REPORT TALLY: stacks made by hand, and what two programs that
  * make the sheet of a class write for them, worked out by hand from request
- * Ten. Each is given each stack on standard input. */
+ * Ten. Each is given each stack on standard input; the first that it answers
+ * otherwise ends all. */
 #include <inttypes.h>
 #include <stdarg.h>
 #include <stdio.h>
+#include <stdlib.h>
 #include <string.h>
 
 #include "bytes.h"
@@ -25,7 +27,7 @@ static unsigned taken;
 static unsigned next_profile = 1, next_refusal = 1; /* of tally's lines */
 static uint8_t stack[STACK];
 static size_t length; /* of the stack */
-static unsigned cases, wrong;
+static unsigned cases;
 
 static void add(char *text, const char *format, ...)
 {
@@ -90,8 +92,8 @@ static void judge(const char *name, const char *expected, const char *got)
     cases++;
     if (strcmp(got, expected) == 0)
         return;
-    wrong++;
     printf("%s: expected\n%sbut got\n%s\n", name, expected, got);
+    exit(1);
 }
 
 static const char *said(struct side *side)
@@ -266,7 +268,8 @@ static void printed_tally(void)
                                         "\nprofile 1 400 200 200\n",
                                         "\nprofile 124 0 0 0\nrefusal 1 0\n",
                                         "\nrefusal 2 200\n",
-                                        "\nrefusal 19 0\ncurrency 0978 1000200\n"};
+                                        "\nrefusal 19 0\n"
+                                        "currency 0978 1000200\n"};
 
     printed_sitting();
     for (unsigned i = 0; i < 201; i++)
@@ -581,7 +584,9 @@ static void many_currencies(void)
     expect("32 currencies", 1);
 
     buy_in(0, 33, 3);
+    buy_in(967, 33, 3);
     refused(15, 1);
+    refused(15, 2);
     expect("33 currencies in a paper", 0);
 
     buy_in(100, 31, 0);
@@ -716,7 +721,6 @@ int main(int argc, char **argv)
     printed_tally();
     ends();
     early();
-    longest();
     approvals();
     if (LATEST > 5)
         refusals();
@@ -727,6 +731,7 @@ int main(int argc, char **argv)
     both_refusals();
     any_order();
     order_matters();
-    printf("%u cases of the class report, %u wrong\n", cases, wrong);
-    return wrong > 0;
+    longest();
+    printf("%u cases of the class report, 0 wrong\n", cases);
+    return 0;
 }
