@@ -1,3 +1,4 @@
 pub mod Lines
 pub mod Whole
 pub mod Recomputed
+pub mod Logged

@@ -1,4 +1,5 @@
--- What is shown of a whole paper (request Seven): its entries, each a line of the sitting and the lines of the rooms behind it.
+-- What is shown of a whole paper (requests Seven and Eight): its entries, each a line of the sitting and the lines of the rooms behind it, and behind
+-- everything the lines of its log.
 use mathlib.Core.List.{List, [], _∷_, _++_}
 use Prim.Native.Nat.{ℕ, zero, suc, _+_}
 use lib.ListN.{length}
@@ -19,6 +20,8 @@ use Rattle.record_lines.specs.declared.Showing.the-variants.{Rooms}
 use Rattle.shown.specs.declared.Shown.{Shown}
 use Rattle.room_lines.specs.RoomLines.{roomLines}
 use Rattle.record_lines.specs.RecordLines.{shownLines, setUpLines}
+use Rattle.transcript.specs.Transcript.{transcriptOf}
+use Rattle.paper_text.specs.PaperText.{logBehind}
 use Rattle.display.specs.Shown.{begunText, begunShown, nextText, nextRules, nextRooms, nextShown}
 
 pub record Entry : Type 0 where
@@ -78,3 +81,7 @@ stepsOf showing words rooms paper =
     let begun = begunShown paper 0 in
     begunText showing words rooms paper
     ++ goesOn (begun .wants) (stepsFrom (length paper) showing (rulesOf (wordsBegun words paper)) (roomsBegun words rooms paper) begun paper)
+
+-- WITH ITS LOG, which the paper answered once more tells, behind the last step
+unfoldable pub shownOf : Showing → (words rooms paper : List ℕ) → List ℕ
+shownOf showing words rooms paper = stepsOf showing words rooms paper ++ logBehind paper (transcriptOf words paper)

@@ -1,12 +1,15 @@
 -- The lines stand in the room, and the log's text behind them. Assumes nothing.
-use mathlib.Core.Path.{_≡_, refl, sym, ap, _∙_}
+use mathlib.Core.Path.{_≡_, refl, sym, ap, subst, _∙_}
 use mathlib.Core.Bool.{Bool, true, false, cond}
 use mathlib.Core.List.{List, [], _++_, append-assoc}
 use Prim.Native.Nat.{ℕ, _+_, _*_, _-_, _≤_, _<_}
 use native.Mathlib.Omega.{arith}
 use borrow.Author.Tests.{leb-true, leb-false, le-leb, lt-leb}
+use lib.Dec.{ltb}
 use lib.ListN.{length, take, drop, length-append}
 use lib.Seq.{sets, length-sets, sets-eq, length-take-le, take-at, drop-at}
+use Rattle.wire.specs.Wire.{byte}
+use Rattle.rules.specs.Rules.{blankWords}
 use Rattle.log.specs.Log.{tailAt}
 use Rattle.paper_room.specs.declared.Transcript.{Transcript}
 use Rattle.paper_room.specs.declared.Transcript.the-variants.{Whole, NoRoom}
@@ -15,7 +18,9 @@ use Rattle.text.proofs.Laws.{sets-on}
 use Rattle.transcript.proofs.Long.{long}
 use Rattle.conversation.specs.Events.{wordsLeft}
 use Rattle.log_text.specs.LogText.{longest, placed, placeBehind}
-use Rattle.paper_text.specs.PaperText.{logBehind, textOf, roomForText, hasTextRoom}
+use Rattle.paper_text.specs.declared.Parts.{Parts}
+use Rattle.paper_text.specs.declared.Parts.the-variants.{Put, NoRoom as NoParts}
+use Rattle.paper_text.specs.PaperText.{logBehind, textOf, roomForText, hasTextRoom, partsPut, textPut, roomPut, PartsIn, logPut, roomLogged, Stands}
 
 -- room for the text is room for the lines in what is left without the longest log
 pub less-longest : (room at bytes : ℕ) → longest ≤ room → hasRoom (room - longest) at bytes ≡ hasTextRoom room at bytes
@@ -73,3 +78,71 @@ module _ (words paper room : List ℕ) (at : ℕ) (fits : hasTextRoom (length ro
       let place : r ≡ end + length log = behind ∙ rw (room-behind, again) in
       let text : after ≡ sets between end log = put ∙ rw (room-behind, again) in
       (omega (arith, place, ends, size), text ∙ rw (there, ends) (sets-on room lines log at), omega (arith, most, ends, short))
+
+-- ---- the text is its two parts
+
+abbrev pub whole : Parts → Transcript
+whole (Put lines end) = Whole end
+whole NoParts = NoRoom
+
+pub text-of-parts : (words paper room : List ℕ) (at : ℕ) → textPut words paper room at ≡ whole (partsPut words paper (length room) at)
+unfolding textPut partsPut
+text-of-parts words paper room at = by (hasTextRoom (length room) at (length paper)) where
+  lines : ℕ
+  lines = at + length (transcriptOf words paper)
+
+  end : ℕ
+  end = at + length (textOf words paper)
+
+  by : (b : Bool) → cond b (Whole end) NoRoom ≡ whole (cond b (Put lines end) NoParts)
+  by true = refl
+  by false = refl
+
+-- the log's text stands behind the lines
+pub stands : (words paper room : List ℕ) → PartsIn 0 (length paper) (partsPut words paper (length room) 0)
+    → Stands (roomPut words paper room 0) (logBehind paper (transcriptOf words paper)) (partsPut words paper (length room) 0)
+unfolding Stands partsPut roomPut textOf
+stands words paper room = by (hasTextRoom (length room) 0 (length paper)) refl where
+  lines : List ℕ
+  lines = transcriptOf words paper
+
+  log : List ℕ
+  log = logBehind paper lines
+
+  by : (b : Bool) → hasTextRoom (length room) 0 (length paper) ≡ b
+      → PartsIn 0 (length paper) (cond b (Put (0 + length lines) (0 + length (lines ++ log))) NoParts)
+      → Stands (cond b (sets room 0 (lines ++ log)) room) log (cond b (Put (0 + length lines) (0 + length (lines ++ log))) NoParts)
+  by true e in-it =
+      let asked = leb-true (0 + roomForText (length paper)) (length room) e in
+      let size = length-append lines log in
+      let still = length-sets room 0 (lines ++ log) in
+      let first = length-sets room 0 lines in
+      let seam : 0 + length (lines ++ log) ≡ 0 + length lines + length log = omega arith in
+      let apart : tailAt (sets (sets room 0 lines) (0 + length lines) log) (0 + length lines) (0 + length lines + length log) ≡ log =
+      found-again (sets room 0 lines) log (0 + length lines) (omega arith) in
+      (rw (seam, ← sets-on room lines log 0) apart, omega arith, omega arith)
+  by false e in-it = tt
+
+-- ---- for its log alone
+
+-- below version 07 there is none
+pub none-stands : (paper room text : List ℕ) → ltb (byte paper 0) 7 ≡ true
+    → (Put 0 0 ≡ logPut paper (length room)) × (room ≡ roomLogged paper room) × Stands room (logBehind paper text) (Put 0 0)
+unfolding Stands logPut roomLogged logBehind
+none-stands paper room text low =
+    let inside = le-leb 0 (length room) (omega arith) in
+    (rw low, rw low, (rw (low, inside), omega arith, omega arith))
+
+pub some-stands : (paper room : List ℕ) {words after : List ℕ} {parts : Parts} → ltb (byte paper 0) 7 ≡ false → words ≡ blankWords
+    → parts ≡ partsPut words paper (length room) 0 → after ≡ roomPut words paper room 0 → PartsIn 0 (length paper) parts
+    → (parts ≡ logPut paper (length room)) × (after ≡ roomLogged paper room) × Stands after (logBehind paper (transcriptOf blankWords paper)) parts
+unfolding logPut roomLogged
+some-stands paper room high blank put there in-it =
+    let parts-are = rw blank at put in
+    let room-is = rw blank at there in
+    (rw high parts-are, rw high room-is, rw (parts-are, room-is) (stands blankWords paper room (subst (PartsIn 0 (length paper)) parts-are in-it)))
+
+-- what stands in the room is a part of it
+pub within : (room text : List ℕ) (parts : Parts) (lines end : ℕ) → Stands room text parts → parts ≡ Put lines end → (lines ≤ end) × (end ≤ length room)
+unfolding Stands
+within room text parts lines end there e = let put = subst (Stands room text) e there in (put .1, put .2)

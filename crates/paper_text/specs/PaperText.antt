@@ -1,5 +1,6 @@
 -- The text of a whole paper (document 01, "A sitting in full"; document 02, Eight): its lines, and behind them those of its log.
-use Prim.Native.Nat.{ℕ, _+_, _<_}
+use Prim.Native.Nat.{ℕ, _+_, _≤_, _<_}
+use mathlib.Core.Path.{_≡_}
 use mathlib.Core.Bool.{Bool, cond}
 use mathlib.Core.List.{List, [], _++_}
 use lib.Dec.{leb, ltb}
@@ -13,7 +14,10 @@ use Rattle.paper_room.specs.declared.Transcript.{Transcript}
 use Rattle.paper_room.specs.declared.Transcript.the-variants.{Whole, NoRoom}
 use Rattle.transcript.specs.Transcript.{transcriptOf, roomFor}
 use Rattle.log_text.specs.LogText.{longest}
+use Rattle.log.specs.Log.{tailAt}
 use Rattle.logbook.specs.Logbook.{shapedBehind}
+use Rattle.paper_text.specs.declared.Parts.{Parts}
+use Rattle.paper_text.specs.declared.Parts.the-variants.{Put, NoRoom as NoParts}
 
 -- the text of a paper's log, behind the text of its lines; below version 07 there is none
 unfoldable pub logBehind : (paper text : List ℕ) → List ℕ
@@ -33,6 +37,11 @@ roomForText bytes = roomFor bytes + longest
 abbrev pub hasTextRoom : (room at bytes : ℕ) → Bool
 hasTextRoom room at bytes = leb (at + roomForText bytes) room
 
+-- where the lines end and where the log does, or that there is no room
+unfoldable pub partsPut : (words paper : List ℕ) (room at : ℕ) → Parts
+partsPut words paper room at =
+    cond (hasTextRoom room at (length paper)) (Put (at + length (transcriptOf words paper)) (at + length (textOf words paper))) NoParts
+
 -- where the text ends, or that there is no room
 unfoldable pub textPut : (words paper room : List ℕ) (at : ℕ) → Transcript
 textPut words paper room at = cond (hasTextRoom (length room) at (length paper)) (Whole (at + length (textOf words paper))) NoRoom
@@ -48,3 +57,19 @@ wordsPut words paper room at = cond (hasTextRoom (length room) at (length paper)
 abbrev pub EndsIn : (at bytes : ℕ) → Transcript → Type 0
 EndsIn at bytes (Whole end) = end < at + roomForText bytes
 EndsIn at bytes NoRoom = Unit
+
+abbrev pub PartsIn : (at bytes : ℕ) → Parts → Type 0
+PartsIn at bytes (Put lines end) = end < at + roomForText bytes
+PartsIn at bytes NoParts = Unit
+
+-- FOR ITS LOG ALONE a paper is answered into the room, from its first byte on; below version 07 nothing is done
+unfoldable pub logPut : (paper : List ℕ) (room : ℕ) → Parts
+logPut paper room = cond (ltb (byte paper 0) 7) (Put 0 0) (partsPut blankWords paper room 0)
+
+unfoldable pub roomLogged : (paper room : List ℕ) → List ℕ
+roomLogged paper room = cond (ltb (byte paper 0) 7) room (roomPut blankWords paper room 0)
+
+-- a text stands in the room behind the lines
+unfoldable pub Stands : (room text : List ℕ) → Parts → Type 0
+Stands room text (Put lines end) = (tailAt room lines end ≡ text) × (lines ≤ end) × (end ≤ length room)
+Stands room text NoParts = Unit

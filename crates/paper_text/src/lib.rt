@@ -4,12 +4,22 @@ ghost use Prim.Native.Nat.{_+_, _≤_};
 ghost use lib.ListN.{length};
 ghost use Rattle.log.specs.Log.{tailAt};
 ghost use Rattle.log_text.specs.LogText.{placed, placeBehind, longest};
-ghost use Rattle.paper_text.specs.PaperText.{hasTextRoom, logBehind, textPut, roomPut, wordsPut, EndsIn};
+ghost use Rattle.rules.specs.Rules.{blankWords};
+ghost use Rattle.transcript.specs.Transcript.{transcriptOf};
+ghost use Rattle.paper_text.specs.PaperText.{hasTextRoom, logBehind, partsPut, textPut, roomPut, wordsPut, PartsIn, EndsIn};
+ghost use Rattle.paper_text.specs.PaperText.{logPut, roomLogged, Stands};
 use paper_room::Transcript;
 use rules::Words;
 
 // The first version with a log.
 const LOG: u8 = 7;
+
+// A paper's lines end at a place of the room and its log, which stands behind them, at another; or the
+// room is too small and nothing was written.
+pub enum Parts {
+    Put { lines: usize, end: usize },
+    NoRoom,
+}
 
 // Whether from a place on there is room for a paper's lines and for the longest log behind them.
 fn has_room(room: usize, at: usize, paper: usize) -> bool
@@ -37,6 +47,25 @@ fn put_log(paper: &[u8], room: &mut [u8], from: usize, end: usize) -> usize
     logbook::put_behind(&words, shape, paper, begun.at, room, from, end)
 }
 
+// A paper's lines from a place of the room on, and its log's behind them.
+fn put_parts(paper: &[u8], words: &mut Words, room: &mut [u8], at: usize) -> Parts
+    ensures { λ r. ⌜ (r ≡ partsPut (now (words .entry)) (now (paper .entry)) (length (now (room .entry))) at)
+        × (now (room .exit) ≡ roomPut (now (words .entry)) (now (paper .entry)) (now (room .entry)) at)
+        × (now (words .exit) ≡ wordsPut (now (words .entry)) (now (paper .entry)) (now (room .entry)) at)
+        × PartsIn at (length (now (paper .entry))) r ⌝ }
+{
+    if !has_room(room.len(), at, paper.len()) {
+        return Parts::NoRoom;
+    }
+    let Transcript::Whole { end } = transcript::transcribe(paper, words, room, at) else {
+        return Parts::NoRoom;
+    };
+    Parts::Put {
+        lines: end,
+        end: put_log(paper, room, at, end),
+    }
+}
+
 // The text of a paper, from a place of the room on, or that there is no room for it.
 pub fn put_text(paper: &[u8], words: &mut Words, room: &mut [u8], at: usize) -> Transcript
     ensures { λ r. ⌜ (r ≡ textPut (now (words .entry)) (now (paper .entry)) (now (room .entry)) at)
@@ -44,13 +73,21 @@ pub fn put_text(paper: &[u8], words: &mut Words, room: &mut [u8], at: usize) -> 
         × (now (words .exit) ≡ wordsPut (now (words .entry)) (now (paper .entry)) (now (room .entry)) at)
         × EndsIn at (length (now (paper .entry))) r ⌝ }
 {
-    if !has_room(room.len(), at, paper.len()) {
-        return Transcript::NoRoom;
+    match put_parts(paper, words, room, at) {
+        Parts::Put { end, .. } => Transcript::Whole { end },
+        Parts::NoRoom => Transcript::NoRoom,
     }
-    let Transcript::Whole { end } = transcript::transcribe(paper, words, room, at) else {
-        return Transcript::NoRoom;
-    };
-    Transcript::Whole {
-        end: put_log(paper, room, at, end),
+}
+
+// The paper answered for its log alone, whose text stands behind the lines; a paper below version 07
+// has none, and is not answered.
+pub fn put_for_log(paper: &[u8], room: &mut [u8]) -> Parts
+    ensures { λ r. ⌜ (r ≡ logPut (now (paper .entry)) (length (now (room .entry)))) × (now (room .exit) ≡ roomLogged (now (paper .entry)) (now (room .entry)))
+        × Stands (now (room .exit)) (logBehind (now (paper .entry)) (transcriptOf blankWords (now (paper .entry)))) r ⌝ }
+{
+    if wire::byte_at(paper, 0) < LOG {
+        return Parts::Put { lines: 0, end: 0 };
     }
+    let mut words = rules::blank();
+    put_parts(paper, &mut words, room, 0)
 }

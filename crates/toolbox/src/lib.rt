@@ -1,9 +1,11 @@
 // The tools beside the sitting, on standard input and output. `display` shows a paper, each line of its
-// sitting with the room left behind it. `bench` takes a stack: a paper, and then runs for its card. What
-// is read is answered by the crates `display` and `bench`; here it is only read and written.
+// sitting with the room left behind it, and its log behind everything. `bench` takes a stack: a paper, and
+// then runs for its card. What is read is answered by the crates `display`, `paper_text` and `bench`; here
+// it is only read and written.
 ghost use Prim.Native.Nat.{_≤_};
 ghost use lib.ListN.{length};
 use bench::Page;
+use paper_text::Parts;
 use record_lines::Showing;
 use rooms::Rooms;
 use rules::Words;
@@ -87,6 +89,28 @@ fn show(
     }
 }
 
+// The lines of the paper's log, behind what was shown of it.
+fn write_log(paper: &[u8], room: &mut [u8]) -> Ending {
+    let Parts::Put { lines, end } = paper_text::put_for_log(paper, room) else {
+        return Ending::NotWritten;
+    };
+    if streams::write_out(&room[lines..end], end - lines) {
+        return Ending::Done;
+    }
+    Ending::NotWritten
+}
+
+// A paper shown with its rooms, and its log behind everything.
+fn show_whole(paper: &[u8], room: &mut [u8]) -> Ending {
+    let mut words = rules::blank();
+    let mut rooms = rooms::none();
+    let told = show(paper, &mut words, &mut rooms, Showing::Rooms, room);
+    if !told.written {
+        return Ending::NotWritten;
+    }
+    write_log(paper, room)
+}
+
 // The paper on standard input, read into a buffer of a byte more than the longest.
 fn show_paper(buffer: &mut [u8], room: &mut [u8]) -> Ending {
     let read = streams::read_all(buffer);
@@ -94,19 +118,7 @@ fn show_paper(buffer: &mut [u8], room: &mut [u8]) -> Ending {
         return Ending::NotRead;
     }
     let filled = read.filled;
-    let mut words = rules::blank();
-    let mut rooms = rooms::none();
-    let told = show(
-        &buffer[..filled],
-        &mut words,
-        &mut rooms,
-        Showing::Rooms,
-        room,
-    );
-    if told.written {
-        return Ending::Done;
-    }
-    Ending::NotWritten
+    show_whole(&buffer[..filled], room)
 }
 
 // The block of so many bytes that is next in a stack.
@@ -335,7 +347,7 @@ fn is_named(name: &[u8]) -> bool {
 
 fn run_display() {
     let mut buffer = [0u8; 65_537];
-    let mut room = [0u8; 65_536];
+    let mut room = [0u8; 770_118];
     streams::acknowledge(show_paper(&mut buffer, &mut room));
 }
 

@@ -1,69 +1,39 @@
--- The lines, and the log behind them.
+-- The two parts are its text.
 use borrow.Author.Needs.{needs}
-use borrow.Author.Tests.{not-true, not-false}
 use denote.Ref.{now}
 use lib.ListN.{length}
-use mathlib.Core.Path.{_≡_, sym, ap, _∙_}
-use Prim.Native.Nat.{ℕ}
-use native.Mathlib.Omega.{arith}
-use Rattle.paper_room.specs.declared.Transcript.the-variants.{Whole}
-use Rattle.log_text.proofs.Stores.{placed-length}
-use Rattle.paper_text.specs.PaperText.{textPut, roomPut, wordsPut}
-use Rattle.paper_text.proofs.Text.{lines-length, lines-put, log-put}
+use mathlib.Core.Path.{sym, ap, subst, _∙_}
+use Rattle.paper_text.specs.PaperText.{PartsIn}
+use Rattle.paper_text.proofs.Text.{whole, text-of-parts}
 use Rattle.paper_text.proofs.put_text.Statement.{statement}
 use Rattle.paper_text.proofs.put_text.Tie as tie
 
-same-end : (m n : ℕ) → Whole m ≡ Whole n → m ≡ n
-same-end m n e = cc
-
 returns : tie.Need-returns
-unfolding textPut roomPut wordsPut
 returns c =
-    let none = sym (c .before .has-room .ensures) ∙ not-true _ (c .if1 .taken) in
-    (simp none, simp none, simp none, search needs)
+    let told = c .before in
+    let until-put = told .before .before .before in
+    let put = until-put .before in
+    let until-a = put .before .before .before in
+    let a = until-a .before .before .args in
+    let e = put .put-parts .ensures in
+    let is = sym (e .0) ∙ told .end .given .1 in (
+      sym (text-of-parts (now (a .words)) (now (a .paper)) (now (a .room)) (a .at) ∙ ap whole is),
+      e .1,
+      e .2,
+      subst (PartsIn (a .at) (length (now (a .paper)))) (told .end .given .1) (e .3),
+    )
 
 returns-2 : tie.Need-returns-2
 returns-2 c =
     let until-put = c .before .before .before in
     let put = until-put .before in
-    let asked = put .before .before .before in
-    let until-a = asked .before .before .before in
-    let a = until-a .before .args in
-    let fits = sym (asked .before .has-room .ensures) ∙ not-false _ (asked .if1 .left) in
-    let whole = sym (put .transcribe .ensures .0 ∙ lines-put (now (a .words)) (now (a .paper)) (now (a .room)) (a .at) fits .0) ∙ c .enum-told .given .1 in
-    let z : _≡_ {A = ℕ} 0 1 = cc in
-    absurd (omega arith)
-
-same-length-2 : tie.Need-same-length-2
-same-length-2 c =
-    let log = c .before .before in
-    let until-put = log .before .before .before in
-    let until-put-2 = until-put .before .before .before in
-    let put = until-put-2 .before in
     let until-a = put .before .before .before in
-    let until-a-2 = until-a .before .before .before in
-    let a = until-a-2 .before .args in
-    rw (log .put-log .ensures .1)
-    (placed-length _ _ _ ∙ ap length (put .transcribe .ensures .1) ∙ lines-length (now (a .words)) (now (a .paper)) (now (a .room)) (a .at))
-
-returns-3 : tie.Need-returns-3
-unfolding textPut roomPut wordsPut
-returns-3 c =
-    let log = c .before .before in
-    let told = log .before .before .before in
-    let until-put = told .before .before .before in
-    let put = until-put .before in
-    let asked = put .before .before .before in
-    let until-a = asked .before .before .before in
-    let a = until-a .before .args in
-    let fits = sym (asked .before .has-room .ensures) ∙ not-false _ (asked .if1 .left) in
-    let lines = lines-put (now (a .words)) (now (a .paper)) (now (a .room)) (a .at) fits in
-    let whole = sym (put .transcribe .ensures .0 ∙ lines .0) ∙ told .end .given .1 in
-    let e = log .put-log .ensures in
-    let text = log-put (now (a .words)) (now (a .paper)) (now (a .room)) (a .at) fits (sym (same-end _ _ whole)) (put .transcribe .ensures .1 ∙ lines .1) (e .0) (e .1) (e .2) in
-    (rw (fits, text .0), rw (fits, text .1), rw (fits) (put .transcribe .ensures .2 ∙ lines .2), text .2)
+    let a = until-a .before .before .args in
+    let e = put .put-parts .ensures in
+    let is = sym (e .0) ∙ c .enum-told .given .1 in
+    (sym (text-of-parts (now (a .words)) (now (a .paper)) (now (a .room)) (a .at) ∙ ap whole is), e .1, e .2, tt)
 
 pub put-text-spec : {M : Type 1} → statement M
 put-text-spec =
     tie.close
-    (tie.spec (search needs) returns (search needs) (search needs) (search needs) (search needs) returns-2 (search needs) same-length-2 returns-3)
+    (tie.spec (search needs) (search needs) (search needs) (search needs) returns (search needs) returns-2)
