@@ -12,10 +12,13 @@ pub type Sheet = [u64; 458];
 const LARGEST: u64 = 18_446_744_073_709_551_615;
 
 const PAPERS: usize = 0;
+
 const REFUSALS: usize = 373;
 
 const LAST_PROFILE: u8 = 124;
+
 const LAST_KIND: u8 = 2;
+
 const LAST_REFUSAL: u8 = 19;
 
 // A sheet before the first paper.
