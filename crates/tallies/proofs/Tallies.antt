@@ -1,13 +1,13 @@
--- A cryptogram with its tallies: one for its kind, and where it approves offline the amount. Assumes nothing.
+-- A cryptogram with its tallies: one for its kind, and where it approves offline the amount; and tallies one behind the other. Assumes nothing.
 use mathlib.Core.Path.{_≡_, refl, sym, ap, _∙_}
 use mathlib.Core.Bool.{Bool, true, false, cond, _&&_}
-use mathlib.Core.List.{List, [], _∷_}
+use mathlib.Core.List.{List, [], _∷_, _++_}
 use Prim.Native.Nat.{ℕ}
 use Rattle.sheet.specs.Sheet.{answerCounted}
 use Rattle.sums.specs.Sums.{fitsSale, saleAdded}
 use Rattle.state.specs.declared.Kind.{Kind}
 use Rattle.tallies.specs.declared.Sale.{Sale}
-use Rattle.tallies.specs.Tallies.{Tally, answered, approved, kindNumber, isApproval, cryptogramTallies, allTallied, allFit}
+use Rattle.tallies.specs.Tallies.{Tally, answered, approved, kindNumber, isApproval, cryptogramTallies, tallied, allTallied, fits, allFit}
 
 abbrev pub Took : (sheet : List ℕ) → List Tally → Bool → (after : List ℕ) → Type 0
 Took sheet tallies fit after = (fit ≡ allFit sheet tallies) × (after ≡ allTallied sheet tallies)
@@ -38,3 +38,21 @@ module _ (sheet : List ℕ) (offline : Bool) (sale : Sale) (kind : Kind) (profil
   unfolding allFit allTallied
   count-only is =
       (ap (λ b. allFit sheet (with-approval b)) (sym is), counted-is ∙ ap (λ b. allTallied sheet (with-approval b)) (sym is))
+
+-- ---- tallies, and behind them others
+
+pub and-assoc : (a b c : Bool) → a && b && c ≡ a && (b && c)
+and-assoc true b c = refl
+and-assoc false b c = refl
+
+pub tallied-on : (sheet : List ℕ) (tallies more : List Tally) → allTallied sheet (tallies ++ more) ≡ allTallied (allTallied sheet tallies) more
+unfolding allTallied
+tallied-on sheet [] more = refl
+tallied-on sheet (tally ∷ tallies) more = tallied-on (tallied sheet tally) tallies more
+
+pub fit-on : (sheet : List ℕ) (tallies more : List Tally) → allFit sheet (tallies ++ more) ≡ allFit sheet tallies && allFit (allTallied sheet tallies) more
+unfolding allTallied allFit
+fit-on sheet [] more = refl
+fit-on sheet (tally ∷ tallies) more =
+    ap (λ b. fits sheet tally && b) (fit-on (tallied sheet tally) tallies more)
+    ∙ sym (and-assoc (fits sheet tally) (allFit (tallied sheet tally) tallies) (allFit (allTallied (tallied sheet tally) tallies) more))
