@@ -12,7 +12,7 @@ use Rattle.wire.specs.Wire.{isCurrency}
 use Rattle.money.specs.Money.{max}
 use Rattle.refusal.specs.declared.Refusal.{Refusal}
 use Rattle.refusal.specs.declared.Refusal.the-variants.{BadSetup, OutOfTurn, UnknownProfile, AtcUsedUp, BadType, OutOfRange, RoomTooSmall, NotAnIad}
-use Rattle.refusal.specs.declared.Refusal.the-variants.{Unreadable, BadRate, BadMta, NotSelected, NotADay, PastData, NoRoomForAnswers, Malformed, TooDeep}
+use Rattle.refusal.specs.declared.Refusal.the-variants.{Unreadable, BadRate, BadMta, NotSelected, NotADay, PastData, TooManyCurrencies, TooManyPapers, NoRoomForAnswers, Malformed, TooDeep}
 use Rattle.refusal.specs.Refusal.{refusalNumber}
 use Rattle.calendar.proofs.Dates.{calendar-days}
 use Rattle.ranges.proofs.Accepted.{Currency, currency}
@@ -405,6 +405,8 @@ in-kind rules state command = by (did rules state command) where
   some-refusal NotSelected e = omega arith
   some-refusal NotADay e = omega arith
   some-refusal PastData e = omega arith
+  some-refusal TooManyCurrencies e = omega arith
+  some-refusal TooManyPapers e = omega arith
   some-refusal NoRoomForAnswers e = omega arith
   some-refusal Malformed e = omega arith
   some-refusal TooDeep e = omega arith

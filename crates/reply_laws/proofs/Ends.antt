@@ -11,7 +11,7 @@ use Rattle.wire.specs.Wire.{byte}
 use Rattle.refusal.specs.declared.Refusal.{Refusal}
 use Rattle.refusal.specs.declared.Refusal.the-variants.{BadSetup, OutOfTurn, UnknownProfile, AtcUsedUp, BadType, OutOfRange, RoomTooSmall}
 use Rattle.refusal.specs.declared.Refusal.the-variants.{NotAnIad, Unreadable, BadRate, BadMta, NotSelected, NotADay, PastData, NoRoomForAnswers}
-use Rattle.refusal.specs.declared.Refusal.the-variants.{Malformed, TooDeep}
+use Rattle.refusal.specs.declared.Refusal.the-variants.{TooManyCurrencies, TooManyPapers, Malformed, TooDeep}
 use Rattle.refusal.specs.Refusal.{refusalNumber}
 use Rattle.iad.specs.declared.Iad.{Iad}
 use Rattle.iad.specs.Iad.{written}
@@ -106,6 +106,8 @@ below BadMta = omega arith
 below NotSelected = omega arith
 below NotADay = omega arith
 below PastData = omega arith
+below TooManyCurrencies = omega arith
+below TooManyPapers = omega arith
 below NoRoomForAnswers = omega arith
 below Malformed = omega arith
 below TooDeep = omega arith

@@ -7,7 +7,8 @@ use borrow.Author.Tests.{ne-eqb}
 use lib.ListN.{replicate}
 use Rattle.refusal.specs.declared.Refusal.{Refusal}
 use Rattle.refusal.specs.declared.Refusal.the-variants.{BadSetup, OutOfTurn, UnknownProfile, AtcUsedUp, BadType, OutOfRange}
-use Rattle.refusal.specs.declared.Refusal.the-variants.{RoomTooSmall, NotAnIad, Unreadable, BadRate, BadMta, NotSelected, NotADay, PastData, NoRoomForAnswers, Malformed, TooDeep}
+use Rattle.refusal.specs.declared.Refusal.the-variants.{RoomTooSmall, NotAnIad, Unreadable, BadRate, BadMta, NotSelected, NotADay, PastData}
+use Rattle.refusal.specs.declared.Refusal.the-variants.{TooManyCurrencies, TooManyPapers, NoRoomForAnswers, Malformed, TooDeep}
 use Rattle.refusal.specs.Refusal.{refusalNumber}
 use Rattle.iad.specs.declared.Iad.{Iad}
 use Rattle.iad.specs.Iad.{written}
@@ -36,6 +37,8 @@ small BadMta = omega arith
 small NotSelected = omega arith
 small NotADay = omega arith
 small PastData = omega arith
+small TooManyCurrencies = omega arith
+small TooManyPapers = omega arith
 small NoRoomForAnswers = omega arith
 small Malformed = omega arith
 small TooDeep = omega arith
