@@ -1,0 +1,6 @@
+pub mod Values
+pub mod Tests
+pub mod Sent
+pub mod Steps
+pub mod Chosen
+pub mod Records
