@@ -1,13 +1,11 @@
 -- Values that are the same but for x's, meter by meter. Assumes nothing.
 use mathlib.Core.Path.{_≡_, refl, sym, ap, _∙_}
-use mathlib.Core.Bool.{Bool, true, false, cond}
+use mathlib.Core.Bool.{cond}
 use mathlib.Core.List.{List, [], _∷_}
-use Prim.Native.Nat.{ℕ, zero, suc, _<_}
+use Prim.Native.Nat.{ℕ, zero, suc}
 use native.Mathlib.Omega.{arith}
-use borrow.Author.Tests.{eqb-true, eqb-false}
-use lib.Dec.{eqb}
 use lib.ListN.{length, getD, set, length-set}
-use lib.Seq.{getD-set-same, getD-set-other, ext-getD}
+use lib.Seq.{getD-set-other, ext-getD}
 use Rattle.calendar.specs.declared.Date.{Date}
 use Rattle.calendar.specs.Calendar.{begins}
 use Rattle.money.specs.declared.AccumulatorAmount.{AccumulatorAmount}
@@ -25,39 +23,31 @@ use Rattle.writes.specs.Writes.{valueIn, valuesWith}
 use Rattle.script.specs.Script.{valuesAfter}
 use Rattle.apart.specs.Alike.{wiped}
 
--- ---- a list and one of its elements
+-- ---- lists that are the same but for an element
 
-module _ {A : Type 0} (none : A) (a b : List A) where
-  module _ (i : ℕ) where
-    as-many : set a i none ≡ set b i none → length a ≡ length b
-    as-many e = sym (length-set a i none) ∙ ap length e ∙ length-set b i none
+-- a store hides it
+pub set-either : {A : Type 0} (none : A) (a b : List A) (i : ℕ) (m : A) (j : ℕ) → length a ≡ length b
+    → ((j ≡ i → ⊥) → getD a j none ≡ getD b j none) → getD (set a i m) j none ≡ getD (set b i m) j none
+set-either none [] [] i m j l h = refl
+set-either none [] (y ∷ b) i m j l h = absurd (omega arith)
+set-either none (y ∷ a) [] i m j l h = absurd (omega arith)
+set-either none (y ∷ a) (z ∷ b) zero m zero l h = refl
+set-either none (y ∷ a) (z ∷ b) zero m (suc j) l h = h (λ e. omega arith)
+set-either none (y ∷ a) (z ∷ b) (suc i) m zero l h = h (λ e. omega arith)
+set-either none (y ∷ a) (z ∷ b) (suc i) m (suc j) l h = set-either none a b i m j (omega arith) (λ n. h (λ e. n (omega arith)))
 
-    elsewhere : set a i none ≡ set b i none → (j : ℕ) → (j ≡ i → ⊥) → getD a j none ≡ getD b j none
-    elsewhere e j h = sym (getD-set-other a i j none none h) ∙ ap (λ l. getD l j none) e ∙ getD-set-other b i j none none h
+pub set-size : {A : Type 0} (a b : List A) (i : ℕ) (m : A) → length a ≡ length b → length (set a i m) ≡ length (set b i m)
+set-size a b i m l = length-set a i m ∙ l ∙ sym (length-set b i m)
 
-    same-set : length a ≡ length b → ((j : ℕ) → (j ≡ i → ⊥) → getD a j none ≡ getD b j none) → set a i none ≡ set b i none
-    same-set l h = ext-getD none (set a i none) (set b i none) (length-set a i none ∙ l ∙ sym (length-set b i none)) each where
-      at : (j : ℕ) (t : Bool) → eqb j i ≡ t → j < length a → getD (set a i none) j none ≡ getD (set b i none) j none
-      at j true e k =
-          let is = eqb-true j i e in
-          rw is (getD-set-same a i none none (omega arith) ∙ sym (getD-set-same b i none none (omega arith)))
-      at j false e k =
-          let not = eqb-false j i e in
-          getD-set-other a i j none none not ∙ h j not ∙ sym (getD-set-other b i j none none not)
+module _ {A : Type 0} (none : A) (a b : List A) (i : ℕ) where
+  as-many : set a i none ≡ set b i none → length a ≡ length b
+  as-many e = sym (length-set a i none) ∙ ap length e ∙ length-set b i none
 
-      each : (j : ℕ) → j < length (set a i none) → getD (set a i none) j none ≡ getD (set b i none) j none
-      each j k = at j (eqb j i) refl (omega (arith, length-set a i none))
+  elsewhere : set a i none ≡ set b i none → (j : ℕ) → (j ≡ i → ⊥) → getD a j none ≡ getD b j none
+  elsewhere e j h = sym (getD-set-other a i j none none h) ∙ ap (λ l. getD l j none) e ∙ getD-set-other b i j none none h
 
--- after the same store too
-set-same : {A : Type 0} (none : A) (a b : List A) (i : ℕ) (m : A) (j : ℕ) → length a ≡ length b → getD a j none ≡ getD b j none
-    → getD (set a i m) j none ≡ getD (set b i m) j none
-set-same none [] [] i m j l h = refl
-set-same none [] (y ∷ b) i m j l h = absurd (omega arith)
-set-same none (y ∷ a) [] i m j l h = absurd (omega arith)
-set-same none (y ∷ a) (z ∷ b) zero m zero l h = refl
-set-same none (y ∷ a) (z ∷ b) zero m (suc j) l h = h
-set-same none (y ∷ a) (z ∷ b) (suc i) m zero l h = h
-set-same none (y ∷ a) (z ∷ b) (suc i) m (suc j) l h = set-same none a b i m j (omega arith) h
+  same-set : length a ≡ length b → ((j : ℕ) → (j ≡ i → ⊥) → getD a j none ≡ getD b j none) → set a i none ≡ set b i none
+  same-set l h = ext-getD none (set a i none) (set b i none) (set-size a b i none l) (λ j k. set-either none a b i none j l (h j))
 
 -- ---- values
 
@@ -203,7 +193,7 @@ module _ (x : Meter) (v w : Values) (b : Beside x v w) where
   unfolding valueIn
   written-beside (Value slot amount) =
       record {
-        amounts = length-set (v .accumulators) slot amount ∙ b .amounts ∙ sym (length-set (w .accumulators) slot amount);
+        amounts = set-size (v .accumulators) (w .accumulators) slot amount (b .amounts);
         counts = b .counts;
         cycles = b .cycles;
         others = by;
@@ -212,8 +202,8 @@ module _ (x : Meter) (v w : Values) (b : Beside x v w) where
       by : (y : Meter) → (y ≡ x → ⊥) → valueOf (valueIn v slot amount) y ≡ valueOf (valueIn w slot amount) y
       by (accumulator j) h =
           ap (λ (m : AccumulatorAmount). m .0)
-          (set-same (record { 0 = 0 }) (v .accumulators) (w .accumulators) slot amount j (b .amounts)
-          (ap (λ (n : ℕ). record { 0 = n }) (b .others (accumulator j) h)))
+          (set-either (record { 0 = 0 }) (v .accumulators) (w .accumulators) slot amount j (b .amounts)
+          (λ n. ap (λ (n : ℕ). record { 0 = n }) (b .others (accumulator j) h)))
       by (counter j) h = b .others (counter j) h
       by (cyclic j) h = b .others (cyclic j) h
   written-beside (AccumulatorLimits slot lower upper) = b
