@@ -4,3 +4,4 @@ pub mod Sent
 pub mod Steps
 pub mod Chosen
 pub mod Records
+pub mod Samples
