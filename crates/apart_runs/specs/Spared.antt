@@ -1,16 +1,19 @@
 -- Cards with their rooms that are alike but for one meter, and records that spare it (document 02, Fourteen).
 use Prim.Native.Nat.{ℕ}
 use mathlib.Core.Path.{_≡_}
+use mathlib.Core.Bool.{true}
 use mathlib.Core.List.{List, [], _∷_}
 use lib.ListN.{set}
 use Rattle.rules.specs.declared.Place.the-variants.{One, Two, Three, Four}
 use Rattle.purchase.specs.Meter.{Meter, accumulator, counter, cyclic}
 use Rattle.rooms.specs.Rooms.{cellOf}
 use Rattle.shape.specs.declared.Shape.{Shape}
+use Rattle.bodies.specs.Bodies.{isCpace}
+use Rattle.choice.specs.Choice.{slotsOf}
 use Rattle.paper.specs.Walk.{Met}
 use Rattle.records.specs.declared.Event.{Event}
 use Rattle.runs.specs.Runs.{Card, takenBy, cardBehind}
-use Rattle.apart.specs.Off.{Spares}
+use Rattle.apart.specs.Off.{Quiet, IsUntested, Spares}
 use Rattle.apart.specs.Alike.{wipedState}
 
 -- an accumulator has a room in each profile
@@ -38,3 +41,12 @@ module _ (shape : Shape) (paper : List ℕ) where
   unfoldable pub eventsTo : Card → List Met → List Event
   eventsTo card [] = []
   eventsTo card (met ∷ more) = takenBy shape paper card met .event ∷ eventsTo (cardBehind shape paper card met) more
+
+  -- the same, where only a CPACE card's entries are asked: a CPA card's test nothing
+  unfoldable pub Chosen : Meter → Card → List Met → Type 0
+  Chosen x card [] = Unit
+  Chosen x card (met ∷ more) =
+      Quiet (card .rules) x (card .state .phase)
+      × (isCpace (shape .family) ≡ true
+      → IsUntested (shape .selecting) (slotsOf (shape .family) (card .state .values)) paper (met .kind) (met .body) x)
+      × Chosen x (cardBehind shape paper card met) more
