@@ -1,0 +1,3 @@
+pub mod Rooms
+pub mod Apart
+pub mod Selected
