@@ -33,13 +33,13 @@ use Rattle.journal.specs.declared.Heard.the-variants.{First, Second, Other}
 use Rattle.log.specs.Log.{heardIn}
 use Rattle.log_laws.specs.Spoken.{heardOf}
 
-both : (m n i j : ℕ) → (eqb m n && eqb i j) ≡ true → (m ≡ n) × (i ≡ j)
+pub both : (m n i j : ℕ) → (eqb m n && eqb i j) ≡ true → (m ≡ n) × (i ≡ j)
 both m n i j = by (eqb m n) refl where
   by : (b : Bool) → eqb m n ≡ b → (b && eqb i j) ≡ true → (m ≡ n) × (i ≡ j)
   by true e h = (eqb-true m n e, eqb-true i j h)
   by false e h = let z : _≡_ {A = ℕ} 0 1 = cc in absurd (omega arith)
 
-fork : {A : Type 0} (P : A → Type 0) (b : Bool) {x y : A} → (b ≡ true → P x) → (b ≡ false → P y) → P (cond b x y)
+pub fork : {A : Type 0} (P : A → Type 0) (b : Bool) {x y : A} → (b ≡ true → P x) → (b ≡ false → P y) → P (cond b x y)
 fork P true h k = h refl
 fork P false h k = k refl
 

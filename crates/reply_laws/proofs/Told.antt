@@ -87,7 +87,7 @@ cid-plain : (cid : ℕ) → Plain (hexByte cid)
 unfolding hex
 cid-plain cid = hex-plain (cid ∷ [])
 
-lies : (iad : Iad) → Writable iad → LaidOut iad (written iad zeros)
+pub lies : (iad : Iad) → Writable iad → LaidOut iad (written iad zeros)
 lies iad w = let front = laid-out iad zeros w (omega arith) .front in subst (LaidOut iad) (sym (filled iad _ w front)) front
 
 pub told-given : (number : ℕ) (kind : Kind) (atc : ℕ) (iad : Iad) → atc < 100_000 → Writable iad → OfBytes iad → (rest : List ℕ)

@@ -81,7 +81,7 @@ module _ (p r : List ℕ) where
     abbrev s : List ℕ
     s = p ++ r
 
-    taken-behind : (rules : Rules) (state : State) (at kind start end : ℕ) → nextAt r at ≡ Record kind start end
+    pub taken-behind : (rules : Rules) (state : State) (at kind start end : ℕ) → nextAt r at ≡ Record kind start end
         → (takenOf rules shape state s (length p + at) ≡ recordTaken rules shape state p kind (part r start end) (length p + end))
         × (takenWrites shape state s (length p + at) ≡ recordWrites shape state kind (part r start end))
     unfolding takenOf takenWrites
@@ -133,7 +133,7 @@ module _ (p r : List ℕ) where
         ∙ ap (λ mets. answerLines number (sittingOf shape p card log) (messagesOf shape p card mets)) (sym none)
 
     -- a run has no place where there is no record but its end
-    not-stopped : (at : ℕ) → Stopped r at → isRunFrom shape r at ≡ true → length r ≤ at
+    pub not-stopped : (at : ℕ) → Stopped r at → isRunFrom shape r at ≡ true → length r ≤ at
     not-stopped at stopped is =
         let stays = rests (length r) r at stopped .1 in
         let far = leb-true (length r) (placeIn (length r) r at) (both (leb (length r) (placeIn (length r) r at)) (allRead shape (metFrom shape r at)) is .0) in
@@ -171,7 +171,7 @@ module _ (p r : List ℕ) where
 
     -- ---- the paper, before the run
 
-    taken-before : (rules : Rules) (state : State) (at kind start end : ℕ) → nextAt p at ≡ Record kind start end
+    pub taken-before : (rules : Rules) (state : State) (at kind start end : ℕ) → nextAt p at ≡ Record kind start end
         → (takenOf rules shape state s at ≡ takenOf rules shape state p at) × (takenWrites shape state s at ≡ takenWrites shape state p at)
     unfolding takenOf takenWrites
     taken-before rules state at kind start end e =
@@ -222,7 +222,7 @@ module _ (p r : List ℕ) where
     at-seam (suc n) rules state at e = rw (past-end p at (omega arith)) (ap (eventsFrom (length s) rules shape state s) e)
 
     -- what is refused would end the paper
-    refused : (n : ℕ) (rules : Rules) (state : State) (at : ℕ) (refusal : Refusal) → takenOf rules shape state p at .event ≡ Refused refusal
+    pub refused : (n : ℕ) (rules : Rules) (state : State) (at : ℕ) (refusal : Refusal) → takenOf rules shape state p at .event ≡ Refused refusal
         → ReadFrom (suc n) rules shape state p at → ⊥
     unfolding ReadFrom
     refused n rules state at refusal e read = rw e at read

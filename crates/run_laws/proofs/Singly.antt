@@ -124,7 +124,18 @@ module _ (shape : Shape) (paper : List ℕ) where
             ∙ ap (λ others. spelled answer ++ others) (rest .answers-are ∙ ap (λ sitting. answersOver sitting messages) then);
       }
 
-  -- A RUN that is carried out
+  -- A RUN that is carried out: its answers stand in front in the room
+  pub answers-there : (card : Card) (records room : List ℕ) (n : ℕ) → ruledRun shape records (length room) ≡ Done n
+      → take (36 * n) (roomRun shape paper card records room) ≡ answersTo shape paper card (recordsIn records)
+  answers-there card records room n done =
+      let is = done-is shape records (length room) n done in
+      let answers = answersTo shape paper card (recordsIn records) in
+      let long = answers-size shape paper card (recordsIn records) (parts shape paper records (is .0) .1) in
+      let to : 36 * n ≡ length answers = omega (arith, is .2, long) in
+      ap (take (36 * n)) (placed shape paper card records room (is .0) (is .1))
+      ∙ ap (λ (k : ℕ). take k (answers ++ drop (size * length (recordsIn records)) room)) to
+      ∙ take-append-seam answers (drop (size * length (recordsIn records)) room)
+
   pub as-singly : (card : Card) (records room : List ℕ) (n : ℕ) → ruledRun shape records (length room) ≡ Done n →
       let messages = messagesOf shape paper card (recordsIn records) in
       let then = converse (seated card) messages in
@@ -135,14 +146,9 @@ module _ (shape : Shape) (paper : List ℕ) where
       let is = done-is shape records (length room) n done in
       let read = parts shape paper records (is .0) .1 in
       let singly = all (recordsIn records) card [] read in
-      let left = after shape paper card records (length room) (is .0) (is .1) in
-      let answers = answersTo shape paper card (recordsIn records) in
-      let long = answers-size shape paper card (recordsIn records) read in
-      let to : 36 * n ≡ length answers = omega (arith, is .2, long) in (
+      let left = after shape paper card records (length room) (is .0) (is .1) in (
         ap (λ c. c .state) left ∙ singly .state-is,
         ap (λ c. c .rules) left ∙ singly .rules-are,
         ap (λ c. c .rooms) left ∙ singly .rooms-are,
-        ap (take (36 * n)) (placed shape paper card records room (is .0) (is .1))
-            ∙ ap (λ (k : ℕ). take k (answers ++ drop (size * length (recordsIn records)) room)) to
-            ∙ take-append-seam answers (drop (size * length (recordsIn records)) room) ∙ singly .answers-are,
+        answers-there card records room n done ∙ singly .answers-are,
       )

@@ -53,7 +53,7 @@ pub record Opens (p : List ℕ) (version start end : ℕ) : Type 0 where
   pub version-is : byte p 0 ≡ version
   pub first : nextAt p 1 ≡ Record 1 start end
 
-opens : (p : List ℕ) (version start end : ℕ) → openPaper p ≡ Setup version start end → Opens p version start end
+pub opens : (p : List ℕ) (version start end : ℕ) → openPaper p ≡ Setup version start end → Opens p version start end
 unfolding openPaper
 opens p version start end is = by (isUnreadable p) (nextAt p 1) refl refl is where
   by-kind : (kind from to : ℕ) (b : Bool) → eqb kind 1 ≡ b → isUnreadable p ≡ false → nextAt p 1 ≡ Record kind from to
@@ -89,12 +89,12 @@ module _ (p r : List ℕ) (fits : length (p ++ r) ≤ 65536) (version start end 
   body-same : part (p ++ r) start end ≡ part p start end
   body-same = Appended.part-before p r 1 1 start end (inside p 1 1 start end (o .first))
 
-  begun-same : begunOf (p ++ r) ≡ begunOf p
+  pub begun-same : begunOf (p ++ r) ≡ begunOf p
   unfolding begunOf
   begun-same =
       ap (openedBegun (p ++ r)) still-open ∙ ap (λ body. setupBegun version body start end) body-same ∙ ap (openedBegun p) (sym (o .is))
 
-  words-same : (words : List ℕ) → wordsBegun words (p ++ r) ≡ wordsBegun words p
+  pub words-same : (words : List ℕ) → wordsBegun words (p ++ r) ≡ wordsBegun words p
   unfolding wordsBegun
   words-same words =
       ap (openedWords words (p ++ r)) still-open ∙ ap (setupWords words version) body-same ∙ ap (openedWords words p) (sym (o .is))
@@ -117,7 +117,7 @@ module _ (p : List ℕ) (version start end : ℕ) (o : Opens p version start end
     by Off lies = tt
     by (On from to entries) lies = (omega (arith, lies .0), omega (arith, lies .1, i))
 
-  within : begunOf p .event ≡ SetUp → Within p (begunOf p)
+  pub within : begunOf p .event ≡ SetUp → Within p (begunOf p)
   unfolding begunOf setupBegun baseBegun pastBegun
   within e = subst (λ opened. openedBegun p opened .event ≡ SetUp → Within p (openedBegun p opened)) (sym (o .is)) (by (shapeOf version (part p start end)) refl) e where
     by-log : (judged : Judged) (good : Bool) (begun : Begun) → Within p begun → loggedBegun judged good end begun .event ≡ SetUp

@@ -60,7 +60,8 @@ returns-3 c =
     let lines = lines-put (now (a .words)) (now (a .paper)) (now (a .room)) (a .at) fits in
     let whole = sym (put .transcribe .ensures .0 ∙ lines .0) ∙ told .end .given .1 in
     let e = log .put-log .ensures in
-    let text = log-put (now (a .words)) (now (a .paper)) (now (a .room)) (a .at) fits (sym (same-end _ _ whole)) (put .transcribe .ensures .1 ∙ lines .1) (e .0) (e .1) (e .2) in
+    let text =
+    log-put (now (a .words)) (now (a .paper)) (now (a .room)) (a .at) fits (sym (same-end _ _ whole)) (put .transcribe .ensures .1 ∙ lines .1) (e .0) (e .1) (e .2) in
     (rw (fits, text .0, ← same-end _ _ whole), rw (fits, text .1), rw (fits) (put .transcribe .ensures .2 ∙ lines .2), text .2)
 
 pub put-parts-spec : {M : Type 1} → statement M

@@ -1,0 +1,5 @@
+pub mod Answers
+pub mod Said
+pub mod Rings
+pub mod Behind
+pub mod Papers
