@@ -1,5 +1,5 @@
 -- A run watched from a place on: what is in the ring, and the records still to come. Assumes nothing.
-use mathlib.Core.Path.{_≡_, refl, sym, ap, _∙_}
+use mathlib.Core.Path.{_≡_, sym, ap, _∙_}
 use mathlib.Core.List.{List, [], _∷_}
 use mathlib.Core.Logic.{inl, inr}
 use types.Run.{OneOf}
@@ -17,7 +17,7 @@ use Rattle.paper.specs.declared.Next.{Next}
 use Rattle.paper.specs.declared.Next.the-variants.{Record, Fault, End}
 use Rattle.paper.proofs.Next as N
 use Rattle.paper.specs.Paper.{nextAt}
-use Rattle.paper.specs.Walk.{Met, part, metIn}
+use Rattle.paper.specs.Walk.{part, metIn}
 use Rattle.paper.proofs.Walk.{inside, Stopped, past-end, rests, walk-on}
 use Rattle.answers.specs.Answers.{size}
 use Rattle.journal.specs.declared.Logging.{Logging}

@@ -38,6 +38,7 @@ use Rattle.log_laws.proofs.Answers.{Told, recordsOf, paper-told}
 use Rattle.run_log_laws.specs.RunSeen.{seenOver, ringBehind}
 use Rattle.run_log_laws.proofs.Rings.{Readable, first-of, run-logs}
 use Rattle.run_log_laws.proofs.Behind.{tail, front}
+use Rattle.run_log_laws.proofs.Log.{tail-in, logging-same}
 
 -- ---- every answer of a paper can be read from its bytes
 
@@ -85,6 +86,10 @@ module _ (words p r : List ℕ) (fits : length (p ++ r) ≤ 65536) (read : ReadW
   abbrev rules : Rules
   rules = rulesOf (wordsBegun words p)
 
+  set-up : begun .event ≡ SetUp
+  unfolding ReadWhole
+  set-up = read .0
+
   module _ (version start end : ℕ) (o : Opens p version start end) where
     -- the set-up is the same
     begins : begunOf (p ++ r) ≡ begun
@@ -106,8 +111,14 @@ module _ (words p r : List ℕ) (fits : length (p ++ r) ≤ 65536) (read : ReadW
         ∙ ap (λ (more : List Seen). seenFrom (length p) rules (begun .shape) (begun .state) p (begun .at) ++ more)
         (from-here ∙ behind ∙ ap (λ (k : ℕ). seenOver (begun .shape) p card k (recordsIn r)) seam))
 
+    logging-is : logIn words (p ++ r) .logging ≡ logIn words p .logging
+    unfolding logIn
+    logging-is =
+        rw (begins, words-same p r fits version start end o words) (logging-same p r rules (begun .shape) (tail-in p version start end o set-up))
+
   pub record Opened-so : Type 0 where
     pub begun-is : begunOf (p ++ r) .event ≡ SetUp
+    pub logging-is : logIn words (p ++ r) .logging ≡ logIn words p .logging
     pub seen-is : isRun (begun .shape) r ≡ true → seenIn words (p ++ r) ≡ seenIn words p ++ seenOver (begun .shape) p card (length p) (recordsIn r)
 
   opened-so : Opened-so
@@ -117,7 +128,11 @@ module _ (words p r : List ℕ) (fits : length (p ++ r) ≤ 65536) (read : ReadW
     by (OpenRefused refusal) e = absurd (let z : _≡_ {A = ℕ} 0 1 = (let f = ap (λ opened. openedBegun p opened .event) (sym e) ∙ read .0 in cc) in omega arith)
     by (Setup version start end) e =
         let o = opens p version start end e in
-        record { begun-is = ap (λ (b : Begun). b .event) (begins version start end o) ∙ read .0; seen-is = whole version start end o }
+        record {
+          begun-is = ap (λ (b : Begun). b .event) (begins version start end o) ∙ set-up;
+          logging-is = logging-is version start end o;
+          seen-is = whole version start end o;
+        }
 
   -- WHAT IS SAID IN THE PAPER, AND THEN IN THE RUN, lent the place where it begins
   pub seen-joined : isRun (begun .shape) r ≡ true → seenIn words (p ++ r) ≡ seenIn words p ++ seenOver (begun .shape) p card (length p) (recordsIn r)
@@ -144,3 +159,11 @@ module _ (words p r : List ℕ) (fits : length (p ++ r) ≤ 65536) (read : ReadW
     -- SO IT HAS THE NEWEST of the transactions that are logged in both
     pub joined-newest : Newest (logging .size) (loggedIn logging (turned [] (seenIn words (p ++ r)))) both-rings
     joined-newest = rw logs-joined (through-newest logging (seenIn words (p ++ r)))
+
+  -- AND WITH THE PAPER'S LOG the newest of those that both together log
+  module _ (lent : length words ≡ wordCount) (bytes : Bytes (p ++ r)) (room : List ℕ) (n : ℕ) (done : ruledRun (begun .shape) r (length room) ≡ Done n) where
+    pub joined-owed : Newest (logIn words p .logging .size) (loggedOf words (p ++ r)) (both-rings lent bytes room n done (logIn words p .logging))
+    unfolding loggedOf
+    joined-owed =
+        subst (λ (logging : Logging). Newest (logging .size) (loggedOf words (p ++ r)) (both-rings lent bytes room n done logging)) (opened-so .logging-is)
+        (joined-newest lent bytes room n done (logIn words (p ++ r) .logging))

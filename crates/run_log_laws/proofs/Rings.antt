@@ -1,5 +1,5 @@
 -- The ring behind a run is the one of what was said, where it stood and what was answered; a refused run leaves the ring. Assumes nothing.
-use mathlib.Core.Path.{_≡_, refl, ap, subst, _∙_}
+use mathlib.Core.Path.{_≡_, refl, subst}
 use mathlib.Core.Bool.{true}
 use mathlib.Core.List.{List, [], _∷_, _++_}
 use Prim.Native.Nat.{ℕ, _+_}
@@ -19,7 +19,7 @@ use Rattle.journal.specs.declared.Logging.{Logging}
 use Rattle.journal.specs.Logged.{Seen, heardOut, ringThrough}
 use Rattle.run_rule.specs.declared.Ran.the-variants.{Done, Refused}
 use Rattle.run_rule.proofs.Rulings.{done-is}
-use Rattle.runs.specs.Runs.{recordsIn, allRead, Card, answeredIn, takenBy, cardBehind, answersTo, ruledRun}
+use Rattle.runs.specs.Runs.{recordsIn, allRead, Card, cardBehind, answersTo, ruledRun}
 use Rattle.run_laws.proofs.Laws.{both, parts}
 use Rattle.run_laws.proofs.Singly.{answers-there}
 use Rattle.reply_laws.specs.Heard.{Legible}

@@ -21,16 +21,14 @@ use Rattle.command.specs.declared.Command.the-variants.{Start, First as FirstCo
 use Rattle.command.specs.declared.ReadCommand.{ReadCommand}
 use Rattle.command.specs.declared.ReadCommand.the-variants.{Taken as CommandTaken, Refused as CommandRefused}
 use Rattle.command.specs.Command.{isCpace, startLength, firstLength, slotsOf, secondOf, commandOf, startSelected, selectingOf, readBy, commandIn, isCommand}
-use Rattle.command.proofs.Readable.{Reads, read-or-not}
+use Rattle.command.proofs.Readable.{read-or-not}
 use Rattle.scripting.specs.Scripting.{scriptStep}
 use Rattle.card.specs.Card.{answerNumber, stepOf}
-use Rattle.card.specs.Message.{Message, FirstCommand as FirstMessage, SecondCommand as SecondMessage, messageStep}
+use Rattle.card.specs.Message.{FirstCommand as FirstMessage, SecondCommand as SecondMessage, messageStep}
 use Rattle.records.specs.declared.Said.{Said}
 use Rattle.records.specs.declared.Said.the-variants.{Command as SaidCommand, Script}
-use Rattle.records.specs.declared.Event.{Event}
 use Rattle.records.specs.declared.Event.the-variants.{Answered}
 use Rattle.records.specs.Records.{answeredBy, scriptedBy, isScript, canBeRead}
-use Rattle.journal.specs.declared.Heard.{Heard}
 use Rattle.journal.specs.declared.Heard.the-variants.{First, Second, Other}
 use Rattle.demands.specs.Due.{InKind}
 use Rattle.demands.proofs.Refusal.{in-kind}

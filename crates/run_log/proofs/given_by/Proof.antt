@@ -2,7 +2,7 @@ use borrow.Author.Needs.{needs}
 use denote.Ref.{now}
 use mathlib.Core.Path.{ap₂, _∙_}
 use Prim.Native.Nat.{ℕ, _+_, _*_}
-use Rattle.run_log.specs.RunLog.{kindBy, givenBy}
+use Rattle.run_log.specs.RunLog.{givenBy}
 use Rattle.run_log.proofs.Going.{five, same-fields}
 use Rattle.run_log.proofs.given_by.Statement.{statement}
 use Rattle.run_log.proofs.given_by.Tie as tie

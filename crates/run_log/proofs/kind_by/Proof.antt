@@ -1,4 +1,3 @@
-use borrow.Author.Needs.{needs}
 use borrow.Author.Tests.{eq-eqb, ne-eqb}
 use Rattle.run_log.proofs.kind_by.Statement.{statement}
 use Rattle.run_log.proofs.kind_by.Tie as tie
