@@ -1,3 +1,4 @@
 pub mod Bytes
 pub mod Loaded
 pub mod Fresh
+pub mod Shapes
