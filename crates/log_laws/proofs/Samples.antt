@@ -133,6 +133,31 @@ again-lines =
     text "1 0 1\n2 0 80 1 0FA501A03020000000000000500001000F010000000000000000000000000000\n3 2\n"
     ++ text "4 0 40 1 0FA501623020010000000000500102000F010000000000000000000000000000\n"
 
+-- approvals, offline ones only: one at First, one online, one after Z3, and a decline
+unfoldable pub offline-tail : List ℕ
+unfolding pairs
+offline-tail = bytes "011478010001010504"
+
+unfoldable pub offline : List ℕ
+unfolding pairs
+offline =
+    bytes "00020201" ++ bytes "000D03010000000000000064097822"
+    ++ bytes "00020201" ++ bytes "000D030200000000000000C8097822" ++ bytes "0009040130300100800000"
+    ++ bytes "00020201" ++ bytes "000D0302000000000000012C097822" ++ bytes "000904015A330212345678"
+    ++ bytes "00020201" ++ bytes "000D03000000000000000190097822"
+
+abbrev offline-lines : List ℕ
+offline-lines =
+    text "1 0 1\n2 0 40 1 0FA501903000000000000000010001000F010000000000000000000000000000\n"
+    ++ text "3 0 2\n4 0 80 2 0FA501A03000000000000000010001000F010000000000000000000000000000\n"
+    ++ text "5 0 40 2 0FA501603000000000000000010001000F010000000000000000000000000000\n"
+    ++ text "6 0 3\n7 0 80 3 0FA501A03000000000000000010001000F010000000000000000000000000000\n"
+    ++ text "8 0 40 3 0FA501623000010000000000040002000F010000000000000000000000000000\n"
+    ++ text "9 0 4\n10 0 00 4 0FA501823100000000000000040002000F010000000000000000000000000000\n"
+
+abbrev offline-both : List ℕ
+offline-both = text "log 1 000000000300097800000000034012345678\nlog 2 0000000001000978000000000140\n"
+
 unfoldable pub same : (a b : List ℕ) → Bool
 same [] [] = true
 same [] (y ∷ b) = false
@@ -153,11 +178,12 @@ pub record Samples : Type 0 where
   pub newest : T (same (shown tail records lines) both)
   pub refused-first : T (same (shown tail again again-lines) (text "log 1 00000000000109780000006230200100000140225933\n"))
   pub ended-lines : T (same (shown tail records (lines ++ text "9 9\n")) [])
+  pub offline-only : T (same (shown offline-tail offline offline-lines) offline-both)
 
 pub samples : Samples
 unfolding paper pairs answered secondStep secondPerformed unablePerformed closed isWhole logOwed wholeLines newestLines linesFrom loggedOf seenIn seenFrom
     logIn logOf loggedIn firstIn cryptogram cvrNumber closedBy isLogging entryIn logLine valuesText fieldsText fieldTexts fieldIn fieldOf stretchOf
-    partOf purchaseText answerText octets numeral digitsOf hex number same tail records again joined linesUpTo logLines linesIn watchedLine ringBy
+    partOf purchaseText answerText octets numeral digitsOf hex number same tail records again offline-tail offline joined linesUpTo logLines linesIn watchedLine ringBy
     placeOf before behind pairAt decimalFrom cvrIn replyIn isEnding noted watched recordIn recordPut addedIn added countIn found nextAt placeAfter
 samples =
     record {
@@ -168,6 +194,7 @@ samples =
       newest = tt;
       refused-first = tt;
       ended-lines = tt;
+      offline-only = tt;
     }
 
 -- THE LOG BEHIND ITS LINES
