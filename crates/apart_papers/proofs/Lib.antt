@@ -2,3 +2,4 @@ pub mod Bytes
 pub mod Loaded
 pub mod Fresh
 pub mod Shapes
+pub mod Begun
