@@ -3,3 +3,4 @@ pub mod Loaded
 pub mod Fresh
 pub mod Shapes
 pub mod Begun
+pub mod Lines
