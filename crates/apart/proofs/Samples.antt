@@ -1,12 +1,15 @@
 -- `step-apart`, computed for a few sales: of a wrong card the statement itself is then shown to be false. Assumes nothing.
+use mathlib.Core.Path.{refl}
 use mathlib.Core.Bool.{Bool, true, false, not, _&&_}
 use mathlib.Core.List.{List, [], _∷_, _++_}
 use Prim.Native.Nat.{ℕ}
+use native.Mathlib.Omega.{arith}
 use lib.Dec.{T, eqb}
 use Rattle.refusal.specs.Refusal.{refusalNumber}
 use Rattle.money.specs.declared.AccumulatorAmount.{AccumulatorAmount}
 use Rattle.money.specs.Money.{max, blank, rateFor, rounded, scaled, convertOf}
 use Rattle.cpace.specs.declared.Cvm.the-variants.{NoCvm}
+use Rattle.rules.specs.declared.Place.the-variants.{One}
 use Rattle.rules.specs.Rules.{Profile, Rules, two, four, five, eight, blankAccumulator, blankCounter, blankProfile, blankCycle, blankCyclic, findProfile}
 use Rattle.purchase.specs.Meter.{Meter, accumulator, counter, worth, isOpen}
 use Rattle.limits.specs.Limits.{bit, accumulatorsLower, accumulatorsUpper, countersLower, countersUpper, datingFlags}
@@ -30,6 +33,7 @@ use Rattle.first.specs.First.{firstAnswered, firstPerformed}
 use Rattle.closing.specs.Closing.{closed, ordered}
 use Rattle.second.specs.Second.{unablePerformed, verifiedPerformed, failedPerformed, absentPerformed, secondPerformed}
 use Rattle.card.specs.Card.{firstStep, secondStep, stepOf}
+use Rattle.apart.specs.Off.{IsOff, Quiet}
 use Rattle.apart.specs.Alike.{wipedState}
 
 -- ---- cards
@@ -162,6 +166,17 @@ amounts at commands a b = same (heard (rulesFor at) (accumulator 0) (card a 0) c
 unfoldable pub counts : Profile → List Command → (a b : ℕ) → Bool
 counts at commands a b = same (heard (rulesFor at) (counter 0) (card 0 a) commands) (heard (rulesFor at) (counter 0) (card 0 b) commands)
 
+-- THE PREMISE IS MET on the way: x is off whenever a profile is open
+unfoldable pub Quieted : Rules → Meter → State → List Command → Type 0
+Quieted rules x state [] = Unit
+Quieted rules x state (command ∷ more) = Quiet rules x (state .phase) × Quieted rules x (stepOf rules state command .state) more
+
+amount-off : IsOff (rulesFor (profile false 0 0)) (accumulator 0) One
+amount-off = record { inactive = refl; unsent = λ e. omega arith }
+
+count-off : IsOff (rulesFor (profile false 0 0)) (counter 0) One
+count-off = record { inactive = refl; unsent = (λ e. omega arith, λ e. omega arith) }
+
 pub record Samples : Type 0 where
   -- neither active nor sent: below its limits, above them, and full
   pub unsent : T (amounts (profile false 0 0) sale 0 3)
@@ -175,12 +190,13 @@ pub record Samples : Type 0 where
   pub day-gives : T (same (kinds (rulesFor (profile false 0 0)) (card 3 0) day) (0x40 ∷ 0x00 ∷ 0x80 ∷ 0x40 ∷ 0x80 ∷ 0x40 ∷ []))
   pub whole-day : T (amounts (profile false 0 0) day 0 3)
   pub counter-day : T (counts (profile false 0 0) day 0 3)
+  pub day-quiet : Quieted (rulesFor (profile false 0 0)) (accumulator 0) (card 3 0) day × Quieted (rulesFor (profile false 0 0)) (counter 0) (card 0 3) day
   -- THE PREMISE IS NEEDED: sent, or active, it shows
   pub sent-shows : T (not (amounts (profile false 1 0) sale 0 3) && not (counts (profile false 0 1) sale 0 3))
   pub active-shows : T (not (amounts (profile true 0 0) sale 0 10) && not (counts (profile true 0 0) sale 0 10))
 
 pub samples : Samples
-unfolding amounts counts heard kinds stepOf startStep firstStep secondStep findProfile firstPerformed firstAnswered timingOf dated decisionBits
+unfolding amounts counts heard kinds Quieted stepOf startStep firstStep secondStep findProfile firstPerformed firstAnswered timingOf dated decisionBits
     accumulatorsLower accumulatorsUpper countersLower countersUpper datingFlags maximumExceeded decision limitsByte verification settled asked concluded
     sentIad applied worth isOpen convertOf rateFor rounded scaled kept freshScripts started heardAgain marksOf closed ordered unablePerformed verifiedPerformed
     failedPerformed absentPerformed secondPerformed
@@ -195,6 +211,12 @@ samples =
       day-gives = tt;
       whole-day = tt;
       counter-day = tt;
+      day-quiet =
+          let a = amount-off in
+          let c = count-off in (
+            (tt, (a, (tt, (a, (tt, (a, (a, (tt, (a, (a, (tt, tt))))))))))),
+            (tt, (c, (tt, (c, (tt, (c, (c, (tt, (c, (c, (tt, tt))))))))))),
+          );
       sent-shows = tt;
       active-shows = tt;
     }

@@ -30,7 +30,7 @@ use Rattle.apart_papers.proofs.Bytes.{shared, same-number, early-number
 use Rattle.apart_papers.proofs.Loaded.{loaded-same}
 
 -- an accepted one has a head
-long : (s c f : List ℕ) (unnamed : ℕ) → isAccepted s c f unnamed ≡ true → 52 ≤ length s
+pub long : (s c f : List ℕ) (unnamed : ℕ) → isAccepted s c f unnamed ≡ true → 52 ≤ length s
 unfolding isSetup hasLength
 long s c f unnamed good =
     let setup = both (isSetup s unnamed) (areCycles c) (both (isSetup s unnamed && areCycles c) (isFamily f) good .0) .0 in

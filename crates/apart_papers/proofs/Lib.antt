@@ -2,3 +2,5 @@ pub mod Bytes
 pub mod Loaded
 pub mod Fresh
 pub mod Shapes
+pub mod Begun
+pub mod Lines

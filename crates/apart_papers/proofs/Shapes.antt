@@ -27,19 +27,19 @@ use Rattle.apart_papers.proofs.Bytes.{Shared, late-drop}
 
 -- ---- behind the head
 
-abbrev LateSelecting : Selecting → Type 0
+abbrev pub LateSelecting : Selecting → Type 0
 LateSelecting Off = Unit
 LateSelecting (On start end entries) = 52 ≤ start
 
-abbrev LateDating : Dating → Type 0
+abbrev pub LateDating : Dating → Type 0
 LateDating DatesOff = Unit
 LateDating (DatesOn start end) = 52 ≤ start
 
-abbrev LateFamily : Family → Type 0
+abbrev pub LateFamily : Family → Type 0
 LateFamily Cpa = Unit
 LateFamily (Cpace start end) = 52 ≤ start
 
-abbrev LateLogging : Logging → Type 0
+abbrev pub LateLogging : Logging → Type 0
 LateLogging LogOff = Unit
 LateLogging (LogOn start end) = 52 ≤ start
 

@@ -1,0 +1,1 @@
+// What is switched off does not matter: pairs of papers, computed, and no code that runs.
