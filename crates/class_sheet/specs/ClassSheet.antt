@@ -46,6 +46,10 @@ unfoldable pub takenOf : (sheet paper : List ℕ) → Taken
 takenOf sheet paper =
     cond (isFull sheet) (Refused TooManyPapers) (cond (hasRoom sheet (paperTallies paper)) Done (Refused TooManyCurrencies))
 
+abbrev pub takenNumber : Taken → ℕ
+takenNumber Done = 0
+takenNumber (Refused refusal) = refusalNumber refusal
+
 -- the sheet with all that it adds, and one paper more; refused, the sheet stays
 unfoldable pub sheetAfter : (sheet paper : List ℕ) → List ℕ
 sheetAfter sheet paper =

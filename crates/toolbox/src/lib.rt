@@ -1,15 +1,19 @@
 // The tools beside the sitting, on standard input and output. `display` shows a paper, each line of its
 // sitting with the room left behind it, and its log behind everything. `bench` takes a stack: a paper, and
-// then runs for its card. What is read is answered by the crates `display`, `paper_text` and `bench`; here
-// it is only read and written.
+// then runs for its card. `report` and `tally` take a stack of papers, and write the sheet of the class.
+// What is read is answered by the crates `display`, `paper_text`, `bench`, `class_sheet` and `sheet_lines`;
+// here it is only read and written.
 ghost use Prim.Native.Nat.{_≤_};
 ghost use lib.ListN.{length};
 use bench::Page;
+use class_sheet::Taken;
 use paper_text::Parts;
 use record_lines::Showing;
 use rooms::Rooms;
 use rules::Words;
 use shape::Shape;
+use sheet::Sheet;
+use sheet_lines::Form;
 use shown::Shown;
 use shown::Wants;
 use state::State;
@@ -330,6 +334,105 @@ fn answer_stack(first: &mut [u8], buffer: &mut [u8], room: &mut [u8], text: &mut
     }
 }
 
+// How a class's stack goes on behind a paper.
+enum Papers {
+    More,
+    End,
+    CutShort,
+    NotRead,
+    NotWritten,
+}
+
+// A paper taken into the sheet; where it is refused that is written, with its number in the stack.
+fn enter(sheet: &mut Sheet, paper: &[u8], form: Form, number: u64, text: &mut [u8]) -> Papers {
+    let Taken::Refused(refusal) = class_sheet::take_paper(sheet, paper) else {
+        return Papers::More;
+    };
+    let end = sheet_lines::put_refused(text, 0, form, refusal.number(), number);
+    if streams::write_out(text, end) {
+        return Papers::More;
+    }
+    Papers::NotWritten
+}
+
+// The paper of so many bytes at the front of the buffer.
+fn enter_front(
+    sheet: &mut Sheet,
+    buffer: &[u8],
+    size: usize,
+    form: Form,
+    number: u64,
+    text: &mut [u8],
+) -> Papers
+    requires { ⌜ size ≤ length (now buffer) ⌝ }
+{
+    enter(sheet, &buffer[..size], form, number, text)
+}
+
+// The next paper of a stack. One that is too long has no byte here: both are refused by 9.
+fn enter_next(
+    sheet: &mut Sheet,
+    buffer: &mut [u8],
+    form: Form,
+    number: u64,
+    text: &mut [u8],
+) -> Papers
+    requires { ⌜ 65536 ≤ length (now buffer) ⌝ }
+{
+    let next = read_next(buffer, LONGEST_PAPER);
+    let found = next.found;
+    let size = next.size;
+    match found {
+        Found::Block => enter_front(sheet, buffer, size, form, number, text),
+        Found::TooLong => enter(sheet, b"", form, number, text),
+        Found::End => Papers::End,
+        Found::CutShort => Papers::CutShort,
+        Found::NotRead => Papers::NotRead,
+    }
+}
+
+// All papers of a stack. It ends after more papers than any input has.
+fn enter_all(sheet: &mut Sheet, buffer: &mut [u8], form: Form, text: &mut [u8]) -> Papers
+    requires { ⌜ 65536 ≤ length (now buffer) ⌝ }
+{
+    let mut number: u64 = 0;
+    while number < 18_446_744_073_709_551_615 {
+        number += 1;
+        let papers = enter_next(sheet, buffer, form, number, text);
+        let Papers::More = papers else {
+            return papers;
+        };
+    }
+    Papers::NotRead
+}
+
+// The sheet, and how the stack ended.
+fn write_sheet(sheet: &Sheet, form: Form, text: &mut [u8], ending: Ending) -> Ending {
+    let end = sheet_lines::put_sheet(text, 0, form, sheet);
+    if streams::write_out(text, end) {
+        return ending;
+    }
+    Ending::NotWritten
+}
+
+// The sheet of a class, whose papers are a stack.
+fn tell_class(buffer: &mut [u8], form: Form, text: &mut [u8]) -> Ending
+    requires { ⌜ 65536 ≤ length (now buffer) ⌝ }
+{
+    let mut sheet = sheet::blank();
+    match enter_all(&mut sheet, buffer, form, text) {
+        Papers::End => write_sheet(&sheet, form, text, Ending::Done),
+        Papers::CutShort => {
+            if streams::write_out(b"cut short\n", 10) {
+                return write_sheet(&sheet, form, text, Ending::CutShort);
+            }
+            Ending::NotWritten
+        }
+        Papers::NotWritten => Ending::NotWritten,
+        _ => Ending::NotRead,
+    }
+}
+
 // Whether the first argument is a name.
 fn is_named(name: &[u8]) -> bool {
     let mut argument = [0u8; 16];
@@ -359,6 +462,12 @@ fn run_bench() {
     streams::acknowledge(answer_stack(&mut paper, &mut buffer, &mut room, &mut text));
 }
 
+fn run_class(form: Form) {
+    let mut buffer = [0u8; 65_536];
+    let mut text = [0u8; 19_602];
+    streams::acknowledge(tell_class(&mut buffer, form, &mut text));
+}
+
 // The tool that the first argument names.
 pub fn run_tool() {
     if is_named(b"display") {
@@ -366,5 +475,11 @@ pub fn run_tool() {
     }
     if is_named(b"bench") {
         run_bench();
+    }
+    if is_named(b"report") {
+        run_class(Form::Report);
+    }
+    if is_named(b"tally") {
+        run_class(Form::Tally);
     }
 }

@@ -1,0 +1,4 @@
+// The tool `report`, on three papers.
+fn main() {
+    toolbox::run_tool();
+}
