@@ -1,0 +1,9 @@
+pub mod Totals
+pub mod Listing
+pub mod Cells
+pub mod Sold
+pub mod Kept
+pub mod Saying
+pub mod Only
+pub mod Bounds
+pub mod Samples
