@@ -9,7 +9,8 @@ use lib.ListN.{List·getD-append}
 use Rattle.wire.specs.Wire.{byte, number}
 use Rattle.refusal.specs.declared.Refusal.{Refusal}
 use Rattle.refusal.specs.declared.Refusal.the-variants.{BadSetup, OutOfTurn, UnknownProfile, AtcUsedUp, BadType, OutOfRange, RoomTooSmall, NotAnIad, Unreadable}
-use Rattle.refusal.specs.declared.Refusal.the-variants.{BadRate, BadMta, NotSelected, NotADay, PastData, NoRoomForAnswers, Malformed, TooDeep}
+use Rattle.refusal.specs.declared.Refusal.the-variants.{BadRate, BadMta, NotSelected, NotADay, PastData, TooManyCurrencies, TooManyPapers}
+use Rattle.refusal.specs.declared.Refusal.the-variants.{NoRoomForAnswers, Malformed, TooDeep}
 use Rattle.refusal.specs.Refusal.{refusalNumber}
 use Rattle.iad.specs.declared.Iad.{Iad}
 use Rattle.iad.specs.Iad.{written}
@@ -47,6 +48,8 @@ no-refusal-0 =
       | NotSelected ↦ refl
       | NotADay ↦ refl
       | PastData ↦ refl
+      | TooManyCurrencies ↦ refl
+      | TooManyPapers ↦ refl
       | NoRoomForAnswers ↦ refl
       | Malformed ↦ refl
       | TooDeep ↦ refl
