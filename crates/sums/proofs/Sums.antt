@@ -10,7 +10,8 @@ use lib.Dec.{eqb, ltb, leb}
 use lib.ListN.{length, getD, set}
 use lib.Seq.{getD-set-other, set-getD}
 use Rattle.sheet.specs.Sheet.{stopped}
-use Rattle.sums.specs.Sums.{Sum, new, raised, sold, placeOf, countCell, codeCell, sumCell, most, sumAt, sumsFrom, sumsOf, sumPut, written, withSums, fitsSale, saleAdded}
+use Rattle.sums.specs.Sums.{Sum, new, raised, sold, placeOf, countCell, codeCell, sumCell, most, sumAt, sumsFrom, sumsOf, sumPut}
+use Rattle.sums.specs.Sums.{written, withSums, fitsSale, saleAdded}
 
 -- ---- the cells
 

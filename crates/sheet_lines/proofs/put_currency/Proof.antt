@@ -24,4 +24,5 @@ returns-2 c =
 pub put-currency-spec : {M : Type 1} → statement M
 put-currency-spec =
     tie.close
-    (tie.spec (search needs) returns (search needs) (search needs) (search needs) (search needs) (search needs) (search needs) (search needs) (search needs) (search needs) (search needs) returns-2)
+    (tie.spec (search needs) returns (search needs) (search needs) (search needs) (search needs) (search needs) (search needs)
+    (search needs) (search needs) (search needs) (search needs) returns-2)

@@ -47,7 +47,8 @@ returns-5 c =
     let three = two .before in
     let four = three .before in
     let five = four .before in
-    simp (eq-eqb _ _ (one .if5 .taken), lt-leb _ _ (two .if4 .left), ne-eqb _ _ (three .if3 .left), lt-leb _ _ (four .if2 .left), ne-eqb _ _ (five .if1 .left)) (put .put-refusal-rest .ensures)
+    simp (eq-eqb _ _ (one .if5 .taken), lt-leb _ _ (two .if4 .left), ne-eqb _ _ (three .if3 .left), lt-leb _ _ (four .if2 .left), ne-eqb _ _ (five .if1 .left))
+    (put .put-refusal-rest .ensures)
 
 returns-6 : tie.Need-returns-6
 unfolding lineAt
@@ -58,7 +59,8 @@ returns-6 c =
     let three = two .before in
     let four = three .before in
     let five = four .before in
-    simp (ne-eqb _ _ (one .if5 .left), lt-leb _ _ (two .if4 .left), ne-eqb _ _ (three .if3 .left), lt-leb _ _ (four .if2 .left), ne-eqb _ _ (five .if1 .left)) (put .put-currency .ensures)
+    simp (ne-eqb _ _ (one .if5 .left), lt-leb _ _ (two .if4 .left), ne-eqb _ _ (three .if3 .left), lt-leb _ _ (four .if2 .left), ne-eqb _ _ (five .if1 .left))
+    (put .put-currency .ensures)
 
 pub put-line-spec : {M : Type 1} → statement M
 put-line-spec =

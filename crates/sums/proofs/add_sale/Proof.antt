@@ -20,8 +20,8 @@ returns-2 c =
     let placed = inside .before in
     let counted = placed .before .before in
     let a = counted .before .before .args in
-    let sale = added (a .currency) (a .amount) (now (a .sheet)) _ (placed .place-of .result) refl (placed .place-of .ensures .0) (counted .if1 .left) (inside .if2 .taken)
-    (there .if3 .taken) in
+    let sale = added (a .currency) (a .amount) (now (a .sheet)) _ (placed .place-of .result) refl (placed .place-of .ensures .0)
+    (counted .if1 .left) (inside .if2 .taken) (there .if3 .taken) in
     (sale .0, ap (λ n. set (now (a .sheet)) (sumCell (placed .place-of .result)) n) (c .plus .ensures) ∙ sale .1)
 
 returns-3 : tie.Need-returns-3

@@ -11,7 +11,8 @@ use Rattle.sums.proofs.push.Tie as tie
 
 abbrev Inv-loop : tie.InvT-loop
 Inv-loop sheet₀ from count code sum code₀ sum₀ at₀ sheet carried-code carried-sum at =
-    (at ≤ count) × (written from (new code sum ∷ sumsFrom (count - from) from sheet₀) sheet₀ ≡ written at (new carried-code carried-sum ∷ sumsFrom (count - at) at sheet) sheet)
+    (at ≤ count)
+    × (written from (new code sum ∷ sumsFrom (count - from) from sheet₀) sheet₀ ≡ written at (new carried-code carried-sum ∷ sumsFrom (count - at) at sheet) sheet)
 
 abbrev μ-loop : tie.MeasureT-loop
 μ-loop sheet₀ from count code sum code₀ sum₀ at₀ sheet carried-code carried-sum at = count - at
