@@ -134,8 +134,10 @@ accepted-if : (shape : Shape) (base cycles family : List ℕ) (end : ℕ) → ba
     → isAccepted base cycles family (shape .unnamed) ≡ true
 unfolding baseBegun readSetup
 accepted-if shape base cycles family end = by (isAccepted base cycles family (shape .unnamed)) where
-  by : (b : Bool) → setUpEvent (cond {A = ReadSetup} b (record { fresh = freshIn base cycles; answer = Done }) (record { fresh = noCard; answer = SetupRefused BadSetup }) .answer) ≡ SetUp
-      → b ≡ true
+  read : Bool → ReadSetup
+  read b = cond b (record { fresh = freshIn base cycles; answer = Done }) (record { fresh = noCard; answer = SetupRefused BadSetup })
+
+  by : (b : Bool) → setUpEvent (read b .answer) ≡ SetUp → b ≡ true
   by true e = refl
   by false e = let z : _≡_ {A = ℕ} 0 1 = cc in absurd (omega arith)
 
@@ -166,13 +168,15 @@ module _ (x : Meter) (is : IsSwitch x) (words s t : List ℕ) (same : SameSetups
     file-late Off h = tt
     file-late (On start to entries) h = omega arith
 
-    -- the base is read
+    -- the base is read, and the log is judged
+    abbrev baseFrom : Judged → (body : List ℕ) → Begun
+    baseFrom log body =
+        let base = basePart shape body in
+        loggedBegun log (isAccepted base cycles family (shape .unnamed)) end (baseBegun (shapeAt 4 shape) base cycles family end)
+
     by-log : (log : Judged)
-        → loggedBegun log (isAccepted (basePart shape s) cycles family (shape .unnamed)) end (baseBegun (shapeAt 4 shape) (basePart shape s) cycles family end) .event ≡ SetUp
-        → loggedBegun log (isAccepted (basePart shape t) cycles family (shape .unnamed)) end (baseBegun (shapeAt 4 shape) (basePart shape t) cycles family end) .event ≡ SetUp
-        → Begins x
-        (loggedBegun log (isAccepted (basePart shape s) cycles family (shape .unnamed)) end (baseBegun (shapeAt 4 shape) (basePart shape s) cycles family end))
-        (loggedBegun log (isAccepted (basePart shape t) cycles family (shape .unnamed)) end (baseBegun (shapeAt 4 shape) (basePart shape t) cycles family end))
+        → baseFrom log s .event ≡ SetUp → baseFrom log t .event ≡ SetUp
+        → Begins x (baseFrom log s) (baseFrom log t)
         (loggedWords log words (wordsAfter words (basePart shape s) cycles family (shape .syllabus) (shape .unnamed)))
         (loggedWords log words (wordsAfter words (basePart shape t) cycles family (shape .syllabus) (shape .unnamed)))
     unfolding baseBegun pastBegun
@@ -196,9 +200,7 @@ module _ (x : Meter) (is : IsSwitch x) (words s t : List ℕ) (same : SameSetups
     abbrev OtherBegun : Begun
     OtherBegun = shapedBegun t 4 end (ShapeTaken shape)
 
-    other-begun : loggedBegun (logJudged shape s) (isAccepted (basePart shape t) cycles family (shape .unnamed)) end
-        (baseBegun (shapeAt 4 shape) (basePart shape t) cycles family end)
-        ≡ OtherBegun
+    other-begun : baseFrom (logJudged shape s) t ≡ OtherBegun
     other-begun =
         let j = log-same in
         let c = cycles-same s t share version (shape .dating) (l .dating) in

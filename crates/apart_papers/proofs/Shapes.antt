@@ -21,7 +21,8 @@ use Rattle.shape.specs.declared.Tails.{Tails}
 use Rattle.shape.specs.declared.Tails.the-variants.{Ended, Wrong}
 use Rattle.shape.specs.declared.ReadShape.the-variants.{Taken, Refused}
 use Rattle.shape.specs.Shape.{baseLength, based, baseTail, entriesEnd, fileEnd, selects, selectionTail, follows, syllabusTail, dates, datesEnd, datingTail}
-use Rattle.shape.specs.Shape.{families, familyEnd, familyTail, scripts, scriptingTail, logs, tableEnd, logEnd, loggingTail, behind, since, tailsOf, whole, shapeOf}
+use Rattle.shape.specs.Shape.{families, familyEnd, familyTail, scripts, scriptingTail, logs, tableEnd, logEnd, loggingTail}
+use Rattle.shape.specs.Shape.{behind, since, tailsOf, whole, shapeOf}
 use Rattle.shape.specs.Shape.{cyclesPart, familyPart, logPart}
 use Rattle.apart_papers.proofs.Bytes.{Shared, late-drop}
 

@@ -22,10 +22,12 @@ use Rattle.apart_runs.proofs.Apart.{Apart, apart}
 cpa-untested : (selecting : Selecting) (slots : Slots) (paper : List ℕ) (kind : ℕ) (body : List ℕ) (x : Meter) → slots .testable ≡ false
     → IsUntested selecting slots paper kind body x
 cpa-untested Off slots paper kind body x none = tt
-cpa-untested (On start end entries) slots paper kind body x none = λ is slot its tests. cpa-tests-none (fileIn paper start end) entries body slots none slot tests
+cpa-untested (On start end entries) slots paper kind body x none =
+    λ is slot its tests. cpa-tests-none (fileIn paper start end) entries body slots none slot tests
 
 -- no entry tests accumulator 4
-pub fourth-spared : (selecting : Selecting) (slots : Slots) (paper : List ℕ) (kind : ℕ) (body : List ℕ) → IsUntested selecting slots paper kind body (accumulator 3)
+pub fourth-spared : (selecting : Selecting) (slots : Slots) (paper : List ℕ) (kind : ℕ) (body : List ℕ)
+    → IsUntested selecting slots paper kind body (accumulator 3)
 fourth-spared Off slots paper kind body = tt
 fourth-spared (On start end entries) slots paper kind body =
     λ is slot its tests. fourth-untested (fileIn paper start end) entries body slots (rw its at tests)

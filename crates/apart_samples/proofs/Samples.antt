@@ -43,7 +43,8 @@ sale type = spell (names unsaid 1) ++ spell (first type 1 0x0978 0x22 unshown)
 -- a script that puts accumulator 1 to 5, its MAC taken as verified
 abbrev putting : List ℕ
 putting =
-    spell (script 1 (0x71 ∷ 0x18 ∷ 0x86 ∷ 0x16 ∷ 0x0C ∷ 0xDA ∷ 0xBF ∷ 0x30 ∷ 0x11 ∷ 0x81 ∷ 0x09 ∷ 0xDF ∷ 0x01 ∷ 0x06 ∷ 0 ∷ 0 ∷ 0 ∷ 0 ∷ 0 ∷ 5 ∷ 0x8E ∷ 0x04 ∷ 0x11 ∷ 0x22 ∷ 0x33 ∷ 0x44 ∷ []))
+    let list : List ℕ = 0x81 ∷ 0x09 ∷ 0xDF ∷ 0x01 ∷ 0x06 ∷ 0 ∷ 0 ∷ 0 ∷ 0 ∷ 0 ∷ 5 ∷ [] in
+    spell (script 1 (0x71 ∷ 0x18 ∷ 0x86 ∷ 0x16 ∷ 0x0C ∷ 0xDA ∷ 0xBF ∷ 0x30 ∷ 0x11 ∷ list ++ 0x8E ∷ 0x04 ∷ 0x11 ∷ 0x22 ∷ 0x33 ∷ 0x44 ∷ []))
 
 -- approved, declined, online and reset by the issuer, online and unable; and one out of turn
 abbrev day : List ℕ
@@ -100,6 +101,7 @@ pub record Samples : Type 0 where
   pub tested-shows : T (not (pair 5 0 0 testing (spell (brings (on 0) (0x22 ∷ [])))))
 
 pub samples : Samples
-unfolding pair isDay isScripted kindOf bodyOf recordOf big number secondStep secondPerformed unablePerformed verifiedPerformed closed ordered heardAgain startSelected selectingOf
-    selectionOf selectFrom entriesOf follow actionTaken actionOf slotsOf testsSlot slotAction isSlotSound slotOf lacksAmount slotPasses slotValue answered heard
+unfolding pair isDay isScripted kindOf bodyOf recordOf big number secondStep secondPerformed unablePerformed verifiedPerformed closed ordered
+    heardAgain startSelected selectingOf selectionOf selectFrom entriesOf follow actionTaken actionOf slotsOf testsSlot slotAction isSlotSound slotOf
+    lacksAmount slotPasses slotValue answered heard
 samples = record { off = tt; whole-day = tt; is-day = tt; script-puts = tt; is-scripted = tt; sent-shows = tt; active-shows = tt; tested-shows = tt }
