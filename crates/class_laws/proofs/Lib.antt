@@ -1,2 +1,3 @@
 pub mod Paid
 pub mod Taking
+pub mod Order

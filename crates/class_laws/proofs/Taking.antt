@@ -30,7 +30,7 @@ small (answered profile kind) p = tt
 small (refused number) p = tt
 small (approved currency amount) p = omega arith
 
-all-small : {s : List Tally} → AllPayable s → AllSmall s
+pub all-small : {s : List Tally} → AllPayable s → AllSmall s
 all-small none-paid = all-none
 all-small (more-paid {tally = tally} p ps) = all-more (small tally p) (all-small ps)
 
@@ -66,10 +66,10 @@ module _ {taken : List (List Tally)} {sheet : List ℕ} (s : Stands taken sheet)
     room-is =
         ap₂ _&&_ (ap (λ n. leb n most) (s .kept .held .count-is) ∙ le-leb (length (s .sums)) most (s .kept .held .few)) (all-fit (paperTallies paper) (s .kept))
 
-    sells-then : Sells (joined (taken ++ paperTallies paper ∷ [])) then
+    pub sells-then : Sells (joined (taken ++ paperTallies paper ∷ [])) then
     sells-then = rw (joined-one taken (paperTallies paper)) (sells-all (paperTallies paper) (s .sells) (all-small (paper-paid paper)))
 
-    taken-is : takenOf sheet paper
+    pub taken-is : takenOf sheet paper
         ≡ cond (leb 200 (length taken)) (Refused TooManyPapers) (cond (leb (length then) most) Done (Refused TooManyCurrencies))
     unfolding takenOf
     taken-is = ap₂ (λ full room. cond full (Refused TooManyPapers) (cond room Done (Refused TooManyCurrencies))) full-is room-is
