@@ -1,0 +1,3 @@
+pub mod Paid
+pub mod Taking
+pub mod Order
