@@ -1,3 +1,4 @@
 pub mod Paid
 pub mod Taking
 pub mod Order
+pub mod Totals

@@ -2,24 +2,28 @@
 use mathlib.Core.Path.{_≡_, refl, sym, ap, subst, _∙_}
 use mathlib.Core.Bool.{Bool, true, false, cond, _&&_}
 use mathlib.Core.List.{List, [], _∷_, _++_, map, append-assoc}
+use mathlib.Core.List.{List·Permᴰ, List·Permᴰ·nil, List·Permᴰ·cons, List·Permᴰ·swap, List·Permᴰ·trans}
 use Prim.Native.Nat.{ℕ, suc, _+_, _≤_}
 use native.Mathlib.Omega.{arith}
 use borrow.Author.Tests.{le-leb, lt-leb}
-use lib.Dec.{leb}
+use lib.Dec.{leb, ltb}
 use lib.ListN.{length, length-map, length-append}
 use lib.Seq.{append-snoc}
 use Rattle.refusal.specs.declared.Refusal.the-variants.{TooManyCurrencies, TooManyPapers}
+use Rattle.sheet.specs.Sheet.{blankSheet, stopped}
 use Rattle.sums.specs.Sums.{Sum, most}
 use Rattle.tallies.specs.Tallies.{Tally}
 use Rattle.class_sheet.specs.declared.Taken.{Taken}
 use Rattle.class_sheet.specs.declared.Taken.the-variants.{Done, Refused}
 use Rattle.class_sheet.specs.ClassSheet.{paperTallies, takenOf, sheetAfter}
-use Rattle.sheet_laws.specs.Class.{joined}
+use Rattle.sheet_laws.specs.Class.{joined, salesOf, amountsOf}
+use Rattle.sheet_laws.proofs.Totals.{any-order as total-order, same-length}
+use Rattle.sheet_laws.proofs.Kept.{both}
 use Rattle.sheet_laws.proofs.Listing.{codes, same-lists}
 use Rattle.sheet_laws.proofs.Sold.{AllSmall, all-none, all-more, Sells, soldAll, sells-all, all-grow}
-use Rattle.class_laws.specs.Taking.{isDone, allDone}
+use Rattle.class_laws.specs.Taking.{isDone, sheetOf, takenFrom, allDone}
 use Rattle.class_laws.proofs.Paid.{paper-paid}
-use Rattle.class_laws.proofs.Taking.{all-small, Stands, sells-then, taken-is, taken-stands}
+use Rattle.class_laws.proofs.Taking.{all-small, Stands, sells-then, taken-is, taken-stands, blank-stands, stands, same-sheet}
 
 two-sells : {tallies : List Tally} {a b : List Sum} → Sells tallies a → Sells tallies b → length a ≡ length b
 two-sells {a = a} {b = b} s t =
@@ -61,3 +65,38 @@ all-taken (paper ∷ more) {taken} {sheet} s whole w few count =
   where
     one : (t : List (List Tally)) → length (t ++ paperTallies paper ∷ []) ≡ length t + 1
     one t = length-append t (paperTallies paper ∷ [])
+
+-- ---- two orders
+
+taken-all : (papers : List (List ℕ)) (sheet : List ℕ) → allDone sheet papers ≡ true → takenFrom sheet papers ≡ papers
+unfolding allDone takenFrom
+taken-all [] sheet e = refl
+taken-all (paper ∷ more) sheet e =
+    let each = both (isDone (takenOf sheet paper)) (allDone (sheetAfter sheet paper) more) e in
+    rw (each .0) (ap (λ l. paper ∷ l) (taken-all more (sheetAfter sheet paper) (each .1)))
+
+perm-map : {ps qs : List (List ℕ)} → List·Permᴰ ps qs → List·Permᴰ (map paperTallies ps) (map paperTallies qs)
+perm-map List·Permᴰ·nil = List·Permᴰ·nil
+perm-map (List·Permᴰ·cons e d) = List·Permᴰ·cons (ap paperTallies e) (perm-map d)
+perm-map (List·Permᴰ·swap e f) = List·Permᴰ·swap (ap paperTallies e) (ap paperTallies f)
+perm-map (List·Permᴰ·trans d e) = List·Permᴰ·trans (perm-map d) (perm-map e)
+
+sells-perm : {ps qs : List (List Tally)} {sums : List Sum} → List·Permᴰ ps qs → Sells (joined ps) sums → Sells (joined qs) sums
+sells-perm p s =
+    record {
+      ascends = s .ascends;
+      listed = λ c. s .listed c ∙ ap (ltb 0) (total-order (salesOf c) p);
+      totals = λ c. s .totals c ∙ ap stopped (total-order (amountsOf c) p);
+    }
+
+pub any-order : (ps qs : List (List ℕ)) → List·Permᴰ ps qs → allDone blankSheet ps ≡ true
+    → (allDone blankSheet qs ≡ true) × (sheetOf blankSheet ps ≡ sheetOf blankSheet qs)
+any-order ps qs p e =
+    let all = taken-all ps blankSheet e in
+    let s : Stands (map paperTallies ps) (sheetOf blankSheet ps) = subst (λ l. Stands (map paperTallies l) (sheetOf blankSheet ps)) all (stands ps) in
+    let count : length qs ≤ 200 = omega (arith, s .few, length-map ps paperTallies, same-length p) in
+    let done = all-taken qs blank-stands (s .sums) (sells-perm (perm-map p) (s .sells)) (s .kept .held .few) (omega arith) in
+    let too = taken-all qs blankSheet done in
+    let taken = subst (λ l. List·Permᴰ (map paperTallies l) (map paperTallies (takenFrom blankSheet qs))) (sym all)
+    (subst (λ l. List·Permᴰ (map paperTallies ps) (map paperTallies l)) (sym too) (perm-map p)) in
+    (done, same-sheet ps qs taken)

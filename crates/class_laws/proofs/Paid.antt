@@ -1,22 +1,22 @@
 -- What a paper adds is within bounds: no approval above MAX, and no more of them than bytes. Assumes nothing.
-use mathlib.Core.Path.{_≡_, refl, sym, ap, _∙_}
-use mathlib.Core.Bool.{Bool, true, false, cond, _&&_}
+use mathlib.Core.Path.{_≡_, refl, sym, ap, subst, _∙_}
+use mathlib.Core.Bool.{Bool, true, false, cond, _&&_, _||_}
 use mathlib.Core.List.{List, [], _∷_, _++_}
 use Prim.Native.Nat.{ℕ, zero, suc, _+_, _*_, _≤_}
 use native.Mathlib.Omega.{arith}
-use borrow.Author.Tests.{leb-true}
-use lib.Dec.{ltb, leb}
+use borrow.Author.Tests.{leb-true, ltb-false}
+use lib.Dec.{eqb, ltb, leb}
 use lib.ListN.{length, length-append}
-use Rattle.wire.specs.Wire.{isCurrency}
+use Rattle.wire.specs.Wire.{byte, isCurrency}
 use Rattle.money.specs.Money.{max}
-use Rattle.refusal.specs.declared.Refusal.the-variants.{OutOfTurn, BadType, OutOfRange, NotADay}
+use Rattle.refusal.specs.declared.Refusal.the-variants.{OutOfTurn, BadType, OutOfRange, NotADay, Unreadable}
 use Rattle.refusal.specs.Refusal.{refusalNumber}
 use Rattle.rules.specs.Rules.{Rules, rulesOf, blankWords}
 use Rattle.rules.specs.declared.Place.{Place}
 use Rattle.shape.specs.declared.Shape.{Shape}
 use Rattle.paper.specs.declared.Next.{Next}
 use Rattle.paper.specs.declared.Next.the-variants.{Record, Fault, End as PaperEnd}
-use Rattle.paper.specs.Paper.{nextAt, openPaper}
+use Rattle.paper.specs.Paper.{nextAt, latest, setupIn, openPaper}
 use Rattle.paper.specs.Walk.{part}
 use Rattle.command.specs.declared.First.{First}
 use Rattle.command.specs.declared.Command.{Command}
@@ -144,7 +144,7 @@ pub record Within (count : ℕ) (tallies : List Tally) : Type 0 where
   pub sales : total approvalsOf tallies ≤ count
   pub size : length tallies ≤ 2 * count
 
-paid-append : {s t : List Tally} → AllPayable s → AllPayable t → AllPayable (s ++ t)
+pub paid-append : {s t : List Tally} → AllPayable s → AllPayable t → AllPayable (s ++ t)
 paid-append none-paid q = q
 paid-append (more-paid p ps) q = more-paid p (paid-append ps q)
 
@@ -281,3 +281,47 @@ paper-paid paper =
     events-within (following (begun .event) (eventsFrom (length paper) rules (begun .shape) (begun .state) paper (begun .at))) noSale (omega arith)
     (following-paid (begun .event) (begun-paid paper) more)
     .paid
+
+opened-as : (paper : List ℕ) {opened : Opening} → openPaper paper ≡ opened → begunOf paper ≡ openedBegun paper opened
+unfolding begunOf
+opened-as paper e = ap (openedBegun paper) e
+
+-- AND NO PAPER adds more than 65,537 approvals
+wider : {m n : ℕ} {tallies : List Tally} → m ≤ n → Within m tallies → Within n tallies
+wider h w = record { paid = w .paid; sales = omega (arith, w .sales); size = omega (arith, w .size) }
+
+too-long : (paper : List ℕ) → ltb 65536 (length paper) ≡ true → openPaper paper ≡ OpenRefused Unreadable
+unfolding openPaper
+too-long paper e = by (eqb (length paper) 0) where
+  by : (empty : Bool)
+      → cond (empty || ltb 65536 (length paper) || eqb (byte paper 0) 0 || ltb latest (byte paper 0)) (OpenRefused Unreadable)
+      (setupIn (byte paper 0) (nextAt paper 1)) ≡ OpenRefused Unreadable
+  by true = refl
+  by false = rw e
+
+pub paper-within : (paper : List ℕ) → Within 65_537 (paperTallies paper)
+unfolding paperTallies eventsOf
+paper-within paper = by (ltb 65536 (length paper)) refl where
+  rules : Rules
+  rules = rulesOf (wordsBegun blankWords paper)
+
+  more : Begun → List Event
+  more begun = eventsFrom (length paper) rules (begun .shape) (begun .state) paper (begun .at)
+
+  all : (begun : Begun) → EventPaid (begun .event)
+      → Within (length (following (begun .event) (more begun))) (talliesFrom noSale (following (begun .event) (more begun)))
+  all begun h =
+      events-within (following (begun .event) (more begun)) noSale (omega arith)
+      (following-paid (begun .event) h (from-paid (length paper) rules (begun .shape) (begun .state) paper (begun .at)))
+
+  by : (long : Bool) → ltb 65536 (length paper) ≡ long → Within 65_537 (talliesFrom noSale (following (begunOf paper .event) (more (begunOf paper))))
+  by true e =
+      let refused-first : begunOf paper ≡ openedBegun paper (OpenRefused Unreadable) = opened-as paper (too-long paper e) in
+      subst (λ b. Within 65_537 (talliesFrom noSale (following (b .event) (more b)))) (sym refused-first)
+      (wider (omega arith) (all (openedBegun paper (OpenRefused Unreadable)) tt))
+  by false e =
+      let short = ltb-false 65536 (length paper) e in
+      let begun = begunOf paper in
+      wider
+      (omega (arith, following-most (begun .event) (more begun), from-most (length paper) rules (begun .shape) (begun .state) paper (begun .at)))
+      (all begun (begun-paid paper))

@@ -121,7 +121,8 @@ stands-on : (more : List (List ℕ)) {taken : List (List Tally)} {sheet : List �
 unfolding takenFrom sheetOf
 stands-on [] {taken} s = rw append-nil s
 stands-on (paper ∷ more) {taken} {sheet} s =
-    by (isDone (takenOf sheet paper)) refl (λ e. stands-on more (taken-stands s paper e)) (λ e. stands-on more (subst (Stands taken) (sym (refused-stays s paper e)) s))
+    by (isDone (takenOf sheet paper)) refl (λ e. stands-on more (taken-stands s paper e))
+    (λ e. stands-on more (subst (Stands taken) (sym (refused-stays s paper e)) s))
   where
     later : List (List ℕ)
     later = takenFrom (sheetAfter sheet paper) more

@@ -149,13 +149,16 @@ module _ (taken : List (List Tally)) {sums : List Sum} {sheet : List ℕ} (k : K
       ∙ ap (λ b. stopped (total (marksIn cell) (joined taken) + cond b (length taken) 0)) (ne-eqb cell 0 other)
       ∙ ap stopped (let z : total (marksIn cell) (joined taken) + 0 ≡ n = omega arith in z)
 
+  alone : total (marksIn 0) (joined taken) + length taken ≡ length taken
+  alone = omega (arith, total-none (marksIn 0) (nothing-in 0 (inl refl)) (joined taken))
+
   pub says : Says (stoppedClass (classOf taken)) sheet
   says =
       record {
         size = k .held .size;
         taken-is =
             k .held .counts-are papers (omega arith)
-            ∙ ap stopped (let z : total (marksIn 0) (joined taken) + length taken ≡ length taken = omega (arith, total-none (marksIn 0) (nothing-in 0 (inl refl)) (joined taken)) in z);
+            ∙ ap stopped alone;
         answers-are = λ p q lo hi ki.
             count (answerCell p q) (omega arith) (λ e. omega arith) (total (answersOf p q) (joined taken))
             (total-same (marksIn (answerCell p q)) (answersOf p q) (is-answer p q lo hi ki) (joined taken));
