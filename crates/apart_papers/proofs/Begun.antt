@@ -24,7 +24,7 @@ use Rattle.shape.specs.declared.Selecting.the-variants.{Off, On}
 use Rattle.shape.specs.declared.Shape.{Shape}
 use Rattle.shape.specs.declared.ReadShape.{ReadShape}
 use Rattle.shape.specs.declared.ReadShape.the-variants.{Taken as ShapeTaken, Refused as ShapeRefused}
-use Rattle.shape.specs.Shape.{basePart, cyclesPart, familyPart, shapeOf, shapeAt, selectingAt}
+use Rattle.shape.specs.Shape.{basePart, cyclesPart, familyPart, shapeOf, shapeAt, selectingAt, loggingAt}
 use Rattle.paper.specs.declared.Next.the-variants.{Record, Fault, End}
 use Rattle.paper.specs.declared.Opened.{Opened}
 use Rattle.paper.specs.declared.Opened.the-variants.{Setup, Refused as OpenRefused}
@@ -33,6 +33,8 @@ use Rattle.paper.specs.Walk.{part}
 use Rattle.setup.specs.declared.SetupAnswer.the-variants.{Done, Refused as SetupRefused}
 use Rattle.setup.specs.declared.ReadSetup.{ReadSetup}
 use Rattle.setup.specs.Setup.{freshIn, noCard, isAccepted, readSetup, wordsAfter}
+use Rattle.fresh.specs.Fresh.{freshState}
+use Rattle.state.specs.declared.Phase.the-variants.{Idle}
 use Rattle.records.specs.declared.Event.the-variants.{SetUp}
 use Rattle.begun.specs.declared.Begun.{Begun}
 use Rattle.begun.specs.Begun.{setUpEvent, baseBegun, pastBegun}
@@ -73,7 +75,7 @@ drop-same from size n s t same =
 -- ---- the paper's first record
 
 module _ (x : Meter) (is : IsSwitch x) (p q : List ℕ) (same : SamePapers x p q) where
-  early : (k : ℕ) → k < 14 → byte p k ≡ byte q k
+  pub early : (k : ℕ) → k < 14 → byte p k ≡ byte q k
   early k h = by x is same where
     by : (y : Meter) → IsSwitch y → SamePapers y p q → byte p k ≡ byte q k
     by (accumulator i) l these = these .elsewhere k (inl (omega arith))
@@ -117,10 +119,14 @@ module _ (x : Meter) (is : IsSwitch x) (p q : List ℕ) (same : SamePapers x p q
 
 -- ---- the set-up
 
--- the file stands behind the head
+-- the file stands behind the head, and so does the log's tail
 abbrev pub LateFile : Selecting → Type 0
 LateFile Off = Unit
 LateFile (On start end entries) = 56 ≤ start
+
+abbrev pub LateLog : Logging → Type 0
+LateLog LogOff = Unit
+LateLog (LogOn start end) = 56 ≤ start
 
 pub record Begins (x : Meter) (a b : Begun) (v w : List ℕ) : Type 0 where
   pub shapes : a .shape ≡ b .shape
@@ -128,6 +134,8 @@ pub record Begins (x : Meter) (a b : Begun) (v w : List ℕ) : Type 0 where
   pub states : Alike x (a .state) (b .state)
   pub words : v ≡ w
   pub file : LateFile (a .shape .selecting)
+  pub log : LateLog (a .shape .logging)
+  pub idle : a .state .phase ≡ Idle
   pub behind : 56 ≤ a .at
 
 accepted-if : (shape : Shape) (base cycles family : List ℕ) (end : ℕ) → baseBegun shape base cycles family end .event ≡ SetUp
@@ -168,6 +176,10 @@ module _ (x : Meter) (is : IsSwitch x) (words s t : List ℕ) (same : SameSetups
     file-late Off h = tt
     file-late (On start to entries) h = omega arith
 
+    log-late : (logging : Logging) → LateLogging logging → LateLog (loggingAt 4 logging)
+    log-late LogOff h = tt
+    log-late (LogOn start to) h = omega arith
+
     -- the base is read, and the log is judged
     abbrev baseFrom : Judged → (body : List ℕ) → Begun
     baseFrom log body =
@@ -191,6 +203,8 @@ module _ (x : Meter) (is : IsSwitch x) (words s t : List ℕ) (same : SameSetups
           states = fresh .1;
           words = fresh .0;
           file = file-late (shape .selecting) (l .selecting);
+          log = log-late (shape .logging) (l .logging);
+          idle = (unfold freshState in refl);
           behind = omega (arith, room, base, length-take (shape .base) s, min-le-right (shape .base) (length s));
         }
     by-log Wrong e f = let z : _≡_ {A = ℕ} 0 1 = cc in absurd (omega arith)

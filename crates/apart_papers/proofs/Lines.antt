@@ -82,7 +82,7 @@ late-next p at h = by (leb (length p) at) (isFaultAt p at) where
 module _ (x : Meter) (is : IsSwitch x) (p q : List ℕ) (same : SamePapers x p q) where
   -- ---- behind the set-up both are the same
 
-  drop-late : (at : ℕ) → 56 ≤ at → drop at p ≡ drop at q
+  pub drop-late : (at : ℕ) → 56 ≤ at → drop at p ≡ drop at q
   drop-late at h =
       ext-getD 0 (drop at p) (drop at q) (length-drop at p ∙ ap (λ (n : ℕ). n - at) (same .as-long) ∙ sym (length-drop at q))
       (λ k l. getD-drop at p k 0 ∙ late x is p q same (at + k) (omega arith) ∙ sym (getD-drop at q k 0))
@@ -114,7 +114,7 @@ module _ (x : Meter) (is : IsSwitch x) (p q : List ℕ) (same : SamePapers x p q
     -- ---- the record at a place
 
     module _ (rules : Rules) (state other : State) (alike : Alike x state other) (at : ℕ) (h : 56 ≤ at) where
-      taken-apart : SparesNext rules shape state p x (nextAt p at) → SameTaken x (takenOf rules shape state p at) (takenOf rules shape other q at)
+      pub taken-apart : SparesNext rules shape state p x (nextAt p at) → SameTaken x (takenOf rules shape state p at) (takenOf rules shape other q at)
       unfolding takenOf
       taken-apart spares =
           subst (λ (next : Next). SameTaken x (nextTaken rules shape state p at (nextAt p at)) (nextTaken rules shape other q at next)) (next-late at h)
@@ -130,7 +130,7 @@ module _ (x : Meter) (is : IsSwitch x) (p q : List ℕ) (same : SamePapers x p q
               ∙ ap (λ (body : List ℕ). recordTaken rules shape other q kind body end) (part-same start end (l .0)))
               (record-apart x rules shape p kind (part p start end) state other alike end s)
 
-      writes-same : takenWrites shape state p at ≡ takenWrites shape other q at
+      pub writes-same : takenWrites shape state p at ≡ takenWrites shape other q at
       unfolding takenWrites
       writes-same = by (nextAt p at) (late-next p at h) ∙ ap (nextWrites shape other q) (next-late at h) where
         by : (next : Next) → LateNext next → nextWrites shape state p next ≡ nextWrites shape other q next
@@ -140,7 +140,7 @@ module _ (x : Meter) (is : IsSwitch x) (p q : List ℕ) (same : SamePapers x p q
             writes-apart x rules shape p kind (part p start end) state other alike
             ∙ ap (recordWrites shape other kind) (part-same start end (l .0))
 
-      place-late : 56 ≤ takenOf rules shape state p at .at
+      pub place-late : 56 ≤ takenOf rules shape state p at .at
       unfolding takenOf
       place-late = by (nextAt p at) (late-next p at h) where
         by : (next : Next) → LateNext next → 56 ≤ nextTaken rules shape state p at next .at

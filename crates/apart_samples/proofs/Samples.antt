@@ -21,12 +21,12 @@ use Rattle.lines.specs.Sitting.{sittingLines}
 use Rattle.spelling.specs.Spelling.{big, recordOf, unsaid, on, unshown, names, brings, first, second, script, kindOf, bodyOf, spell, paperOf}
 use Rattle.spelling.proofs.Computed.{answered, heard}
 
-abbrev zeros : ℕ → List ℕ
+abbrev pub zeros : ℕ → List ℕ
 zeros n = replicate n 0
 
 -- ---- set-ups: accumulator 1 in 0978, from a byte; profile 1 declines at its limits, 5 and 9, and has its switches and the accumulator sent
 
-abbrev base : (start switches sent : ℕ) → List ℕ
+abbrev pub base : (start switches sent : ℕ) → List ℕ
 base start switches sent =
     1 ∷ 3 ∷ 0 ∷ 1 ∷ zeros 4 ++ 0x09 ∷ 0x78 ∷ zeros 7 ++ start ∷ zeros 34
     ++ 1 ∷ zeros 6 ++ 0x04 ∷ 0x40 ∷ zeros 15 ++ switches ∷ zeros 7 ++ 5 ∷ zeros 7 ++ 9 ∷ zeros 63 ++ sent ∷ 0 ∷ 0 ∷ []
@@ -37,11 +37,11 @@ testing = 1 ∷ 1 ∷ 0x0C ∷ 0 ∷ 6 ∷ 1 ∷ zeros 5 ++ 0x05 ∷ 0xD1 ∷ 1 
 
 -- ---- records
 
-abbrev sale : (type : ℕ) → List ℕ
+abbrev pub sale : (type : ℕ) → List ℕ
 sale type = spell (names unsaid 1) ++ spell (first type 1 0x0978 0x22 unshown)
 
 -- a script that puts accumulator 1 to 5, its MAC taken as verified
-abbrev putting : List ℕ
+abbrev pub putting : List ℕ
 putting =
     let list : List ℕ = 0x81 ∷ 0x09 ∷ 0xDF ∷ 0x01 ∷ 0x06 ∷ 0 ∷ 0 ∷ 0 ∷ 0 ∷ 0 ∷ 5 ∷ [] in
     spell (script 1 (0x71 ∷ 0x18 ∷ 0x86 ∷ 0x16 ∷ 0x0C ∷ 0xDA ∷ 0xBF ∷ 0x30 ∷ 0x11 ∷ list ++ 0x8E ∷ 0x04 ∷ 0x11 ∷ 0x22 ∷ 0x33 ∷ 0x44 ∷ []))
@@ -74,7 +74,7 @@ pair version switches sent tails records =
     alike (linesFrom 3 version switches sent tails records) (linesFrom 8 version switches sent tails records)
 
 -- two bytes of a line
-abbrev reads : List (List ℕ) → (line at one two : ℕ) → Bool
+abbrev pub reads : List (List ℕ) → (line at one two : ℕ) → Bool
 reads lines line at one two = eqb (byte (getD lines line []) at) one && eqb (byte (getD lines line []) (at + 1)) two
 
 -- the day's CIDs, 40, 00, 80, 40, 80 and 40, and refusal 2 at its end; the script's line, of a script that is done
