@@ -32,9 +32,9 @@ second =
     ∷ answered 3 2
     ∷ answered 3 0
     ∷ approved 0x0978 700
-    ∷ refused 3
     ∷ answered 3 2
     ∷ answered 3 0
+    ∷ refused 3
     ∷ refused 9
     ∷ []
 
