@@ -17,10 +17,10 @@ use Rattle.sheet_laws.proofs.Kept.{blank-kept, all-kept, all-fit}
 abbrev sitting : List Tally
 sitting =
     answered 1 0
-    ∷ approved 978 5000
+    ∷ approved 0x0978 5000
     ∷ answered 1 2
     ∷ answered 1 0
-    ∷ approved 978 1
+    ∷ approved 0x0978 1
     ∷ answered 1 1
     ∷ refused 2
     ∷ []
@@ -28,13 +28,13 @@ sitting =
 abbrev second : List Tally
 second =
     answered 7 0
-    ∷ approved 840 0
+    ∷ approved 0x0840 0
     ∷ answered 3 2
     ∷ answered 3 0
-    ∷ approved 978 700
+    ∷ approved 0x0978 700
+    ∷ answered 3 2
+    ∷ answered 3 0
     ∷ refused 3
-    ∷ answered 3 2
-    ∷ answered 3 0
     ∷ refused 9
     ∷ []
 
@@ -42,7 +42,7 @@ abbrev class : List (List Tally)
 class = sitting ∷ second ∷ (refused 9 ∷ []) ∷ []
 
 pub printed : (total (answersOf 1 0) (joined class) ≡ 2) × (total (answersOf 3 2) (joined class) ≡ 2) × (total (refusalsOf 9) (joined class) ≡ 2)
-    × (total (amountsOf 978) (joined class) ≡ 5701) × (total (salesOf 840) (joined class) ≡ 1) × (total (salesOf 392) (joined class) ≡ 0)
+    × (total (amountsOf 0x0978) (joined class) ≡ 5701) × (total (salesOf 0x0840) (joined class) ≡ 1) × (total (salesOf 0x0392) (joined class) ≡ 0)
 unfolding total joined
 printed = (refl, refl, refl, refl, refl, refl)
 
@@ -50,7 +50,7 @@ abbrev sum : (currency total : ℕ) → Sum
 sum currency total = record { currency = currency; total = total }
 
 -- its currencies in ascending order, not as they came
-pub ascending : soldAll (joined class) [] ≡ sum 840 0 ∷ sum 978 5701 ∷ []
+pub ascending : soldAll (joined class) [] ≡ sum 0x0840 0 ∷ sum 0x0978 5701 ∷ []
 unfolding soldAll sold joined
 ascending = refl
 
@@ -59,7 +59,7 @@ abbrev sheet : List ℕ
 sheet = allTallied blankSheet (joined class)
 
 pub cells : (getD sheet (answerCell 1 0) 0 ≡ 2) × (getD sheet (answerCell 3 2) 0 ≡ 2) × (getD sheet (refusalCell 9) 0 ≡ 2) × (getD sheet countCell 0 ≡ 2)
-    × (getD sheet (codeCell 0) 0 ≡ 840) × (getD sheet (sumCell 0) 0 ≡ 0) × (getD sheet (codeCell 1) 0 ≡ 978) × (getD sheet (sumCell 1) 0 ≡ 5701)
+    × (getD sheet (codeCell 0) 0 ≡ 0x0840) × (getD sheet (sumCell 0) 0 ≡ 0) × (getD sheet (codeCell 1) 0 ≡ 0x0978) × (getD sheet (sumCell 1) 0 ≡ 5701)
 unfolding allTallied answerCounted refusalCounted saleAdded fitsSale counted sold sumsOf sumsFrom withSums written joined
 cells = (refl, refl, refl, refl, refl, refl, refl, refl)
 

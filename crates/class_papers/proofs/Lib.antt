@@ -1,0 +1,4 @@
+pub mod Fine
+pub mod Adds
+pub mod Alone
+pub mod Samples
