@@ -9,7 +9,7 @@ use Rattle.toolbox.proofs.take_runs.Tie as tie
 
 abbrev Inv-loop : tie.InvT-loop
 Inv-loop paper words₀ rooms₀ buffer₀ room₀ text₀ shape state₀ turns₀ said words rooms buffer room text state turns =
-    (turns ≤ 18446744073709551615) × (65540 ≤ length buffer) × (length buffer ≡ length buffer₀) × (length room ≡ length room₀)
+    (turns ≤ 18446744073709551615) × (length buffer ≡ length buffer₀) × (length room ≡ length room₀)
     × (length text ≡ length text₀)
 
 abbrev μ-loop : tie.MeasureT-loop
@@ -26,7 +26,7 @@ same-length c =
     let buffer = to-told .before .before .before in
     let turn = buffer .before .before .before in
     let kept = turn .before .loop .inv in
-    omega (arith, buffer .buffer .given, kept .2)
+    omega (arith, buffer .buffer .given, kept .1)
 
 same-length-2 : tie.Need-same-length-2 Inv-loop μ-loop
 same-length-2 c =
@@ -38,7 +38,7 @@ same-length-2 c =
     let buffer = to-told .before .before .before in
     let turn = buffer .before .before .before in
     let kept = turn .before .loop .inv in
-    omega (arith, room .room .given, kept .3)
+    omega (arith, room .room .given, kept .2)
 
 same-length-3 : tie.Need-same-length-3 Inv-loop μ-loop
 same-length-3 c =
@@ -50,7 +50,7 @@ same-length-3 c =
     let buffer = to-told .before .before .before in
     let turn = buffer .before .before .before in
     let kept = turn .before .loop .inv in
-    omega (arith, text .text .given, kept .4)
+    omega (arith, text .text .given, kept .3)
 
 loop-less : tie.Need-loop-less Inv-loop μ-loop
 loop-less c =
@@ -78,9 +78,8 @@ loop-again c =
     let kept = turn .before .loop .inv in (
       omega (arith, turn .loop-test .taken),
       omega (arith, buffer .buffer .given, kept .1),
-      omega (arith, buffer .buffer .given, kept .2),
-      omega (arith, room .room .given, kept .3),
-      omega (arith, text .text .given, kept .4),
+      omega (arith, room .room .given, kept .2),
+      omega (arith, text .text .given, kept .3),
     )
 
 pub take-runs-spec : {M : Type 1} → statement M

@@ -1,8 +1,8 @@
 use borrow.Author.Needs.{needs}
 use native.Mathlib.Omega.{arith}
 use lib.ListN.{length-take}
-use Rattle.toolbox.proofs.enter_front.Statement.{statement}
-use Rattle.toolbox.proofs.enter_front.Tie as tie
+use Rattle.class_desk.proofs.enter_front.Statement.{statement}
+use Rattle.class_desk.proofs.enter_front.Tie as tie
 
 slice-aggregate-enter : tie.Need-slice-aggregate-enter
 slice-aggregate-enter c = simp length-take (omega arith)

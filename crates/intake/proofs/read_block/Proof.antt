@@ -2,8 +2,8 @@ use denote.Ref.{now}
 use mathlib.Core.Path.{sym}
 use lib.Seq.{length-take-le}
 use borrow.Author.Needs.{needs}
-use Rattle.toolbox.proofs.read_block.Statement.{statement}
-use Rattle.toolbox.proofs.read_block.Tie as tie
+use Rattle.intake.proofs.read_block.Statement.{statement}
+use Rattle.intake.proofs.read_block.Tie as tie
 
 slice-aggregate-read-all : tie.Need-slice-aggregate-read-all
 slice-aggregate-read-all c =

@@ -3,8 +3,8 @@ use borrow.Author.Needs.{needs}
 use Prim.Native.Nat.{_-_, _≤_}
 use mathlib.Core.Path.{_≡_}
 use lib.ListN.{length}
-use Rattle.toolbox.proofs.is_named.Statement.{statement}
-use Rattle.toolbox.proofs.is_named.Tie as tie
+use Rattle.intake.proofs.is_named.Statement.{statement}
+use Rattle.intake.proofs.is_named.Tie as tie
 
 abbrev Inv-loop : tie.InvT-loop
 Inv-loop name argument size i₀ i = (i ≤ size) × (size ≡ length name) × (size ≤ 16)

@@ -4,12 +4,12 @@ use Prim.Native.Nat.{_-_, _≤_}
 use mathlib.Core.Path.{_≡_}
 use native.Mathlib.Omega.{arith}
 use lib.ListN.{length}
-use Rattle.toolbox.proofs.enter_all.Statement.{statement}
-use Rattle.toolbox.proofs.enter_all.Tie as tie
+use Rattle.class_desk.proofs.enter_all.Statement.{statement}
+use Rattle.class_desk.proofs.enter_all.Tie as tie
 
 abbrev Inv-loop : tie.InvT-loop
 Inv-loop sheet₀ buffer₀ form text₀ number₀ sheet buffer text number =
-    (number ≤ 18446744073709551615) × (65536 ≤ length buffer) × (length buffer ≡ length buffer₀) × (length text ≡ length text₀)
+    (number ≤ 18446744073709551615) × (length buffer ≡ length buffer₀) × (length text ≡ length text₀)
 
 abbrev μ-loop : tie.MeasureT-loop
 μ-loop sheet₀ buffer₀ form text₀ number₀ sheet buffer text number = 18446744073709551615 - number

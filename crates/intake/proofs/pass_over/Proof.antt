@@ -2,8 +2,8 @@ use borrow.Author.Needs.{needs}
 use Prim.Native.Nat.{_≤_}
 use mathlib.Core.Path.{_≡_}
 use lib.ListN.{length}
-use Rattle.toolbox.proofs.pass_over.Statement.{statement}
-use Rattle.toolbox.proofs.pass_over.Tie as tie
+use Rattle.intake.proofs.pass_over.Statement.{statement}
+use Rattle.intake.proofs.pass_over.Tie as tie
 
 abbrev Inv-loop : tie.InvT-loop
 Inv-loop buffer₀ size piece left₀ buffer left = (1 ≤ piece) × (piece ≡ length buffer)

@@ -1,4 +1,0 @@
-// The tool `report`, on three papers.
-fn main() {
-    toolbox::run_tool();
-}
