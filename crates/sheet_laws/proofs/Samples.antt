@@ -102,6 +102,7 @@ pub record Samples : Type 0 where
   -- and the page: for the board, and rows for machines (TC, AAC, ARQC)
   pub page : T (same (sheetText Report sheet) board)
   pub row-of-3 : T (same (profileRow Machines sheet 3) (lines ("profile 3 2 0 2" ∷ [])))
+  pub row-of-7 : T (same (profileRow Machines sheet 7) (lines ("profile 7 1 0 0" ∷ [])))
   pub row-of-9 : T (same (refusalRow Machines sheet 9) (lines ("refusal 9 2" ∷ [])))
   pub row-of-0978 : T (same (currencyRow Machines sheet 1) (lines ("currency 0978 5701" ∷ [])))
 
@@ -122,6 +123,7 @@ samples =
       second-sum = tt;
       page = tt;
       row-of-3 = tt;
+      row-of-7 = tt;
       row-of-9 = tt;
       row-of-0978 = tt;
     }
