@@ -7,9 +7,13 @@ use lib.ListN.{length, length-append}
 use Rattle.sheet.specs.Sheet.{blankSheet}
 use Rattle.tallies.specs.Tallies.{Tally}
 use Rattle.class_sheet.specs.ClassSheet.{paperTallies}
-use Rattle.sheet_laws.specs.Class.{total, joined, classOf, Says}
+use Rattle.sheet_lines.specs.declared.Form.{Form}
+use Rattle.sheet_lines.specs.SheetLines.{sheetText}
+use Rattle.sheet_laws.specs.Class.{total, joined, classOf, Lists, Says}
+use Rattle.sheet_laws.specs.Page.{page}
 use Rattle.sheet_laws.proofs.Totals.{total-append}
 use Rattle.sheet_laws.proofs.Bounds.{approvalsOf, AllPayable, none-paid, answers-most, refusals-most, sums-most, Fits, no-stop}
+use Rattle.sheet_laws.proofs.Printed.{printed-page}
 use Rattle.class_laws.specs.Taking.{sheetOf, takenFrom}
 use Rattle.class_laws.proofs.Paid.{paid-append, paper-within}
 use Rattle.class_laws.proofs.Taking.{stands, totals-stopped}
@@ -46,3 +50,8 @@ totals papers =
       sums = λ c. omega (arith, sums-most c (m .paid));
     })
     (totals-stopped papers)
+
+-- THE PAGE of a class: what is printed of the sheet after its papers
+pub class-page : (form : Form) (papers : List (List ℕ)) (currencies : List ℕ) → Lists (classOf (map paperTallies (takenFrom blankSheet papers))) currencies
+    → sheetText form (sheetOf blankSheet papers) ≡ page form (classOf (map paperTallies (takenFrom blankSheet papers))) currencies
+class-page form papers = printed-page (totals papers) form

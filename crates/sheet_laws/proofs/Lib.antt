@@ -6,4 +6,5 @@ pub mod Kept
 pub mod Saying
 pub mod Only
 pub mod Bounds
+pub mod Printed
 pub mod Samples

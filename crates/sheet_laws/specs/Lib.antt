@@ -1,1 +1,2 @@
 pub mod Class
+pub mod Page
