@@ -6,10 +6,10 @@ use Prim.Native.Nat.{_-_, _≤_}
 use native.Mathlib.Omega.{arith}
 use lib.ListN.{length, replicate}
 use lib.Seq.{sets, length-sets}
-use Rattle.bench.specs.Bench.{filler}
-use Rattle.bench.proofs.Fills.{one-more, whole}
-use Rattle.bench.proofs.fill.Statement.{statement}
-use Rattle.bench.proofs.fill.Tie as tie
+use Rattle.run_block.specs.RunBlock.{filler}
+use Rattle.run_block.proofs.Fills.{one-more, whole}
+use Rattle.run_block.proofs.fill.Statement.{statement}
+use Rattle.run_block.proofs.fill.Tie as tie
 
 abbrev Inv-loop : tie.InvT-loop
 Inv-loop room₀ i₀ i-end room i = (i ≤ i-end) × (i-end ≡ length room₀) × (room ≡ sets room₀ 0 (replicate i filler))

@@ -1,9 +1,9 @@
 use borrow.Author.Needs.{needs}
 use borrow.Author.Tests.{lt-ltb, le-ltb}
 use native.Mathlib.Omega.{arith}
-use Rattle.bench.specs.Bench.{sizeIn}
-use Rattle.bench.proofs.size_in.Statement.{statement}
-use Rattle.bench.proofs.size_in.Tie as tie
+use Rattle.run_block.specs.RunBlock.{sizeIn}
+use Rattle.run_block.proofs.size_in.Statement.{statement}
+use Rattle.run_block.proofs.size_in.Tie as tie
 
 returns : tie.Need-returns
 unfolding sizeIn
