@@ -26,7 +26,7 @@ fn watch_line(ring: &mut Ring, logging: Logging, paper: &[u8], at: usize, line: 
     let Reply::Given(given) = replies::reply_in(line) else {
         return;
     };
-    journal::watch(ring, logging, log::heard(&paper[at..]), at + 3, given);
+    watching::watch(ring, logging, log::heard(&paper[at..]), at + 3, given);
 }
 
 // The place behind the record at a place.

@@ -1,8 +1,8 @@
 // The PUT DATA command of an issuer script, by CPA 18.8: whether it is valid, and what it writes.
 use element::Meaning;
 use element::Write;
-use element::element_meaning;
 use element::element_size;
+use meaning::element_meaning;
 use frame::is_put_data;
 use frame::is_secured;
 use frame::list_place;
