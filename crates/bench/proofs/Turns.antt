@@ -12,7 +12,7 @@ use Rattle.shape.specs.declared.Shape.{Shape}
 use Rattle.state.specs.declared.State.{State}
 use Rattle.choice.proofs.Tests.{both}
 use Rattle.run_page.specs.RunPage.{pageOf, pageSize, pageText, pageEnd}
-use Rattle.run_page.proofs.Pages.{whole}
+use Rattle.run_text.proofs.Pages.{whole}
 use Rattle.runs.specs.declared.RunEnd.{RunEnd}
 use Rattle.runs.specs.Runs.{Card, cardOf, cardRun, roomRun, ruledRun, endOf}
 use Rattle.bench.specs.declared.Page.the-variants.{Whole, NoRoom}

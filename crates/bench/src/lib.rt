@@ -62,7 +62,7 @@ fn run_in(
     Turn {
         state,
         page: Page::Whole {
-            end: run_page::put_page(text, ran, room),
+            end: run_text::put_page(text, ran, room),
         },
     }
 }

@@ -2,11 +2,11 @@
 use element::Meaning;
 use element::Write;
 use element::element_size;
-use meaning::element_meaning;
 use frame::is_put_data;
 use frame::is_secured;
 use frame::list_place;
 use frame::mac_place;
+use meaning::element_meaning;
 use wire::u16_at;
 ghost use mathlib.Core.Path.{_≡_};
 ghost use Prim.Native.Nat.{_+_, _≤_};

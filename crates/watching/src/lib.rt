@@ -26,7 +26,9 @@ fn note(ring: &mut Ring, logging: Logging, said: Heard, given: Cryptogram, close
     ensures { λ _. ⌜ now (ring .exit) ≡ noted logging said given closed (now (ring .entry)) ⌝ }
 {
     let kind = given.kind;
-    if journal::is_wanted(logging.switches, said, kind) & journal::is_logging(logging, given.profile) {
+    if journal::is_wanted(logging.switches, said, kind)
+        & journal::is_logging(logging, given.profile)
+    {
         ring::add(ring, logging.size, closed);
     }
 }

@@ -4,9 +4,9 @@ use mathlib.Core.Path.{refl, sym, ap}
 use Prim.Native.Nat.{ℕ}
 use lib.ListN.{take}
 use lib.Seq.{length-take-le}
-use Rattle.replies.specs.Replies.{before}
-use Rattle.replies.proofs.before.Statement.{statement}
-use Rattle.replies.proofs.before.Tie as tie
+use Rattle.pieces.specs.Pieces.{before}
+use Rattle.pieces.proofs.before.Statement.{statement}
+use Rattle.pieces.proofs.before.Tie as tie
 
 slice-aggregate-result : tie.Need-slice-aggregate-result
 slice-aggregate-result c =

@@ -1,8 +1,8 @@
 use borrow.Author.Needs.{needs}
 use native.Mathlib.Omega.{arith}
 use Rattle.text.proofs.Stores.{next, within}
-use Rattle.run_page.proofs.put_byte.Statement.{statement}
-use Rattle.run_page.proofs.put_byte.Tie as tie
+use Rattle.run_text.proofs.put_byte.Statement.{statement}
+use Rattle.run_text.proofs.put_byte.Tie as tie
 
 returns : tie.Need-returns
 returns c =

@@ -7,9 +7,9 @@ use native.Mathlib.Omega.{arith}
 use lib.ListN.{length}
 use Rattle.text.specs.Stored.{Stored}
 use Rattle.text.proofs.Stores.{next}
 use Rattle.run_page.specs.RunPage.{hexFirst, hexLines}
-use Rattle.run_page.proofs.put_lines.Statement.{statement}
-use Rattle.run_page.proofs.put_lines.Tie as tie
+use Rattle.run_text.proofs.put_lines.Statement.{statement}
+use Rattle.run_text.proofs.put_lines.Tie as tie
 
 abbrev Inv-loop : tie.InvT-loop
 Inv-loop room₀ at bytes end₀ i₀ i-end room end i =

@@ -1,9 +1,9 @@
 use borrow.Author.Needs.{needs}
 use Rattle.text.proofs.Stores.{next}
 use Rattle.numerals.proofs.Numerals.{field-fitted}
 use Rattle.run_page.specs.RunPage.{ranLine}
-use Rattle.run_page.proofs.put_ran.Statement.{statement}
-use Rattle.run_page.proofs.put_ran.Tie as tie
+use Rattle.run_text.proofs.put_ran.Statement.{statement}
+use Rattle.run_text.proofs.put_ran.Tie as tie
 
 returns : tie.Need-returns
 unfolding ranLine

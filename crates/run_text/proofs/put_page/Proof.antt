@@ -3,9 +3,9 @@ use borrow.Author.Needs.{needs}
 use denote.Ref.{now}
 use native.Mathlib.Omega.{arith}
 use Rattle.text.proofs.Stores.{next}
-use Rattle.run_page.proofs.Pages.{no-page, page}
-use Rattle.run_page.proofs.put_page.Statement.{statement}
-use Rattle.run_page.proofs.put_page.Tie as tie
+use Rattle.run_text.proofs.Pages.{no-page, page}
+use Rattle.run_text.proofs.put_page.Statement.{statement}
+use Rattle.run_text.proofs.put_page.Tie as tie
 
 returns : tie.Need-returns
 returns c =

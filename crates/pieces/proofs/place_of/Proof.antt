@@ -9,9 +9,9 @@ use native.Mathlib.Numerals.{add-one}
 use native.Mathlib.Omega.{arith}
 use lib.ListN.{length, drop, getD, drop-of-length-le}
 use lib.Seq.{drop-cons}
-use Rattle.replies.specs.Replies.{placeOf}
-use Rattle.replies.proofs.place_of.Statement.{statement}
-use Rattle.replies.proofs.place_of.Tie as tie
+use Rattle.pieces.specs.Pieces.{placeOf}
+use Rattle.pieces.proofs.place_of.Statement.{statement}
+use Rattle.pieces.proofs.place_of.Tie as tie
 
 abbrev Inv-loop : tie.InvT-loop
 Inv-loop text mark at₀ at = (at ≤ length text) × (placeOf mark text ≡ at + placeOf mark (drop at text))

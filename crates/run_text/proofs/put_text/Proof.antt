@@ -3,8 +3,8 @@ use denote.Ref.{now}
 use mathlib.Core.Path.{_∙_}
 use native.Mathlib.Omega.{arith}
 use Rattle.text.proofs.Laws.{placed-in}
-use Rattle.run_page.proofs.put_text.Statement.{statement}
-use Rattle.run_page.proofs.put_text.Tie as tie
+use Rattle.run_text.proofs.put_text.Statement.{statement}
+use Rattle.run_text.proofs.put_text.Tie as tie
 
 returns : tie.Need-returns
 returns c =

@@ -8,9 +8,9 @@ use native.Mathlib.Numerals.{add-one}
 use native.Mathlib.Omega.{arith}
 use lib.ListN.{length, take, drop, length-drop, drop-of-length-le}
 use lib.Seq.{take-all}
-use Rattle.replies.specs.Replies.{behind, behindPlace}
-use Rattle.replies.proofs.behind.Statement.{statement}
-use Rattle.replies.proofs.behind.Tie as tie
+use Rattle.pieces.specs.Pieces.{behind, behindPlace}
+use Rattle.pieces.proofs.behind.Statement.{statement}
+use Rattle.pieces.proofs.behind.Tie as tie
 
 left : (text : List ℕ) (at : ℕ) → take (length text - at) (drop at text) ≡ drop at text
 left text at = take-all (length text - at) (drop at text) (omega (arith, length-drop at text))
