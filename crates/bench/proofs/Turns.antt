@@ -12,12 +12,13 @@ use Rattle.shape.specs.declared.Shape.{Shape}
 use Rattle.state.specs.declared.State.{State}
 use Rattle.choice.proofs.Tests.{both}
 use Rattle.run_page.specs.RunPage.{pageOf, pageSize, pageText, pageEnd}
-use Rattle.run_page.proofs.Pages.{whole}
+use Rattle.run_text.proofs.Pages.{whole}
 use Rattle.runs.specs.declared.RunEnd.{RunEnd}
 use Rattle.runs.specs.Runs.{Card, cardOf, cardRun, roomRun, ruledRun, endOf}
 use Rattle.bench.specs.declared.Page.the-variants.{Whole, NoRoom}
 use Rattle.bench.specs.declared.Turn.{Turn}
-use Rattle.bench.specs.Bench.{filler, hasRoom, turned, sizeIn, recordsIn}
+use Rattle.run_block.specs.RunBlock.{filler, sizeIn, recordsIn}
+use Rattle.bench.specs.Bench.{hasRoom, turned}
 use Rattle.bench.specs.Bench.{cardBehind, roomBehind, pageBehind, turnOf, cardTurned, roomTurned, textTurned}
 
 -- room enough, as numbers

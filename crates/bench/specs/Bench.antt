@@ -1,32 +1,18 @@
--- Runs as the blocks of a stack (request Eleven): the room that is lent, and the text of what became of the run.
+-- Runs as the blocks of a stack (request Eleven): the text of what became of the run.
 use mathlib.Core.Bool.{Bool, cond, _&&_}
 use mathlib.Core.List.{List, _++_}
 use Prim.Native.Nat.{ℕ}
-use lib.Dec.{leb, ltb}
-use lib.ListN.{length, drop, replicate}
+use lib.Dec.{leb}
+use lib.ListN.{length, drop}
 use lib.Seq.{sets}
-use Rattle.wire.specs.Wire.{number}
 use Rattle.shape.specs.declared.Shape.{Shape}
 use Rattle.state.specs.declared.State.{State}
 use Rattle.runs.specs.Runs.{Card, cardRun, roomRun, ruledRun}
+use Rattle.run_block.specs.RunBlock.{sizeIn, recordsIn, lent}
 use Rattle.run_page.specs.RunPage.{pageOf, pageSize}
 use Rattle.bench.specs.declared.Page.{Page}
 use Rattle.bench.specs.declared.Page.the-variants.{Whole, NoRoom}
 use Rattle.bench.specs.declared.Turn.{Turn}
-
--- A BLOCK: the size of the room, 4 bytes of which those missing are 0, and never above 65,536; behind it the records
-unfoldable pub sizeIn : (block : List ℕ) → ℕ
-sizeIn block = cond (ltb 65536 (number block 0 4)) 65536 (number block 0 4)
-
-abbrev pub recordsIn : (block : List ℕ) → List ℕ
-recordsIn block = drop 4 block
-
--- the room is filled with AA and lent
-abbrev pub filler : ℕ
-filler = 170
-
-abbrev pub lent : (block : List ℕ) → List ℕ
-lent block = replicate (sizeIn block) filler
 
 -- A BLOCK ANSWERED: so many bytes of room and of text are enough for a run in a room of some size
 abbrev pub hasRoom : (size room text : ℕ) → Bool

@@ -1,23 +1,19 @@
-// A run as a block of a stack: the size of the room to lend, in 4 bytes, and the records. It is run in
-// such a room, and what became of it is told as a page of text.
+// A run as a block of a stack: it is run in a room of the size that the block asks, and what became of it is told as
+// a page of text.
 ghost use mathlib.Core.Path.{_≡_};
 ghost use Prim.Native.Nat.{_≤_};
-ghost use lib.ListN.{length, drop, replicate};
+ghost use lib.ListN.{length, replicate};
 ghost use lib.Seq.{sets};
 ghost use Rattle.rules.specs.Rules.{rulesOf};
 ghost use Rattle.runs.specs.Runs.{cardOf, cardRun, roomRun, ruledRun};
 ghost use Rattle.run_page.specs.RunPage.{pageOf, pageSize};
-ghost use Rattle.bench.specs.Bench.{filler, sizeIn, recordsIn, lent, hasRoom, turnOf, cardTurned, roomTurned, textTurned, turned};
+ghost use Rattle.run_block.specs.RunBlock.{filler};
+ghost use Rattle.bench.specs.Bench.{hasRoom, turnOf, cardTurned, roomTurned, textTurned, turned};
 use rooms::Rooms;
 use rules::Words;
 use run_rule::Ran;
 use shape::Shape;
 use state::State;
-
-// The largest room that is lent.
-const LARGEST_ROOM: usize = 65_536;
-// What the room holds before the run.
-const FILLER: u8 = 0xAA;
 
 // Where a block's text ends, or that there was no room for it and nothing was run.
 pub enum Page {
@@ -29,15 +25,6 @@ pub enum Page {
 pub struct Turn {
     pub state: State,
     pub page: Page,
-}
-
-// Nothing of an earlier run is left in the room.
-fn fill(room: &mut [u8])
-    ensures { λ _. ⌜ now (room .exit) ≡ replicate (length (now (room .entry))) filler ⌝ }
-{
-    for i in 0..room.len() {
-        room[i] = FILLER;
-    }
 }
 
 // Whether there is room for a run in a room of some size, and for its text.
@@ -68,35 +55,16 @@ fn run_in(
         × (now (room .exit) ≡ filled) × (now (text .exit) ≡ sets (now (text .entry)) 0 page)
         × (rulesOf (now (words .exit)) ≡ after .rules)) ⌝ }
 {
-    fill(room);
+    run_block::fill(room);
     let run = runs::run(words, rooms, shape, paper, state, records, room);
     let ran = run.ran;
     let state = run.state;
     Turn {
         state,
         page: Page::Whole {
-            end: run_page::put_page(text, ran, room),
+            end: run_text::put_page(text, ran, room),
         },
     }
-}
-
-// The size of the room that a block asks: its first 4 bytes, those that are missing being 0, and never
-// more than the largest.
-fn size_in(block: &[u8]) -> usize
-    ensures { λ r. ⌜ (r ≡ sizeIn (now (block .entry))) × (r ≤ 65536) ⌝ }
-{
-    let size = wire::u32_at(block, 0) as usize;
-    if LARGEST_ROOM < size {
-        return LARGEST_ROOM;
-    }
-    size
-}
-
-// Where a block's records begin.
-fn head_in(block: &[u8]) -> usize
-    ensures { λ r. ⌜ (r ≤ length (now (block .entry))) × (drop r (now (block .entry)) ≡ recordsIn (now (block .entry))) ⌝ }
-{
-    if block.len() < 4 { block.len() } else { 4 }
 }
 
 // A block answered on the card as it stands: so much of the room as it asks is filled and lent to its
@@ -120,14 +88,14 @@ pub fn answer_block(
         × (now (text .exit) ≡ textTurned shape (now (paper .entry)) (cardOf (now (words .entry)) (now (rooms .entry)) state) (now (block .entry)) (length (now (room .entry))) (now (text .entry)))
         × (rulesOf (now (words .exit)) ≡ cardTurned shape (now (paper .entry)) (cardOf (now (words .entry)) (now (rooms .entry)) state) (now (block .entry)) (length (now (room .entry))) (length (now (text .entry))) .rules) ⌝ }
 {
-    let size = size_in(block);
+    let size = run_block::size_in(block);
     if !has_room(size, room.len(), text.len()) {
         return Turn {
             state,
             page: Page::NoRoom,
         };
     }
-    let from = head_in(block);
+    let from = run_block::head_in(block);
     run_in(
         words,
         rooms,

@@ -1,9 +1,7 @@
 // What goes into a transaction log (request Eight): after each cryptogram, whether it closed a
 // transaction, and whether that is logged.
 ghost use mathlib.Core.Path.{_≡_};
-ghost use Rattle.journal.specs.Journal.{isOffline, isWanted, isLogging, closedBy, noted, watched};
-use ring::Record;
-use ring::Ring;
+ghost use Rattle.journal.specs.Journal.{isOffline, isWanted, isLogging};
 use state::Kind;
 
 const Y3: u32 = 0x5933;
@@ -53,7 +51,7 @@ fn is_offline(said: Heard) -> bool
 }
 
 // Whether the switches ask for a transaction that such an answer closes.
-fn is_wanted(switches: u8, said: Heard, kind: Kind) -> bool
+pub fn is_wanted(switches: u8, said: Heard, kind: Kind) -> bool
     ensures { λ r. ⌜ r ≡ isWanted switches said kind ⌝ }
 {
     match kind {
@@ -66,7 +64,7 @@ fn is_wanted(switches: u8, said: Heard, kind: Kind) -> bool
 }
 
 // Whether the profile of a number logs.
-fn is_logging(logging: Logging, profile: u8) -> bool
+pub fn is_logging(logging: Logging, profile: u8) -> bool
     ensures { λ r. ⌜ r ≡ isLogging logging profile ⌝ }
 {
     let numbers = logging.numbers;
@@ -75,47 +73,4 @@ fn is_logging(logging: Logging, profile: u8) -> bool
         | ((numbers[1] == profile) & logs[1])
         | ((numbers[2] == profile) & logs[2])
         | ((numbers[3] == profile) & logs[3])
-}
-
-// The record of a transaction whose First's body and, if there was one, Second's lie at these places.
-fn closed_by(first: u64, second: u64, given: Cryptogram) -> Record
-    ensures { λ r. ⌜ r ≡ closedBy first second given ⌝ }
-{
-    let kind = given.kind;
-    Record {
-        first,
-        second,
-        cvr: given.cvr,
-        atc: given.atc,
-        cid: kind.cid() as u64,
-    }
-}
-
-// The record of a transaction that a cryptogram may have closed is added, if it is logged.
-fn note(ring: &mut Ring, logging: Logging, said: Heard, given: Cryptogram, closed: Record)
-    ensures { λ _. ⌜ now (ring .exit) ≡ noted logging said given closed (now (ring .entry)) ⌝ }
-{
-    let kind = given.kind;
-    if is_wanted(logging.switches, said, kind) & is_logging(logging, given.profile) {
-        ring::add(ring, logging.size, closed);
-    }
-}
-
-// After a cryptogram, the body of its record lying at a place.
-pub fn watch(ring: &mut Ring, logging: Logging, said: Heard, at: usize, given: Cryptogram)
-    ensures { λ _. ⌜ now (ring .exit) ≡ watched logging said at given (now (ring .entry)) ⌝ }
-{
-    let place = at as u64;
-    match said {
-        Heard::First => {
-            ring::open_first(ring, place);
-            let closed = closed_by(place, 0, given);
-            note(ring, logging, said, given, closed);
-        }
-        Heard::Second { .. } => {
-            let closed = closed_by(ring::first_place(ring), place, given);
-            note(ring, logging, said, given, closed);
-        }
-        Heard::Other => {}
-    }
 }

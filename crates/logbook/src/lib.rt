@@ -26,7 +26,7 @@ fn watch_line(ring: &mut Ring, logging: Logging, paper: &[u8], at: usize, line: 
     let Reply::Given(given) = replies::reply_in(line) else {
         return;
     };
-    journal::watch(ring, logging, log::heard(&paper[at..]), at + 3, given);
+    watching::watch(ring, logging, log::heard(&paper[at..]), at + 3, given);
 }
 
 // The place behind the record at a place.
@@ -51,13 +51,13 @@ fn ring_of(logging: Logging, paper: &[u8], start: usize, text: &[u8]) -> Ring
     let mut from: usize = 0;
     while from < text.len() {
         let rest = &text[from..];
-        let line = replies::before(rest, LINE_FEED);
+        let line = pieces::before(rest, LINE_FEED);
         if replies::is_ending(line) {
             return ring::none();
         }
         watch_line(&mut ring, logging, paper, at, line);
         at = place_behind(paper, at);
-        from = text.len() - replies::behind(rest, LINE_FEED).len();
+        from = text.len() - pieces::behind(rest, LINE_FEED).len();
     }
     ring
 }
@@ -82,7 +82,7 @@ pub fn put_behind(
         return end;
     }
     let log = log::log_of(words, shape, paper);
-    let text = replies::behind(log::tail_at(room, from, end), LINE_FEED);
+    let text = pieces::behind(log::tail_at(room, from, end), LINE_FEED);
     let ring = ring_of(log.logging, paper, start, text);
     log_text::put_log(room, end, paper, log, &ring)
 }

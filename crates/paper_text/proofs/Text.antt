@@ -1,10 +1,10 @@
 -- The lines stand in the room, and the log's text behind them. Assumes nothing.
-use mathlib.Core.Path.{_≡_, refl, sym, ap, subst, _∙_}
+use mathlib.Core.Path.{_≡_, refl, ap, subst, _∙_}
 use mathlib.Core.Bool.{Bool, true, false, cond}
-use mathlib.Core.List.{List, [], _++_, append-assoc}
-use Prim.Native.Nat.{ℕ, _+_, _*_, _-_, _≤_, _<_}
+use mathlib.Core.List.{List, _++_, append-assoc}
+use Prim.Native.Nat.{ℕ, _+_, _-_, _≤_, _<_}
 use native.Mathlib.Omega.{arith}
-use borrow.Author.Tests.{leb-true, leb-false, le-leb, lt-leb}
+use borrow.Author.Tests.{leb-true, le-leb}
 use lib.Dec.{ltb}
 use lib.ListN.{length, take, drop, length-append}
 use lib.Seq.{sets, length-sets, sets-eq, length-take-le, take-at, drop-at}
@@ -21,13 +21,6 @@ use Rattle.log_text.specs.LogText.{longest, placed, placeBehind}
 use Rattle.paper_text.specs.declared.Parts.{Parts}
 use Rattle.paper_text.specs.declared.Parts.the-variants.{Put, NoRoom as NoParts}
 use Rattle.paper_text.specs.PaperText.{logBehind, textOf, roomForText, hasTextRoom, partsPut, textPut, roomPut, PartsIn, logPut, roomLogged, Stands}
-
--- room for the text is room for the lines in what is left without the longest log
-pub less-longest : (room at bytes : ℕ) → longest ≤ room → hasRoom (room - longest) at bytes ≡ hasTextRoom room at bytes
-less-longest room at bytes h = by (hasTextRoom room at bytes) refl where
-  by : (b : Bool) → hasTextRoom room at bytes ≡ b → hasRoom (room - longest) at bytes ≡ b
-  by true e = le-leb (at + roomFor bytes) (room - longest) (omega (arith, leb-true (at + roomForText bytes) room e))
-  by false e = lt-leb (at + roomFor bytes) (room - longest) (omega (arith, leb-false (at + roomForText bytes) room e))
 
 -- a text that was put is found again
 found-again : (room text : List ℕ) (at : ℕ) → at + length text ≤ length room → tailAt (sets room at text) at (at + length text) ≡ text

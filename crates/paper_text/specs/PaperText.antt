@@ -1,41 +1,26 @@
 -- The text of a whole paper (document 01, "A sitting in full"; document 02, Eight): its lines, and behind them those of its log.
 use Prim.Native.Nat.{ℕ, _+_, _≤_, _<_}
 use mathlib.Core.Path.{_≡_}
-use mathlib.Core.Bool.{Bool, cond}
-use mathlib.Core.List.{List, [], _++_}
-use lib.Dec.{leb, ltb}
+use mathlib.Core.Bool.{cond}
+use mathlib.Core.List.{List, _++_}
+use lib.Dec.{ltb}
 use lib.ListN.{length}
 use lib.Seq.{sets}
 use Rattle.wire.specs.Wire.{byte}
-use Rattle.rules.specs.Rules.{rulesOf, blankWords}
-use Rattle.opening.specs.Opening.{begunOf, wordsBegun}
+use Rattle.rules.specs.Rules.{blankWords}
 use Rattle.conversation.specs.Events.{wordsLeft}
 use Rattle.paper_room.specs.declared.Transcript.{Transcript}
 use Rattle.paper_room.specs.declared.Transcript.the-variants.{Whole, NoRoom}
-use Rattle.transcript.specs.Transcript.{transcriptOf, roomFor}
-use Rattle.log_text.specs.LogText.{longest}
+use Rattle.transcript.specs.Transcript.{transcriptOf}
 use Rattle.log.specs.Log.{tailAt}
-use Rattle.logbook.specs.Logbook.{shapedBehind}
 use Rattle.paper_text.specs.declared.Parts.{Parts}
 use Rattle.paper_text.specs.declared.Parts.the-variants.{Put, NoRoom as NoParts}
-
--- the text of a paper's log, behind the text of its lines; below version 07 there is none
-unfoldable pub logBehind : (paper text : List ℕ) → List ℕ
-logBehind paper text =
-    let begun = begunOf paper in
-    let rules = rulesOf (wordsBegun blankWords paper) in
-    cond (ltb (byte paper 0) 7) [] (shapedBehind rules (begun .shape) paper (begun .at) text)
+unfoldable pub use Rattle.log_behind.specs.LogBehind.{logBehind}
+pub use Rattle.log_behind.specs.LogBehind.{roomForText, hasTextRoom}
 
 -- THE TEXT of a paper, with the words that it was lent
 unfoldable pub textOf : (words paper : List ℕ) → List ℕ
 textOf words paper = let lines = transcriptOf words paper in lines ++ logBehind paper lines
-
--- the room that a paper of so many bytes is asked: that for its lines, and the longest log
-abbrev pub roomForText : (bytes : ℕ) → ℕ
-roomForText bytes = roomFor bytes + longest
-
-abbrev pub hasTextRoom : (room at bytes : ℕ) → Bool
-hasTextRoom room at bytes = leb (at + roomForText bytes) room
 
 -- where the lines end and where the log does, or that there is no room
 unfoldable pub partsPut : (words paper : List ℕ) (room at : ℕ) → Parts

@@ -1,50 +1,18 @@
 // The text of a whole paper, in lent room: its lines, and behind them those of its log.
 ghost use mathlib.Core.Path.{_≡_};
-ghost use Prim.Native.Nat.{_+_, _≤_};
 ghost use lib.ListN.{length};
-ghost use Rattle.log.specs.Log.{tailAt};
-ghost use Rattle.log_text.specs.LogText.{placed, placeBehind, longest};
 ghost use Rattle.rules.specs.Rules.{blankWords};
 ghost use Rattle.transcript.specs.Transcript.{transcriptOf};
-ghost use Rattle.paper_text.specs.PaperText.{hasTextRoom, logBehind, partsPut, textPut, roomPut, wordsPut, PartsIn, EndsIn};
+ghost use Rattle.paper_text.specs.PaperText.{logBehind, partsPut, textPut, roomPut, wordsPut, PartsIn, EndsIn};
 ghost use Rattle.paper_text.specs.PaperText.{logPut, roomLogged, Stands};
 use paper_room::Transcript;
 use rules::Words;
-
-// The first version with a log.
-const LOG: u8 = 7;
 
 // A paper's lines end at a place of the room and its log, which stands behind them, at another; or the
 // room is too small and nothing was written.
 pub enum Parts {
     Put { lines: usize, end: usize },
     NoRoom,
-}
-
-// Whether from a place on there is room for a paper's lines and for the longest log behind them.
-fn has_room(room: usize, at: usize, paper: usize) -> bool
-    ensures { λ r. ⌜ r ≡ hasTextRoom room at paper ⌝ }
-{
-    if room < log_text::LONGEST {
-        return false;
-    }
-    paper_room::has_room(room - log_text::LONGEST, at, paper)
-}
-
-// The lines of the paper's log behind its own, which stand in the room from a place up to another. Its
-// set-up is read once more, so that a paper without a log carries nothing for it.
-fn put_log(paper: &[u8], room: &mut [u8], from: usize, end: usize) -> usize
-    ensures { λ r. ⌜ (r ≡ placeBehind (length (now (room .entry))) end (logBehind (now (paper .entry)) (tailAt (now (room .entry)) from end)))
-        × (now (room .exit) ≡ placed (now (room .entry)) end (logBehind (now (paper .entry)) (tailAt (now (room .entry)) from end)))
-        × (r ≤ end + longest) ⌝ }
-{
-    if wire::byte_at(paper, 0) < LOG {
-        return end;
-    }
-    let mut words = rules::blank();
-    let begun = opening::begin(paper, &mut words);
-    let shape = begun.shape;
-    logbook::put_behind(&words, shape, paper, begun.at, room, from, end)
 }
 
 // A paper's lines from a place of the room on, and its log's behind them.
@@ -54,7 +22,7 @@ fn put_parts(paper: &[u8], words: &mut Words, room: &mut [u8], at: usize) -> Par
         × (now (words .exit) ≡ wordsPut (now (words .entry)) (now (paper .entry)) (now (room .entry)) at)
         × PartsIn at (length (now (paper .entry))) r ⌝ }
 {
-    if !has_room(room.len(), at, paper.len()) {
+    if !log_behind::has_room(room.len(), at, paper.len()) {
         return Parts::NoRoom;
     }
     let Transcript::Whole { end } = transcript::transcribe(paper, words, room, at) else {
@@ -62,7 +30,7 @@ fn put_parts(paper: &[u8], words: &mut Words, room: &mut [u8], at: usize) -> Par
     };
     Parts::Put {
         lines: end,
-        end: put_log(paper, room, at, end),
+        end: log_behind::put_log(paper, room, at, end),
     }
 }
 
@@ -85,7 +53,7 @@ pub fn put_for_log(paper: &[u8], room: &mut [u8]) -> Parts
     ensures { λ r. ⌜ (r ≡ logPut (now (paper .entry)) (length (now (room .entry)))) × (now (room .exit) ≡ roomLogged (now (paper .entry)) (now (room .entry)))
         × Stands (now (room .exit)) (logBehind (now (paper .entry)) (transcriptOf blankWords (now (paper .entry)))) r ⌝ }
 {
-    if wire::byte_at(paper, 0) < LOG {
+    if wire::byte_at(paper, 0) < log_behind::LOG {
         return Parts::Put { lines: 0, end: 0 };
     }
     let mut words = rules::blank();

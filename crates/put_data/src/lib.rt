@@ -1,12 +1,12 @@
 // The PUT DATA command of an issuer script, by CPA 18.8: whether it is valid, and what it writes.
 use element::Meaning;
 use element::Write;
-use element::element_meaning;
 use element::element_size;
 use frame::is_put_data;
 use frame::is_secured;
 use frame::list_place;
 use frame::mac_place;
+use meaning::element_meaning;
 use wire::u16_at;
 ghost use mathlib.Core.Path.{_≡_};
 ghost use Prim.Native.Nat.{_+_, _≤_};

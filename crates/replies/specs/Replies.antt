@@ -1,30 +1,15 @@
 -- What a printed line of a sitting says, read back from its bytes (document 01, "A sitting in full"): words with one space (32) between them.
-use Prim.Native.Nat.{ℕ, suc, _+_, _*_, _%_, min}
+use Prim.Native.Nat.{ℕ, _+_, _*_, _%_}
 use mathlib.Core.Bool.{Bool, cond}
 use mathlib.Core.List.{List, [], _∷_}
 use lib.Dec.{eqb, leb, ltb}
-use lib.ListN.{length, take, drop}
-use denote.Ref.{RefT, now}
+use lib.ListN.{length}
 use Rattle.wire.specs.Wire.{byte}
 use Rattle.state.specs.declared.Kind.{Kind}
 use Rattle.state.specs.declared.Kind.the-variants.{Aac, Tc, Arqc}
 use Rattle.replies.specs.declared.Reply.{Reply}
 use Rattle.replies.specs.declared.Reply.the-variants.{Given, Other}
-
--- the place of the first mark, or the end; what stands before it and behind it
-unfoldable pub placeOf : (mark : ℕ) (text : List ℕ) → ℕ
-placeOf mark [] = 0
-placeOf mark (c ∷ text) = cond (eqb c mark) 0 (suc (placeOf mark text))
-
-unfoldable pub before : (mark : ℕ) (text : List ℕ) → List ℕ
-before mark text = take (placeOf mark text) text
-
-unfoldable pub behind : (mark : ℕ) (text : List ℕ) → List ℕ
-behind mark text = drop (suc (placeOf mark text)) text
-
--- and where the latter lies, at the end where there is nothing
-unfoldable pub behindPlace : (mark : ℕ) (text : RefT (List ℕ)) → ℕ × ℕ
-behindPlace mark text = (text .ptr .0, text .ptr .1 + min (suc (placeOf mark (now text))) (length (now text)))
+unfoldable pub use Rattle.pieces.specs.Pieces.{placeOf, before, behind, behindPlace}
 
 -- A BYTE by its two hex digits: "0" (48) to "9" (57), "A" (65) to "F" (70)
 abbrev pub digitValue : (digit : ℕ) → ℕ

@@ -1,8 +1,7 @@
 // What a printed line of a sitting says, read back from its bytes: words with one space between them.
 ghost use mathlib.Core.Path.{_≡_};
-ghost use Prim.Native.Nat.{_≤_, _<_};
-ghost use lib.ListN.{length};
-ghost use Rattle.replies.specs.Replies.{placeOf, before, behind, behindPlace, digitValue, pairAt, decimalIn, kindIn, cvrIn, replyIn, isEnding};
+ghost use Prim.Native.Nat.{_<_};
+ghost use Rattle.replies.specs.Replies.{before, behind, digitValue, pairAt, decimalIn, kindIn, cvrIn, replyIn, isEnding};
 use journal::Cryptogram;
 use state::Kind;
 
@@ -19,39 +18,6 @@ const PROFILE: usize = 34;
 pub enum Reply {
     Given(Cryptogram),
     Other,
-}
-
-// The place of the first mark; the end where there is none.
-fn place_of(text: &[u8], mark: u8) -> usize
-    ensures { λ r. ⌜ (r ≡ placeOf mark (now (text .entry))) × (r ≤ length (now (text .entry))) ⌝ }
-{
-    let mut at: usize = 0;
-    while at < text.len() {
-        if text[at] == mark {
-            return at;
-        }
-        at += 1;
-    }
-    at
-}
-
-// The text up to the first mark, or all of it.
-pub fn before(text: &[u8], mark: u8) -> &[u8]
-    ensures { λ r. ⌜ (now r ≡ before mark (now (text .entry))) × (r .ptr ≡ text .entry .ptr) ⌝ }
-{
-    let at = place_of(text, mark);
-    &text[..at]
-}
-
-// The text behind the first mark, or nothing of it.
-pub fn behind(text: &[u8], mark: u8) -> &[u8]
-    ensures { λ r. ⌜ (now r ≡ behind mark (now (text .entry))) × (r .ptr ≡ behindPlace mark (text .entry)) ⌝ }
-{
-    let at = place_of(text, mark);
-    if at == text.len() {
-        return &text[at..];
-    }
-    &text[at + 1..]
 }
 
 // The value of a hex digit: "0" is 30 and "A" 41.
@@ -109,15 +75,15 @@ fn cvr_in(iad: &[u8]) -> u64
 pub fn reply_in(line: &[u8]) -> Reply
     ensures { λ r. ⌜ r ≡ replyIn (now (line .entry)) ⌝ }
 {
-    let cid = behind(behind(line, SPACE), SPACE);
-    let atc = behind(cid, SPACE);
-    let iad = behind(atc, SPACE);
+    let cid = pieces::behind(pieces::behind(line, SPACE), SPACE);
+    let atc = pieces::behind(cid, SPACE);
+    let iad = pieces::behind(atc, SPACE);
     if iad.len() < IAD {
         return Reply::Other;
     }
     Reply::Given(Cryptogram {
         kind: kind_in(cid),
-        atc: decimal_in(before(atc, SPACE)),
+        atc: decimal_in(pieces::before(atc, SPACE)),
         profile: (pair_at(iad, PROFILE) % 256) as u8,
         cvr: cvr_in(iad),
     })
@@ -127,5 +93,5 @@ pub fn reply_in(line: &[u8]) -> Reply
 pub fn is_ending(line: &[u8]) -> bool
     ensures { λ r. ⌜ r ≡ isEnding (now (line .entry)) ⌝ }
 {
-    wire::byte_at(behind(line, SPACE), 0) == b'9'
+    wire::byte_at(pieces::behind(line, SPACE), 0) == b'9'
 }

@@ -72,7 +72,7 @@ fn watch_answer(ring: &mut Ring, logging: Logging, said: Heard, at: usize, answe
     ensures { λ _. ⌜ now (ring .exit) ≡ watchedAnswer logging said at (now (answer .entry)) (now (ring .entry)) ⌝ }
 {
     if wire::byte_at(answer, 0) == 0 {
-        journal::watch(ring, logging, said, at, given_by(answer));
+        watching::watch(ring, logging, said, at, given_by(answer));
     }
 }
 

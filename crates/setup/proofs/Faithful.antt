@@ -18,8 +18,8 @@ use Rattle.rules.specs.Rules.{Rules, two, four, five, eight, profileOf, rulesOf
 use Rattle.load.specs.Load.{headWords, rateWords, ratesWords, profilesWords, loaded}
 use Rattle.load.specs.Load.{limitIn, ruleWords, rulesWords, profileHeadWords, sentWords, profileWords}
 use Rattle.load.specs.Load.{cycleWords, cyclicRuleWords, cyclicRulesWords, cyclesWords, familyWords}
-use Rattle.load.proofs.Sizes.{loaded-size}
-use Rattle.load.proofs.Stores.{all}
+use Rattle.load_parts.proofs.Sizes.{loaded-size}
+use Rattle.load_parts.proofs.Stores.{all}
 use Rattle.ranges.specs.Ranges.{isSetup}
 use Rattle.tails.specs.Tails.{areCycles, isFamily}
 use Rattle.ranges.proofs.Accepted.{accepted}

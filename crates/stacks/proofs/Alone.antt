@@ -11,8 +11,8 @@ use Rattle.refusal.specs.declared.Refusal.the-variants.{BadSetup, PastData}
 use Rattle.rules.specs.Word.{wordCount}
 use Rattle.rules.specs.Rules.{rulesOf}
 use Rattle.load.specs.Load.{stored, loaded}
-use Rattle.load.proofs.Sizes.{loaded-size}
-use Rattle.load.proofs.Stores.{all}
+use Rattle.load_parts.proofs.Sizes.{loaded-size}
+use Rattle.load_parts.proofs.Stores.{all}
 use Rattle.setup.specs.Setup.{isAccepted, wordsAfter}
 use Rattle.setup.proofs.Faithful.{untouched}
 use Rattle.log_tail.specs.declared.Judged.{Judged}

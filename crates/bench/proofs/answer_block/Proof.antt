@@ -69,7 +69,7 @@ returns-2 c =
     let fits = sym (asked .has-room .ensures) ∙ not-false _ (tested .if1 .left) in
     let there = enough (size .size-in .result) (now (a .room)) (now (a .text)) (asked .has-room .ensures) (tested .if1 .left) in
     let from = head .head-in .result in
-    let records = take-all (length block - from) (drop from block) (omega (arith, length-drop from block)) ∙ head .head-in .ensures .1 in
+    let records = take-all (length block - from) (drop from block) (omega (arith, length-drop from block)) ∙ head .head-in .ensures .2 in
     answered (a .shape) (now (a .paper)) (now (a .words)) (now (a .rooms)) (a .state) block (now (a .room)) (now (a .text))
     (rw e at fits) e records (there .0) (ran .run-in .ensures)
 

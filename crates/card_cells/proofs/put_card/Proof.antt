@@ -4,7 +4,7 @@ use denote.Ref.{now}
 use mathlib.Core.Path.{_≡_, refl, ap, _∙_}
 use lib.ListN.{length, drop}
 use lib.Seq.{sets}
-use Rattle.load.proofs.Stores.{Run, behind}
+use Rattle.load_parts.proofs.Stores.{Run, behind}
 use Rattle.shape_seat.specs.Shapes.{shapeCells}
 use Rattle.seating.specs.States.{stateCells}
 use Rattle.shape_seat.proofs.Back.{shape-size}

@@ -4,7 +4,7 @@ use denote.Ref.{now}
 use mathlib.Core.Path.{_≡_, refl, ap, _∙_}
 use lib.ListN.{length}
 use lib.Seq.{sets}
-use Rattle.load.proofs.Stores.{Run, behind}
+use Rattle.load_parts.proofs.Stores.{Run, behind}
 use Rattle.phase_seat.specs.Phases.{phaseCells}
 use Rattle.phase_seat.proofs.Back.{phase-size}
 use Rattle.seating.specs.States.{valueCells, markCells}

@@ -3,8 +3,8 @@ use denote.Ref.{now}
 use mathlib.Core.Path.{refl}
 use mathlib.Core.List.{[], _∷_}
 use Rattle.load.specs.Load.{loaded, headWords}
-use Rattle.load.proofs.Sizes.{head-size, profiles-size, rates-size, cycles-size, family-size}
-use Rattle.load.proofs.Stores.{Run, behind}
+use Rattle.load_parts.proofs.Sizes.{head-size, profiles-size, rates-size, cycles-size, family-size}
+use Rattle.load_parts.proofs.Stores.{Run, behind}
 use Rattle.load.proofs.load.Statement.{statement}
 use Rattle.load.proofs.load.Tie as tie
 

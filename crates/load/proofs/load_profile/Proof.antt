@@ -6,8 +6,8 @@ use lib.Seq.{sets}
 use Rattle.layout.specs.Layout as layout
 use Rattle.rules.specs.Word as word
 use Rattle.load.specs.Load.{profileWords, profileHeadWords}
-use Rattle.load.proofs.Sizes.{profile-head-size, rules-size, sent-size}
-use Rattle.load.proofs.Stores.{Run, behind}
+use Rattle.load_parts.proofs.Sizes.{profile-head-size, rules-size, sent-size}
+use Rattle.load_parts.proofs.Stores.{Run, behind}
 use Rattle.load.proofs.load_profile.Statement.{statement}
 use Rattle.load.proofs.load_profile.Tie as tie
 

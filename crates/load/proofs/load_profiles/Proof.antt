@@ -2,8 +2,8 @@ use borrow.Author.Needs.{needs}
 use denote.Ref.{now}
 use Rattle.layout.specs.Layout.{profilePlace}
 use Rattle.load.specs.Load.{profilesWords, profileWords}
-use Rattle.load.proofs.Sizes.{profile-size}
-use Rattle.load.proofs.Stores.{four-rows}
+use Rattle.load_parts.proofs.Sizes.{profile-size}
+use Rattle.load_parts.proofs.Stores.{four-rows}
 use Rattle.load.proofs.load_profiles.Statement.{statement}
 use Rattle.load.proofs.load_profiles.Tie as tie
 

@@ -4,7 +4,7 @@ use denote.Ref.{now}
 use mathlib.Core.Path.{refl}
 use Prim.Native.Nat.{_+_}
 use Rattle.load.specs.Load.{ruleWords}
-use Rattle.load.proofs.Stores.{first, next-word}
+use Rattle.load_parts.proofs.Stores.{first, next-word}
 use Rattle.load.proofs.load_rule.Statement.{statement}
 use Rattle.load.proofs.load_rule.Tie as tie
 

@@ -2,8 +2,8 @@ use borrow.Author.Needs.{needs}
 use denote.Ref.{now}
 use Rattle.layout.specs.Layout.{ruleLength}
 use Rattle.load.specs.Load.{onward, ruleWords, rulesWords}
-use Rattle.load.proofs.Sizes.{rule-size}
-use Rattle.load.proofs.Stores.{four-rows}
+use Rattle.load_parts.proofs.Sizes.{rule-size}
+use Rattle.load_parts.proofs.Stores.{four-rows}
 use Rattle.load.proofs.load_rules.Statement.{statement}
 use Rattle.load.proofs.load_rules.Tie as tie
 

@@ -4,7 +4,7 @@ use Prim.Native.Nat.{_+_}
 use native.Mathlib.Omega.{arith}
 use Rattle.load.specs.Load.{sentWords}
 use Rattle.rules.specs.Word as word
-use Rattle.load.proofs.Stores.{first, next-word}
+use Rattle.load_parts.proofs.Stores.{first, next-word}
 use Rattle.load.proofs.load_sent.Statement.{statement}
 use Rattle.load.proofs.load_sent.Tie as tie
 
