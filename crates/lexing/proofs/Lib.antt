@@ -1,0 +1,4 @@
+pub mod Rests
+pub mod Steps
+pub mod Laws
+pub mod Named
