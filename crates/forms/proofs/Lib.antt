@@ -1,0 +1,11 @@
+pub mod Bytes
+pub mod Parts
+pub mod Forms
+pub mod Tables
+pub mod Speaks
+pub mod Tails
+pub mod Rows
+pub mod Grammars
+pub mod Suffix
+pub mod Takes
+pub mod Taken

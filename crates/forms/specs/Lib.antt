@@ -1,0 +1,5 @@
+pub mod Form
+pub mod Grammar
+pub mod Table
+pub mod Tail
+pub mod Row

@@ -1,0 +1,4 @@
+pub mod Fine
+pub mod Setup
+pub mod Walked
+pub mod RoundTrip

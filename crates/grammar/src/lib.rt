@@ -1,0 +1,1 @@
+// A paper as text, both ways: the grammar, and theorems over it; no code that runs.
