@@ -67,7 +67,7 @@ either-stops : (t : Bool) (vs a b : List (List ℕ)) → stopped vs a ≡ true �
 either-stops true vs a b h k = h
 either-stops false vs a b h k = k
 
-parted-stops : (vs : List (List ℕ)) (f : Form) (s : List ℕ) (at : ℕ) → parted vs f ≡ true → stopped vs (printForm f s at) ≡ true
+pub parted-stops : (vs : List (List ℕ)) (f : Form) (s : List ℕ) (at : ℕ) → parted vs f ≡ true → stopped vs (printForm f s at) ≡ true
 unfolding parted printForm wordOf
 parted-stops vs done s at h = refl
 parted-stops vs (part (say w) f) s at h = h

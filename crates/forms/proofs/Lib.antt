@@ -9,3 +9,4 @@ pub mod Grammars
 pub mod Suffix
 pub mod Takes
 pub mod Taken
+pub mod Spots

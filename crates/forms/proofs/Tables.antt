@@ -52,7 +52,7 @@ line-not-led : (t : Bool) (k : List ℕ) (l : Line) (ls : List Line) → begins 
 line-not-led true k l ls h n = n
 line-not-led false k l ls h n = h
 
-later-not-led : (indent : ℕ) (fs : List Field) (s : List ℕ) (at : ℕ) (k : List ℕ) (ls : List Line) → isIn k (keys fs) ≡ false → leads k ls ≡ false
+pub later-not-led : (indent : ℕ) (fs : List Field) (s : List ℕ) (at : ℕ) (k : List ℕ) (ls : List Line) → isIn k (keys fs) ≡ false → leads k ls ≡ false
     → leads k (printFields indent fs s at ++ ls) ≡ false
 unfolding isIn printFields
 later-not-led indent [] s at k ls h n = n

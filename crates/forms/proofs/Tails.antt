@@ -84,7 +84,7 @@ known-starts v (t ∷ ts) ks h =
 abbrev fineTail : Tail → Bool
 fineTail t = (isEmpty (t .switch) || isWord (t .switch)) && fineItems (t .items)
 
-known-fine : (v : ℕ) (ts : List Tail) → fineTails ts ≡ true → fineTails (known v ts) ≡ true
+pub known-fine : (v : ℕ) (ts : List Tail) → fineTails ts ≡ true → fineTails (known v ts) ≡ true
 unfolding known fineTails
 known-fine v [] h = refl
 known-fine v (t ∷ ts) h =

@@ -3,3 +3,4 @@ pub mod Grammar
 pub mod Table
 pub mod Tail
 pub mod Row
+pub mod Spot

@@ -219,7 +219,7 @@ rest-lines (c ∷ t) h = one-line 0 (raw .key) (printForm (raw .form) (c ∷ t) 
 
 -- ---- the whole
 
-paper-width : width (paper .form) ≡ 1
+pub paper-width : width (paper .form) ≡ 1
 unfolding paper wordsIn linesOf step lex formIn formFrom partIn isSized
 paper-width = refl
 

@@ -67,7 +67,7 @@ tails-conversion : apart (tailsStarts tails) (groupKeys conversion) ≡ true
 unfolding apart isIn conversion tails wordsIn linesOf step lex
 tails-conversion = refl
 
-sizes : (widths first ≡ 3) × (widths second ≡ 47) × (breadth profile ≡ 107) × (breadth conversion ≡ 7)
+pub sizes : (widths first ≡ 3) × (widths second ≡ 47) × (breadth profile ≡ 107) × (breadth conversion ≡ 7)
 unfolding first second profile conversion wordsIn linesOf step lex formIn formFrom partIn isSized past upTo
 sizes = (refl, refl, refl, refl)
 
@@ -77,13 +77,13 @@ setup-line s small ls = line-back s small 0 setup 0 ls setup-fine ∙ none where
   none = unfold setup wordsIn linesOf step lex formIn formFrom bytesAt in refl
 
 module _ (s : List ℕ) (small : Bytes s) (v : ℕ) (h : isWorded v s ≡ true) where
-  abbrev p : ℕ
+  abbrev pub p : ℕ
   p = byte s profiles
 
-  abbrev c : ℕ
+  abbrev pub c : ℕ
   c = byte s conversions
 
-  abbrev t : ℕ
+  abbrev pub t : ℕ
   t = tailsSize p (known v tails) s (baseLength s)
 
   is-long : (areSwitched p (known v tails) s (baseLength s) ≡ true) × (length s ≡ baseLength s + t)
@@ -105,16 +105,16 @@ module _ (s : List ℕ) (small : Bytes s) (v : ℕ) (h : isWorded v s ≡ true) 
         two-more = unfold bytesAt in refl
 
   module _ (ls : List Line) (below : clear setupKeys ls ≡ true) where
-    abbrev T : List Line
+    abbrev pub T : List Line
     T = printTails p (known v tails) s (baseLength s) ++ ls
 
-    abbrev C : List Line
+    abbrev pub C : List Line
     C = printGroups 2 conversion c s (profileFrom p) ++ T
 
-    abbrev P : List Line
+    abbrev pub P : List Line
     P = printGroups 2 profile p s 52 ++ C
 
-    abbrev B : List Line
+    abbrev pub B : List Line
     B = printFields 2 second s 5 ++ P
 
     record Below : Type 0 where
@@ -138,17 +138,22 @@ module _ (s : List ℕ) (small : Bytes s) (v : ℕ) (h : isWorded v s ≡ true) 
     conversions-stop : (ks : List (List ℕ)) → isIn (conversion .head .key) ks ≡ false → apart (tailsStarts tails) ks ≡ true → clear ks ls ≡ true → clear ks C ≡ true
     conversions-stop ks head new k = groups-clear 2 conversion c s (profileFrom p) ks T head (tails-stop ks new k)
 
-    first-is : readFields first (printFields 2 first s 0 ++ B) ≡ Took (bytesAt s 0 3) B
-    first-is =
+    pub first-stop : clear (keys first) B ≡ true
+    first-stop =
         let ks = keys first in
-        let stop = groups-clear 2 profile p s 52 ks C (heads-first .0) (conversions-stop ks (heads-first .1) tails-first (clears .of-first)) in
-        fields-back s small 2 first 0 B first-fine (fields-clear 2 second s 5 ks P second-first stop) ∙ ap (λ n. Took (bytesAt s 0 n) B) (sizes .0)
+        fields-clear 2 second s 5 ks P second-first
+        (groups-clear 2 profile p s 52 ks C (heads-first .0) (conversions-stop ks (heads-first .1) tails-first (clears .of-first)))
+
+    pub second-stop : clear (keys second) P ≡ true
+    second-stop =
+        let ks = keys second in
+        groups-clear 2 profile p s 52 ks C (heads-second .0) (conversions-stop ks (heads-second .1) tails-second (clears .of-second))
+
+    first-is : readFields first (printFields 2 first s 0 ++ B) ≡ Took (bytesAt s 0 3) B
+    first-is = fields-back s small 2 first 0 B first-fine first-stop ∙ ap (λ n. Took (bytesAt s 0 n) B) (sizes .0)
 
     second-is : readFields second B ≡ Took (bytesAt s 5 47) P
-    second-is =
-        let ks = keys second in
-        let stop = groups-clear 2 profile p s 52 ks C (heads-second .0) (conversions-stop ks (heads-second .1) tails-second (clears .of-second)) in
-        fields-back s small 2 second 5 P second-fine stop ∙ ap (λ n. Took (bytesAt s 5 n) P) (sizes .1)
+    second-is = fields-back s small 2 second 5 P second-fine second-stop ∙ ap (λ n. Took (bytesAt s 5 n) P) (sizes .1)
 
     profiles-are : readGroups profile 255 P ≡ Took (bytesAt s 52 (p * 107)) C
     profiles-are =

@@ -1,20 +1,20 @@
 -- What a text says at the places that its words and lines lead to. Assumes nothing.
-use mathlib.Core.Path.{_≡_, refl, sym, ap, ap₂, _∙_}
+use mathlib.Core.Path.{_≡_, refl, sym, ap, _∙_}
 use mathlib.Core.Bool.{Bool, true, false, cond}
 use mathlib.Core.List.{List, [], _∷_}
-use Prim.Native.Nat.{ℕ, zero, suc, _+_, _-_, _≤_, _<_, min}
+use Prim.Native.Nat.{ℕ, zero, suc, _+_, _-_, _≤_, _<_}
 use native.Mathlib.Numerals.{add-one}
 use native.Mathlib.Omega.{arith}
-use borrow.Author.Tests.{ltb-true, ltb-false, lt-ltb, le-ltb, leb-true, leb-false}
-use lib.Dec.{leb, ltb, eqb}
-use lib.ListN.{length, take, drop, getD, length-take, length-drop, drop-of-length-le}
+use borrow.Author.Tests.{ltb-true, ltb-false, le-ltb}
+use lib.Dec.{ltb}
+use lib.ListN.{length, take, drop, length-take, length-drop, drop-of-length-le}
 use lib.Seq.{drop-drop}
 use Rattle.words.specs.Words.{isEmpty}
-use Rattle.words.specs.Lex.{Line, flush, shut, linesOf, lex, linesIn}
+use Rattle.words.specs.Lex.{flush, lex, linesIn}
 use Rattle.words.proofs.Reading.{on}
 use Rattle.lexing.specs.Places.{wordAt, wordsAt, belowAt, linesAt, endsLine, wordEnd, lineRest, lineEnd, gap, nextWord, afterWord, belowLine, lineFrom, nextLine}
-use Rattle.lexing.proofs.Rests.{Behind, behind, Rest, rest, ends, no-words, Beyond, beyond, passed, lines-below, none-here}
-use Rattle.lexing.proofs.Steps.{ends-is, ends-past, gap-past, in-line, line-stops}
+use Rattle.lexing.proofs.Rests.{Behind, behind, ends, no-words, Beyond, beyond, passed, lines-below, none-here, rest-in, gap-in}
+use Rattle.lexing.proofs.Steps.{ends-is, ends-past, gap-past, line-stops}
 
 -- a word in front, or none
 first : (w : List ℕ) (ws : List (List ℕ)) → isEmpty w ≡ false → flush w ws ≡ w ∷ ws
@@ -91,6 +91,10 @@ module _ (text : List ℕ) (at : ℕ) where
   unfolding nextWord
   next-behind = omega arith
 
+  pub next-in : at ≤ length text → nextWord text at ≤ length text
+  unfolding nextWord
+  next-in h = omega (arith, gap-in (drop at text), length-drop at text)
+
   -- ---- the line's end
 
   pub ended : endsLine text at ≡ true → wordsAt text at ≡ []
@@ -138,14 +142,36 @@ module _ (text : List ℕ) where
       let end = line-stops text at (ends-past text at h) in
       rw (end, le-ltb at (length text) h)
 
-  pub below-moves : (at : ℕ) → at < length text → at < belowLine text (nextWord text at)
-  unfolding belowLine lineEnd nextWord
-  below-moves at h = by (at + gap (drop at text) + lineRest (drop (at + gap (drop at text)) text)) (omega arith) where
-    by : (end : ℕ) → at ≤ end → at < cond (ltb end (length text)) (suc end) end
-    by end k = test (ltb end (length text)) refl where
-      test : (t : Bool) → ltb end (length text) ≡ t → at < cond t (suc end) end
+  -- it lies below
+  pub below-passed : (from at : ℕ) → from ≤ at → from < length text → from < belowLine text at
+  unfolding belowLine lineEnd
+  below-passed from at h k = by (at + lineRest (drop at text)) (omega arith) where
+    by : (end : ℕ) → from ≤ end → from < cond (ltb end (length text)) (suc end) end
+    by end i = test (ltb end (length text)) refl where
+      test : (t : Bool) → ltb end (length text) ≡ t → from < cond t (suc end) end
       test true e = omega arith
       test false e = omega (arith, ltb-false end (length text) e)
+
+  below-on : (at : ℕ) → at ≤ belowLine text at
+  unfolding belowLine lineEnd
+  below-on at = by (at + lineRest (drop at text)) (omega arith) where
+    by : (end : ℕ) → at ≤ end → at ≤ cond (ltb end (length text)) (suc end) end
+    by end i = test (ltb end (length text)) where
+      test : (t : Bool) → at ≤ cond t (suc end) end
+      test true = omega arith
+      test false = i
+
+  pub below-in : (at : ℕ) → at ≤ length text → belowLine text at ≤ length text
+  unfolding belowLine lineEnd
+  below-in at h = by (at + lineRest (drop at text)) (omega (arith, rest-in (drop at text), length-drop at text)) where
+    by : (end : ℕ) → end ≤ length text → cond (ltb end (length text)) (suc end) end ≤ length text
+    by end i = test (ltb end (length text)) refl where
+      test : (t : Bool) → ltb end (length text) ≡ t → cond t (suc end) end ≤ length text
+      test true e = ltb-true end (length text) e
+      test false e = i
+
+  pub below-moves : (at : ℕ) → at < length text → at < belowLine text (nextWord text at)
+  below-moves at h = below-passed at (nextWord text at) (next-behind text at) h
 
   -- past the end a place stays
   pub stays : (most at : ℕ) → length text ≤ at → lineFrom most text at ≡ at
@@ -222,3 +248,31 @@ module _ (text : List ℕ) where
 
   pub word-from : (at : ℕ) → lineFrom (length text) text at < length text → endsLine text (nextWord text (lineFrom (length text) text at)) ≡ false
   word-from at = has-word (length text) at (omega arith)
+
+  -- the next line lies below, in the text
+  pub line-behind : (most at : ℕ) → at ≤ lineFrom most text at
+  unfolding lineFrom
+  line-behind zero at = omega arith
+  line-behind (suc most) at = by (endsLine text (nextWord text at)) (line-behind most (belowLine text (nextWord text at))) where
+    by : (t : Bool) → belowLine text (nextWord text at) ≤ lineFrom most text (belowLine text (nextWord text at))
+        → at ≤ cond t (lineFrom most text (belowLine text (nextWord text at))) at
+    by true h = omega (arith, below-on (nextWord text at), next-behind text at)
+    by false h = omega arith
+
+  pub line-in : (most at : ℕ) → at ≤ length text → lineFrom most text at ≤ length text
+  unfolding lineFrom
+  line-in zero at h = h
+  line-in (suc most) at h =
+      by (endsLine text (nextWord text at)) (line-in most (belowLine text (nextWord text at)) (below-in (nextWord text at) (next-in text at h))) where
+        by : (t : Bool) → lineFrom most text (belowLine text (nextWord text at)) ≤ length text
+            → cond t (lineFrom most text (belowLine text (nextWord text at))) at ≤ length text
+        by true k = k
+        by false k = h
+
+  pub line-passed : (at : ℕ) → at < length text → at < nextLine text at
+  unfolding nextLine
+  line-passed at h = omega (arith, below-passed at at (omega arith) h, line-behind (length text) (belowLine text at))
+
+  pub next-line-in : (at : ℕ) → at ≤ length text → nextLine text at ≤ length text
+  unfolding nextLine
+  next-line-in at h = line-in (length text) (belowLine text at) (below-in at h)

@@ -2,3 +2,4 @@ pub mod Rests
 pub mod Steps
 pub mod Laws
 pub mod Named
+pub mod Samples

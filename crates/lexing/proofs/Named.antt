@@ -1,19 +1,19 @@
 -- The names of a table's line, one by one. Assumes nothing.
-use mathlib.Core.Path.{_≡_, refl, sym, ap, ap₂, _∙_}
-use mathlib.Core.Bool.{Bool, true, false, cond, not, _&&_, _||_}
+use mathlib.Core.Path.{_≡_, refl, sym, ap, _∙_}
+use mathlib.Core.Bool.{Bool, true, false, cond, not}
 use mathlib.Core.List.{List, [], _∷_, _++_}
 use Prim.Native.Nat.{ℕ, zero, suc, _+_, _-_, _≤_, _<_}
 use native.Mathlib.Nat.{add-zero, zero-add}
 use native.Mathlib.Omega.{arith}
-use borrow.Author.Tests.{not-true, not-false}
-use lib.ListN.{length}
+use borrow.Author.Tests.{not-true}
+use lib.ListN.{length, drop, length-drop}
 use Rattle.words.specs.Words.{same, isEmpty, isIn, upTo, nameOf, placeIn}
-use Rattle.words.specs.Lex.{flush}
 use Rattle.words.proofs.Tests.{both}
 use Rattle.lexing.specs.Places.{wordAt, wordsAt, endsLine, wordEnd, nextWord, afterWord}
 use Rattle.lexing.specs.Names.{namesAt, isName, namesOn, nameAt, namesEnd, placeOf}
 use Rattle.lexing.specs.declared.Place.{Place}
 use Rattle.lexing.specs.declared.Place.the-variants.{Is, Not}
+use Rattle.lexing.proofs.Rests.{few-words}
 use Rattle.lexing.proofs.Steps.{in-line}
 use Rattle.lexing.proofs.Laws.{words-first, words-next, word-next, word-passed, next-behind, ended}
 
@@ -91,3 +91,80 @@ found-not n w = refl
 pub found-first : (close table : List ℕ) (at : ℕ) (w : List ℕ) → placeOf close table at w ≡ found 0 (namesAt close table (nextWord table at)) w
 unfolding placeOf namesAt
 found-first close table at w = rw (words-next table at, zero-add (placeIn (upTo close (wordsAt table at)) w))
+
+-- ---- so many names on
+
+-- what stands there: a name, or behind as many as there are what ends them; and what the words are then
+pub record Named (close table : List ℕ) (n at place : ℕ) : Type 0 where
+  pub name : (other : List ℕ) → n < length (namesAt close table at) → wordAt table place ≡ nameOf (namesAt close table at) n other
+  pub end : length (namesAt close table at) ≤ n → isName close table place ≡ false
+  pub words : length (namesAt close table at) ≤ n → wordsAt table at ≡ namesAt close table at ++ wordsAt table place
+
+module _ (close table : List ℕ) (at : ℕ) (stands : Stands table at) where
+  none-on : (n : ℕ) → isName close table at ≡ false → Named close table n at at
+  none-on n e =
+      let none = no-names close table at stands e in
+      record { name = λ other. rw none (λ h. absurd (omega arith)); end = λ h. e; words = λ h. rw none }
+
+  none-passed : isName close table at ≡ true → Named close table 0 at at
+  unfolding nameOf
+  none-passed e =
+      let names = names-more close table at stands e in
+      record { name = λ other. rw names (λ h. refl); end = rw names (λ h. absurd (omega arith)); words = rw names (λ h. absurd (omega arith)) }
+
+  one-passed : (n place : ℕ) → isName close table at ≡ true → Named close table n (afterWord table at) place → Named close table (suc n) at place
+  unfolding nameOf
+  one-passed n place e r =
+      let names = names-more close table at stands e in
+      let here = words-first table at (stands (in-names close table at e .0)) in
+      record {
+        name = λ other. rw names (λ h. r .name other (omega arith));
+        end = rw names (λ h. r .end (omega arith));
+        words = rw (names, here) (λ h. ap (λ (ws : List (List ℕ)). wordAt table at ∷ ws) (r .words (omega arith)));
+      }
+
+  start : (t : Bool) → isName close table at ≡ t → Named close table 0 at at
+  start true e = none-passed e
+  start false e = none-on 0 e
+
+  step : (n : ℕ) (t : Bool) → isName close table at ≡ t
+      → Named close table n (afterWord table at) (namesOn close n table (afterWord table at)) → Named close table (suc n) at (namesOn close (suc n) table at)
+  step n true e r = rw (on-name close table at n e) (one-passed n (namesOn close n table (afterWord table at)) e r)
+  step n false e r = rw (at-end close table at (suc n) e) (none-on (suc n) e)
+
+named-on : (close table : List ℕ) (n at : ℕ) → Stands table at → Named close table n at (namesOn close n table at)
+named-on close table zero at stands = unfold namesOn in start close table at stands (isName close table at) refl
+named-on close table (suc n) at stands =
+    step close table at stands n (isName close table at) refl (named-on close table n (afterWord table at) (stands-next table (wordEnd table at)))
+
+up-to : (close : List ℕ) (ws : List (List ℕ)) → length (upTo close ws) ≤ length ws
+unfolding upTo
+up-to close [] = omega arith
+up-to close (v ∷ vs) = by (same v close) (up-to close vs) where
+  by : (t : Bool) → length (upTo close vs) ≤ length vs → length (cond t [] (v ∷ upTo close vs)) ≤ suc (length vs)
+  by true h = omega arith
+  by false h = omega arith
+
+module _ (close table : List ℕ) (at : ℕ) where
+  few-names : length (namesAt close table at) ≤ length table
+  unfolding namesAt wordsAt
+  few-names = omega (arith, up-to close (wordsAt table at), few-words (drop at table), length-drop at table)
+
+  -- the name of a number
+  pub named : (n : ℕ) → Named close table n at (nameAt close n table at)
+  unfolding nameAt
+  named n =
+      let words = words-next table at in
+      let names : namesAt close table (nextWord table at) ≡ namesAt close table at = unfold namesAt in ap (upTo close) words in
+      let r = named-on close table n (nextWord table at) (stands-next table at) in
+      record {
+        name = λ other. rw names at (r .name other);
+        end = rw names at (r .end);
+        words = rw (names, words) at (r .words);
+      }
+
+  -- what ends the names
+  pub names-ended : (isName close table (namesEnd close table at) ≡ false)
+      × (wordsAt table at ≡ namesAt close table at ++ wordsAt table (namesEnd close table at))
+  unfolding namesEnd
+  names-ended = let r = named (length table) in (r .end few-names, r .words few-names)

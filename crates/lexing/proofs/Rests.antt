@@ -1,14 +1,14 @@
 -- What bytes say behind their first word, behind the gap in front of a word, and below their first line. Assumes nothing.
-use mathlib.Core.Path.{_≡_, refl, sym, ap, ap₂, _∙_}
-use mathlib.Core.Bool.{Bool, true, false, cond, not, _&&_}
+use mathlib.Core.Path.{_≡_, refl, sym, ap, _∙_}
+use mathlib.Core.Bool.{Bool, true, false, cond, not}
 use mathlib.Core.List.{List, [], _∷_}
-use Prim.Native.Nat.{ℕ, zero, suc, _+_, _≤_, _<_}
+use Prim.Native.Nat.{ℕ, suc, _≤_}
 use native.Mathlib.Omega.{arith}
 use borrow.Author.Tests.{lt-ltb, leb-false, not-true, eqb-true}
-use lib.Dec.{leb, ltb, eqb}
+use lib.Dec.{leb, eqb}
 use lib.ListN.{length, take, drop}
 use Rattle.words.specs.Words.{isEmpty}
-use Rattle.words.specs.Lex.{Line, Lexed, flush, shut, linesOf, step, lex, linesIn, isPlain}
+use Rattle.words.specs.Lex.{Lexed, flush, linesOf, step, lex, linesIn, isPlain}
 use Rattle.words.proofs.Lexing.{front, step-plain}
 use Rattle.words.proofs.Tests.{both}
 use Rattle.lexing.specs.Places.{lineRest, isBlank, gap}
@@ -171,3 +171,44 @@ lines-below s = let r = rest s in sym (r .below) ∙ fed (drop (lineRest s) s) (
 pub none-here : (s : List ℕ) → flush (lex s .word) (lex s .words) ≡ [] → linesIn s ≡ lex s .below
 unfolding linesOf
 none-here s h = rw h
+
+-- ---- no place past the end
+
+pub rest-in : (s : List ℕ) → lineRest s ≤ length s
+unfolding lineRest
+rest-in [] = omega arith
+rest-in (c ∷ s) = by (eqb c 10) (rest-in s) where
+  by : (t : Bool) → lineRest s ≤ length s → cond t 0 (suc (lineRest s)) ≤ suc (length s)
+  by true h = omega arith
+  by false h = omega arith
+
+pub gap-in : (s : List ℕ) → gap s ≤ length s
+unfolding gap
+gap-in [] = omega arith
+gap-in (c ∷ s) = by (eqb c 35) (isBlank c) (rest-in s) (gap-in s) where
+  by : (hash blank : Bool) → lineRest s ≤ length s → gap s ≤ length s
+      → cond hash (suc (lineRest s)) (cond blank (suc (gap s)) 0) ≤ suc (length s)
+  by true blank h k = omega arith
+  by false true h k = omega arith
+  by false false h k = omega arith
+
+-- ---- no more words than bytes
+
+fewer : (w : List ℕ) (ws : List (List ℕ)) → length ws ≤ length (flush w ws)
+fewer [] ws = omega arith
+fewer (c ∷ w) ws = omega arith
+
+one-more : (c : ℕ) (l : Lexed) → length (flush (step c l .word) (step c l .words)) ≤ suc (length (flush (l .word) (l .words)))
+unfolding step
+one-more c l = by (eqb c 10) (eqb c 35) (leb c 32) refl refl refl where
+  by : (feed hash blank : Bool) → eqb c 10 ≡ feed → eqb c 35 ≡ hash → leb c 32 ≡ blank
+      → length (flush (step c l .word) (step c l .words)) ≤ suc (length (flush (l .word) (l .words)))
+  by true hash blank e f g = rw e (omega arith)
+  by false true blank e f g = rw (e, f) (omega arith)
+  by false false true e f g = rw (e, f, g) (omega arith)
+  by false false false e f g = rw (e, f, g) (omega (arith, fewer (l .word) (l .words)))
+
+pub few-words : (s : List ℕ) → length (flush (lex s .word) (lex s .words)) ≤ length s
+unfolding lex
+few-words [] = omega arith
+few-words (c ∷ s) = omega (arith, one-more c (lex s), few-words s)

@@ -1,17 +1,17 @@
 -- Places one byte on: what the code's loops go by. Assumes nothing.
 use mathlib.Core.Path.{_≡_, refl, sym, ap, _∙_}
-use mathlib.Core.Bool.{Bool, true, false, cond, _||_}
+use mathlib.Core.Bool.{Bool, true, false}
 use mathlib.Core.List.{List, [], _∷_}
-use Prim.Native.Nat.{ℕ, zero, suc, _+_, _-_, _≤_, _<_}
+use Prim.Native.Nat.{ℕ, suc, _+_, _-_, _≤_, _<_}
 use native.Mathlib.Nat.{add-zero}
 use native.Mathlib.Omega.{arith}
-use borrow.Author.Tests.{leb-true, leb-false, le-leb, lt-leb, lt-ltb, le-ltb, eq-eqb}
-use lib.Dec.{leb, ltb, eqb}
+use borrow.Author.Tests.{leb-true, leb-false, le-leb, lt-leb, eq-eqb}
+use lib.Dec.{leb, eqb}
 use lib.ListN.{length, drop, getD, drop-of-length-le}
 use Rattle.words.specs.Lex.{Lexed, lex, isPlain}
 use Rattle.words.proofs.Lexing.{step-plain}
 use Rattle.words.proofs.Reading.{on}
-use Rattle.lexing.specs.Places.{wordAt, endsLine, wordEnd, lineRest, lineEnd, isBlank, gap, nextWord, belowLine, lineFrom}
+use Rattle.lexing.specs.Places.{wordAt, endsLine, wordEnd, lineRest, lineEnd, isBlank, gap, nextWord}
 use Rattle.lexing.proofs.Rests.{no-word, ends, gap-hash, gap-blank, gap-other}
 
 module _ (text : List ℕ) (at : ℕ) where

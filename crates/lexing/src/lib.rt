@@ -2,6 +2,7 @@
 use words::same_word;
 ghost use mathlib.Core.Path.{_≡_};
 ghost use lib.ListN.{length};
+ghost use Rattle.words.specs.Words.{same};
 ghost use Rattle.words.specs.Lex.{isPlain};
 ghost use Rattle.lexing.specs.Places.{wordAt, wordPlace, wordEnd, isBlank, lineEnd, nextWord, afterWord, endsLine, belowLine, lineFrom, nextLine};
 ghost use Rattle.lexing.specs.Names.{isName, nameAt, namesEnd, placeOf};
@@ -42,6 +43,13 @@ pub fn word_at(text: &[u8], at: usize) -> &[u8]
     }
     let end = word_end(text, at);
     &text[at..end]
+}
+
+// Whether a word of a text is a word of a table.
+pub fn same_words(text: &[u8], at: usize, table: &[u8], name: usize) -> bool
+    ensures { λ r. ⌜ r ≡ same (wordAt (now (text .entry)) at) (wordAt (now (table .entry)) name) ⌝ }
+{
+    same_word(word_at(text, at), word_at(table, name))
 }
 
 // Whether the line ends here, at a line feed or with the text.

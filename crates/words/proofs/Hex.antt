@@ -1,11 +1,11 @@
 -- Bytes in hex are words, and read back. Assumes nothing.
 use mathlib.Core.Path.{_≡_, refl}
-use mathlib.Core.Bool.{Bool, true, false, cond, not, _&&_, _||_}
+use mathlib.Core.Bool.{Bool, true, false}
 use mathlib.Core.List.{List, [], _∷_}
 use Prim.Native.Nat.{ℕ, _+_, _*_, _-_, _/_, _%_, _<_}
 use native.Mathlib.Omega.{arith}
 use borrow.Author.Tests.{ltb-true, ltb-false, le-leb, lt-leb}
-use lib.Dec.{leb, ltb}
+use lib.Dec.{ltb}
 use Rattle.hex.specs.Hex.{hexDigit, hex}
 use Rattle.words.specs.Words.{all, isHexDigit, hexValue, isHex, hexBytes}
 use Rattle.words.specs.Lex.{isPlain, isWord}

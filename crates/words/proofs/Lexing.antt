@@ -1,14 +1,14 @@
 -- Lines that are written are read. Assumes nothing.
-use mathlib.Core.Path.{_≡_, refl, sym, ap, ap₂, _∙_}
-use mathlib.Core.Bool.{Bool, true, false, cond, not, _&&_}
+use mathlib.Core.Path.{_≡_, refl, ap, ap₂, _∙_}
+use mathlib.Core.Bool.{true, not, _&&_}
 use mathlib.Core.List.{List, [], _∷_, _++_, append-assoc, append-nil}
 use Prim.Native.Nat.{ℕ, zero, suc}
 use native.Mathlib.Omega.{arith}
 use borrow.Author.Tests.{ltb-true, not-true, ne-eqb, lt-leb}
-use lib.Dec.{leb, ltb, eqb}
+use lib.Dec.{ltb, eqb}
 use lib.ListN.{length, replicate}
 use Rattle.words.specs.Words.{all}
-use Rattle.words.specs.Lex.{Line, behind, spaced, lineText, textOf, Lexed, flush, shut, linesOf, step, lex, linesIn, isPlain, isWord, areWords, areLines}
+use Rattle.words.specs.Lex.{Line, behind, spaced, lineText, textOf, Lexed, flush, linesOf, step, lex, linesIn, isPlain, isWord, areWords, areLines}
 use Rattle.words.proofs.Tests.{both}
 
 abbrev pub front : ℕ → Lexed → Lexed

@@ -6,3 +6,4 @@ pub mod Names
 pub mod Puts
 pub mod Reading
 pub mod Said
+pub mod Samples

@@ -1,14 +1,14 @@
 -- Names and flags read back. Assumes nothing.
-use mathlib.Core.Path.{_≡_, refl, sym, ap, ap₂, _∙_}
-use mathlib.Core.Bool.{Bool, true, false, cond, not, _&&_, _||_}
-use mathlib.Core.List.{List, [], _∷_, _++_, append-assoc}
+use mathlib.Core.Path.{_≡_, refl, ap}
+use mathlib.Core.Bool.{Bool, true, false, cond, not, _||_}
+use mathlib.Core.List.{List, [], _∷_, _++_}
 use Prim.Native.Nat.{ℕ, zero, suc, _+_, _*_, _-_, _/_, _%_, _^_, _<_, _≤_}
 use native.Mathlib.Nat.{pow-suc}
 use native.Mathlib.Omega.{arith}
 use borrow.Author.Tests.{eqb-true, eqb-false, not-true}
-use lib.Dec.{leb, ltb, eqb}
+use lib.Dec.{eqb}
 use lib.ListN.{length}
-use Rattle.words.specs.Words.{same, isIn, nameOf, placeIn, distinct, flags, Flags, begins, tail, double, readFlags}
+use Rattle.words.specs.Words.{same, isIn, nameOf, placeIn, distinct, flags, Flags, begins, readFlags}
 use Rattle.words.proofs.Tests.{both, neither, same-refl, same-true}
 
 -- a name is in its table

@@ -32,7 +32,8 @@ loop-again : tie.Need-loop-again Inv-loop μ-loop
 loop-again c =
     let test = c .before .before in
     let at-loop = test .before .before in
-    let a = at-loop .before .before .before .before .args in
+    let start = at-loop .before in
+    let a = start .before .before .before .args in
     let i = at-loop .loop .i in
     let name = at-loop .loop .name in
     let is = sym (test .is-name .ensures) ∙ not-false _ (c .before .if1 .left) in
@@ -50,8 +51,8 @@ returns-2 : tie.Need-returns-2 Inv-loop μ-loop
 unfolding namesOn
 returns-2 c =
     let at-loop = c .before in
-    let start = at-loop .before .before .before .before in
-    let none : start .args .n - at-loop .loop .i ≡ 0 = omega arith in
+    let start = at-loop .before in
+    let none : start .before .before .before .args .n - at-loop .loop .i ≡ 0 = omega arith in
     sym (rw none at (at-loop .loop .inv .0))
 
 pub name-at-spec : {M : Type 1} → statement M

@@ -1,13 +1,13 @@
 -- The invariant: the word stands where it stands among the names that are left, behind those passed.
 use borrow.Author.Needs.{needs}
-use mathlib.Core.Path.{_≡_, sym, ap, ap₂, _∙_}
+use mathlib.Core.Path.{_≡_, sym, ap, _∙_}
 use mathlib.Core.Bool.{true, false}
 use mathlib.Core.List.{List}
 use Prim.Native.Nat.{ℕ, _+_, _-_, _≤_}
 use native.Mathlib.Omega.{arith}
 use lib.ListN.{length}
 use Rattle.words.specs.Words.{same}
-use Rattle.lexing.specs.Places.{wordAt, wordEnd, nextWord, afterWord}
+use Rattle.lexing.specs.Places.{wordAt, wordEnd, afterWord}
 use Rattle.lexing.specs.Names.{namesAt, isName, placeOf}
 use Rattle.lexing.proofs.Named.{Stands, stands-next, name-in, name-passed, names-more, no-names, found, found-here, found-on, found-not, found-first}
 use Rattle.lexing.proofs.place_of.Statement.{statement}

@@ -1,11 +1,10 @@
 -- The part from the place to the word's end.
 use borrow.Author.Needs.{needs}
 use borrow.Author.Tests.{le-leb, lt-leb}
-use mathlib.Core.Path.{_≡_, refl, sym, ap, _∙_}
-use Prim.Native.Nat.{ℕ, _+_, _-_, _≤_}
+use mathlib.Core.Path.{sym, ap}
+use Prim.Native.Nat.{ℕ, _-_}
 use native.Mathlib.Nat.{add-comm}
 use native.Mathlib.Omega.{arith}
-use lib.ListN.{length, take, drop}
 use Rattle.lexing.specs.Places.{wordPlace}
 use Rattle.lexing.proofs.Steps.{word-none}
 use Rattle.lexing.proofs.Laws.{word-part, word-in, word-behind}

@@ -1,6 +1,5 @@
 -- The digits above, then the last.
 use borrow.Author.Needs.{needs}
-use mathlib.Core.Path.{_≡_}
 use native.Mathlib.Omega.{arith}
 use Rattle.words.proofs.Puts.{next}
 use Rattle.numerals.proofs.Numerals.{ones, tens}

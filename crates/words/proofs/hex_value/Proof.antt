@@ -1,9 +1,7 @@
 -- A figure, a capital, or a small letter.
 use borrow.Author.Needs.{needs}
 use borrow.Author.Tests.{le-leb, lt-leb}
-use mathlib.Core.Path.{_≡_}
 use native.Mathlib.Omega.{arith}
-use Prim.Native.Nat.{_≤_, _<_}
 use Rattle.words.proofs.Said.{kinds}
 use Rattle.words.proofs.hex_value.Statement.{statement}
 use Rattle.words.proofs.hex_value.Tie as tie

@@ -2,11 +2,10 @@
 use borrow.Author.Needs.{needs}
 use borrow.Author.Tests.{not-true, not-false}
 use mathlib.Core.Path.{_≡_, refl, sym, _∙_}
-use mathlib.Core.Bool.{true, false}
-use Prim.Native.Nat.{_+_, _-_, _≤_, _<_}
+use Prim.Native.Nat.{_-_, _≤_}
 use native.Mathlib.Omega.{arith}
-use lib.ListN.{length, drop, getD}
-use Rattle.words.specs.Words.{isHexDigit, isHex}
+use lib.ListN.{length, drop}
+use Rattle.words.specs.Words.{isHex}
 use Rattle.words.proofs.Said.{bad-first, bad-second, good, ended}
 use Rattle.words.proofs.is_hex.Statement.{statement}
 use Rattle.words.proofs.is_hex.Tie as tie

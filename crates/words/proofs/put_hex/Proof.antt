@@ -1,11 +1,10 @@
 -- The invariant: what was passed is put.
 use borrow.Author.Needs.{needs}
 use mathlib.Core.Path.{_≡_}
-use Prim.Native.Nat.{_+_, _-_, _≤_}
-use native.Mathlib.Numerals.{add-one}
+use Prim.Native.Nat.{_-_, _≤_}
 use native.Mathlib.Omega.{arith}
 use lib.ListN.{length, take}
-use lib.Seq.{take-suc, take-length}
+use lib.Seq.{take-length}
 use Rattle.hex.specs.Hex.{hex}
 use Rattle.words.specs.Put.{Put}
 use Rattle.hex.proofs.Bytes.{hex-more}
