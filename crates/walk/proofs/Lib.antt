@@ -1,0 +1,5 @@
+pub mod Keys
+pub mod Digits
+pub mod Forms
+pub mod Places
+pub mod Tables
