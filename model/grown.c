@@ -3,6 +3,8 @@
 #include <stdlib.h>
 #include <string.h>
 
+#include "bytes.h"
+
 static void make_room(struct grown *grown, size_t count)
 {
     if (grown->room - grown->length >= count)
@@ -46,4 +48,19 @@ void grow_file(struct grown *grown, FILE *file)
 
     for (size_t count; (count = fread(some, 1, sizeof some, file)) > 0;)
         grow(grown, some, count);
+}
+
+bool write_grown(const struct grown *grown, FILE *file)
+{
+    return grown->length == 0
+        || fwrite(grown->bytes, 1, grown->length, file) == grown->length;
+}
+
+bool write_grown_block(const struct grown *grown, FILE *file)
+{
+    uint8_t length[4];
+
+    put32(length, (uint32_t)grown->length);
+    return fwrite(length, 1, sizeof length, file) == sizeof length
+        && write_grown(grown, file);
 }

@@ -2,6 +2,7 @@
 #ifndef MODEL_GROWN_H
 #define MODEL_GROWN_H
 
+#include <stdbool.h>
 #include <stddef.h>
 #include <stdint.h>
 #include <stdio.h>
@@ -21,5 +22,11 @@ void grow_over(struct grown *grown, size_t from, size_t to, const void *bytes,
 /* All that a file has, behind what is there; the status of the file tells
  * whether it could be read. */
 void grow_file(struct grown *grown, FILE *file);
+
+/* Whether all of it could be written. */
+bool write_grown(const struct grown *grown, FILE *file);
+
+/* The same, behind its length in 4 bytes. */
+bool write_grown_block(const struct grown *grown, FILE *file);
 
 #endif

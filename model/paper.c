@@ -31,8 +31,7 @@ int main(int argc, char **argv)
     const bool said = read_text(&paper, &offence, text.bytes, text.length);
     if (!said)
         fwrite(line, 1, offence_line(&offence, line), stderr);
-    if (fwrite(paper.bytes, 1, paper.length, stdout) != paper.length
-        || fflush(stdout) != 0)
+    if (!write_grown(&paper, stdout) || fflush(stdout) != 0)
         fail("standard output");
     free(text.bytes);
     free(paper.bytes);

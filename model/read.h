@@ -2,8 +2,6 @@
 #ifndef MODEL_READ_H
 #define MODEL_READ_H
 
-#include <stdbool.h>
-
 #include "grown.h"
 
 /* A word, and where it begins: line and column, in bytes, from 1. Where a line

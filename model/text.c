@@ -33,8 +33,7 @@ int main(int argc, char **argv)
         return 1;
     }
     print_paper(&text, paper.bytes, paper.length);
-    if (fwrite(text.bytes, 1, text.length, stdout) != text.length
-        || fflush(stdout) != 0)
+    if (!write_grown(&text, stdout) || fflush(stdout) != 0)
         fail("standard output");
     free(paper.bytes);
     free(text.bytes);

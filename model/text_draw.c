@@ -7,14 +7,13 @@
 #include <stdlib.h>
 #include <string.h>
 
-#include "bytes.h"
 #include "damage.h"
 #include "grown.h"
 #include "invent.h"
 #include "print.h"
 #include "script.h"
 
-static struct grown text;
+static struct grown text; /* the text at hand, or the paper */
 
 static void add(const char *words)
 {
@@ -511,7 +510,6 @@ static void draw_large(struct chance *chance)
 
 static void draw_text(struct chance *chance)
 {
-    text.length = 0;
     if (below(chance, 200) == 0) {
         draw_large(chance);
     } else {
@@ -525,18 +523,6 @@ static void draw_text(struct chance *chance)
             change(chance);
 }
 
-static void write_block(const uint8_t *bytes, size_t length)
-{
-    uint8_t head[4];
-
-    put32(head, (uint32_t)length);
-    if (fwrite(head, 1, sizeof head, stdout) != sizeof head
-        || fwrite(bytes, 1, length, stdout) != length) {
-        perror("standard output");
-        exit(1);
-    }
-}
-
 int main(int argc, char **argv)
 {
     const bool papers = argc == 4 && strcmp(argv[3], "papers") == 0;
@@ -547,15 +533,18 @@ int main(int argc, char **argv)
     }
     const uint64_t count = strtoull(argv[1], NULL, 10);
     const uint64_t seed = strtoull(argv[2], NULL, 10);
-    grow(&text, "", 1);
     for (uint64_t i = 0; i < count; i++) {
         struct chance chance = chance_of(seed, i);
+        text.length = 0;
         if (papers) {
             draw_odd(&chance);
-            write_block(draft->bytes, draft->length);
+            grow(&text, draft->bytes, draft->length);
         } else {
             draw_text(&chance);
-            write_block(text.bytes, text.length);
+        }
+        if (!write_grown_block(&text, stdout)) {
+            perror("standard output");
+            return 1;
         }
     }
     free(text.bytes);

@@ -4,7 +4,6 @@
 #include <stdlib.h>
 
 #include "bundle.h"
-#include "bytes.h"
 #include "print.h"
 
 static struct bundle bundle;
@@ -15,21 +14,11 @@ static void fail(const char *what)
     exit(2);
 }
 
-static void write_block(FILE *file, const uint8_t *bytes, size_t length)
-{
-    uint8_t head[4];
-
-    put32(head, (uint32_t)length);
-    if (fwrite(head, 1, sizeof head, file) != sizeof head
-        || fwrite(bytes, 1, length, file) != length)
-        fail("a stack");
-}
-
 int main(int argc, char **argv)
 {
     const uint8_t *paper;
     size_t length;
-    struct grown text = {0};
+    struct grown kept = {0}, text = {0};
     enum bundle_next next;
 
     if (argc != 3) {
@@ -42,17 +31,20 @@ int main(int argc, char **argv)
     FILE *papers = fopen(argv[2], "wb");
     if (!papers)
         fail(argv[2]);
-    grow(&text, "", 1); /* so that there is a place for no bytes */
     bundle_open(&bundle, stack);
     while ((next = bundle_next(&bundle, &paper, &length)) == BUNDLE_PAPER
            || next == BUNDLE_TOO_LONG) {
         if (next == BUNDLE_TOO_LONG)
             continue;
+        kept.length = 0;
         text.length = 0;
+        grow(&kept, paper, length);
         print_paper(&text, paper, length);
-        write_block(papers, paper, length);
-        write_block(stdout, text.bytes, text.length);
+        if (!write_grown_block(&kept, papers)
+            || !write_grown_block(&text, stdout))
+            fail("a stack");
     }
+    free(kept.bytes);
     free(text.bytes);
     if (next != BUNDLE_END || fclose(papers) != 0 || fflush(stdout) != 0) {
         fprintf(stderr, "texts: not whole, or not written\n");
