@@ -25,6 +25,8 @@ struct reader {
 
 /* ---- an offence */
 
+/* The first one counts. A reader that goes on behind it reads nothing that is
+ * looked at. */
 static void refuse_at(struct reader *reader, const struct spot *spot,
                       const char *want, ...)
 {
@@ -59,13 +61,14 @@ static void refuse_hex(struct reader *reader, size_t count)
 /* The names with a comma between, and what else there may be. */
 static void refuse_name(struct reader *reader, const struct names *names)
 {
-    char want[200];
-    int size = 0;
+    char *want = reader->offence->want;
 
-    for (size_t i = 0; i < names->count; i++)
-        size += sprintf(want + size, "%s`%s`", i > 0 ? ", " : "",
-                        names->word[i]);
-    refuse_at(reader, &reader->here, "%s or a number that fits 1 byte", want);
+    if (reader->refused)
+        return;
+    refuse_at(reader, &reader->here, "`%s`", names->word[0]);
+    for (size_t i = 1; i < names->count; i++)
+        sprintf(want + strlen(want), ", `%s`", names->word[i]);
+    strcat(want, " or a number that fits 1 byte");
 }
 
 size_t offence_line(const struct offence *offence, char *line)
@@ -122,7 +125,6 @@ static void next_word(struct reader *reader)
     reader->here = behind;
     if (!is_in_word(reader))
         return;
-    reader->here.line = reader->line;
     reader->here.column = reader->column;
     reader->here.word = reader->at;
     while (is_in_word(reader))
@@ -151,7 +153,7 @@ static bool is_word(const struct reader *reader, const char *word)
 {
     const size_t size = strlen(word);
 
-    return !reader->refused && !reader->over && reader->here.size == size
+    return reader->here.size == size
         && memcmp(reader->here.word, word, size) == 0;
 }
 
@@ -179,20 +181,18 @@ static void read_word(struct reader *reader, const char *word)
         refuse_at(reader, &reader->here, "`%s`", word);
 }
 
+static bool is_line_over(const struct reader *reader)
+{
+    return reader->here.size == 0;
+}
+
 static void end_line(struct reader *reader)
 {
-    if (reader->refused)
-        return;
-    if (reader->here.size > 0) {
+    if (!is_line_over(reader)) {
         refuse_at(reader, &reader->here, "the line's end");
         return;
     }
     next_line(reader);
-}
-
-static bool is_line_over(const struct reader *reader)
-{
-    return !reader->refused && reader->here.size == 0;
 }
 
 /* ---- the bytes that a word says */
@@ -231,8 +231,6 @@ static void read_number(struct reader *reader, size_t count)
 {
     uint64_t number;
 
-    if (reader->refused)
-        return;
     if (!find_number(&reader->here, count, &number)) {
         refuse_number(reader, count);
         return;
@@ -258,7 +256,7 @@ static bool is_hex(const struct spot *spot)
     for (size_t i = 0; i < spot->size; i++)
         if (hex_value(spot->word[i]) > 15)
             return false;
-    return spot->size > 0 && spot->size % 2 == 0;
+    return spot->size % 2 == 0;
 }
 
 static void take_hex(struct reader *reader)
@@ -274,8 +272,6 @@ static void take_hex(struct reader *reader)
 /* One word of so many bytes. */
 static void read_hex(struct reader *reader, size_t count)
 {
-    if (reader->refused)
-        return;
     if (!is_hex(&reader->here) || reader->here.size != 2 * count) {
         refuse_hex(reader, count);
         return;
@@ -286,7 +282,7 @@ static void read_hex(struct reader *reader, size_t count)
 /* Words to the line's end, or none. */
 static void read_rest(struct reader *reader)
 {
-    while (!reader->refused && reader->here.size > 0) {
+    while (!is_line_over(reader)) {
         if (!is_hex(&reader->here)) {
             refuse_at(reader, &reader->here, "pairs of hex digits");
             return;
@@ -299,8 +295,6 @@ static void read_name(struct reader *reader, const struct names *names)
 {
     uint64_t number;
 
-    if (reader->refused)
-        return;
     if (find_number(&reader->here, 1, &number)) {
         add_number(reader, number, 1);
         next_word(reader);
@@ -353,8 +347,6 @@ static void read_date(struct reader *reader)
 {
     const uint8_t *word = reader->here.word;
 
-    if (reader->refused)
-        return;
     if (is_hex(&reader->here) && reader->here.size == 6) {
         take_hex(reader);
         return;
@@ -379,8 +371,6 @@ static void read_code(struct reader *reader)
 {
     const struct spot *here = &reader->here;
 
-    if (reader->refused)
-        return;
     if (is_hex(here) && here->size == 4) {
         take_hex(reader);
         return;
