@@ -535,6 +535,12 @@ static void records(void)
             "paper 01\nfirst TC 1 in 0978 at 22 on A01231\n");
     is_text("01 0010 03 01 0000000000000001 0978 22 201A31",
             "paper 01\nfirst TC 1 in 0978 at 22 on 201A31\n");
+    is_text("01 0010 03 01 0000000000000001 0978 22 2A0131",
+            "paper 01\nfirst TC 1 in 0978 at 22 on 2A0131\n");
+    is_text("01 0010 03 01 0000000000000001 0978 22 20A131",
+            "paper 01\nfirst TC 1 in 0978 at 22 on 20A131\n");
+    is_text("01 0010 03 01 0000000000000001 0978 22 2001A1",
+            "paper 01\nfirst TC 1 in 0978 at 22 on 2001A1\n");
     is_text("01 0016 03 01 0000000000000001 0978 22 1F0300 000000001000",
             "paper 01\n"
             "first TC 1 in 0978 at 22 cvm 1F0300 cashback 000000001000\n");
@@ -554,6 +560,15 @@ static void records(void)
             "paper 01\nsecond TC Z3 verified\n");
     is_text("01 0009 04 02 7A39 02 00820000",
             "paper 01\nsecond ARQC z9 failed 00820000\n");
+    is_text("01 0009 04 01 415A 00 00000000", "paper 01\nsecond TC AZ\n");
+    is_text("01 0009 04 01 617A 00 00000000", "paper 01\nsecond TC az\n");
+    is_text("01 0009 04 01 3039 00 00000000", "paper 01\nsecond TC 09\n");
+    is_text("01 0009 04 01 2F30 00 00000000", "paper 01\nsecond TC 2F30\n");
+    is_text("01 0009 04 01 393A 00 00000000", "paper 01\nsecond TC 393A\n");
+    is_text("01 0009 04 01 4041 00 00000000", "paper 01\nsecond TC 4041\n");
+    is_text("01 0009 04 01 5A5B 00 00000000", "paper 01\nsecond TC 5A5B\n");
+    is_text("01 0009 04 01 6061 00 00000000", "paper 01\nsecond TC 6061\n");
+    is_text("01 0009 04 01 7A7B 00 00000000", "paper 01\nsecond TC 7A7B\n");
     is_text("01 0009 04 03 7A2F 03 00000001",
             "paper 01\nsecond 3 7A2F 3 00000001\n");
     is_text("01 0009 04 01 4061 00 00000001",
@@ -606,6 +621,12 @@ static void offences(void)
     refuses(" paper \r", "1:7: 1 byte in hex expected, " END);
     refuses("paper 1\n", "1:7: 1 byte in hex expected, \"1\" found");
     refuses("paper 0G\n", "1:7: 1 byte in hex expected, \"0G\" found");
+    refuses("paper G0\n", "1:7: 1 byte in hex expected, \"G0\" found");
+    refuses("paper :0\n", "1:7: 1 byte in hex expected, \":0\" found");
+    refuses("paper 0@\n", "1:7: 1 byte in hex expected, \"0@\" found");
+    refuses("paper /0\n", "1:7: 1 byte in hex expected, \"/0\" found");
+    refuses("paper 0`\n", "1:7: 1 byte in hex expected, \"0`\" found");
+    refuses("paper g0\n", "1:7: 1 byte in hex expected, \"g0\" found");
     refuses("paper 001\n", "1:7: 1 byte in hex expected, \"001\" found");
     refuses("paper 0101\n", "1:7: 1 byte in hex expected, \"0101\" found");
     refuses("paper 01 02\n", "1:10: the line's end expected, \"02\" found");
@@ -613,6 +634,7 @@ static void offences(void)
 
     refuses("paper 01\n  stop 1\n", "2:3: " RECORD ", \"stop\" found");
     refuses("paper 01\n\xFF\xFE!\n", "2:1: " RECORD ", \"\xFF\xFE!\" found");
+    refuses("paper 01\nx\n", "2:1: " RECORD ", \"x\" found");
     refuses("paper 01\nkey 01\n", "2:1: " RECORD ", \"key\" found");
     refuses("paper 01\nsetup\n  pin 3\n  key 01\n",
             "4:3: " RECORD ", \"key\" found");
@@ -705,6 +727,14 @@ static void offences(void)
             "2:29: a date expected, \"2024-1-31\" found");
     refuses("paper 01\nfirst TC 1 in 0978 at 22 on 1999-01-31\n",
             "2:29: a date expected, \"1999-01-31\" found");
+    for (size_t i = 0; i < 10; i++) {
+        char text[] = "paper 01\nfirst TC 1 in 0978 at 22 on 2024-01-31\n";
+        char line[] = "2:29: a date expected, \"2024-01-31\" found";
+        text[37 + i] = line[24 + i] = i % 2 ? '/' : 'a';
+        refuses(text, line);
+    }
+    refuses("paper 01\nfirst TC 1 in 0978 at 22 on 24013G\n",
+            "2:29: a date expected, \"24013G\" found");
     refuses("paper 01\nfirst TC 1 in 0978 at 22 on\n",
             "2:28: a date expected, " END);
     refuses("paper 01\nfirst TC 1 in 0978 at 22 on 20240131\n",
@@ -727,6 +757,14 @@ static void offences(void)
             "2:11: a response code expected, \"Y\" found");
     refuses("paper 01\nsecond TC Y-\n",
             "2:11: a response code expected, \"Y-\" found");
+    refuses("paper 01\nsecond TC -Y\n",
+            "2:11: a response code expected, \"-Y\" found");
+    refuses("paper 01\nsecond TC :A\n",
+            "2:11: a response code expected, \":A\" found");
+    refuses("paper 01\nsecond TC [z\n",
+            "2:11: a response code expected, \"[z\" found");
+    refuses("paper 01\nsecond TC {0\n",
+            "2:11: a response code expected, \"{0\" found");
     refuses("paper 01\nsecond TC 593G\n",
             "2:11: a response code expected, \"593G\" found");
     refuses("paper 01\nsecond TC Y3 x\n", "2:14: " ISSUER ", \"x\" found");

@@ -1,8 +1,8 @@
 /* text_draw COUNT SEED: so many texts for paper on standard output, each behind
  * its length in 4 bytes, the same for the same seed: the texts of papers of
  * every version, changed in words, lines and bytes; some as large as can be.
- * text_draw COUNT SEED papers: so many odd papers, good ones with bytes changed
- * and records of all kinds and lengths. */
+ * text_draw COUNT SEED papers: so many odd papers: good ones with bytes changed,
+ * records of all kinds and lengths, set-ups with few bytes that are not zero. */
 #include <stdio.h>
 #include <stdlib.h>
 #include <string.h>
@@ -97,8 +97,77 @@ static void draw_record(struct chance *chance)
     draft_record(draft, kind, body, length);
 }
 
+/* A set-up's body under construction: zeros, and bytes that count or switch. */
+static struct {
+    size_t length;
+    uint8_t bytes[1024];
+    bool counts[1024];
+} body;
+
+static void add_zeros(size_t count)
+{
+    memset(body.bytes + body.length, 0, count);
+    memset(body.counts + body.length, 0, count);
+    body.length += count;
+}
+
+/* A byte that what follows depends on. */
+static size_t add_count(size_t count)
+{
+    add_zeros(1);
+    body.bytes[body.length - 1] = (uint8_t)count;
+    body.counts[body.length - 1] = true;
+    return count;
+}
+
+static void draw_tails(struct chance *chance, unsigned version, size_t profiles)
+{
+    if (version >= 2 && add_count(below(chance, 2)))
+        for (size_t i = add_count(below(chance, 3)); i > 0; i--)
+            add_zeros(add_count(below(chance, 4)));
+    if (version >= 3)
+        add_zeros(1);
+    if (version >= 4 && add_count(below(chance, 2)))
+        add_zeros(27 + 18 * profiles);
+    if (version >= 5 && add_count(below(chance, 2)))
+        add_zeros(8 + profiles);
+    if (version >= 6)
+        add_zeros(1);
+    if (version >= 7 && add_count(below(chance, 2))) {
+        add_zeros(2 + profiles);
+        add_zeros(3 * add_count(below(chance, 3)));
+        add_zeros(3 * add_count(below(chance, 3)));
+    }
+}
+
+/* A set-up that words can say, of zeros but for a few bytes. */
+static void draw_sparse(struct chance *chance)
+{
+    const unsigned version = 1 + (unsigned)below(chance, 7);
+
+    body.length = 0;
+    add_zeros(3);
+    const size_t profiles = add_count(below(chance, 3));
+    const size_t conversions = add_count(below(chance, 3));
+    add_zeros(47 + 107 * profiles + 7 * conversions);
+    draw_tails(chance, version, profiles);
+    for (size_t count = 1 + below(chance, 4); count > 0; count--) {
+        const size_t place = below(chance, body.length);
+        const uint8_t byte = draw_byte(chance);
+        if (!body.counts[place])
+            body.bytes[place] = byte == 0 ? 0xFF : byte;
+    }
+    draft_begin(draft);
+    draft->bytes[0] = (uint8_t)version;
+    draft_record(draft, KIND_SETUP, body.bytes, body.length);
+}
+
 static void draw_odd(struct chance *chance)
 {
+    if (percent(chance, 30)) {
+        draw_sparse(chance);
+        return;
+    }
     if (percent(chance, 60))
         draw_good(chance, 6);
     else
