@@ -810,7 +810,8 @@ static void read_record(struct reader *reader, uint8_t version)
           (unsigned)(reader->paper->length - place - 2) & 0xFFFF);
 }
 
-static void read_records(struct reader *reader, uint8_t version)
+/* The paper's first byte is the version. */
+static void read_records(struct reader *reader)
 {
     while (!reader->refused && !reader->over) {
         const struct spot key = reader->here;
@@ -818,7 +819,7 @@ static void read_records(struct reader *reader, uint8_t version)
             read_rest(reader);
             end_line(reader);
         } else {
-            read_record(reader, version);
+            read_record(reader, reader->paper->bytes[0]);
         }
         if (reader->paper->length > PAPER_MOST)
             refuse_at(reader, &key, "fewer bytes");
@@ -832,8 +833,7 @@ static void read_paper(struct reader *reader)
     read_word(reader, "paper");
     read_hex(reader, 1);
     end_line(reader);
-    if (!reader->refused)
-        read_records(reader, reader->paper->bytes[0]);
+    read_records(reader);
 }
 
 bool read_text(struct grown *paper, struct offence *offence,
