@@ -490,6 +490,21 @@ static void unworded(void)
     is_text("07 003F 01 " HEAD "00 00 00 00 00 01 00 00 00 00",
             "paper 07\nsetup\n  log\n");
 
+    /* Bodies that end before a tail does. */
+    is_text("03 0036 01 " HEAD "00", "paper 03\nrecord 01 " HEAD_WORD "00\n");
+    is_text("04 0037 01 " HEAD "00 00",
+            "paper 04\nrecord 01 " HEAD_WORD "0000\n");
+    is_text("05 0038 01 " HEAD "00 00 00",
+            "paper 05\nrecord 01 " HEAD_WORD "000000\n");
+    is_text("06 0039 01 " HEAD "00 00 00 00",
+            "paper 06\nrecord 01 " HEAD_WORD "00000000\n");
+    is_text("07 003A 01 " HEAD "00 00 00 00 00",
+            "paper 07\nrecord 01 " HEAD_WORD "0000000000\n");
+    is_text("07 003D 01 " HEAD "00 00 00 00 00 01 00 00",
+            "paper 07\nrecord 01 " HEAD_WORD "0000000000010000\n");
+    is_text("07 003E 01 " HEAD "00 00 00 00 00 01 00 00 00",
+            "paper 07\nrecord 01 " HEAD_WORD "000000000001000000\n");
+
     /* A version without words is read by those that it would have. */
     is("00 0035 01 " HEAD);
     also("version 00", "paper 00\nsetup\n");
