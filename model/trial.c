@@ -3,6 +3,7 @@
 
 #include <fcntl.h>
 #include <spawn.h>
+#include <stdbool.h>
 #include <stdio.h>
 #include <stdlib.h>
 #include <string.h>
@@ -14,7 +15,8 @@ extern char **environ;
 enum { STATUS_BYTES = 64 };
 
 static int given = -1, wrote = -1, nowhere = -1; /* the program's 0, 1 and 2 */
-static char *answer;
+static int said = -1; /* its 2 and 3 where they are heard */
+static char *answer, *saying;
 
 static _Noreturn void fail(const char *what)
 {
@@ -35,6 +37,7 @@ static void prepare(void)
 {
     given = scratch();
     wrote = scratch();
+    said = scratch();
     nowhere = open("/dev/null", O_WRONLY);
     if (nowhere < 0)
         fail("/dev/null");
@@ -68,9 +71,8 @@ static void empty(int file)
         fail("a scratch file");
 }
 
-/* Its status, as waitpid gives it. What a proved program says of its end on
- * descriptor 3 is not kept. */
-static int run_program(char *const *program)
+/* Its status, as waitpid gives it; these are its descriptors 2 and 3. */
+static int run_program(char *const *program, int errors, int ending)
 {
     posix_spawn_file_actions_t actions;
     pid_t child;
@@ -79,8 +81,8 @@ static int run_program(char *const *program)
     posix_spawn_file_actions_init(&actions);
     posix_spawn_file_actions_adddup2(&actions, given, 0);
     posix_spawn_file_actions_adddup2(&actions, wrote, 1);
-    posix_spawn_file_actions_adddup2(&actions, nowhere, 2);
-    posix_spawn_file_actions_adddup2(&actions, 2, 3);
+    posix_spawn_file_actions_adddup2(&actions, ending, 3);
+    posix_spawn_file_actions_adddup2(&actions, errors, 2);
     if (posix_spawn(&child, program[0], &actions, NULL, program, environ) != 0
         || waitpid(child, &status, 0) != child)
         fail(program[0]);
@@ -88,17 +90,18 @@ static int run_program(char *const *program)
     return status;
 }
 
-static size_t read_answer(void)
+/* All that a scratch file has, with room for a status behind it. */
+static size_t read_scratch(int file, char **bytes)
 {
-    const off_t length = lseek(wrote, 0, SEEK_END);
+    const off_t length = lseek(file, 0, SEEK_END);
 
-    if (length < 0 || lseek(wrote, 0, SEEK_SET) != 0)
+    if (length < 0 || lseek(file, 0, SEEK_SET) != 0)
         fail("a scratch file");
-    answer = realloc(answer, (size_t)length + STATUS_BYTES);
-    if (!answer)
+    *bytes = realloc(*bytes, (size_t)length + STATUS_BYTES);
+    if (!*bytes)
         fail("memory");
-    read_all(wrote, answer, (size_t)length);
-    answer[length] = '\0';
+    read_all(file, *bytes, (size_t)length);
+    (*bytes)[length] = '\0';
     return (size_t)length;
 }
 
@@ -110,8 +113,7 @@ static int is_cut_short(size_t length)
     return length >= size && memcmp(answer + length - size, last, size) == 0;
 }
 
-const char *try_program(char *const *program, const uint8_t *input,
-                        size_t length, size_t *written)
+static void give(const uint8_t *input, size_t length)
 {
     if (given < 0)
         prepare();
@@ -120,8 +122,15 @@ const char *try_program(char *const *program, const uint8_t *input,
     if (lseek(given, 0, SEEK_SET) != 0)
         fail("a scratch file");
     empty(wrote);
-    const int status = run_program(program);
-    *written = read_answer();
+}
+
+/* What a proved program says of its end is not kept. */
+const char *try_program(char *const *program, const uint8_t *input,
+                        size_t length, size_t *written)
+{
+    give(input, length);
+    const int status = run_program(program, nowhere, 2);
+    *written = read_scratch(wrote, &answer);
     if (WIFSIGNALED(status))
         *written += (size_t)sprintf(answer + *written, "(ended by signal %d)\n",
                                     WTERMSIG(status));
@@ -131,4 +140,46 @@ const char *try_program(char *const *program, const uint8_t *input,
                                     "(ended with status %d)\n",
                                     WEXITSTATUS(status));
     return answer;
+}
+
+/* Takes the word that it is done, and its name, from the lines. */
+static void clean_saying(const char *name)
+{
+    const size_t size = strlen(name);
+    char *to = saying;
+
+    for (const char *from = saying; *from != '\0';) {
+        const size_t length = strcspn(from, "\n");
+        const size_t line = length + (from[length] == '\n');
+        if (length != 4 || memcmp(from, "done", 4) != 0) {
+            const bool named = length > size + 2
+                && memcmp(from, name, size) == 0
+                && memcmp(from + size, ": ", 2) == 0;
+            const size_t before = named ? size + 2 : 0;
+            memmove(to, from + before, line - before);
+            to += line - before;
+        }
+        from += line;
+    }
+    *to = '\0';
+}
+
+struct told tell_program(char *const *program, const char *name,
+                         const uint8_t *input, size_t length)
+{
+    struct told told;
+
+    give(input, length);
+    empty(said);
+    const int status = run_program(program, said, said);
+    told.length = read_scratch(wrote, &answer);
+    read_scratch(said, &saying);
+    clean_saying(name);
+    if (WIFSIGNALED(status))
+        sprintf(saying, "(ended by signal %d)\n", WTERMSIG(status));
+    else if (WEXITSTATUS(status) != 0 && *saying == '\0')
+        sprintf(saying, "(ended with status %d)\n", WEXITSTATUS(status));
+    told.wrote = answer;
+    told.said = saying;
+    return told;
 }

@@ -12,4 +12,16 @@
 const char *try_program(char *const *program, const uint8_t *input,
                         size_t length, size_t *written);
 
+/* What it wrote, and the lines that it said on standard error and, how it
+ * ended, on descriptor 3: without the word that it is done, and without NAME and
+ * a colon before a line. If it said nothing, a status that is not 0 is said.
+ * In place until the next call. */
+struct told {
+    const char *wrote;
+    size_t length;
+    const char *said;
+};
+struct told tell_program(char *const *program, const char *name,
+                         const uint8_t *input, size_t length);
+
 #endif
