@@ -23,7 +23,8 @@ sub-match c =
 returns-2 : tie.Need-returns-2
 returns-2 c =
     let end = c .before in
-    let inside = end .before .before .before .before in
+    let first = end .before .before in
+    let inside = first .before .before in
     let a = inside .before .before .before .args in
     let line : endsLine (a .grammar .now) (a .t) ≡ false = sym (inside .before .ends-line .ensures) ∙ inside .if1 .left in
     let size = ap (λ n. n - a .t) (sym (end .word-end .ensures)) in
@@ -60,7 +61,8 @@ returns-4 c =
 returns-5 : tie.Need-returns-5
 returns-5 c =
     let end = c .before in
-    let inside = end .before .before .before .before in
+    let first = end .before .before in
+    let inside = first .before .before in
     let a = inside .before .before .before .args in
     let line : endsLine (a .grammar .now) (a .t) ≡ false = sym (inside .before .ends-line .ensures) ∙ inside .if1 .left in
     let size = end .word-end .ensures in
