@@ -62,7 +62,8 @@ unfolding fitsLength
     let marked = next .before in
     let a = marked .before .args in
     let yes = sym (with .fits2 .ensures) ∙ c .if1 .taken in
-    sym (fits-with (a .grammar .now) (a .t) (marked .mark-at .result) (next .part-behind .result) (marked .mark-at .ensures .is) (next .part-behind .ensures) (a .bytes) (told .enum-told3 .given .1) yes))
+    sym (fits-with (a .grammar .now) (a .t) (marked .mark-at .result) (next .part-behind .result)
+    (marked .mark-at .ensures .is) (next .part-behind .ensures) (a .bytes) (told .enum-told3 .given .1) yes))
     (search needs)
     (λ c κs.
     let told = c .before .before .before in
@@ -81,13 +82,15 @@ unfolding fitsLength
     let size = c .before .size .ensures in
     let few = c .if2 .taken in
     let less : a .bytes < sizeOf (marked .mark-at .result) = omega arith in
-    sym (fits-few (a .grammar .now) (a .t) (marked .mark-at .result) (next .part-behind .result) (marked .mark-at .ensures .is) (next .part-behind .ensures) (a .bytes) (among going (tag (marked .mark-at .result)) (keyed .match .keys4)) less))
+    sym (fits-few (a .grammar .now) (a .t) (marked .mark-at .result) (next .part-behind .result)
+    (marked .mark-at .ensures .is) (next .part-behind .ensures) (a .bytes) (among going (tag (marked .mark-at .result)) (keyed .match .keys4)) less))
     (λ c κs.
     let keyed = c .before .before in
     let next = keyed .before in
     let marked = next .before in
     let a = marked .before .args in
-    let on = goes (a .grammar .now) (a .t) (marked .mark-at .result) (next .part-behind .result) (marked .mark-at .ensures .is) (next .part-behind .ensures) (goes-on (marked .mark-at .result) (among going (tag (marked .mark-at .result)) (keyed .match .keys4))) in
+    let on = goes (a .grammar .now) (a .t) (marked .mark-at .result) (next .part-behind .result)
+    (marked .mark-at .ensures .is) (next .part-behind .ensures) (goes-on (marked .mark-at .result) (among going (tag (marked .mark-at .result)) (keyed .match .keys4))) in
     (omega arith, tt))
     (λ c.
     let next = c .before .before in
@@ -110,7 +113,8 @@ unfolding fitsLength
     let a = marked .before .args in
     let no = sym (with .fits2 .ensures) ∙ behind .before .if1 .left in
     c .fits3 .ensures
-    ∙ sym (fits-without (a .grammar .now) (a .t) (marked .mark-at .result) (next .part-behind .result) (marked .mark-at .ensures .is) (next .part-behind .ensures) (a .bytes) (told .enum-told3 .given .1) (behind .behind-mark .result) (behind .behind-mark .ensures) no))
+    ∙ sym (fits-without (a .grammar .now) (a .t) (marked .mark-at .result) (next .part-behind .result)
+    (marked .mark-at .ensures .is) (next .part-behind .ensures) (a .bytes) (told .enum-told3 .given .1) (behind .behind-mark .result) (behind .behind-mark .ensures) no))
     (λ c.
     let sized = c .before .before in
     let keyed = sized .before in
@@ -122,4 +126,5 @@ unfolding fitsLength
     let less : sizeOf (marked .mark-at .result) ≤ a .bytes = omega arith in
     c .fits4 .ensures
     ∙ ap (λ n. fitsLength (formIn (wordsAt (a .grammar .now) (next .part-behind .result))) (a .bytes - n)) size
-    ∙ sym (fits-more (a .grammar .now) (a .t) (marked .mark-at .result) (next .part-behind .result) (marked .mark-at .ensures .is) (next .part-behind .ensures) (a .bytes) (among going (tag (marked .mark-at .result)) (keyed .match .keys4)) less))
+    ∙ sym (fits-more (a .grammar .now) (a .t) (marked .mark-at .result) (next .part-behind .result)
+    (marked .mark-at .ensures .is) (next .part-behind .ensures) (a .bytes) (among going (tag (marked .mark-at .result)) (keyed .match .keys4)) less))

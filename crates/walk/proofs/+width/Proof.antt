@@ -59,7 +59,8 @@ pub +width-spec : {M : Type 1} → statement M
     let next = keyed .before in
     let marked = next .before in
     let a = marked .before .args in
-    let on = goes (a .grammar .now) (a .t) (marked .mark-at .result) (next .part-behind .result) (marked .mark-at .ensures .is) (next .part-behind .ensures) (goes-on (marked .mark-at .result) (among going (tag (marked .mark-at .result)) (keyed .match .keys4))) in
+    let on = goes (a .grammar .now) (a .t) (marked .mark-at .result) (next .part-behind .result)
+    (marked .mark-at .ensures .is) (next .part-behind .ensures) (goes-on (marked .mark-at .result) (among going (tag (marked .mark-at .result)) (keyed .match .keys4))) in
     (omega arith, tt))
     (λ c.
     let sized = c .before in
@@ -88,7 +89,8 @@ pub +width-spec : {M : Type 1} → statement M
     let next = told .before .before in
     let marked = next .before in
     let a = marked .before .args in
-    let without = either-on (a .grammar .now) (a .t) (marked .mark-at .result) (next .part-behind .result) (marked .mark-at .ensures .is) (next .part-behind .ensures) (told .enum-told3 .given .1) (behind .behind-mark .result) (behind .behind-mark .ensures) in
+    let without = either-on (a .grammar .now) (a .t) (marked .mark-at .result) (next .part-behind .result)
+    (marked .mark-at .ensures .is) (next .part-behind .ensures) (told .enum-told3 .given .1) (behind .behind-mark .result) (behind .behind-mark .ensures) in
     let on = goes (a .grammar .now) (a .t) (marked .mark-at .result) (next .part-behind .result) (marked .mark-at .ensures .is) (next .part-behind .ensures) (opens-on (told .enum-told3 .given .1)) in
     let past = behind .behind-mark .ensures .on in
     let small = c .width .ensures .small in

@@ -23,12 +23,13 @@ abbrev μ-loop : tie.MeasureT-loop
 returns : tie.Need-returns Inv-loop μ-loop
 returns c =
     let marked = c .before .before .before in
-    let at-loop = marked .before .before .before .before in
+    let tested = marked .before .before in
+    let at-loop = tested .before .before in
     let a = at-loop .before .args in
     let g = a .grammar .now in
     let word = at-loop .loop .word in
     let there = not-true _ (marked .before .if1 .taken) in
-    let line : endsLine g word ≡ false = sym (marked .before .before .ends-line .ensures) ∙ there in
+    let line : endsLine g word ≡ false = sym (tested .ends-line .ensures) ∙ there in
     let found = past-here g word (a .mark) (sym (marked .is-mark .ensures) ∙ c .if2 .taken) in
     let next = c .before .after-word .ensures in
     let on = moves g word line in
@@ -37,10 +38,11 @@ returns c =
 loop-less : tie.Need-loop-less Inv-loop μ-loop
 loop-less c =
     let marked = c .before .before .before in
-    let at-loop = marked .before .before .before .before in
+    let tested = marked .before .before in
+    let at-loop = tested .before .before in
     let g = at-loop .before .args .grammar .now in
     let word = at-loop .loop .word in
-    let line : endsLine g word ≡ false = sym (marked .before .before .ends-line .ensures) ∙ not-true _ (marked .before .if1 .taken) in
+    let line : endsLine g word ≡ false = sym (tested .ends-line .ensures) ∙ not-true _ (marked .before .if1 .taken) in
     let next = c .before .after-word .ensures in
     let on = moves g word line in
     let inside = in-line g word line in
@@ -49,11 +51,12 @@ loop-less c =
 loop-again : tie.Need-loop-again Inv-loop μ-loop
 loop-again c =
     let marked = c .before .before .before in
-    let at-loop = marked .before .before .before .before in
+    let tested = marked .before .before in
+    let at-loop = tested .before .before in
     let a = at-loop .before .args in
     let g = a .grammar .now in
     let word = at-loop .loop .word in
-    let line : endsLine g word ≡ false = sym (marked .before .before .ends-line .ensures) ∙ not-true _ (marked .before .if1 .taken) in
+    let line : endsLine g word ≡ false = sym (tested .ends-line .ensures) ∙ not-true _ (marked .before .if1 .taken) in
     let other = past-on g word (a .mark) (sym (marked .is-mark .ensures) ∙ c .if2 .left) in
     let next = c .before .after-word .ensures in
     let on = moves g word line in

@@ -17,7 +17,9 @@ returns c =
 
 sub-match : tie.Need-sub-match
 sub-match c =
-    let a = c .before .before .before .before .before .before .before .args in
+    let first = c .before .before in
+    let inside = first .before .before in
+    let a = inside .before .before .before .args in
     rw (c .word-end .ensures) (end-more (a .grammar .now) (a .t))
 
 returns-2 : tie.Need-returns-2
