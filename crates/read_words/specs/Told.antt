@@ -11,7 +11,7 @@ use Rattle.read_words.specs.declared.Said.{Said}
 use Rattle.read_words.specs.declared.Said.the-variants.{To, Not}
 
 -- whether it is said, and the bytes
-abbrev pub Told : Bool → List ℕ → List ℕ → ℕ → Said → List ℕ → Type 0
+unfoldable pub Told : Bool → List ℕ → List ℕ → ℕ → Said → List ℕ → Type 0
 Told is bytes room to (To end) after = (is ≡ true) × Put room to bytes end after
 Told is bytes room to Not after = (is ≡ false) × (after ≡ room)
 

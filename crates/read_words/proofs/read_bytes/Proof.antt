@@ -8,12 +8,13 @@ use lib.ListN.{length}
 use Rattle.words.specs.Words.{isHex}
 use Rattle.words.proofs.Tests.{both}
 use Rattle.forms.specs.Form.{says, bytesIn}
+use Rattle.read_words.specs.Told.{Told}
 use Rattle.read_words.proofs.Laws.{pairs-are, hex-said}
 use Rattle.read_words.proofs.read_bytes.Statement.{statement}
 use Rattle.read_words.proofs.read_bytes.Tie as tie
 
 returns : tie.Need-returns
-unfolding says bytesIn
+unfolding says bytesIn Told
 returns c =
     let put = c .before .before in
     let test = put .before .before in
@@ -25,7 +26,7 @@ returns c =
     (sym (pairs-are w (a .count)) ∙ yes, rw (hex-said w hex) at (put .put-hex-said .ensures))
 
 returns-2 : tie.Need-returns-2
-unfolding says
+unfolding says Told
 returns-2 c =
     let start = c .before .before .before in
     let a = start .before .args in

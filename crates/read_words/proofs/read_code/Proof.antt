@@ -7,19 +7,20 @@ use native.Mathlib.Omega.{arith}
 use lib.ListN.{length}
 use Rattle.words.specs.Words.{isHex}
 use Rattle.forms.specs.Form.{says, bytesIn}
+use Rattle.read_words.specs.Told.{Told}
 use Rattle.read_words.proofs.Laws.{two-letters, neither}
 use Rattle.read_words.proofs.read_code.Statement.{statement}
 use Rattle.read_words.proofs.read_code.Tie as tie
 
 returns : tie.Need-returns
-unfolding says bytesIn
+unfolding says bytesIn Told
 returns c =
     let read = c .before .before in
     let test = read .before .before in
     rw (ne-eqb _ _ (test .if1 .taken)) (read .read-bytes .ensures)
 
 returns-2 : tie.Need-returns-2
-unfolding says bytesIn
+unfolding says bytesIn Told
 returns-2 c =
     let put = c .before .before in
     let letters = put .before .before in
@@ -32,7 +33,7 @@ returns-2 c =
     (rw (two, two-letters w (test .if1 .left) ∙ both), rw two (put .put-word .ensures))
 
 returns-3 : tie.Need-returns-3
-unfolding says
+unfolding says Told
 returns-3 c =
     let second = c .before in
     let first = second .before .before in

@@ -3,12 +3,13 @@ use borrow.Author.Needs.{needs}
 use mathlib.Core.Path.{sym, ap, _∙_}
 use Rattle.words.specs.Words.{hexSaid}
 use Rattle.forms.specs.Form.{says, bytesIn}
+use Rattle.read_words.specs.Told.{Told}
 use Rattle.read_words.proofs.Laws.{date-hex}
 use Rattle.read_words.proofs.read_date.Statement.{statement}
 use Rattle.read_words.proofs.read_date.Tie as tie
 
 returns : tie.Need-returns
-unfolding says bytesIn
+unfolding says bytesIn Told
 returns c =
     let put = c .before .before in
     let digits = put .before .before .before in
@@ -20,7 +21,7 @@ returns c =
     (rw yes, rw yes (rw said at (put .put-hex-said .ensures)))
 
 returns-2 : tie.Need-returns-2
-unfolding says bytesIn
+unfolding says bytesIn Told
 returns-2 c =
     let read = c .before .before in
     let test = read .before .before in
