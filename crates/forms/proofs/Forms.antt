@@ -1,24 +1,23 @@
 -- What a line says reads back: the law of a row. Assumes nothing.
-use mathlib.Core.Path.{_≡_, refl, sym, ap, ap₂, subst, _∙_}
+use mathlib.Core.Path.{_≡_, refl, sym, ap, _∙_}
 use mathlib.Core.Bool.{Bool, true, false, cond, not, _&&_, _||_}
 use mathlib.Core.List.{List, [], _∷_, _++_, append-nil}
-use Prim.Native.Nat.{ℕ, zero, suc, _+_, _*_, _-_, _^_, _<_, _≤_}
-use native.Mathlib.Nat.{add-assoc, add-zero}
+use Prim.Native.Nat.{ℕ, _+_, _-_, _^_, _≤_}
 use native.Mathlib.Omega.{arith}
-use borrow.Author.Tests.{ltb-true, ltb-false, eqb-true, leb-true, not-true}
-use lib.Dec.{leb, ltb, eqb}
+use borrow.Author.Tests.{ltb-true, eqb-true, leb-true, not-true}
+use lib.Dec.{leb, ltb}
 use lib.ListN.{length, drop, replicate, drop-of-length-le}
-use Rattle.wire.specs.Wire.{byte, number}
+use Rattle.wire.specs.Wire.{number}
 use Rattle.hex.specs.Hex.{hex}
-use Rattle.words.specs.Words.{word, isIn, all, isHex, hexBytes, distinct, flags, Flags, readFlags, begins, tail}
+use Rattle.words.specs.Words.{word, isIn, all, distinct, flags, begins}
 use Rattle.words.specs.Lex.{isWord, areWords}
-use Rattle.words.proofs.Tests.{both, and, same-refl}
+use Rattle.words.proofs.Tests.{both, same-refl}
 use Rattle.words.proofs.Hex as Hex
 use Rattle.words.proofs.Names.{stopped, stops-here, not-first, flags-back}
 use Rattle.forms.specs.Form.{Part, say, count, bytes, named, date, code, Form, done, rest, may, part, bits, either, size, width, fitsLength}
-use Rattle.forms.specs.Form.{bytesAt, bigEndian, said, isBlank, wordOf, restWords, bitWords, printForm, says, bytesIn}
-use Rattle.forms.specs.Form.{Read, Said, Wrong, before, readRest, one, lineDone, orZeros, firstWord, readForm, finePart, closed, solid, parted, fine}
-use Rattle.forms.proofs.Bytes.{Bytes, size-at, split-at, rest-from, zeros-at, bytes-at, number-less, number-back, rest-bytes}
+use Rattle.forms.specs.Form.{bytesAt, said, isBlank, wordOf, restWords, bitWords, printForm}
+use Rattle.forms.specs.Form.{Read, Said, readRest, one, orZeros, firstWord, readForm, finePart, closed, solid, parted, fine}
+use Rattle.forms.proofs.Bytes.{Bytes, size-at, split-at, rest-from, zeros-at, number-back, rest-bytes}
 use Rattle.forms.proofs.Parts.{Back, part-back}
 
 pub never : {A : Type 0} → false ≡ true → A

@@ -1,12 +1,12 @@
 -- The form of a row goes on by the form of the words behind. Assumes nothing.
-use mathlib.Core.Path.{_≡_, refl, sym, ap, _∙_}
+use mathlib.Core.Path.{_≡_, refl, sym, _∙_}
 use mathlib.Core.Bool.{Bool, true, false, cond}
 use mathlib.Core.List.{List, [], _∷_}
 use Prim.Native.Nat.{ℕ, zero, suc, _≤_}
 use native.Mathlib.Omega.{arith}
 use lib.ListN.{length}
 use Rattle.words.specs.Words.{word, same, upTo}
-use Rattle.forms.specs.Form.{Form, done, rest, may, part, bits, either, named}
+use Rattle.forms.specs.Form.{Form, rest, may, part, bits, either, named}
 use Rattle.forms.specs.Grammar.{past, isSized, sizeIn, partIn, formFrom, formIn}
 
 pub past-less : (end : List ℕ) (ws : List (List ℕ)) → length (past end ws) ≤ length ws

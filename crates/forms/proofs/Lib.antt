@@ -10,3 +10,4 @@ pub mod Suffix
 pub mod Takes
 pub mod Taken
 pub mod Spots
+pub mod Numbers

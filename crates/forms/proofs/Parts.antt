@@ -1,8 +1,8 @@
 -- What one word says reads back. Assumes nothing.
-use mathlib.Core.Path.{_≡_, refl, sym, ap, ap₂, _∙_}
+use mathlib.Core.Path.{_≡_, refl, ap, _∙_}
 use mathlib.Core.Bool.{Bool, true, false, cond, not, _&&_, _||_}
-use mathlib.Core.List.{List, [], _∷_, _++_}
-use Prim.Native.Nat.{ℕ, zero, suc, _+_, _*_, _/_, _%_, _^_, _<_, _≤_}
+use mathlib.Core.List.{List, [], _∷_}
+use Prim.Native.Nat.{ℕ, zero, suc, _+_, _*_, _/_, _%_, _^_, _<_}
 use native.Mathlib.Omega.{arith}
 use borrow.Author.Tests.{lt-ltb, ltb-true, ltb-false, leb-true, leb-false, le-leb, lt-leb, eq-eqb, not-true}
 use lib.Dec.{leb, ltb, eqb}
@@ -11,7 +11,7 @@ use Rattle.wire.specs.Wire.{byte, number, isPair}
 use Rattle.numerals.specs.Numeral.{numeral}
 use Rattle.hex.specs.Hex.{hexDigit, hex}
 use Rattle.hex.proofs.Bytes.{size as hex-size}
-use Rattle.words.specs.Words.{same, isIn, all, isDigit, isNumber, value, isHex, hexBytes, nameOf, placeIn, distinct}
+use Rattle.words.specs.Words.{same, isIn, all, isDigit, isNumber, value, isHex, nameOf, distinct}
 use Rattle.words.specs.Lex.{isPlain, isWord, areWords}
 use Rattle.words.proofs.Tests.{both, and, same-refl}
 use Rattle.words.proofs.Decimal as Decimal

@@ -1,8 +1,8 @@
 -- A record reads back by its row, or by the one that takes any. Assumes nothing.
-use mathlib.Core.Path.{_≡_, refl, sym, ap, ap₂, _∙_}
-use mathlib.Core.Bool.{Bool, true, false, cond, not, _&&_, _||_}
+use mathlib.Core.Path.{_≡_, refl, ap, ap₂, _∙_}
+use mathlib.Core.Bool.{Bool, true, false, cond, not, _&&_}
 use mathlib.Core.List.{List, [], _∷_, _++_}
-use Prim.Native.Nat.{ℕ, zero, suc, _+_, _-_, _≤_, _<_}
+use Prim.Native.Nat.{ℕ, _-_, _≤_}
 use native.Mathlib.Nat.{sub-zero}
 use native.Mathlib.Omega.{arith}
 use borrow.Author.Tests.{eqb-true, not-true}
@@ -12,8 +12,8 @@ use Rattle.words.specs.Words.{same, isIn, begins}
 use Rattle.words.specs.Lex.{Line, isWord, areLines}
 use Rattle.words.proofs.Tests.{both, neither, same-refl}
 use Rattle.words.proofs.Names.{stopped, turned}
-use Rattle.forms.specs.Form.{Form, fitsLength, said, printForm, Said, readForm, fine}
-use Rattle.forms.specs.Table.{Field, fieldLine, Got, Took, joined, inLine, readLine, apart}
+use Rattle.forms.specs.Form.{fitsLength, printForm, fine}
+use Rattle.forms.specs.Table.{Field, fieldLine, Took, joined, inLine, readLine, apart}
 use Rattle.forms.specs.Row.{Row, startsWith, fits, printBy, readBy, rowKeys, fineRows}
 use Rattle.forms.proofs.Bytes.{Bytes}
 use Rattle.forms.proofs.Forms.{never, said-fits, form-back}

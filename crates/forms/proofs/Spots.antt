@@ -1,8 +1,8 @@
 -- What a printed line says of each spot is what stands there. Assumes nothing.
-use mathlib.Core.Path.{_≡_, refl, sym, ap, ap₂, subst, _∙_}
-use mathlib.Core.Bool.{Bool, true, false, cond, not, _&&_, _||_}
+use mathlib.Core.Path.{_≡_, refl, sym, ap, ap₂, _∙_}
+use mathlib.Core.Bool.{Bool, true, false, cond, not, _&&_}
 use mathlib.Core.List.{List, [], _∷_, _++_, append-assoc}
-use Prim.Native.Nat.{ℕ, zero, suc, _+_, _*_, _^_, _<_, _≤_}
+use Prim.Native.Nat.{ℕ, zero, suc, _+_, _*_, _^_}
 use native.Mathlib.Nat.{add-assoc, add-comm, add-zero, zero-add, suc-add, zero-mul, suc-mul}
 use native.Mathlib.Omega.{arith}
 use borrow.Author.Tests.{ltb-true, not-true}
@@ -10,14 +10,14 @@ use lib.Dec.{leb, ltb, eqb}
 use lib.ListN.{length, replicate}
 use Rattle.wire.specs.Wire.{number}
 use Rattle.hex.specs.Hex.{hex}
-use Rattle.words.specs.Words.{word, isIn, all, distinct, flags, readFlags, begins, tail}
+use Rattle.words.specs.Words.{word, isIn, all, distinct, flags}
 use Rattle.words.specs.Lex.{Line, isWord, areWords}
 use Rattle.words.proofs.Tests.{both, same-refl}
 use Rattle.words.proofs.Names.{stopped, stops-here, not-first, flags-back}
-use Rattle.forms.specs.Form.{Part, say, count, bytes, named, date, code, Form, done, rest, may, part, bits, either, size, width, bytesAt, bigEndian}
+use Rattle.forms.specs.Form.{Part, say, count, bytes, named, date, code, Form, done, rest, may, part, bits, either, size, width, bytesAt}
 use Rattle.forms.specs.Form.{said, isBlank, wordOf, bitWords, printForm, bytesIn, finePart, closed, parted, fine}
 use Rattle.forms.specs.Table.{Field, keys, Group, breadth, fieldLine, printFields, printGroups, leads, fineField, fineFields}
-use Rattle.forms.specs.Spot.{Spot, spot, labelOf, telling, spotsIn, fieldSpots, spotsOf, found, firstOf, heard, zeros, lineHeard, below, fieldsHeard, plain, plainFields}
+use Rattle.forms.specs.Spot.{Spot, spot, labelOf, telling, spotsIn, fieldSpots, spotsOf, found, heard, zeros, fieldsHeard, plain, plainFields}
 use Rattle.forms.proofs.Bytes.{Bytes, size-at, split-at, zeros-at, number-back}
 use Rattle.forms.proofs.Parts.{part-back}
 use Rattle.forms.proofs.Forms.{never, said-closed, parted-stops}

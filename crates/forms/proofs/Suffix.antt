@@ -1,23 +1,20 @@
 -- What is printed of a suffix is what is printed of the whole from there on. Assumes nothing.
 use mathlib.Core.Path.{_≡_, refl, sym, ap, ap₂, _∙_}
-use mathlib.Core.Bool.{Bool, true, false, cond, _||_, _&&_}
+use mathlib.Core.Bool.{cond}
 use mathlib.Core.List.{List, [], _∷_, _++_}
-use Prim.Native.Nat.{ℕ, zero, suc, _+_, _*_, _-_, _^_}
+use Prim.Native.Nat.{ℕ, zero, suc, _+_, _*_, _-_}
 use native.Mathlib.Nat.{add-assoc, add-suc, sub-add-eq}
-use native.Mathlib.Omega.{arith}
-use lib.Dec.{leb, ltb, eqb}
 use lib.ListN.{length, drop, length-drop}
 use lib.Seq.{getD-drop, drop-drop}
-use Rattle.wire.specs.Wire.{byte, number, isPair}
+use Rattle.wire.specs.Wire.{byte, number}
 use Rattle.numerals.specs.Numeral.{numeral}
 use Rattle.hex.specs.Hex.{hex}
-use Rattle.words.specs.Words.{all, isEmpty, nameOf, flags}
-use Rattle.words.specs.Lex.{Line}
-use Rattle.forms.specs.Form.{Part, say, count, bytes, named, date, code, Form, done, rest, may, part, bits, either, size, width, fitsLength}
-use Rattle.forms.specs.Form.{bytesAt, said, isBlank, isLetter, dateText, wordOf, restWords, bitWords, printForm}
+use Rattle.words.specs.Words.{all, nameOf}
+use Rattle.forms.specs.Form.{Part, say, count, bytes, named, date, code, Form, done, rest, may, part, bits, either, size, width}
+use Rattle.forms.specs.Form.{bytesAt, said, isLetter, wordOf, restWords, bitWords, printForm}
 use Rattle.forms.specs.Table.{Field, Group, breadth, fieldLine, printFields, printGroups}
-use Rattle.forms.specs.Tail.{Item, fields, each, counted, entries, Tail, entriesSize, itemSize, itemsSize, tailSize, tailsSize, areSwitched}
-use Rattle.forms.specs.Tail.{printEntries, printItem, printItems, printTail, printTails}
+use Rattle.forms.specs.Tail.{Item, fields, each, counted, entries, Tail, entriesSize, itemSize, itemsSize, tailSize}
+use Rattle.forms.specs.Tail.{printEntries, printItem, printItems, printTail}
 
 module _ (s : List ℕ) (a : ℕ) where
   byte-from : (at : ℕ) → byte (drop a s) at ≡ byte s (a + at)

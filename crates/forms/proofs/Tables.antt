@@ -1,19 +1,19 @@
 -- Fields and groups read back: one law for every table. Assumes nothing.
-use mathlib.Core.Path.{_≡_, refl, sym, ap, ap₂, subst, _∙_}
-use mathlib.Core.Bool.{Bool, true, false, cond, not, _&&_, _||_}
-use mathlib.Core.List.{List, [], _∷_, _++_, append-assoc, append-nil}
-use Prim.Native.Nat.{ℕ, zero, suc, _+_, _*_, _^_, _<_, _≤_}
+use mathlib.Core.Path.{_≡_, refl, sym, ap, _∙_}
+use mathlib.Core.Bool.{Bool, true, false, cond, not, _&&_}
+use mathlib.Core.List.{List, [], _∷_, _++_, append-assoc}
+use Prim.Native.Nat.{ℕ, zero, suc, _+_, _*_, _≤_}
 use native.Mathlib.Nat.{add-comm, zero-mul, suc-mul}
 use native.Mathlib.Omega.{arith}
 use borrow.Author.Tests.{not-true}
-use lib.ListN.{length, drop, replicate}
-use Rattle.words.specs.Words.{same, isIn, begins, tail}
+use lib.ListN.{length, replicate}
+use Rattle.words.specs.Words.{same, isIn, begins}
 use Rattle.words.specs.Lex.{Line, isWord}
-use Rattle.words.proofs.Tests.{both, and, neither, same-refl}
+use Rattle.words.proofs.Tests.{both, neither, same-refl}
 use Rattle.words.proofs.Names.{stopped, stops-here, turned}
-use Rattle.forms.specs.Form.{Form, width, bytesAt, said, isBlank, printForm, Read, Said, Wrong, readForm, closed, fine}
+use Rattle.forms.specs.Form.{width, bytesAt, said, isBlank, closed, fine}
 use Rattle.forms.specs.Table.{Field, keys, widths, Group, breadth, fieldLine, printFields, printGroups, fineField, fineFields, fineGroup, apart}
-use Rattle.forms.specs.Table.{Got, Took, Bad, bind, joined, andThen, inLine, leads, readLine, readField, readFields, readGroups}
+use Rattle.forms.specs.Table.{Got, Took, joined, andThen, inLine, leads, readLine, readField, readFields, readGroups}
 use Rattle.forms.proofs.Bytes.{Bytes, size-at, split-at, zeros-at}
 use Rattle.forms.proofs.Forms.{said-closed, form-back}
 

@@ -2,9 +2,8 @@
 use mathlib.Core.Path.{_≡_, refl, sym, ap, ap₂, _∙_}
 use mathlib.Core.Bool.{Bool, true, false, cond, not, _&&_, _||_}
 use mathlib.Core.List.{List, [], _∷_, _++_, append-assoc, append-nil}
-use Prim.Native.Nat.{ℕ, zero, suc, _+_, _*_, _-_, _/_, _≤_, _<_}
+use Prim.Native.Nat.{ℕ, zero, suc, _+_, _*_, _-_, _/_, _≤_}
 use native.Mathlib.Nat.{mul-div-cancel, sub-self}
-use native.Mathlib.Numerals.{add-one}
 use native.Mathlib.Omega.{arith}
 use borrow.Author.Tests.{le-leb, leb-true, eqb-true, eqb-false, not-true}
 use lib.Dec.{leb, eqb}
@@ -14,12 +13,12 @@ use Rattle.words.specs.Words.{same, isIn, isEmpty}
 use Rattle.words.specs.Lex.{Line, isWord, areWords, areLines}
 use Rattle.words.proofs.Tests.{both, and, same-refl}
 use Rattle.words.proofs.Names.{stopped}
-use Rattle.forms.specs.Form.{done, rest, bytesAt, restWords, readForm}
-use Rattle.forms.specs.Table.{Field, keys, widths, Group, breadth, printFields, printGroups, fineFields, fineGroup, apart}
-use Rattle.forms.specs.Table.{Got, Took, Bad, bind, joined, andThen, leads, readLine, readFields, readGroups}
+use Rattle.forms.specs.Form.{done, bytesAt, restWords, readForm}
+use Rattle.forms.specs.Table.{breadth, fineGroup, apart}
+use Rattle.forms.specs.Table.{Took, bind, joined, andThen, leads, readLine}
 use Rattle.forms.specs.Tail.{Item, fields, each, counted, entries, Tail, known, entriesSize, itemSize, itemsSize, tailSize, tailsSize, areSwitched}
 use Rattle.forms.specs.Tail.{printEntries, printItem, printItems, printTail, printTails}
-use Rattle.forms.specs.Tail.{oneMore, readEntries, filled, counting, readItem, readItems, readTail, readTails}
+use Rattle.forms.specs.Tail.{readEntries, filled, counting, readItem, readItems, readTail, readTails}
 use Rattle.forms.specs.Tail.{itemStarts, starts, itemKeys, itemsKeys, fineItem, fineItems, tailStarts, tailKeys, tailsStarts, fineTails}
 use Rattle.forms.proofs.Bytes.{Bytes, size-at, split-at, bytes-at}
 use Rattle.forms.proofs.Forms.{rest-back}

@@ -15,7 +15,7 @@ use Rattle.words.proofs.Hex.{areBytes}
 use Rattle.forms.specs.Form.{Form, done, rest, width, Want, aRecord, shorter, Read, Said, Wrong, readForm, closed, fine}
 use Rattle.forms.specs.Table.{Field, keys, widths, Group, breadth, fineField, fineFields, fineGroup, apart}
 use Rattle.forms.specs.Table.{Got, Took, Bad, bind, joined, andThen, inLine, leads, readLine, readField, readFields, readGroups, badLine}
-use Rattle.forms.specs.Tail.{Item, fields, each, counted, entries, Tail, known, oneMore, readEntries, filled, counting, readItem, readItems, readTail, readTails}
+use Rattle.forms.specs.Tail.{Item, fields, each, counted, entries, Tail, oneMore, readEntries, filled, counting, readItem, readItems, readTail, readTails}
 use Rattle.forms.specs.Tail.{starts, itemKeys, fineItem, fineItems, tailKeys, tailsStarts, fineTails}
 use Rattle.forms.specs.Row.{Row, readBy, rowKeys, fineRows}
 use Rattle.forms.proofs.Takes.{one-byte, no-bytes, bytes-append, zero-bytes, Fits, form-fits}

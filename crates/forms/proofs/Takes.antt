@@ -40,7 +40,7 @@ unfolding bigEndian
 big-bytes zero v = no-bytes
 big-bytes (suc n) v = bytes-append (bigEndian n (v / 256)) (v % 256 ∷ []) (big-bytes n (v / 256)) (one-byte (v % 256) [] (omega arith) no-bytes)
 
-big-size : (n v : ℕ) → length (bigEndian n v) ≡ n
+pub big-size : (n v : ℕ) → length (bigEndian n v) ≡ n
 unfolding bigEndian
 big-size zero v = refl
 big-size (suc n) v = let more = big-size n (v / 256) in length-append (bigEndian n (v / 256)) (v % 256 ∷ []) ∙ omega arith
@@ -139,9 +139,6 @@ code-of w h = by (eqb (length w) 2) (all isLetter w) refl refl h where
       let also = eqb-true (length w) 4 four in
       absurd (omega arith)
   by false b e l h = let (hex, four) = both (isHex w) (eqb (length w) 4) h in hex-of w 2 hex four
-
-digit-hex : (c : ℕ) → isDigit c ≡ true → isHexDigit c ≡ true
-digit-hex c h = rw h
 
 date-hex : (w : List ℕ) → all isDigit (dateDigits w) ≡ true → isHex (dateDigits w) ≡ true
 unfolding all isHex

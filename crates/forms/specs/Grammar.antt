@@ -11,7 +11,7 @@
 --   R             all the bytes that are left, in hex
 --   another word  the word itself
 use mathlib.Core.Bool.{Bool, cond, _&&_}
-use mathlib.Core.List.{List, [], _∷_, _++_}
+use mathlib.Core.List.{List, [], _∷_}
 use Prim.Native.Nat.{ℕ, zero, suc, _-_}
 use Prim.Native.String.{String}
 use lib.Dec.{leb, eqb}

@@ -1,6 +1,6 @@
 -- Records by a table of rows: the bytes that a record of a row begins with, and what the line says of the others. The first row that fits prints.
 use mathlib.Core.Bool.{Bool, true, false, cond, not, _&&_}
-use mathlib.Core.List.{List, [], _∷_, _++_}
+use mathlib.Core.List.{List, [], _∷_}
 use Prim.Native.Nat.{ℕ, _-_}
 use lib.Dec.{eqb}
 use lib.ListN.{length, drop}

@@ -1,7 +1,7 @@
 -- Tables of fields: a line to a field, in the paper's order; one that is left out is zeros. Groups of them, as profiles are.
 use mathlib.Core.Bool.{Bool, true, false, cond, not, _&&_}
 use mathlib.Core.List.{List, [], _∷_, _++_}
-use Prim.Native.Nat.{ℕ, zero, suc, _+_, _*_}
+use Prim.Native.Nat.{ℕ, zero, suc, _+_}
 use lib.ListN.{length, replicate}
 use Rattle.words.specs.Words.{isIn, begins, tail}
 use Rattle.words.specs.Lex.{Line, isWord}

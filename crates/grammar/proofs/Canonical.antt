@@ -1,8 +1,8 @@
 -- WHAT IS READ ARE THE BYTES OF A PAPER, and printing them gives a text that says the same. Assumes nothing.
-use mathlib.Core.Path.{_≡_, refl, sym, ap, ap₂, subst, _∙_}
-use mathlib.Core.Bool.{Bool, true, false, cond, not, _&&_, _||_}
+use mathlib.Core.Path.{_≡_, refl, subst, _∙_}
+use mathlib.Core.Bool.{Bool, true, false, cond}
 use mathlib.Core.List.{List, [], _∷_, _++_}
-use Prim.Native.Nat.{ℕ, zero, suc, _+_, _-_, _*_, _/_, _%_, _≤_, _<_}
+use Prim.Native.Nat.{ℕ, zero, suc, _+_, _-_, _/_, _%_, _≤_, _<_}
 use native.Mathlib.Omega.{arith}
 use borrow.Author.Tests.{ltb-true, leb-true}
 use lib.Dec.{leb, ltb}
@@ -12,7 +12,7 @@ use Rattle.words.specs.Words.{all, hexBytes}
 use Rattle.words.specs.Lex.{Line, linesOf, step, lex, linesIn}
 use Rattle.words.proofs.Tests.{both}
 use Rattle.words.proofs.Hex.{areBytes}
-use Rattle.forms.specs.Form.{width, aRecord, aPaper, shorter, fine}
+use Rattle.forms.specs.Form.{width, aRecord, aPaper, shorter}
 use Rattle.forms.specs.Grammar.{wordsIn}
 use Rattle.forms.specs.Table.{widths, breadth, Got, Took, Bad, bind, joined, leads, readLine, readFields, readGroups, badLine}
 use Rattle.forms.specs.Tail.{known, readTails}
@@ -20,9 +20,9 @@ use Rattle.forms.specs.Row.{readBy}
 use Rattle.forms.proofs.Bytes.{Bytes}
 use Rattle.forms.proofs.Takes.{one-byte, no-bytes, bytes-append}
 use Rattle.forms.proofs.Tails.{known-fine}
-use Rattle.forms.proofs.Taken.{Takes, Any, Sized, bad-takes, weaker, line-any, line-takes, fields-take, Many, groups-take, many-of, tails-take, areLeads, by-takes}
+use Rattle.forms.proofs.Taken.{Takes, Any, Sized, bad-takes, line-any, line-takes, fields-take, Many, groups-take, many-of, tails-take, areLeads, by-takes}
 use Rattle.grammar.specs.Rows.{paper, setup, first, second, profile, conversion, tails, records, anyRecord, raw}
-use Rattle.grammar.specs.Text.{printed, readSetup, packed, readRecord, orEnd, within, readRecords, readLines, Answer, Taken, Refused, answer, readText}
+use Rattle.grammar.specs.Text.{printed, readSetup, packed, readRecord, orEnd, within, readRecords, mostBehind, readLines, Taken, answer, readText}
 use Rattle.grammar.proofs.Fine.{paper-fine, setup-fine, raw-fine, first-fine, second-fine, profile-fine, conversion-fine, tails-fine, records-fine}
 use Rattle.grammar.proofs.Setup.{sizes}
 use Rattle.grammar.proofs.RoundTrip.{paper-width, round-trip}
@@ -115,14 +115,14 @@ lines-take : (ls : List Line) → Takes (AtMost 65_536) (readLines ls)
 unfolding readLines
 lines-take [] = (no-bytes, omega arith)
 lines-take (l ∷ ls) = by (leads (paper .key) (l ∷ ls)) where
-  version : Takes (AtMost 65_536) (bind (readLine (paper .form) (l ∷ ls)) (λ b below. joined b (readRecords (length ls) (byte b 0) 65_535 below)))
+  version : Takes (AtMost 65_536) (bind (readLine (paper .form) (l ∷ ls)) (λ b below. joined b (readRecords (length ls) (byte b 0) mostBehind below)))
   version =
       bind-takes (Sized (width (paper .form))) (AtMost 65_536) (readLine (paper .form) (l ∷ ls)) _ (line-takes paper (l ∷ ls) paper-fine) (λ b below b0 b1.
       let one : length b ≡ 1 = b1 ∙ paper-width in
-      joined-takes 65_535 65_536 b (readRecords (length ls) (byte b 0) 65_535 below) b0 (omega arith) (records-take (length ls) (byte b 0) 65_535 below (omega arith)))
+      joined-takes mostBehind 65_536 b (readRecords (length ls) (byte b 0) mostBehind below) b0 (omega arith) (records-take (length ls) (byte b 0) mostBehind below (omega arith)))
 
   by : (t : Bool) → Takes (AtMost 65_536)
-      (cond t (bind (readLine (paper .form) (l ∷ ls)) (λ b below. joined b (readRecords (length ls) (byte b 0) 65_535 below))) (badLine (l ∷ ls) aPaper))
+      (cond t (bind (readLine (paper .form) (l ∷ ls)) (λ b below. joined b (readRecords (length ls) (byte b 0) mostBehind below))) (badLine (l ∷ ls) aPaper))
   by true = version
   by false = tt
 

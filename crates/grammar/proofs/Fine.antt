@@ -1,9 +1,7 @@
 -- The tables of the paper are fine: computed. Assumes nothing.
 use mathlib.Core.Path.{_≡_, refl}
-use mathlib.Core.Bool.{Bool, true, false, cond, not, _&&_, _||_}
-use mathlib.Core.List.{List, [], _∷_, _++_}
-use Prim.Native.Nat.{ℕ}
-use Rattle.words.specs.Words.{isIn, all, isNumber, distinct, upTo, hexBytes}
+use mathlib.Core.Bool.{true}
+use Rattle.words.specs.Words.{isIn, all, isNumber, distinct, upTo}
 use Rattle.words.specs.Lex.{linesOf, step, lex, isWord, areWords}
 use Rattle.forms.specs.Form.{noNumbers, finePart, closed, solid, parted, fine}
 use Rattle.forms.specs.Grammar.{past, isSized, partIn, formFrom, formIn, wordsIn}

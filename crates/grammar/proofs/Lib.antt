@@ -5,3 +5,4 @@ pub mod RoundTrip
 pub mod Canonical
 pub mod Places
 pub mod Samples
+pub mod Sizes

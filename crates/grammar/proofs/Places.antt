@@ -1,6 +1,6 @@
 -- WHAT A LINE SAYS IS WHAT THE SET-UP'S READER FINDS THERE, and names stand for their numbers. Assumes nothing.
-use mathlib.Core.Path.{_≡_, refl, sym, ap, _∙_}
-use mathlib.Core.Bool.{Bool, true, false, cond, not, _&&_}
+use mathlib.Core.Path.{_≡_, refl, ap, _∙_}
+use mathlib.Core.Bool.{true, not, _&&_}
 use mathlib.Core.List.{List, [], _∷_, _++_}
 use Prim.Native.Nat.{ℕ, _+_, _*_}
 use native.Mathlib.Omega.{arith}
@@ -10,16 +10,16 @@ use Rattle.words.specs.Lex.{Line, linesOf, step, lex, isWord, areWords}
 use Rattle.words.proofs.Tests.{both}
 use Rattle.forms.specs.Form.{printForm, noNumbers, finePart, closed, parted, fine}
 use Rattle.forms.specs.Grammar.{past, isSized, partIn, formFrom, formIn, wordsIn}
-use Rattle.forms.specs.Table.{Field, keys, offsets, Group, breadth, printFields, printGroups, fineField, fineFields, fineGroup}
+use Rattle.forms.specs.Table.{keys, offsets, Group, breadth, printFields, printGroups, fineField, fineFields, fineGroup}
 use Rattle.forms.specs.Tail.{Tail}
-use Rattle.forms.specs.Spot.{Spot, spotsIn, fieldSpots, spotsOf, found, heard, fieldsHeard, plain, plainFields}
+use Rattle.forms.specs.Spot.{spotsIn, fieldSpots, spotsOf, found, heard, fieldsHeard, plain, plainFields}
 use Rattle.forms.proofs.Bytes.{Bytes}
 use Rattle.forms.proofs.Tables.{clear}
 use Rattle.forms.proofs.Spots.{form-says, fields-say, groups-split}
 use Rattle.grammar.specs.Rows.{first, second, profile, conversion, tails, records}
 use Rattle.grammar.specs.Text.{isWorded}
 use Rattle.grammar.specs.Places.{firstSpots, secondSpots, profileSpots, conversionSpots, datedSpots, cyclicSpots, controlSpots, cashbackSpots}
-use Rattle.grammar.specs.Places.{fieldsOf, groupsOf, groupFields, Name, namesIn, namesOf, areFlags, areNames}
+use Rattle.grammar.specs.Places.{fieldsOf, groupsOf, firstHead, firstFields, namesIn, namesOf, namesBy, areFlags, areNames}
 use Rattle.grammar.specs.Places.{decisions, switches, counterSwitches, controls, logged, shifts, kinds, types}
 use Rattle.grammar.proofs.Fine.{first-fine, second-fine, profile-fine, conversion-fine}
 use Rattle.grammar.proofs.Setup.{setupKeys, B, P, first-stop, second-stop}
@@ -42,11 +42,11 @@ conversion-spots : fieldSpots (conversion .head) 0 ≡ conversionSpots
 unfolding spotsIn conversion conversionSpots wordsIn linesOf step lex formIn formFrom partIn isSized past upTo
 conversion-spots = refl
 
-dated-spots : (spotsOf (fieldsOf 4 tails) 1 ≡ datedSpots) × (spotsOf (groupFields (groupsOf 4 tails)) 28 ≡ cyclicSpots)
+dated-spots : (spotsOf (fieldsOf 4 tails) 1 ≡ datedSpots) × (spotsOf (firstFields (groupsOf 4 tails)) 28 ≡ cyclicSpots)
 unfolding spotsOf spotsIn tails datedSpots cyclicSpots wordsIn linesOf step lex formIn formFrom partIn isSized past upTo
 dated-spots = (refl, refl)
 
-cpace-spots : (spotsOf (fieldsOf 5 tails) 1 ≡ controlSpots) × (spotsOf (groupFields (groupsOf 5 tails)) 9 ≡ cashbackSpots)
+cpace-spots : (spotsOf (fieldsOf 5 tails) 1 ≡ controlSpots) × (fieldSpots (firstHead (groupsOf 5 tails)) 9 ≡ cashbackSpots)
 unfolding spotsOf spotsIn tails controlSpots cashbackSpots wordsIn linesOf step lex formIn formFrom partIn isSized past upTo
 cpace-spots = (refl, refl)
 
@@ -112,6 +112,14 @@ plain-conversion : plain (conversion .head .form) ≡ true
 unfolding plain conversion wordsIn linesOf step lex formIn formFrom partIn isSized past upTo
 plain-conversion = refl
 
+plain-groups : (plainFields (firstFields (groupsOf 4 tails)) ≡ true) × (plain (firstHead (groupsOf 5 tails) .form) ≡ true)
+unfolding plainFields plain tails wordsIn linesOf step lex formIn formFrom partIn isSized past upTo
+plain-groups = (refl, refl)
+
+fine-groups : (fineFields (firstFields (groupsOf 4 tails)) ≡ true) × (fine (firstHead (groupsOf 5 tails) .form) ≡ true)
+unfolding fineFields tails wordsIn linesOf step lex formIn formFrom partIn isSized past upTo isIn all isNumber distinct isWord areWords noNumbers finePart closed parted fine
+fine-groups = (refl, refl)
+
 plain-tails : (plainFields (fieldsOf 4 tails) ≡ true) × (plainFields (fieldsOf 5 tails) ≡ true)
 unfolding plainFields plain tails wordsIn linesOf step lex formIn formFrom partIn isSized past upTo
 plain-tails = (refl, refl)
@@ -157,7 +165,23 @@ module _ (s : List ℕ) (small : Bytes s) where
       → fieldsHeard (fieldsOf 5 tails) (printFields 4 (fieldsOf 5 tails) s (at + 1) ++ ls) ≡ found controlSpots s at
   cpace-says at ls k = fields-say s small 4 (fieldsOf 5 tails) at 1 ls (fine-tails .1) (plain-tails .1) k ∙ ap (λ ts. found ts s at) (cpace-spots .0)
 
+  -- and of profile j + 1 in them
+  pub cyclic-says : (at j : ℕ) (ls : List Line) → clear (keys (firstFields (groupsOf 4 tails))) ls ≡ true
+      → fieldsHeard (firstFields (groupsOf 4 tails)) (printFields 6 (firstFields (groupsOf 4 tails)) s (at + 18 * j + 28) ++ ls) ≡ found cyclicSpots s (at + 18 * j)
+  cyclic-says at j ls k =
+      fields-say s small 6 (firstFields (groupsOf 4 tails)) (at + 18 * j) 28 ls (fine-groups .0) (plain-groups .0) k ∙ ap (λ ts. found ts s (at + 18 * j)) (dated-spots .1)
+
+  pub cashback-says : (at j : ℕ)
+      → heard (firstHead (groupsOf 5 tails) .form) (printForm (firstHead (groupsOf 5 tails) .form) s (at + j + 9)) ≡ found cashbackSpots s (at + j)
+  cashback-says at j =
+      let f = firstHead (groupsOf 5 tails) in
+      form-says s small (f .form) (f .key) (f .key) (at + j) 9 (plain-groups .1) (fine-groups .1) ∙ ap (λ ts. found ts s (at + j)) (cpace-spots .1)
+
 -- ---- names
+
+pub types-named : (areNames types (namesBy (word "first") records) ≡ true) × (areNames types (namesBy (word "second") records) ≡ true)
+unfolding areNames types namesBy namesIn nameOf records wordsIn linesOf step lex formIn formFrom partIn isSized past upTo
+types-named = (refl, refl)
 
 pub masks-named : (areFlags decisions (namesOf (word "online") (profile .fields)) ≡ true) × (areFlags decisions (namesOf (word "decline") (profile .fields)) ≡ true)
     × (areFlags decisions (namesOf (word "default") (profile .fields)) ≡ true)

@@ -1,29 +1,28 @@
 -- READING WHAT WAS PRINTED GIVES THE BYTES, for every list of bytes that a paper can be. Assumes nothing.
-use mathlib.Core.Path.{_≡_, refl, sym, ap, ap₂, _∙_}
-use mathlib.Core.Bool.{Bool, true, false, cond, not, _&&_, _||_}
+use mathlib.Core.Path.{_≡_, refl, sym, ap, _∙_}
+use mathlib.Core.Bool.{Bool, true, false, cond, not, _&&_}
 use mathlib.Core.List.{List, [], _∷_, _++_, append-assoc, append-nil}
-use Prim.Native.Nat.{ℕ, zero, suc, _+_, _-_, _*_, _/_, _%_, _≤_, _<_}
+use Prim.Native.Nat.{ℕ, zero, suc, _+_, _-_, _≤_}
 use native.Mathlib.Numerals.{add-one}
 use native.Mathlib.Omega.{arith}
 use borrow.Author.Tests.{eqb-true, le-leb}
-use lib.Dec.{eqb, ltb, leb}
+use lib.Dec.{eqb}
 use lib.ListN.{length, drop, length-append}
 use lib.Seq.{getD-drop}
 use Rattle.wire.specs.Wire.{byte}
 use Rattle.paper.specs.Walk.{Met, written, allWritten, metIn, placeIn}
 use Rattle.paper.proofs.Walk.{each-once}
 use Rattle.layout.specs.Layout.{profiles, conversions, profileFrom, baseLength}
-use Rattle.words.specs.Words.{all, isIn, begins, upTo, hexBytes}
-use Rattle.words.specs.Lex.{Line, linesOf, step, lex, textOf, isWord, areWords, areLines}
+use Rattle.words.specs.Words.{isIn, begins, hexBytes}
+use Rattle.words.specs.Lex.{Line, linesOf, step, lex, textOf, isWord, areLines}
 use Rattle.words.proofs.Tests.{both, same-refl}
-use Rattle.words.proofs.Hex.{areBytes}
 use Rattle.words.proofs.Lexing.{reads-lines}
-use Rattle.forms.specs.Form.{Form, width, fitsLength, bytesAt, said, printForm, Said, readForm, fine}
-use Rattle.forms.specs.Grammar.{past, isSized, partIn, formFrom, formIn, wordsIn}
-use Rattle.forms.specs.Table.{keys, fieldLine, printFields, printGroups, apart, Got, Took, Bad, bind, joined, inLine, leads, readLine, badLine}
+use Rattle.forms.specs.Form.{width, fitsLength, bytesAt, printForm, fine}
+use Rattle.forms.specs.Grammar.{isSized, partIn, formFrom, formIn, wordsIn}
+use Rattle.forms.specs.Table.{fieldLine, printFields, printGroups, apart, Got, Took, joined, inLine, readLine}
 use Rattle.forms.specs.Tail.{known, printTails}
-use Rattle.forms.specs.Row.{rowKeys, printBy, readBy}
-use Rattle.forms.proofs.Bytes.{Bytes, rest-bytes}
+use Rattle.forms.specs.Row.{rowKeys, printBy}
+use Rattle.forms.proofs.Bytes.{Bytes}
 use Rattle.forms.proofs.Forms.{form-back, said-fits}
 use Rattle.forms.proofs.Tables.{clear, line-back}
 use Rattle.forms.proofs.Tails.{known-lines}
@@ -31,7 +30,7 @@ use Rattle.forms.proofs.Rows.{by-not, by-clear, by-back, by-lines}
 use Rattle.forms.proofs.Speaks.{lines-append, one-line, no-lines, form-words, fields-lines, groups-lines}
 use Rattle.grammar.specs.Rows.{paper, setup, first, second, profile, conversion, tails, records, anyRecord, raw}
 use Rattle.grammar.specs.Text.{isWorded, printSetup, printRecord, printRecords, printRest, printLines, printed}
-use Rattle.grammar.specs.Text.{readSetup, packed, readRecord, orEnd, within, readRecords, readLines, Answer, Taken, Refused, answer, readText}
+use Rattle.grammar.specs.Text.{readSetup, packed, readRecord, orEnd, within, readRecords, mostBehind, readLines, Taken, answer, readText}
 use Rattle.grammar.proofs.Fine.{paper-fine, setup-fine, raw-fine, first-fine, second-fine, profile-fine, conversion-fine, tails-fine, records-fine}
 use Rattle.grammar.proofs.Setup.{setupKeys, setup-back}
 use Rattle.grammar.proofs.Walked.{Sound, All, none, more, all-met}
@@ -109,7 +108,8 @@ worded-back v m ls g k h c =
     let groups : (A ++ (B ++ (P ++ (C ++ E)))) ++ ls ≡ A ++ (B ++ (P ++ (C ++ (E ++ ls)))) =
     append-assoc A (B ++ (P ++ (C ++ E))) ls
     ∙ ap (λ x. A ++ x) (append-assoc B (P ++ (C ++ E)) ls ∙ ap (λ x. B ++ x) (append-assoc P (C ++ E) ls ∙ ap (λ x. P ++ x) (append-assoc C E ls))) in
-    rw (same-refl (setup .key), groups, setup-back s (body-bytes m g) v h ls c) (ap (λ x. packed (Took (x ∷ s) ls)) (sym k) ∙ packs m ls)
+    let back = ap (λ x. readSetup v (fieldLine 0 setup s 0 ∷ x)) groups ∙ setup-back s (body-bytes m g) v h ls c in
+    rw (same-refl (setup .key)) (ap packed back ∙ ap (λ x. packed (Took (x ∷ s) ls)) (sym k) ∙ packs m ls)
 
 -- it is read, and has a line
 record Reads (v : ℕ) (ls rest : List Line) (b : List ℕ) : Type 0 where
@@ -187,10 +187,6 @@ records-back (suc n) v room (m ∷ ms) t (more g gs) small h k =
 
 -- ---- what is printed are lines that a text can say
 
-setup-word : isWord (setup .key) ≡ true
-unfolding setup wordsIn linesOf step lex isWord all
-setup-word = refl
-
 setup-lines : (v : ℕ) (s : List ℕ) → Bytes s → areLines (printSetup v s) ≡ true
 unfolding printSetup
 setup-lines v s small =
@@ -240,7 +236,7 @@ lines-back (v ∷ s) small h =
     let ls = printRecords v ms ++ printRest t in
     let whole : allWritten ms ++ t ≡ s = each-once b small n 1 in
     let size = ap length whole in
-    let back = records-back (length ls) v 65_535 ms t (all-met n b 1 small) (left b (placeIn n b 1) small) (omega arith) (omega arith) in
+    let back = records-back (length ls) v mostBehind ms t (all-met n b 1 small) (left b (placeIn n b 1) small) (omega arith) (omega arith) in
     rw (same-refl (paper .key), paper-back v s ls small) (ap (joined (v ∷ [])) back ∙ ap (λ x. Took (v ∷ x) []) whole)
 
 printed-lines : (b : List ℕ) → Bytes b → areLines (printLines b) ≡ true

@@ -1,8 +1,6 @@
 -- Texts and papers, computed. Assumes nothing.
 use mathlib.Core.Path.{_≡_, refl}
-use mathlib.Core.Bool.{Bool, true, false}
-use mathlib.Core.List.{List, [], _∷_, _++_}
-use Prim.Native.Nat.{ℕ}
+use mathlib.Core.List.{[], _∷_}
 use Rattle.wire.specs.Wire.{number}
 use Rattle.numerals.specs.Numeral.{digitsOf, numeral}
 use Rattle.hex.specs.Hex.{hex}
@@ -11,7 +9,7 @@ use Rattle.paper.specs.Walk.{metIn, placeIn}
 use Rattle.words.specs.Words.{word, isIn, all, isNumber, valueFrom, isHex, hexBytes, nameOf, upTo}
 use Rattle.words.specs.Words as Words
 use Rattle.words.specs.Lex.{lineText, textOf, linesOf, step, lex}
-use Rattle.forms.specs.Form.{count, code, date, fitsLength, bytesAt, bigEndian, isBlank, isDate, wordOf, printForm, says, bytesIn, aPart, readRest, readForm}
+use Rattle.forms.specs.Form.{count, code, fitsLength, bytesAt, bigEndian, isBlank, isDate, wordOf, printForm, says, bytesIn, aPart, readRest, readForm}
 use Rattle.forms.specs.Grammar.{past, isSized, partIn, formFrom, formIn, wordsIn}
 use Rattle.forms.specs.Row.{startsWith, printBy, readBy}
 use Rattle.grammar.specs.Rows.{paper, setup, records, anyRecord, raw}

@@ -1,27 +1,27 @@
 -- A set-up in words reads back. Assumes nothing.
-use mathlib.Core.Path.{_≡_, refl, sym, ap, ap₂, _∙_}
-use mathlib.Core.Bool.{Bool, true, false, cond, not, _&&_, _||_}
-use mathlib.Core.List.{List, [], _∷_, _++_, append-assoc}
-use Prim.Native.Nat.{ℕ, zero, suc, _+_, _*_, _/_, _≤_, _<_}
+use mathlib.Core.Path.{_≡_, refl, ap, _∙_}
+use mathlib.Core.Bool.{true, false, _&&_}
+use mathlib.Core.List.{List, [], _∷_, _++_}
+use Prim.Native.Nat.{ℕ, _+_, _*_, _/_}
 use native.Mathlib.Omega.{arith}
 use borrow.Author.Tests.{eqb-true}
 use lib.Dec.{leb, eqb}
-use lib.ListN.{length, drop}
+use lib.ListN.{length}
 use Rattle.wire.specs.Wire.{byte}
 use Rattle.paper.specs.Paper.{latest}
 use Rattle.layout.specs.Layout.{profiles, conversions, profileFrom, baseLength}
-use Rattle.words.specs.Words.{word, isIn, upTo}
-use Rattle.words.specs.Lex.{Line, linesOf, step, lex, areLines}
+use Rattle.words.specs.Words.{isIn, upTo}
+use Rattle.words.specs.Lex.{Line, linesOf, step, lex}
 use Rattle.words.proofs.Tests.{both}
 use Rattle.forms.specs.Form.{width, bytesAt}
 use Rattle.forms.specs.Grammar.{past, isSized, partIn, formFrom, formIn, wordsIn}
-use Rattle.forms.specs.Table.{keys, widths, Group, breadth, fieldLine, printFields, printGroups, apart, Got, Took, Bad, readLine, readFields, readGroups}
+use Rattle.forms.specs.Table.{keys, widths, Group, breadth, fieldLine, printFields, printGroups, apart, Took, readLine, readFields, readGroups}
 use Rattle.forms.specs.Tail.{known, tailsSize, areSwitched, printTails, readTails, tailsStarts}
 use Rattle.forms.proofs.Bytes.{Bytes, size-at, join-at, whole-from}
 use Rattle.forms.proofs.Tables.{clear, fields-clear, groups-clear, line-back, fields-back, groups-back}
 use Rattle.forms.proofs.Tails.{tailsKeys, clear-both, known-tails-clear, known-back}
 use Rattle.grammar.specs.Rows.{setup, first, second, profile, conversion, tails}
-use Rattle.grammar.specs.Text.{isWorded, printSetup, readSetup}
+use Rattle.grammar.specs.Text.{isWorded, readSetup}
 use Rattle.grammar.proofs.Fine.{setup-fine, first-fine, second-fine, profile-fine, conversion-fine, tails-fine}
 
 abbrev pub groupKeys : Group → List (List ℕ)
@@ -35,9 +35,6 @@ setupKeys = keys first ++ (keys second ++ (groupKeys profile ++ (groupKeys conve
 second-first : apart (keys second) (keys first) ≡ true
 unfolding apart isIn first second wordsIn linesOf step lex
 second-first = refl
-
-abbrev heads : List (List ℕ)
-heads = profile .head .key ∷ conversion .head .key ∷ []
 
 heads-first : (isIn (profile .head .key) (keys first) ≡ false) × (isIn (conversion .head .key) (keys first) ≡ false)
 unfolding isIn first profile conversion wordsIn linesOf step lex

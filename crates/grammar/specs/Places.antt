@@ -1,5 +1,5 @@
 -- Where the set-up's reader finds what a line says, by the names of `layout`; and the numbers that names stand for.
-use mathlib.Core.Bool.{Bool, true, false, cond, _&&_}
+use mathlib.Core.Bool.{Bool, true, cond, _&&_}
 use mathlib.Core.List.{List, [], _∷_, _++_}
 use Prim.Native.Nat.{ℕ, _+_}
 use Prim.Native.String.{String}
@@ -10,9 +10,10 @@ use Rattle.layout.specs.Layout.{online, decline, default, maximumOn, maximumCur
 use Rattle.layout.specs.Layout.{accumulatorLimit, counterLimit, lower, upper, accumulatorRuleFrom, counterRuleFrom, to, digits, shift}
 use Rattle.layout.specs.Layout.{lastDate, cycleFrom, cycleAmount, cycleKind, firstDay, cyclicRuleFrom, cyclicLimit, controlFrom, cashbackFrom}
 use Rattle.words.specs.Words.{word, same, nameOf, flags}
-use Rattle.forms.specs.Form.{Part, say, count, bytes, named, date, code, Form, done, rest, may, part, bits, either}
+use Rattle.forms.specs.Form.{say, count, bytes, named, date, code, Form, done, rest, may, part, bits, either}
 use Rattle.forms.specs.Table.{Field, Group}
 use Rattle.forms.specs.Tail.{Item, fields, each, counted, entries, Tail}
+use Rattle.forms.specs.Row.{Row}
 use Rattle.forms.specs.Spot.{Spot, spot, firstOf}
 
 abbrev says : String → String → ℕ → ℕ → Spot
@@ -79,9 +80,14 @@ abbrev pub groupsOf : ℕ → List Tail → List Group
 groupsOf v [] = []
 groupsOf v (t ∷ ts) = cond (eqb (t .version) v) (groupsIn (t .items)) (groupsOf v ts)
 
-abbrev pub groupFields : List Group → List Field
-groupFields [] = []
-groupFields (g ∷ gs) = g .head ∷ g .fields ++ groupFields gs
+-- the first of them
+abbrev pub firstHead : List Group → Field
+firstHead [] = record { key = []; form = done }
+firstHead (g ∷ gs) = g .head
+
+abbrev pub firstFields : List Group → List Field
+firstFields [] = []
+firstFields (g ∷ gs) = g .fields
 
 abbrev cycle : String → ℕ → List Spot
 cycle key i =
@@ -110,7 +116,7 @@ controlSpots =
 unfoldable pub cashbackSpots : List Spot
 cashbackSpots = says "cashback" "cashback" (cashbackFrom 0) 1 ∷ []
 
--- ---- what names stand for (document 01, "Bits"; docs/PAPERS.md)
+-- ---- what names stand for (docs/PAPERS.md; the bits of a mask in the order of the tests)
 
 pub record Name : Type 0 where
   pub number : ℕ
@@ -136,6 +142,10 @@ namesIn (either f g) = namesIn g
 unfoldable pub namesOf : List ℕ → List Field → List (List ℕ)
 namesOf key [] = []
 namesOf key (f ∷ fs) = cond (same key (f .key)) (namesIn (f .form)) (namesOf key fs)
+
+unfoldable pub namesBy : List ℕ → List Row → List (List ℕ)
+namesBy key [] = []
+namesBy key (r ∷ rs) = cond (same key (r .field .key)) (namesIn (r .field .form)) (namesBy key rs)
 
 -- each flag alone, and no other
 unfoldable pub areFlags : List Name → List (List ℕ) → Bool
@@ -179,6 +189,6 @@ shifts =
 unfoldable pub kinds : List Name
 kinds = is 1 "day" ∷ is 2 "week" ∷ is 3 "month" ∷ []
 
--- the types of First and Second, in the upper bits of the CID: 0 AAC, 1 TC, 2 ARQC
+-- the type of First and of Second
 unfoldable pub types : List Name
 types = is 0 "AAC" ∷ is 1 "TC" ∷ is 2 "ARQC" ∷ []

@@ -1,8 +1,8 @@
 -- A paper as text, both ways.
-use mathlib.Core.Bool.{Bool, true, false, cond, not, _&&_, _||_}
+use mathlib.Core.Bool.{Bool, cond, not, _&&_, _||_}
 use mathlib.Core.List.{List, [], _∷_, _++_}
-use Prim.Native.Nat.{ℕ, zero, suc, _+_, _-_, _*_, _/_, _%_}
-use lib.Dec.{leb, ltb, eqb}
+use Prim.Native.Nat.{ℕ, zero, suc, _+_, _-_, _/_, _%_}
+use lib.Dec.{leb, eqb}
 use lib.ListN.{length, drop}
 use Rattle.wire.specs.Wire.{byte}
 use Rattle.paper.specs.Paper.{latest}
@@ -97,12 +97,16 @@ unfoldable pub readRecords : ℕ → ℕ → ℕ → List Line → Got
 readRecords zero v room ls = orEnd ls (badLine ls aRecord)
 readRecords (suc n) v room ls = orEnd ls (within room ls (readRecord v ls) (readRecords n v))
 
--- a paper has at most 65,536 bytes; each record has a line
+-- a paper has at most 65,536 bytes: so many behind its version
+abbrev pub mostBehind : ℕ
+mostBehind = 65_535
+
+-- each record has a line
 unfoldable pub readLines : List Line → Got
 readLines [] = Took [] []
 readLines (l ∷ ls) =
     cond (leads (paper .key) (l ∷ ls))
-    (bind (readLine (paper .form) (l ∷ ls)) (λ b below. joined b (readRecords (length ls) (byte b 0) 65_535 below)))
+    (bind (readLine (paper .form) (l ∷ ls)) (λ b below. joined b (readRecords (length ls) (byte b 0) mostBehind below)))
     (badLine (l ∷ ls) aPaper)
 
 -- ---- the answer
