@@ -3,15 +3,16 @@
 use mathlib.Core.Path.{_≡_}
 use mathlib.Core.Bool.{Bool, true, false, cond, not, _&&_, _||_}
 use mathlib.Core.List.{List, [], _∷_}
-use Prim.Native.Nat.{ℕ, _≤_, _%_, _^_}
+use Prim.Native.Nat.{ℕ, suc, _≤_, _%_, _^_}
 use lib.Dec.{leb}
 use lib.ListN.{length}
 use Rattle.words.specs.Words.{word, same, upTo, isEmpty, begins, tail, readFlags}
 use Rattle.words.specs.Put.{Put}
-use Rattle.lexing.specs.Places.{wordAt, wordsAt, endsLine, afterWord}
+use Rattle.lexing.specs.Places.{wordAt, wordsAt, belowAt, endsLine, afterWord}
 use Rattle.forms.specs.Form.{Part, say, count, bytes, named, date, code, Form, done, rest, may, part, bits, either, bigEndian, fine}
 use Rattle.forms.specs.Form.{Want, aPart, lineEnd, hexPairs, Read, Said, Wrong, before, one, firstWord}
 use Rattle.forms.specs.Grammar.{formIn}
+use Rattle.forms.specs.Table.{Got, Took, Bad}
 use Rattle.walk.specs.declared.Mark.{Mark as Kind}
 use Rattle.walk.specs.declared.Mark.the-variants.{End, Rest, MayEnd, Opens, Silent, Names, Flags, Number, Bytes, Date, Code, Word}
 use Rattle.read_forms.specs.Places.{leftAt, Onward}
@@ -130,3 +131,18 @@ flagsThen n vs ws next =
 -- a word begins here, or the line ends
 abbrev pub Begins : List ℕ → ℕ → Type 0
 Begins text at = endsLine text at ≡ false → isEmpty (wordAt text at) ≡ false
+
+-- ---- lines
+
+-- so many lines are left from this one on, and so many words of it
+pub record BadLine (text : List ℕ) (wants : ℕ → Want) (lines words : ℕ) (want : Want) (at t : ℕ) : Type 0 where
+  pub lines-left : suc (length (belowAt text at)) ≡ lines
+  pub words-left : length (wordsAt text at) ≡ words
+  pub wanted : wants t ≡ want
+
+-- of lines: what they say is put, and the lines below the place are left; or the place of the first word that is wrong
+unfoldable pub Met : List ℕ → (ℕ → Want) → List ℕ → ℕ → Got → Reading → List ℕ → Type 0
+Met text wants room to (Took b ls) (On at end) after = (belowAt text at ≡ ls) × Put room to b end after
+Met text wants room to (Took b ls) (Amiss at t) after = ⊥
+Met text wants room to (Bad n m w) (On at end) after = ⊥
+Met text wants room to (Bad n m w) (Amiss at t) after = BadLine text wants n m w at t

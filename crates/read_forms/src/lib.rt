@@ -5,13 +5,15 @@ ghost use mathlib.Core.List.{[], _∷_};
 ghost use Prim.Native.Nat.{ℕ, _≤_};
 ghost use lib.ListN.{length};
 ghost use Rattle.words.specs.Words.{isIn, placeIn, begins};
-ghost use Rattle.lexing.specs.Places.{wordAt, wordsAt, endsLine, nextWord, afterWord};
+ghost use Rattle.lexing.specs.Places.{wordAt, wordsAt, belowAt, endsLine, nextWord, afterWord};
 ghost use Rattle.forms.specs.Form.{named, bytes, finePart, Want, aPart, hexPairs, one, readRest, readForm};
+ghost use Rattle.forms.specs.Table.{leads as leadsLines, readLine};
 ghost use Rattle.read_words.specs.Told.{Told, Says};
 ghost use Rattle.read_forms.specs.Places.{behindWord};
-ghost use Rattle.read_forms.specs.Reads.{isRow, formAt, wantAt, Heard, Piece, namesAt, flagsAt, partAt, flagsThen, Begins, Gathered};
+ghost use Rattle.read_forms.specs.Reads.{isRow, formAt, wantAt, Heard, Piece, namesAt, flagsAt, partAt, flagsThen, Begins, Gathered, Met};
 use lexing::after_word;
 use lexing::ends_line;
+use lexing::next_line;
 use lexing::next_word;
 use lexing::word_end;
 use read_words::Said;
@@ -268,4 +270,29 @@ pub fn read_form(
             read_form(text, behind, grammar, next, room, end)
         }
     }
+}
+
+// Whether the next line begins with the key of a row.
+pub fn leads(text: &[u8], at: usize, grammar: &Grammar, row: usize) -> bool
+    ensures { λ r. ⌜ r ≡ leadsLines (wordAt (now (grammar .entry)) (nextWord (now (grammar .entry)) row)) (belowAt (now (text .entry)) at) ⌝ }
+{
+    let line = next_line(text, at);
+    let key = next_word(grammar, row);
+    goes_on(text, line, grammar, key)
+}
+
+// The next line, whose first word is known, by a row.
+pub fn read_line(
+    text: &[u8],
+    at: usize,
+    grammar: &Grammar,
+    row: usize,
+    room: &mut [u8],
+    to: usize,
+) -> Reading
+    ensures { λ r. ⌜ (leadsLines (wordAt (now (grammar .entry)) (nextWord (now (grammar .entry)) row)) (belowAt (now (text .entry)) at) ≡ true → isRow (wordsAt (now (grammar .entry)) (afterWord (now (grammar .entry)) (nextWord (now (grammar .entry)) row))) ≡ true → Met (now (text .entry)) (wantAt (now (grammar .entry))) (now (room .entry)) to (readLine (formAt (now (grammar .entry)) (afterWord (now (grammar .entry)) (nextWord (now (grammar .entry)) row))) (belowAt (now (text .entry)) at)) r (now (room .exit))) ⌝ }
+{
+    let behind = behind_word(text, next_line(text, at));
+    let part = after_word(grammar, next_word(grammar, row));
+    read_form(text, behind, grammar, part, room, to)
 }
