@@ -2,21 +2,41 @@
 ghost use mathlib.Core.Path.{_≡_};
 ghost use mathlib.Core.Bool.{_||_, _&&_};
 ghost use mathlib.Core.List.{List, [], _∷_};
-ghost use Prim.Native.Nat.{ℕ, _≤_, _<_, _^_};
+ghost use Prim.Native.Nat.{ℕ, _-_, _*_, _≤_, _<_, _^_};
 ghost use lib.Dec.{ltb};
-ghost use lib.ListN.{length, drop};
+ghost use lib.ListN.{length, drop, replicate};
 ghost use Rattle.wire.specs.Wire.{number};
 ghost use Rattle.numerals.specs.Numeral.{numeral};
 ghost use Rattle.hex.specs.Hex.{hex};
 ghost use Rattle.words.specs.Words.{word, nameOf, flags, upTo};
 ghost use Rattle.words.specs.Put.{Put};
-ghost use Rattle.lexing.specs.Places.{wordAt, wordsAt};
-ghost use Rattle.forms.specs.Form.{date, code, bytesAt, isBlank, isLetter, wordOf, restWords, bitWords};
-ghost use Rattle.put_forms.specs.Printed.{led};
+ghost use Rattle.words.specs.Lex.{behind, lineText, textOf};
+ghost use Rattle.lexing.specs.Places.{wordAt, wordsAt, afterWord};
+ghost use Rattle.walk.specs.Marks.{sizeOf};
+ghost use Rattle.forms.specs.Form.{date, code, bytesAt, isBlank, isLetter, wordOf, said, restWords, bitWords, printForm};
+ghost use Rattle.forms.specs.Grammar.{formIn};
+ghost use Rattle.forms.specs.Table.{fieldIn, fieldsIn, widths, breadth, fieldLine, printFields, printGroups};
+ghost use Rattle.walk.specs.Walk.{tableAt, groupAt};
+ghost use Rattle.put_forms.specs.Printed.{Printed, led, partOf, fieldLines};
 use lexing::after_word;
 use lexing::is_name;
+use lexing::next_line;
 use lexing::next_word;
 use walk::Grammar;
+use walk::Mark;
+use walk::behind_mark;
+use walk::ends_table;
+use walk::fits;
+use walk::mark_at;
+use walk::part_behind;
+use walk::size;
+use walk::width;
+
+// How far a table is printed: the bytes that its rows say, and the place in the room.
+pub struct Step {
+    pub taken: usize,
+    pub end: usize,
+}
 
 // The bytes behind so many.
 pub fn bytes_behind(bytes: &[u8], count: usize) -> &[u8]
@@ -188,4 +208,211 @@ fn put_rest(room: &mut [u8], at: usize, bytes: &[u8]) -> usize
     }
     let end = words::put_byte(room, at, b' ');
     words::put_hex(room, end, bytes)
+}
+
+// What one word says.
+fn put_part(
+    room: &mut [u8],
+    at: usize,
+    grammar: &Grammar,
+    t: usize,
+    mark: Mark,
+    bytes: &[u8],
+) -> usize
+    requires { ⌜ sizeOf mark ≤ 8 ⌝ }
+    ensures { λ r. ⌜ Put (now (room .entry)) at (wordOf (partOf mark (wordAt (now (grammar .entry)) t) (wordsAt (now (grammar .entry)) (afterWord (now (grammar .entry)) t))) (now (bytes .entry)) 0) r (now (room .exit)) ⌝ }
+{
+    match mark {
+        Mark::Number(count) => words::put_decimal(room, at, number_in(bytes, count)),
+        Mark::Bytes(count) => put_bytes(room, at, bytes, count),
+        Mark::Names => {
+            let byte = wire::byte_at(bytes, 0);
+            put_name(room, at, grammar, after_word(grammar, t), byte, byte)
+        }
+        Mark::Date => put_date(room, at, bytes),
+        Mark::Code => put_code(room, at, bytes),
+        _ => put_same(room, at, grammar, t),
+    }
+}
+
+// Whether all that a row says of bytes from a part on is zeros.
+fn is_blank(grammar: &Grammar, t: usize, bytes: &[u8]) -> bool
+    ensures { λ r. ⌜ r ≡ isBlank (said (formIn (wordsAt (now (grammar .entry)) t)) (now (bytes .entry)) 0) ⌝ }
+{
+    let mark = mark_at(grammar, t);
+    let next = part_behind(grammar, t, mark);
+    match mark {
+        Mark::End => true,
+        Mark::Rest => are_zeros(bytes, bytes.len()),
+        Mark::Opens => {
+            if fits(grammar, next, bytes.len()) {
+                return is_blank(grammar, next, bytes);
+            }
+            is_blank(grammar, behind_mark(grammar, next, b')'), bytes)
+        }
+        _ => {
+            let count = size(mark);
+            if !are_zeros(bytes, count) {
+                return false;
+            }
+            is_blank(grammar, next, bytes_behind(bytes, count))
+        }
+    }
+}
+
+// The words of a row from a part on, each behind a blank, and the line feed.
+pub fn put_form(room: &mut [u8], at: usize, grammar: &Grammar, t: usize, bytes: &[u8]) -> usize
+    ensures { λ r. ⌜ Put (now (room .entry)) at (behind (printForm (formIn (wordsAt (now (grammar .entry)) t)) (now (bytes .entry)) 0)) r (now (room .exit)) ⌝ }
+{
+    let mark = mark_at(grammar, t);
+    let next = part_behind(grammar, t, mark);
+    match mark {
+        Mark::End => words::put_byte(room, at, b'\n'),
+        Mark::Rest => {
+            let end = put_rest(room, at, bytes);
+            words::put_byte(room, end, b'\n')
+        }
+        Mark::MayEnd => {
+            if is_blank(grammar, next, bytes) {
+                return words::put_byte(room, at, b'\n');
+            }
+            put_form(room, at, grammar, next, bytes)
+        }
+        Mark::Opens => {
+            if fits(grammar, next, bytes.len()) {
+                return put_form(room, at, grammar, next, bytes);
+            }
+            put_form(room, at, grammar, behind_mark(grammar, next, b')'), bytes)
+        }
+        Mark::Silent => put_form(room, at, grammar, next, bytes),
+        Mark::Flags(count) => {
+            let end = put_flags(room, at, grammar, after_word(grammar, t), count, bytes);
+            put_form(room, end, grammar, next, bytes_behind(bytes, count))
+        }
+        _ => {
+            let end = words::put_byte(room, at, b' ');
+            let end = put_part(room, end, grammar, t, mark, bytes);
+            put_form(room, end, grammar, next, bytes_behind(bytes, size(mark)))
+        }
+    }
+}
+
+fn put_blanks(room: &mut [u8], at: usize, count: usize) -> usize
+    ensures { λ r. ⌜ Put (now (room .entry)) at (replicate count 32) r (now (room .exit)) ⌝ }
+{
+    let mut end = at;
+    for _ in 0..count {
+        end = words::put_byte(room, end, b' ');
+    }
+    end
+}
+
+// The line of a row.
+pub fn put_line(
+    room: &mut [u8],
+    at: usize,
+    grammar: &Grammar,
+    row: usize,
+    indent: usize,
+    bytes: &[u8],
+) -> usize
+    ensures { λ r. ⌜ Put (now (room .entry)) at (lineText (fieldLine indent (fieldIn (wordsAt (now (grammar .entry)) row)) (now (bytes .entry)) 0)) r (now (room .exit)) ⌝ }
+{
+    let key = next_word(grammar, row);
+    let end = put_blanks(room, at, indent);
+    let end = put_same(room, end, grammar, key);
+    put_form(room, end, grammar, after_word(grammar, key), bytes)
+}
+
+// The line of a field that is not zeros.
+fn put_field(
+    room: &mut [u8],
+    at: usize,
+    grammar: &Grammar,
+    row: usize,
+    indent: usize,
+    bytes: &[u8],
+) -> usize
+    ensures { λ r. ⌜ Put (now (room .entry)) at (textOf (fieldLines indent (fieldIn (wordsAt (now (grammar .entry)) row)) (now (bytes .entry)))) r (now (room .exit)) ⌝ }
+{
+    let key = next_word(grammar, row);
+    if is_blank(grammar, after_word(grammar, key), bytes) {
+        return at;
+    }
+    put_line(room, at, grammar, row, indent, bytes)
+}
+
+// The fields of a table, a line to each that is not zeros.
+pub fn put_fields(
+    room: &mut [u8],
+    at: usize,
+    grammar: &Grammar,
+    table: usize,
+    indent: usize,
+    bytes: &[u8],
+) -> Step
+    ensures { λ r. ⌜ Printed (now (room .entry)) at (printFields indent (fieldsIn (tableAt (now (grammar .entry)) table)) (now (bytes .entry)) 0) (widths (fieldsIn (tableAt (now (grammar .entry)) table))) (23272 * (2909 - table)) r (now (room .exit)) ⌝ }
+{
+    if ends_table(grammar, table) {
+        return Step { taken: 0, end: at };
+    }
+    let key = next_word(grammar, table);
+    let count = width(grammar, after_word(grammar, key));
+    let end = put_field(room, at, grammar, table, indent, bytes);
+    let below = next_line(grammar, table);
+    let others = put_fields(
+        room,
+        end,
+        grammar,
+        below,
+        indent,
+        bytes_behind(bytes, count),
+    );
+    Step {
+        taken: count + others.taken,
+        end: others.end,
+    }
+}
+
+// So many groups: the row at a place always has its line, the fields below it have theirs.
+pub fn put_groups(
+    room: &mut [u8],
+    at: usize,
+    grammar: &Grammar,
+    table: usize,
+    indent: u8,
+    count: u8,
+    bytes: &[u8],
+) -> Step
+    ensures { λ r. ⌜ Printed (now (room .entry)) at (printGroups indent (groupAt (now (grammar .entry)) table) count (now (bytes .entry)) 0) (count * breadth (groupAt (now (grammar .entry)) table)) (count * 67744792) r (now (room .exit)) ⌝ }
+{
+    if count == 0 {
+        return Step { taken: 0, end: at };
+    }
+    let key = next_word(grammar, table);
+    let head = width(grammar, after_word(grammar, key));
+    let end = put_line(room, at, grammar, table, indent as usize, bytes);
+    let below = next_line(grammar, table);
+    let fields = put_fields(
+        room,
+        end,
+        grammar,
+        below,
+        indent as usize + 2,
+        bytes_behind(bytes, head),
+    );
+    let breadth = head + fields.taken;
+    let others = put_groups(
+        room,
+        fields.end,
+        grammar,
+        table,
+        indent,
+        count - 1,
+        bytes_behind(bytes, breadth),
+    );
+    Step {
+        taken: breadth + others.taken,
+        end: others.end,
+    }
 }

@@ -53,7 +53,12 @@ unfolding fitsLength
     let next = c .before .before in
     let marked = next .before in
     let a = marked .before .args in
-    let on = goes (a .grammar .now) (a .t) (marked .mark-at .result) (next .part-behind .result) (marked .mark-at .ensures .is) (next .part-behind .ensures) (opens-on (c .enum-told3 .given .1)) in
+    let g = a .grammar .now in
+    let mark = marked .mark-at .result in
+    let place = next .part-behind .result in
+    let is-mark = marked .mark-at .ensures .is in
+    let leads = next .part-behind .ensures in
+    let on = goes g (a .t) mark place is-mark leads (opens-on (c .enum-told3 .given .1)) in
     (omega arith, tt))
     (λ c.
     let with = c .before in
@@ -61,16 +66,25 @@ unfolding fitsLength
     let next = told .before .before in
     let marked = next .before in
     let a = marked .before .args in
+    let g = a .grammar .now in
+    let mark = marked .mark-at .result in
+    let place = next .part-behind .result in
+    let is-mark = marked .mark-at .ensures .is in
+    let leads = next .part-behind .ensures in
     let yes = sym (with .fits2 .ensures) ∙ c .if1 .taken in
-    sym (fits-with (a .grammar .now) (a .t) (marked .mark-at .result) (next .part-behind .result)
-    (marked .mark-at .ensures .is) (next .part-behind .ensures) (a .bytes) (told .enum-told3 .given .1) yes))
+    sym (fits-with g (a .t) mark place is-mark leads (a .bytes) (told .enum-told3 .given .1) yes))
     (search needs)
     (λ c κs.
     let told = c .before .before .before in
     let next = told .before .before in
     let marked = next .before in
     let a = marked .before .args in
-    let on = goes (a .grammar .now) (a .t) (marked .mark-at .result) (next .part-behind .result) (marked .mark-at .ensures .is) (next .part-behind .ensures) (opens-on (told .enum-told3 .given .1)) in
+    let g = a .grammar .now in
+    let mark = marked .mark-at .result in
+    let place = next .part-behind .result in
+    let is-mark = marked .mark-at .ensures .is in
+    let leads = next .part-behind .ensures in
+    let on = goes g (a .t) mark place is-mark leads (opens-on (told .enum-told3 .given .1)) in
     let past = c .behind-mark .ensures .on in
     (omega arith, tt))
     (search needs)
@@ -79,30 +93,48 @@ unfolding fitsLength
     let next = keyed .before in
     let marked = next .before in
     let a = marked .before .args in
+    let g = a .grammar .now in
+    let mark = marked .mark-at .result in
+    let place = next .part-behind .result in
+    let is-mark = marked .mark-at .ensures .is in
+    let leads = next .part-behind .ensures in
     let size = c .before .size .ensures in
     let few = c .if2 .taken in
-    let less : a .bytes < sizeOf (marked .mark-at .result) = omega arith in
-    sym (fits-few (a .grammar .now) (a .t) (marked .mark-at .result) (next .part-behind .result)
-    (marked .mark-at .ensures .is) (next .part-behind .ensures) (a .bytes) (among going (tag (marked .mark-at .result)) (keyed .match .keys4)) less))
+    let less : a .bytes < sizeOf mark = omega arith in
+    sym (fits-few g (a .t) mark place is-mark leads (a .bytes) (among going (tag mark) (keyed .match .keys4)) less))
     (λ c κs.
     let keyed = c .before .before in
     let next = keyed .before in
     let marked = next .before in
     let a = marked .before .args in
-    let on = goes (a .grammar .now) (a .t) (marked .mark-at .result) (next .part-behind .result)
-    (marked .mark-at .ensures .is) (next .part-behind .ensures) (goes-on (marked .mark-at .result) (among going (tag (marked .mark-at .result)) (keyed .match .keys4))) in
+    let g = a .grammar .now in
+    let mark = marked .mark-at .result in
+    let place = next .part-behind .result in
+    let is-mark = marked .mark-at .ensures .is in
+    let leads = next .part-behind .ensures in
+    let on = goes g (a .t) mark place is-mark leads (goes-on mark (among going (tag mark) (keyed .match .keys4))) in
     (omega arith, tt))
     (λ c.
     let next = c .before .before in
     let marked = next .before in
     let a = marked .before .args in
-    let end = end-on (a .grammar .now) (a .t) (marked .mark-at .result) (next .part-behind .result) (marked .mark-at .ensures .is) (next .part-behind .ensures) (c .enum-told .given .1) in
+    let g = a .grammar .now in
+    let mark = marked .mark-at .result in
+    let place = next .part-behind .result in
+    let is-mark = marked .mark-at .ensures .is in
+    let leads = next .part-behind .ensures in
+    let end = end-on g (a .t) mark place is-mark leads (c .enum-told .given .1) in
     sym (ap (λ (f : Form). fitsLength f (a .bytes)) end))
     (λ c.
     let next = c .before .before in
     let marked = next .before in
     let a = marked .before .args in
-    let rest = rest-on (a .grammar .now) (a .t) (marked .mark-at .result) (next .part-behind .result) (marked .mark-at .ensures .is) (next .part-behind .ensures) (c .enum-told2 .given .1) in
+    let g = a .grammar .now in
+    let mark = marked .mark-at .result in
+    let place = next .part-behind .result in
+    let is-mark = marked .mark-at .ensures .is in
+    let leads = next .part-behind .ensures in
+    let rest = rest-on g (a .t) mark place is-mark leads (c .enum-told2 .given .1) in
     sym (ap (λ (f : Form). fitsLength f (a .bytes)) rest))
     (λ c.
     let behind = c .before in
@@ -111,20 +143,28 @@ unfolding fitsLength
     let next = told .before .before in
     let marked = next .before in
     let a = marked .before .args in
+    let g = a .grammar .now in
+    let mark = marked .mark-at .result in
+    let place = next .part-behind .result in
+    let is-mark = marked .mark-at .ensures .is in
+    let leads = next .part-behind .ensures in
     let no = sym (with .fits2 .ensures) ∙ behind .before .if1 .left in
     c .fits3 .ensures
-    ∙ sym (fits-without (a .grammar .now) (a .t) (marked .mark-at .result) (next .part-behind .result)
-    (marked .mark-at .ensures .is) (next .part-behind .ensures) (a .bytes) (told .enum-told3 .given .1) (behind .behind-mark .result) (behind .behind-mark .ensures) no))
+    ∙ sym (fits-without g (a .t) mark place is-mark leads (a .bytes) (told .enum-told3 .given .1) (behind .behind-mark .result) (behind .behind-mark .ensures) no))
     (λ c.
     let sized = c .before .before in
     let keyed = sized .before in
     let next = keyed .before in
     let marked = next .before in
     let a = marked .before .args in
+    let g = a .grammar .now in
+    let mark = marked .mark-at .result in
+    let place = next .part-behind .result in
+    let is-mark = marked .mark-at .ensures .is in
+    let leads = next .part-behind .ensures in
     let size = sized .size .ensures in
     let more = c .before .if2 .left in
-    let less : sizeOf (marked .mark-at .result) ≤ a .bytes = omega arith in
+    let less : sizeOf mark ≤ a .bytes = omega arith in
     c .fits4 .ensures
-    ∙ ap (λ n. fitsLength (formIn (wordsAt (a .grammar .now) (next .part-behind .result))) (a .bytes - n)) size
-    ∙ sym (fits-more (a .grammar .now) (a .t) (marked .mark-at .result) (next .part-behind .result)
-    (marked .mark-at .ensures .is) (next .part-behind .ensures) (a .bytes) (among going (tag (marked .mark-at .result)) (keyed .match .keys4)) less))
+    ∙ ap (λ n. fitsLength (formIn (wordsAt g place)) (a .bytes - n)) size
+    ∙ sym (fits-more g (a .t) mark place is-mark leads (a .bytes) (among going (tag mark) (keyed .match .keys4)) less))

@@ -50,7 +50,12 @@ pub +width-spec : {M : Type 1} → statement M
     let next = told .before .before in
     let marked = next .before in
     let a = marked .before .args in
-    let on = goes (a .grammar .now) (a .t) (marked .mark-at .result) (next .part-behind .result) (marked .mark-at .ensures .is) (next .part-behind .ensures) (opens-on (told .enum-told3 .given .1)) in
+    let g = a .grammar .now in
+    let mark = marked .mark-at .result in
+    let place = next .part-behind .result in
+    let is-mark = marked .mark-at .ensures .is in
+    let leads = next .part-behind .ensures in
+    let on = goes g (a .t) mark place is-mark leads (opens-on (told .enum-told3 .given .1)) in
     let past = c .behind-mark .ensures .on in
     (omega arith, tt))
     (search needs)
@@ -59,15 +64,24 @@ pub +width-spec : {M : Type 1} → statement M
     let next = keyed .before in
     let marked = next .before in
     let a = marked .before .args in
-    let on = goes (a .grammar .now) (a .t) (marked .mark-at .result) (next .part-behind .result)
-    (marked .mark-at .ensures .is) (next .part-behind .ensures) (goes-on (marked .mark-at .result) (among going (tag (marked .mark-at .result)) (keyed .match .keys4))) in
+    let g = a .grammar .now in
+    let mark = marked .mark-at .result in
+    let place = next .part-behind .result in
+    let is-mark = marked .mark-at .ensures .is in
+    let leads = next .part-behind .ensures in
+    let on = goes g (a .t) mark place is-mark leads (goes-on mark (among going (tag mark) (keyed .match .keys4))) in
     (omega arith, tt))
     (λ c.
     let sized = c .before in
     let next = sized .before .before in
     let marked = next .before in
     let a = marked .before .args in
-    let less = size-less (a .grammar .now) (a .t) (marked .mark-at .result) (next .part-behind .result) (marked .mark-at .ensures .is) (next .part-behind .ensures) in
+    let g = a .grammar .now in
+    let mark = marked .mark-at .result in
+    let place = next .part-behind .result in
+    let is-mark = marked .mark-at .ensures .is in
+    let leads = next .part-behind .ensures in
+    let less = size-less g (a .t) mark place is-mark leads in
     let size = sized .size .ensures in
     let small = c .width2 .ensures .small in
     omega arith)
@@ -75,13 +89,23 @@ pub +width-spec : {M : Type 1} → statement M
     let next = c .before .before in
     let marked = next .before in
     let a = marked .before .args in
-    let end = end-on (a .grammar .now) (a .t) (marked .mark-at .result) (next .part-behind .result) (marked .mark-at .ensures .is) (next .part-behind .ensures) (c .enum-told .given .1) in
+    let g = a .grammar .now in
+    let mark = marked .mark-at .result in
+    let place = next .part-behind .result in
+    let is-mark = marked .mark-at .ensures .is in
+    let leads = next .part-behind .ensures in
+    let end = end-on g (a .t) mark place is-mark leads (c .enum-told .given .1) in
     record { is = sym (ap F.width end); small = omega arith })
     (λ c.
     let next = c .before .before in
     let marked = next .before in
     let a = marked .before .args in
-    let rest = rest-on (a .grammar .now) (a .t) (marked .mark-at .result) (next .part-behind .result) (marked .mark-at .ensures .is) (next .part-behind .ensures) (c .enum-told2 .given .1) in
+    let g = a .grammar .now in
+    let mark = marked .mark-at .result in
+    let place = next .part-behind .result in
+    let is-mark = marked .mark-at .ensures .is in
+    let leads = next .part-behind .ensures in
+    let rest = rest-on g (a .t) mark place is-mark leads (c .enum-told2 .given .1) in
     record { is = sym (ap F.width rest); small = omega arith })
     (λ c.
     let behind = c .before in
@@ -89,9 +113,13 @@ pub +width-spec : {M : Type 1} → statement M
     let next = told .before .before in
     let marked = next .before in
     let a = marked .before .args in
-    let without = either-on (a .grammar .now) (a .t) (marked .mark-at .result) (next .part-behind .result)
-    (marked .mark-at .ensures .is) (next .part-behind .ensures) (told .enum-told3 .given .1) (behind .behind-mark .result) (behind .behind-mark .ensures) in
-    let on = goes (a .grammar .now) (a .t) (marked .mark-at .result) (next .part-behind .result) (marked .mark-at .ensures .is) (next .part-behind .ensures) (opens-on (told .enum-told3 .given .1)) in
+    let g = a .grammar .now in
+    let mark = marked .mark-at .result in
+    let place = next .part-behind .result in
+    let is-mark = marked .mark-at .ensures .is in
+    let leads = next .part-behind .ensures in
+    let without = either-on g (a .t) mark place is-mark leads (told .enum-told3 .given .1) (behind .behind-mark .result) (behind .behind-mark .ensures) in
+    let on = goes g (a .t) mark place is-mark leads (opens-on (told .enum-told3 .given .1)) in
     let past = behind .behind-mark .ensures .on in
     let small = c .width .ensures .small in
     record { is = c .width .ensures .is ∙ sym (ap F.width without); small = omega arith })
@@ -101,10 +129,15 @@ pub +width-spec : {M : Type 1} → statement M
     let next = keyed .before in
     let marked = next .before in
     let a = marked .before .args in
-    let key = among going (tag (marked .mark-at .result)) (keyed .match .keys4) in
-    let on = goes (a .grammar .now) (a .t) (marked .mark-at .result) (next .part-behind .result) (marked .mark-at .ensures .is) (next .part-behind .ensures) (goes-on (marked .mark-at .result) key) in
-    let less = size-less (a .grammar .now) (a .t) (marked .mark-at .result) (next .part-behind .result) (marked .mark-at .ensures .is) (next .part-behind .ensures) in
-    let whole = width-on (a .grammar .now) (a .t) (marked .mark-at .result) (next .part-behind .result) (marked .mark-at .ensures .is) (next .part-behind .ensures) key in
+    let g = a .grammar .now in
+    let mark = marked .mark-at .result in
+    let place = next .part-behind .result in
+    let is-mark = marked .mark-at .ensures .is in
+    let leads = next .part-behind .ensures in
+    let key = among going (tag mark) (keyed .match .keys4) in
+    let on = goes g (a .t) mark place is-mark leads (goes-on mark key) in
+    let less = size-less g (a .t) mark place is-mark leads in
+    let whole = width-on g (a .t) mark place is-mark leads key in
     let size = sized .size .ensures in
     let small = c .width2 .ensures .small in
     let more = c .width2 .ensures .is in
