@@ -1,4 +1,6 @@
 // The tests of the accumulators' limits (document 01, "Start and the checks").
+#![tactic(auto)]
+
 ghost use Rattle.std.specs.Prelude.{◌≡◌, ◌+◌, ◌*◌, ◌≤◌, cond, ◌&&◌, nat_lt};
 ghost use Rattle.money.specs.declared.Converted.TheVariants.{NoEntry};
 ghost use Rattle.rules.specs.Rules.{rules_of};

@@ -1,5 +1,7 @@
 // What the versions add to a set-up's body: a tail for each, in the order of the versions, behind the base.
 // No crate above knows a version.
+#![tactic(auto)]
+
 ghost use Rattle.std.specs.Prelude.{◌≡◌};
 ghost use Rattle.shape.specs.Shape.{selection_tail, syllabus_tail, dating_tail, family_tail, scripting_tail, logging_tail, since, tails_of, shape_of};
 

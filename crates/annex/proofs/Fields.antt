@@ -4,7 +4,7 @@ use mathlib.Core.List.{List}
 use Prim.Native.Nat.{ℕ, zero, suc, ◌+◌, ◌*◌, ◌-◌, ◌≤◌, ◌<◌, min}
 use native.Mathlib.Nat.{add-zero, add_assoc}
 use native.Mathlib.Omega.{arith}
-use lib.ListN.{length, get_or, drop, length_take, length-drop}
+use lib.ListN.{length, get_or, drop, length-take, length-drop}
 use lib.Seq.{get_or-take, get_or-drop}
 use Rattle.wire.specs.Wire.{byte, number}
 use Rattle.digits.specs.Digits.{are_pairs, pairs_value}
@@ -21,7 +21,7 @@ module _ (file : List ℕ) (at : ℕ) where
   head = get_or-drop at file 0 0 ∙ ap (λ (n : ℕ). get_or file n 0) (add-zero at)
 
   pub measured : length entry ≡ min (total file at + 1) (length file - at)
-  measured = length_take (byte (drop at file) 0 + 1) (drop at file) ∙ ap₂ min (ap (λ (n : ℕ). n + 1) head) (length-drop at file)
+  measured = length-take (byte (drop at file) 0 + 1) (drop at file) ∙ ap₂ min (ap (λ (n : ℕ). n + 1) head) (length-drop at file)
 
   -- the entry's bytes are the file's, from the place on
   pub inside : (i : ℕ) → i ≤ total file at → byte entry i ≡ get_or file (at + i) 0

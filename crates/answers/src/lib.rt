@@ -1,5 +1,7 @@
 // The answers of a run, 36 bytes each: refusal (1), CID (1), ATC (2), IAD (32). A field that is not
 // given is zero.
+#![tactic(auto)]
+
 ghost use Rattle.std.specs.Prelude.{◌≡◌, ◌++◌, ◌+◌, ◌≤◌, length};
 ghost use Rattle.std.proofs.lemmas.List.Edits.{sets};
 ghost use Rattle.answers.specs.Answers.{size, head_of, answer_bytes, placed};

@@ -8,7 +8,7 @@ use native.Mathlib.Nat.{min-le_left, min-le_right}
 use native.Mathlib.Omega.{arith}
 use borrow.Author.Tests.{ltb-true, ltb-false}
 use lib.Dec.{leb, ltb, eqb}
-use lib.ListN.{length, take, drop, length_take, length-drop, get_or-eq_default}
+use lib.ListN.{length, take, drop, length-take, length-drop, get_or-eq_default}
 use lib.Seq.{get_or-take, get_or-drop}
 use Rattle.refusal.specs.declared.Refusal.TheVariants.{Unreadable, BadSetup}
 use Rattle.wire.specs.Wire.{byte}
@@ -50,10 +50,10 @@ use Rattle.apart_papers.proofs.Fresh.{long, apart-fresh}
 
 take_same : (from size n : ℕ) (s t : List ℕ) → SameBut from size s t → SameBut from size (take n s) (take n t)
 take_same from size n s t same =
-    record { as_long = length_take n s ∙ ap (λ (m : ℕ). min n m) same.as_long ∙ sym (length_take n t); elsewhere = at }
+    record { as_long = length-take n s ∙ ap (λ (m : ℕ). min n m) same.as_long ∙ sym (length-take n t); elsewhere = at }
   where
     cut : (l : List ℕ) (k : ℕ) → n ≤ k → byte (take n l) k ≡ 0
-    cut l k h = get_or-eq_default (take n l) 0 {n = k} (omega (arith, length_take n l, min-le_left n (length l)))
+    cut l k h = get_or-eq_default (take n l) 0 {n = k} (omega (arith, length-take n l, min-le_left n (length l)))
 
     at : (k : ℕ) → (k < from) ⊎ (from + size ≤ k) → byte (take n s) k ≡ byte (take n t) k
     at k o = by (ltb k n) refl where
@@ -205,7 +205,7 @@ module _ (x : Meter) (is : IsSwitch x) (words s t : List ℕ) (same : SameSetups
           file = file-late shape.selecting l.selecting;
           log = log-late shape.logging l.logging;
           idle = (unfold fresh_state in refl);
-          behind = omega (arith, room, base, length_take shape.base s, min-le_right shape.base (length s));
+          behind = omega (arith, room, base, length-take shape.base s, min-le_right shape.base (length s));
         }
     by-log Wrong e f = let z : ◌≡◌ {A = ℕ} 0 1 = cc in absurd (omega arith)
     by-log PastData e f = let z : ◌≡◌ {A = ℕ} 0 1 = cc in absurd (omega arith)
@@ -272,4 +272,4 @@ paper-begins x is words p q same e f =
       from-four e f =
           setup-begins x is words (part p 4 end) (part q 4 end)
           (take_same (start_at x) (start_length x) (end - 4) (drop 4 p) (drop 4 q) (drop_same (start_at x) (start_length x) 4 p q same)) version end
-          (omega (arith, length_take (end - 4) (drop 4 p), min-le_left (end - 4) (length (drop 4 p)))) e f
+          (omega (arith, length-take (end - 4) (drop 4 p), min-le_left (end - 4) (length (drop 4 p)))) e f

@@ -2,7 +2,7 @@
 use mathlib.Core.Path.{◌≡◌, refl, sym, ap, ap₂, ◌∙◌}
 use mathlib.Core.List.{List, [], ◌∷◌}
 use mathlib.Core.Option.{Option, none, some}
-use mathlib.Core.Bool.{Bool, true, false, ◌&&◌, cond, and_false}
+use mathlib.Core.Bool.{Bool, true, false, ◌&&◌, cond, and-false}
 use Prim.Native.Nat.{ℕ, zero, suc, ◌+◌, ◌/◌, ◌≤◌, ◌<◌}
 use native.Mathlib.Omega.{arith}
 use lib.ListN.{length, take, drop, length-drop}
@@ -80,7 +80,7 @@ not_one f tag l u h false e = e
 no_meaning : (o tag : ℕ) (v : List ℕ) → (tag / 256 ≡ 0xDF → ⊥) → meaning_of o tag v ≡ none
 unfolding meaning_of
 no_meaning o tag v h =
-    simp (not_one 0xDF01 tag (omega arith) (omega arith) h (is_one_of 0xDF01 tag) refl, not_one 0xDF11 tag (omega arith) (omega arith) h (is_one_of 0xDF11 tag) refl, and_false)
+    simp (not_one 0xDF01 tag (omega arith) (omega arith) h (is_one_of 0xDF01 tag) refl, not_one 0xDF11 tag (omega arith) (omega arith) h (is_one_of 0xDF11 tag) refl, and-false)
 
 none_else : (t : Bool) (m : Option Write) → m ≡ none → cond t m none ≡ none
 none_else true m e = e

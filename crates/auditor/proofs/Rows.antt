@@ -2,10 +2,10 @@
 use mathlib.Core.Path.{◌≡◌, refl, sym, ap, ap₂, ◌∙◌}
 use mathlib.Core.List.{List}
 use mathlib.Core.Option.{none, some}
-use mathlib.Core.Bool.{Bool, true, false, ◌&&◌, cond, and_assoc, and_true}
+use mathlib.Core.Bool.{Bool, true, false, ◌&&◌, cond, and_assoc, and-true}
 use Prim.Native.Nat.{ℕ, ◌+◌, ◌-◌, ◌≤◌}
 use native.Mathlib.Omega.{arith}
-use lib.ListN.{length, take, drop, length_take, length-drop}
+use lib.ListN.{length, take, drop, length-take, length-drop}
 use lib.Seq.{take_all}
 use lib.Dec.{ltb, leb, eqb}
 use borrow.Author.Tests.{leb-true, ltb-true, le-leb, lt-leb, lt-ltb, eqb-true, eqb-false, eq-eqb, ne_eqb}
@@ -32,7 +32,7 @@ same-equal a b c d f g = same_test (eqb a b) (eqb c d) (λ e. eq-eqb c d (f (eqb
 module _ (v : List ℕ) (at : ℕ) where
   are-digits : is_amount (run v at 6) ≡ are_pairs v at 6
   unfolding is_amount are_digits digits_in are_pairs
-  are-digits = simp (and_assoc, and_true)
+  are-digits = simp (and_assoc, and-true)
 
   digits-say : amount_in (run v at 6) ≡ amount_at v at
   unfolding amount_in decimal digits_in pairs_value
@@ -61,7 +61,7 @@ module _ (slot : ℕ) (v : List ℕ) where
   not_twelve : (length v ≡ 12 → ⊥) → (t : Bool) → is_amount (take 6 v) ≡ t → (is_amount (take 6 v) && is_amount (drop 6 v)) ≡ false
   not_twelve h true e =
       let n = is_six (take 6 v) e in
-      simp (e, not_six (drop 6 v) (λ d. h (omega (arith, length_take 6 v, length-drop 6 v))))
+      simp (e, not_six (drop 6 v) (λ d. h (omega (arith, length-take 6 v, length-drop 6 v))))
   not_twelve h false e = simp (e)
 
   limits-row : (t : Bool) → eqb (length v) 12 ≡ t

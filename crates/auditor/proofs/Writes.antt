@@ -2,7 +2,7 @@
 use mathlib.Core.Path.{◌≡◌, refl, sym, ap, ◌∙◌}
 use mathlib.Core.List.{List, [], ◌∷◌}
 use mathlib.Core.Option.{Option, none}
-use mathlib.Core.Bool.{Bool, true, false, ◌&&◌, cond, and_assoc, and_true, and_false}
+use mathlib.Core.Bool.{Bool, true, false, ◌&&◌, cond, and_assoc, and-true, and-false}
 use Prim.Native.Nat.{ℕ, ◌+◌, ◌<◌}
 use native.Mathlib.Nat.{le_refl, add-zero}
 use native.Mathlib.Omega.{arith}
@@ -30,7 +30,7 @@ nested false u m = refl
 no_data : (write : ℕ → List ℕ → Option Write) (s : List ℕ) → length s < 2 → data_in write s ≡ none
 unfolding data_in begins
 no_data write [] h = refl
-no_data write (lc ∷ []) h = simp (and_false)
+no_data write (lc ∷ []) h = simp (and-false)
 no_data write (lc ∷ b ∷ s) h = absurd (omega arith)
 
 neither : (t u : Bool) → cond {A = Option (List Write)} t none (cond u none none) ≡ none
@@ -43,7 +43,7 @@ unfolding writes_in writes_of is_secured
 short c h =
     let s = drop 4 c in
     let l : length s < 2 = omega (arith, length-drop 4 c) in
-    simp (no_data of_accumulator s l, no_data of_counter s l, ne_eqb (length c) (mac_place c + 6) (λ e. omega arith), and_false)
+    simp (no_data of_accumulator s l, no_data of_counter s l, ne_eqb (length c) (mac_place c + 6) (λ e. omega arith), and-false)
     (neither (begins (0x0C ∷ 0xDA ∷ 0xBF ∷ 0x30 ∷ []) c) (begins (0x0C ∷ 0xDA ∷ 0xBF ∷ 0x35 ∷ []) c))
 
 -- ---- the MAC
@@ -51,7 +51,7 @@ mac_as : (r : List ℕ) → is_mac r ≡ (eqb (byte r 0) 0x8E && eqb (byte r 1) 
 unfolding begins
 mac_as [] = refl
 mac_as (a ∷ []) = refl
-mac_as (a ∷ b ∷ r) = simp (and_true)
+mac_as (a ∷ b ∷ r) = simp (and-true)
 
 value-bytes : (s : List ℕ) → Bytes s → Bytes (value s)
 value-bytes s h = take-bytes (length_at s 0) (drop (length_size s 0) s) (drop_bytes (length_size s 0) s h)
@@ -81,11 +81,11 @@ module _ (a b p q l x : ℕ) (s : List ℕ) where
       let f = leb-true (length_size s 0 + length_at s 0) (length s) e in
       let m = place in
       let size = same-equal (length whole) (mac_place whole + 6) (length (behind s)) 6 (λ z. omega arith) (λ z. omega arith) in
-      simp (e, size, mac_as (behind s), and_true, and_assoc, ap (byte whole) (sym (add-zero (mac_place whole))) ∙ mac-byte 0, mac-byte 1)
+      simp (e, size, mac_as (behind s), and-true, and_assoc, ap (byte whole) (sym (add-zero (mac_place whole))) ∙ mac-byte 0, mac-byte 1)
   secured_by false e =
       let f = leb-false (length_size s 0 + length_at s 0) (length s) e in
       let m = place in
-      simp (e, ne_eqb (length whole) (mac_place whole + 6) (λ z. omega arith), and_false)
+      simp (e, ne_eqb (length whole) (mac_place whole + 6) (λ z. omega arith), and-false)
 
   value_as : take (length_at whole 6) (drop (list_place whole) whole) ≡ value s
   unfolding list_place length_size length_at
@@ -112,7 +112,7 @@ module _ (a b p q l x : ℕ) (s : List ℕ) where
         let r = secured_by (leb (length_size s 0 + length_at s 0) (length s)) refl in
         ap (λ w. cond (eqb l (length (x ∷ s)) && (eqb x 0x81 && true)) w none) (list_as (fits s) refl)
         ∙ nested (eqb l (length (x ∷ s)) && (eqb x 0x81 && true)) (fits s && is_mac (behind s)) (card_writes o (elements_of whole))
-        ∙ simp (lc_as, r, and_true, and_assoc)
+        ∙ simp (lc_as, r, and-true, and_assoc)
 
   -- P1 P2
   object-by : (second : ℕ) → second < 256 → q < 256 → (t : Bool) → eqb p 0xBF ≡ t → eqb (object_of whole) (0xBF00 + second) ≡ (eqb p 0xBF && eqb q second)

@@ -1,4 +1,6 @@
 // What a set-up comes to: the paper's shape, a fresh card and the event, or why there is no card.
+#![tactic(auto)]
+
 ghost use Rattle.std.specs.Prelude.{◌≡◌};
 ghost use Rattle.setup.specs.Setup.{is_accepted, words_after};
 ghost use Rattle.begun.specs.Begun.{set_up_event, refused_at, base_begun, past_begun};

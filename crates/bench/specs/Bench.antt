@@ -6,7 +6,6 @@ use Rattle.state.specs.declared.State.{State}
 use Rattle.runs.specs.Runs.{Card, card_run, room_run, ruled_run}
 use Rattle.run_block.specs.RunBlock.{size_in, records_in, lent}
 use Rattle.run_page.specs.RunPage.{page_of, page_size}
-use Rattle.bench.specs.declared.Page.{Page}
 use Rattle.bench.specs.declared.Page.TheVariants.{Whole, NoRoom}
 use Rattle.bench.specs.declared.Turn.{Turn}
 

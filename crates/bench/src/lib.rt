@@ -1,5 +1,7 @@
 // A run as a block of a stack: it is run in a room of the size that the block asks, and what became of it is told as
 // a page of text.
+#![tactic(auto)]
+
 ghost use Rattle.std.specs.Prelude.{◌≡◌, ◌≤◌, length, replicate};
 ghost use Rattle.std.proofs.lemmas.List.Edits.{sets};
 ghost use Rattle.rules.specs.Rules.{rules_of};

@@ -1,5 +1,7 @@
 // An entry of a CPACE card's Profile Selection File that tests an accumulator or a counter, by CPACE
 // C.45 and Table 74: its check type, and the one block that the value is compared with.
+#![tactic(auto)]
+
 ghost use Rattle.std.specs.Prelude.{◌≡◌};
 ghost use Rattle.block.specs.Block.{slot_of, adds_transaction, asks_greater, block_fits, is_slot_sound, block_value};
 
@@ -8,7 +10,7 @@ use fields::check_type;
 use wire::byte_at;
 
 // An accumulator or a counter, by its number.
-#[derive(Drop)]
+#[derive(Clone, Copy)]
 pub enum Slot {
     Accumulator(u8),
     Counter(u8),

@@ -1,5 +1,7 @@
 // A stack of papers, each behind its 4-byte length: what stands at the front of the bytes at hand, and
 // what a turn makes of it where no paper is to be answered.
+#![tactic(auto)]
+
 ghost use Rattle.std.specs.Prelude.{◌≡◌, [], ◌+◌, ◌≤◌, length};
 ghost use Rattle.std.proofs.lemmas.List.Edits.{sets};
 ghost use Rattle.blocks.specs.Blocks.{placed_text, text_room, waiting, turned_over, passing, said_by, room_by, front_of, front_room, last_text};

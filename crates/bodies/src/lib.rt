@@ -1,4 +1,6 @@
 // What stands where in the bodies of Start and First, by the paper's dates and the card's family.
+#![tactic(auto)]
+
 ghost use Rattle.std.specs.Prelude.{◌≡◌, ◌≤◌};
 ghost use Rattle.bodies.specs.Bodies.{is_cpace, interface_of, start_length, profile_named, plain_length, first_length, cvm_of, cashback_of};
 

@@ -1,12 +1,14 @@
 // The calendar of the years 2000 to 2099: which dates are calendar days, how days are counted, and
 // in which cycle a day falls.
+#![tactic(auto)]
+
 ghost use Rattle.std.specs.Prelude.{◌≡◌};
 ghost use Rattle.calendar.specs.Calendar.{date_at, code_of, is_before, year_of, month_of, day_of, has_digits, is_day, days_of, cycle_of, begins};
 
 use days::{day_number, has_day};
 
 // YYMMDD as it is written, two decimal digits to a byte. The year is 2000 + YY.
-#[derive(Drop)]
+#[derive(Clone, Copy)]
 pub struct Date {
     pub year: u8,
     pub month: u8,
@@ -14,7 +16,7 @@ pub struct Date {
 }
 
 // The kind of a cycle.
-#[derive(Drop)]
+#[derive(Clone, Copy)]
 pub enum Period {
     Day,
     Week,

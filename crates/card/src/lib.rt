@@ -1,4 +1,6 @@
 // The card: which commands it takes, and what each comes to.
+#![tactic(auto)]
+
 ghost use Rattle.std.specs.Prelude.{◌≡◌};
 ghost use Rattle.rules.specs.Rules.{rules_of};
 ghost use Rattle.card.specs.Card.{is_dated, first_taken, first_step, second_taken, second_step, step_of};

@@ -1,6 +1,8 @@
 // A card in cells that are lent: the words of its rules, its rooms, the shape of its paper and its
 // state, one behind the other; those behind them stay as they are. In a seat that is too short
 // nothing is stored, and blank words and no rooms are read.
+#![tactic(auto)]
+
 ghost use Rattle.std.specs.Prelude.{◌≡◌, ◌+◌, ◌≤◌, length};
 ghost use Rattle.std.proofs.lemmas.List.Edits.{sets};
 ghost use Rattle.seating.specs.States.{state_cells, StateFits};

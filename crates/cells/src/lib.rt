@@ -1,4 +1,6 @@
 // Cells of 64 bits, and what several parts of a card share in them, one cell to a field.
+#![tactic(auto)]
+
 ghost use Rattle.std.specs.Prelude.{◌≡◌, ◌+◌, get_or};
 ghost use Rattle.cells.specs.Cells.{flag_of, date_at, history_cells, history_at};
 

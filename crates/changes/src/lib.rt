@@ -1,5 +1,7 @@
 // What approvals, declines and the issuer's orders do to the accumulators and the cyclic
 // accumulators, and to all values.
+#![tactic(auto)]
+
 ghost use Rattle.std.specs.Prelude.{◌≡◌};
 ghost use Rattle.rules.specs.Rules.{rules_of};
 ghost use Rattle.purchase.specs.Meter.{accumulator, cyclic, is_in_order};

@@ -1,4 +1,6 @@
 // The tests of document 01, "Start and the checks", and the decision bits (ADR).
+#![tactic(auto)]
+
 ghost use Rattle.std.specs.Prelude.{◌≡◌, ◌+◌, ◌≤◌};
 ghost use Rattle.rules.specs.Rules.{rules_of};
 ghost use Rattle.limits.specs.Limits.{packed};

@@ -1,4 +1,6 @@
 // The profile that a paper's file selects.
+#![tactic(auto)]
+
 ghost use Rattle.std.specs.Prelude.{◌≡◌};
 ghost use Rattle.choice.specs.Choice.{slots_of, selected_in};
 

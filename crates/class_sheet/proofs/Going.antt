@@ -2,8 +2,6 @@
 use mathlib.Core.Path.{◌≡◌, sym, ap, ap₂, subst, ◌∙◌}
 use mathlib.Core.Bool.{Bool, ◌&&◌}
 use mathlib.Core.List.{List, [], ◌∷◌, ◌++◌}
-use types.Run.{OneOf}
-use denote.Enum.Declared.{tag_of}
 use Prim.Native.Nat.{ℕ, ◌-◌, ◌≤◌, ◌<◌}
 use native.Mathlib.Omega.{arith}
 use lib.ListN.{length}
@@ -16,7 +14,6 @@ use Rattle.records.specs.declared.Said.{Said}
 use Rattle.records.specs.declared.Taken.{Taken}
 use Rattle.records.specs.declared.Event.{Event}
 use Rattle.records.specs.declared.Event.TheVariants.{Answered}
-use Rattle.records.specs.contracts.Event as E
 use Rattle.conversation.specs.Conversation.{taken_of, taken_writes}
 use Rattle.conversation.proofs.Events.{GoesOn, further}
 use Rattle.tallies.specs.declared.Sale.{Sale}
@@ -68,7 +65,7 @@ module _ {words : List ℕ} {shape : Shape} {paper : List ℕ} {whole : List Tal
   Whole after = Took before whole fits after
 
   -- a record that is not answered is the last
-  pub last-is : (event : Event) → at < length paper → taken.event ≡ event → OneOf (0 ∷ 1 ∷ 2 ∷ []) (tag_of E.the_type event)
+  pub last-is : (event : Event) → at < length paper → taken.event ≡ event → ((said : Said) (answer : Answer) → event ≡ Answered said answer → ⊥)
       → (after : List ℕ) → after ≡ all_tallied sheet (end_tallies event) → Whole after
   last-is event h e k after a =
       let rest = Steps.ended (rules_of words) shape state paper at sale h event e k in (

@@ -3,8 +3,6 @@ use mathlib.Core.Path.{◌≡◌, refl, sym, ap, subst, ◌∙◌}
 use mathlib.Core.Bool.{true}
 use mathlib.Core.List.{List, [], ◌∷◌, ◌++◌}
 use mathlib.Core.Logic.{inl, inr}
-use types.Run.{OneOf}
-use denote.Enum.Declared.{tag_of}
 use Prim.Native.Nat.{ℕ, suc, ◌-◌, ◌≤◌, ◌<◌}
 use native.Mathlib.Omega.{arith}
 use lib.ListN.{length}
@@ -17,7 +15,6 @@ use Rattle.records.specs.declared.Said.{Said}
 use Rattle.records.specs.declared.Taken.{Taken}
 use Rattle.records.specs.declared.Event.{Event}
 use Rattle.records.specs.declared.Event.TheVariants.{SetUp, End, Refused, Answered}
-use Rattle.records.specs.contracts.Event as E
 use Rattle.begun.specs.declared.Begun.{Begun}
 use Rattle.opening.specs.Opening.{begun_of, words_begun}
 use Rattle.conversation.specs.Conversation.{taken_of, taken_writes}
@@ -67,15 +64,13 @@ module _ (rules : Rules) (shape : Shape) (state : State) (paper : List ℕ) (at 
         (sym (settled shape paper (length paper - 1) (length paper) then taken.state taken.at (omega arith) (omega arith)))
 
     -- a record that is not answered ends the paper
-    pub ended : (event : Event) → taken.event ≡ event → OneOf (0 ∷ 1 ∷ 2 ∷ []) (tag_of E.the_type event)
+    pub ended : (event : Event) → taken.event ≡ event → ((said : Said) (answer : Answer) → event ≡ Answered said answer → ⊥)
         → rest_of rules shape state paper at sale ≡ end_tallies event
     unfolding tallies_from
     ended SetUp e k = absurd (never_set_up rules shape state paper at e)
     ended End e k = event_first End e
     ended (Refused refusal) e k = event_first (Refused refusal) e
-    ended (Answered said answer) e (inl z) = absurd (omega arith)
-    ended (Answered said answer) e (inr (inl z)) = absurd (omega arith)
-    ended (Answered said answer) e (inr (inr z)) = absurd (omega arith)
+    ended (Answered said answer) e k = absurd (k said answer refl)
 
   -- nothing is left
   pub over : length paper ≤ at → rest_of rules shape state paper at sale ≡ []
@@ -97,18 +92,11 @@ module _ (paper : List ℕ) where
   set_up_lem e = ap (λ v. tallies_from no_sale (events v)) e
 
   -- a set-up that is not taken ends it
-  pub not_set_up : OneOf (1 ∷ 2 ∷ 3 ∷ []) (tag_of E.the_type begun.event) → paper_tallies paper ≡ end_tallies begun.event
+  pub not_set_up : (begun.event ≡ SetUp → ⊥) → paper_tallies paper ≡ end_tallies begun.event
   unfolding paper_tallies events_of tallies_from
   not_set_up k = by (begins paper) where
-    not_taken : (event : Event) → event ≡ SetUp → OneOf (1 ∷ 2 ∷ 3 ∷ []) (tag_of E.the_type event) → ⊥
-    not_taken event e n = by-tag (subst (λ v. OneOf (1 ∷ 2 ∷ 3 ∷ []) (tag_of E.the_type v)) e n) where
-      by-tag : OneOf (1 ∷ 2 ∷ 3 ∷ []) (tag_of E.the_type SetUp) → ⊥
-      by-tag (inl z) = omega arith
-      by-tag (inr (inl z)) = omega arith
-      by-tag (inr (inr z)) = omega arith
-
     by : Beginning paper begun → tallies_from no_sale (events begun.event) ≡ end_tallies begun.event
-    by (accepted e o) = absurd (not_taken begun.event e k)
+    by (accepted e o) = absurd (k e)
     by (refused refusal e) = ap (λ v. tallies_from no_sale (events v)) e ∙ ap end_tallies (sym e)
 
   pub whole : {words words' : List ℕ} {begun : Begun} → words ≡ blank_words → words' ≡ words_begun words paper → begun ≡ begun_of paper → begun.event ≡ SetUp

@@ -1,4 +1,6 @@
 // A paper taken into the sheet of a class, or refused.
+#![tactic(auto)]
+
 ghost use Rattle.std.specs.Prelude.{◌≡◌};
 ghost use Rattle.rules.specs.Rules.{rules_of};
 ghost use Rattle.tallies.specs.Tallies.{all_fit, all_tallied};

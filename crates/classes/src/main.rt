@@ -1,4 +1,6 @@
 // The sheet of a class: the first argument names its form.
-fn main() {
-    class_desk::run_class();
+#![tactic(auto)]
+
+fn main(rt: HostRuntime) {
+    class_desk::run_class(&rt);
 }

@@ -1,4 +1,6 @@
 // The form `tally`, on a class of 201 papers.
-fn main() {
-    class_desk::run_class();
+#![tactic(auto)]
+
+fn main(rt: HostRuntime) {
+    class_desk::run_class(&rt);
 }

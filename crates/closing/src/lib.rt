@@ -1,4 +1,6 @@
 // A transaction closed: its answer, the last date, and the issuer's order for the values.
+#![tactic(auto)]
+
 ghost use Rattle.std.specs.Prelude.{◌≡◌};
 ghost use Rattle.rules.specs.Rules.{rules_of};
 ghost use Rattle.closing.specs.Closing.{closing_kind, later_kind, closed, ordered_change, ordered, recovered};

@@ -1,4 +1,6 @@
 // Commands out of record bodies. What a command says is judged by the card.
+#![tactic(auto)]
+
 ghost use Rattle.std.specs.Prelude.{◌≡◌};
 ghost use Rattle.command.specs.Command.{start_of, when_of};
 ghost use Rattle.command.specs.Command.{first_of, second_of, command_of, slots_of, is_selecting, selected_in, start_selected, command_in, is_command};
@@ -23,21 +25,21 @@ const SECOND: u8 = 4;
 
 // The interface, 0 contact or 1 contactless, which a CPA card does not ask; the profile that was named,
 // with no entry visited, or what selection gave.
-#[derive(Drop)]
+#[derive(Clone, Copy)]
 pub struct Start {
     pub chosen: Selection,
     pub interface: u8,
 }
 
 // A First's date, where the paper is dated.
-#[derive(Drop)]
+#[derive(Clone, Copy)]
 pub enum When {
     Undated,
     On(Date),
 }
 
 // To a CPA card every transaction is one with no CVM and no cashback.
-#[derive(Drop)]
+#[derive(Clone, Copy)]
 pub struct First {
     pub amount: TransactionAmount,
     pub currency: u16,
@@ -50,7 +52,7 @@ pub struct First {
 
 // The response code has more room than its two bytes: a Second of eight bytes would be moved as one
 // number, through memory.
-#[derive(Drop)]
+#[derive(Clone, Copy)]
 pub struct Second {
     pub csu: u32,
     pub code: u32,
@@ -58,7 +60,7 @@ pub struct Second {
     pub issuer: u8,
 }
 
-#[derive(Drop)]
+#[derive(Clone, Copy)]
 pub enum Command {
     Start(Start),
     First(First),

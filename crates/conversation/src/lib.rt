@@ -1,4 +1,6 @@
 // A conversation: the record at a place of a paper, taken as a value. What it comes to is an event.
+#![tactic(auto)]
+
 ghost use Rattle.std.specs.Prelude.{◌≡◌};
 ghost use Rattle.rules.specs.Rules.{rules_of};
 ghost use Rattle.script.specs.Script.{rules_after, words_after};

@@ -1,4 +1,6 @@
 // The tests of the counters' limits (document 01, "Start and the checks").
+#![tactic(auto)]
+
 ghost use Rattle.std.specs.Prelude.{◌≡◌, ◌&&◌, ◌+◌, ◌≤◌, ◌<◌};
 ghost use Rattle.rules.specs.Rules.{rules_of};
 ghost use Rattle.purchase.specs.Meter.{counter, rule_of, once, is_open};

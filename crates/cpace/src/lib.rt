@@ -1,10 +1,12 @@
 // What CPACE asks of a transaction (document 02, Thirteen): its cardholder verification method (CVM),
 // the control that closes an accumulator or a counter to it, and its cashback.
+#![tactic(auto)]
+
 ghost use Rattle.std.specs.Prelude.{◌≡◌};
 ghost use Rattle.cpace.specs.Cpace.{method_of, cvm_at, closes, cashback_at};
 
 // The transaction's CVM. Offline PIN is none of ours: no command of this card verifies one.
-#[derive(Drop)]
+#[derive(Clone, Copy)]
 pub enum Cvm {
     OnlinePin,
     Signature,

@@ -1,4 +1,6 @@
 // CVR and IAD: what goes out with a cryptogram.
+#![tactic(auto)]
+
 ghost use Rattle.std.specs.Prelude.{◌≡◌, ◌≤◌};
 ghost use Rattle.rules.specs.Rules.{rules_of};
 ghost use Rattle.cryptogram.specs.Cryptogram.{kind_code, later_code, limits_byte, verification, sent_amount, sent_count, sent_iad};

@@ -1,4 +1,6 @@
 // A cursor over the commands of a sound template: from command to command, by places in its bytes.
+#![tactic(auto)]
+
 ghost use Rattle.std.specs.Prelude.{◌≡◌};
 ghost use Rattle.cursor.specs.Cursor.{next_command};
 

@@ -1,4 +1,6 @@
 // A First's date, before the tests: whether it is in order, and the cycles that begin with it.
+#![tactic(auto)]
+
 ghost use Rattle.std.specs.Prelude.{◌≡◌};
 ghost use Rattle.rules.specs.Rules.{rules_of};
 ghost use Rattle.cycles.specs.Cycles.{timing_of, amount_begun, advanced, dated};

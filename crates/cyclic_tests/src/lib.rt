@@ -1,4 +1,6 @@
 // The tests of the cyclic accumulators' limits, and of a purchase's date.
+#![tactic(auto)]
+
 ghost use Rattle.std.specs.Prelude.{◌≡◌, ◌+◌, ◌≤◌, ltb};
 ghost use Rattle.rules.specs.Rules.{rules_of, cyclic_rule};
 ghost use Rattle.purchase.specs.Meter.{cyclic_worth};

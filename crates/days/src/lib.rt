@@ -1,4 +1,6 @@
 // The days of the years 2000 to 2099, by year, month and day as numbers: which there are, and how they are counted.
+#![tactic(auto)]
+
 ghost use Rattle.std.specs.Prelude.{◌≡◌};
 ghost use Rattle.days.specs.Days.{is_leap, month_length, has_day, days_before, day_number};
 

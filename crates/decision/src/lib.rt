@@ -1,4 +1,6 @@
 // The decision of a First, and what follows from it.
+#![tactic(auto)]
+
 ghost use Rattle.std.specs.Prelude.{◌≡◌};
 ghost use Rattle.rules.specs.Rules.{rules_of};
 ghost use Rattle.decision.specs.Decision.{is_arqc, is_tc, is_offline_only, decision, settled, asked, concluded};

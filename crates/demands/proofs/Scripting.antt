@@ -1,7 +1,7 @@
 -- Over every list of commands: what the card keeps of scripts is what the auditor remembers, and how long it remembers a failure; and what an accepted
 -- script leaves as it was. Assumes nothing.
 use mathlib.Core.Path.{◌≡◌, refl, ap, ◌∙◌}
-use mathlib.Core.Bool.{Bool, true, false, cond, ◌&&◌, ◌||◌, or_true, and_false}
+use mathlib.Core.Bool.{Bool, true, false, cond, ◌&&◌, ◌||◌, or-true, and-false}
 use mathlib.Core.List.{List, [], ◌∷◌, ◌++◌}
 use Prim.Native.Nat.{ℕ}
 use borrow.Author.Tests.{ne_eqb}
@@ -53,8 +53,8 @@ module _ (setup : Setup) where
       → ((remembered setup (done-script result template ∷ log)).failed ≡ true) × ((remembered setup (done-script result template ∷ log)).here ≡ true)
   unfolding remembered
   failure_sets log result template fails = (
-    ap (λ b. (remembered setup log).failed || b) fails ∙ or_true (remembered setup log).failed,
-    ap (λ b. (remembered setup log).here || b) fails ∙ or_true (remembered setup log).here,
+    ap (λ b. (remembered setup log).failed || b) fails ∙ or-true (remembered setup log).failed,
+    ap (λ b. (remembered setup log).here || b) fails ∙ or-true (remembered setup log).here,
   )
 
   -- IT IS REMEMBERED over every list of exchanges of which none clears it
@@ -90,7 +90,7 @@ module _ (setup : Setup) where
   pub failure_clears : (log : List Exchange) (second : Second) (answer : Answer) → clears setup second answer ≡ true → (remembered setup log).here ≡ false
       → (remembered setup (record { command = SecondCommand second; answer = answer } ∷ log)).failed ≡ false
   unfolding remembered
-  failure_clears log second answer clear here = rw (clear, here) (and_false (remembered setup log).failed)
+  failure_clears log second answer clear here = rw (clear, here) (and-false (remembered setup log).failed)
 
 -- ---- what a script that is taken leaves: by `due-is`, `history`, `atc`, `last-date`, `total` and `gives` that is so of the card
 

@@ -1,6 +1,6 @@
 -- What an auditor reads of scripts is what the card keeps of them, and what it reads of their writes is what they wrote. Assumes nothing.
 use mathlib.Core.Path.{◌≡◌, refl, sym, ap, ap₂, ◌∙◌, subst}
-use mathlib.Core.Bool.{Bool, true, false, cond, not, ◌&&◌, or_true, or-false}
+use mathlib.Core.Bool.{Bool, true, false, cond, not, ◌&&◌, or-true, or-false}
 use mathlib.Core.List.{List, [], ◌∷◌, ◌++◌}
 use mathlib.Core.Option.{Option, none, some}
 use Prim.Native.Nat.{ℕ, ◌+◌, ◌%◌, ◌<◌}
@@ -115,7 +115,7 @@ module _ (verified : Bool) where
       let below = keeps.below in
       record {
         writes = refl;
-        keeps = again (fails_keeps keeps) (omega arith) (sym (or_true memory.failed)) (sym (or_true memory.here));
+        keeps = again (fails_keeps keeps) (omega arith) (sym (or-true memory.failed)) (sym (or-true memory.here));
         in_range_lem = tt;
       }
   next_agree cs memory scripts keeps (some ws) ranges rest =

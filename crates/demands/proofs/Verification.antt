@@ -1,6 +1,6 @@
 -- The CVR's bits and the IAD's fields are those that document 01 names. Assumes nothing.
 use mathlib.Core.Path.{◌≡◌, refl, sym, ap, ◌∙◌, subst}
-use mathlib.Core.Bool.{Bool, true, false, and_true, and_false, or-false}
+use mathlib.Core.Bool.{Bool, true, false, and-true, and-false, or-false}
 use Prim.Native.Nat.{ℕ, zero, suc, ◌+◌, ◌*◌, ◌/◌, ◌%◌, ◌≤◌, ◌<◌}
 use native.Mathlib.Omega.{arith}
 use borrow.Author.Tests.{eqb-true, eqb-false}
@@ -69,23 +69,23 @@ module _ (setup : Setup) (good : AcceptedSetup setup) (place : Place) (at : ℕ)
 
     counters-lower : met counters_lower_group ≡ any_of counter lower
     unfolding flags
-    counters-lower = simp (and_true, and_false)
+    counters-lower = simp (and-true, and-false)
 
     counters-upper : met counters_upper_group ≡ any_of counter upper
     unfolding flags
-    counters-upper = simp (and_true, and_false)
+    counters-upper = simp (and-true, and-false)
 
     accumulators-lower : met accumulators_lower_group ≡ any_of accumulator lower
     unfolding flags
-    accumulators-lower = simp (and_true, and_false)
+    accumulators-lower = simp (and-true, and-false)
 
     accumulators-upper : met accumulators_upper_group ≡ any_of accumulator upper
     unfolding flags
-    accumulators-upper = simp (and_true, and_false)
+    accumulators-upper = simp (and-true, and-false)
 
     error_met : met date_error ≡ is_error purchase.timing
     unfolding flags
-    error_met = simp (and_true, and_false, or-false)
+    error_met = simp (and-true, and-false, or-false)
 
     pub limits-are : limits_byte (decision_bits rules place values purchase history)
         ≡ limits_of (any_of counter lower) (any_of counter upper) (any_of accumulator lower) (any_of accumulator upper) (is_error purchase.timing)

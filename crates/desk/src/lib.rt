@@ -1,15 +1,18 @@
 // Papers from standard input, lines to standard output. What is read is answered by `transcript`
 // and `pages`; here it is only read and written.
+#![tactic(auto)]
+
 ghost use Rattle.std.specs.Prelude.{◌+◌, ◌≤◌, length};
 
 use blocks::{Turned, Wants};
 use paper_room::Transcript;
 use rules::Words;
+use std::rt::Files;
 use streams::{Ending, Read};
 
 // One paper, read into a buffer of a byte more than the longest.
-fn sit(buffer: &mut [u8], words: &mut Words, room: &mut [u8]) -> Ending {
-    let read = streams::read_all(buffer);
+fn sit(rt: &(impl Input + Print), buffer: &mut [u8], words: &mut Words, room: &mut [u8]) -> Ending {
+    let read = streams::read_all(rt, buffer);
     if read.failed {
         return Ending::NotRead;
     }
@@ -17,7 +20,7 @@ fn sit(buffer: &mut [u8], words: &mut Words, room: &mut [u8]) -> Ending {
     let Transcript::Whole { end } = paper_text::put_text(&buffer[..filled], words, room, 0) else {
         return Ending::NotWritten;
     };
-    if streams::write_out(room, end) {
+    if streams::write_out(rt, room, end) {
         return Ending::Done;
     }
     Ending::NotWritten
@@ -34,12 +37,12 @@ fn move_up(buffer: &mut [u8], at: usize, filled: usize)
 
 // The bytes from a place up to another move to the front of the buffer, and more are read behind
 // them. A block that is not at hand whole is shorter than the buffer, so there is room.
-fn read_more(buffer: &mut [u8], at: usize, filled: usize) -> Read
+fn read_more(rt: &impl Input, buffer: &mut [u8], at: usize, filled: usize) -> Read
     requires { (at ≤ filled) × (filled ≤ length buffer.old) }
     ensures { result.filled ≤ length buffer.old }
 {
     move_up(buffer, at, filled);
-    streams::read_on(buffer, filled - at)
+    streams::read_on(rt, buffer, filled - at)
 }
 
 // The block at the front of the bytes at hand.
@@ -59,11 +62,11 @@ fn turn(
 }
 
 // The stack has ended with so many bytes at hand.
-fn close(left: usize, skip: usize, room: &mut [u8], to: usize) -> Ending {
+fn close(rt: &impl Print, left: usize, skip: usize, room: &mut [u8], to: usize) -> Ending {
     let Transcript::Whole { end } = blocks::finish(left, skip, room, to) else {
         return Ending::NotWritten;
     };
-    if !streams::write_out(room, end) {
+    if !streams::write_out(rt, room, end) {
         return Ending::NotWritten;
     }
     if (left == 0) & (skip == 0) {
@@ -73,7 +76,12 @@ fn close(left: usize, skip: usize, room: &mut [u8], to: usize) -> Ending {
 }
 
 // All papers of a stack. It ends after more turns than any input has.
-fn turn_pages(buffer: &mut [u8], words: &mut Words, room: &mut [u8]) -> Ending {
+fn turn_pages(
+    rt: &(impl Input + Print),
+    buffer: &mut [u8],
+    words: &mut Words,
+    room: &mut [u8],
+) -> Ending {
     let mut at: usize = 0;
     let mut filled: usize = 0;
     let mut skip: usize = 0;
@@ -89,20 +97,20 @@ fn turn_pages(buffer: &mut [u8], words: &mut Words, room: &mut [u8]) -> Ending {
         match wants {
             Wants::Turn => {}
             Wants::Room => {
-                if !streams::write_out(room, to) {
+                if !streams::write_out(rt, room, to) {
                     return Ending::NotWritten;
                 }
                 to = 0;
             }
             Wants::Input => {
                 let left = filled - at;
-                let read = read_more(buffer, at, filled);
+                let read = read_more(rt, buffer, at, filled);
                 if read.failed {
-                    streams::write_out(room, to);
+                    streams::write_out(rt, room, to);
                     return Ending::NotRead;
                 }
                 if read.filled == left {
-                    return close(left, skip, room, to);
+                    return close(rt, left, skip, room, to);
                 }
                 at = 0;
                 filled = read.filled;
@@ -112,16 +120,16 @@ fn turn_pages(buffer: &mut [u8], words: &mut Words, room: &mut [u8]) -> Ending {
     Ending::NotRead
 }
 
-pub fn run_sitting() {
+pub fn run_sitting(rt: &(impl Input + Print + Files)) {
     let mut buffer = [0u8; 65_537];
     let mut room = [0u8; 770_118];
     let mut words = rules::blank();
-    streams::acknowledge(sit(&mut buffer, &mut words, &mut room));
+    streams::acknowledge(rt, sit(rt, &mut buffer, &mut words, &mut room));
 }
 
-pub fn run_stack() {
+pub fn run_stack(rt: &(impl Input + Print + Files)) {
     let mut buffer = [0u8; 65_540];
     let mut room = [0u8; 770_118];
     let mut words = rules::blank();
-    streams::acknowledge(turn_pages(&mut buffer, &mut words, &mut room));
+    streams::acknowledge(rt, turn_pages(rt, &mut buffer, &mut words, &mut room));
 }

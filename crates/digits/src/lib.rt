@@ -1,4 +1,6 @@
 // An amount in six bytes of decimal digits, two to a byte.
+#![tactic(auto)]
+
 ghost use Rattle.std.specs.Prelude.{◌≡◌};
 ghost use Rattle.digits.specs.Digits.{are_pairs, pairs_value};
 

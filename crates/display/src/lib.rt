@@ -1,5 +1,7 @@
 // A paper shown record by record, in lent room: the lines of its sitting and, where the rooms are shown
 // too, behind each the room left of each profile, while there is a card.
+#![tactic(auto)]
+
 ghost use Rattle.std.specs.Prelude.{◌≡◌, length};
 ghost use Rattle.rules.specs.Rules.{rules_of};
 ghost use Rattle.display.specs.Shown.{set_up_shown, set_up_words, set_up_rooms, set_up_room};

@@ -1,4 +1,6 @@
 // A set-up's base, and the tails of versions 02 and 03 behind it: what each says, and where it ends.
+#![tactic(auto)]
+
 ghost use Rattle.std.specs.Prelude.{◌≡◌, ◌+◌, ◌≤◌, length};
 ghost use Rattle.shape.specs.Shape.{base_tail, entries_end, selection_tail, syllabus_tail};
 

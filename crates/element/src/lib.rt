@@ -1,4 +1,6 @@
 // One element of a PUT DATA command's list, by CPA 18.8: its length, and what it writes.
+#![tactic(auto)]
+
 ghost use Rattle.std.specs.Prelude.{◌≡◌, ◌<◌, ◌≤◌};
 ghost use Rattle.element.specs.Element.{as_meaning, is_length, length_size, length_at, value_written, limits_written, counts_written};
 ghost use Rattle.element.specs.Element.{head_size, element_size};

@@ -1,5 +1,7 @@
 // One entry of the Profile Selection File of CPA Annex A: it tests a stretch of the terminal's data, in a
 // CPACE card also an accumulator or a counter, and its action names a profile or moves down some entries.
+#![tactic(auto)]
+
 ghost use Rattle.std.specs.Prelude.{◌≡◌, ◌-◌, ◌<◌};
 ghost use Rattle.fields.specs.Fields.{position, blocks};
 ghost use Rattle.entry.specs.Entry.{is_well_formed, reaches_past, masked, block, order_of, is_less, is_equal, is_greater, is_any_of, passes};

@@ -4,7 +4,7 @@ use mathlib.Core.Bool.{true, false}
 use mathlib.Core.List.{List, [], ◌∷◌}
 use Prim.Native.Nat.{ℕ, ◌+◌}
 use lib.ListN.{length}
-use denote.Ref.{MutBor, at_last}
+use denote.Ref.{Bor}
 use Rattle.field.specs.Field.{is_within, stretch_of, stretch_place, field_of, field_place}
 
 -- amount authorised, amount other, country, TVR, currency, date, type, unpredictable number, terminal type, CVM results, terminal capabilities
@@ -17,6 +17,10 @@ first =
 abbrev second : List ℕ
 second =
     0x9C ∷ 0x77 ∷ 0x06 ∷ 0x61 ∷ 0x03 ∷ 0xFF ∷ 0x00 ∷ 0x00 ∷ 0x30 ∷ 0x30 ∷ 0x00 ∷ 0x00 ∷ 0x00 ∷ 0x00 ∷ 0x00 ∷ 0x44 ∷ 0x44 ∷ 0x44 ∷ 0x44 ∷ []
+
+-- a reference with these bytes behind it, pointing where another does
+abbrev pub holding : Bor (List ℕ) → List ℕ → Bor (List ℕ)
+holding r bytes = record r { now = bytes }
 
 abbrev field : (source position long : ℕ) → List ℕ
 field source position long = field_of first second source position long
@@ -37,9 +41,9 @@ pub record Samples : Type 0 where
   pub not_logged : (field 0 0 255 ≡ []) × (field 1 0 2 ≡ [])
   pub past : (field 0 0x22 6 ≡ []) × (is_within 38 0x22 6 ≡ false) × (is_within 38 0x28 0 ≡ false)
   -- in the buffer that it was found in, wherever that lies
-  pub place_in_first : (f s : MutBor (List ℕ)) → field_place (at_last f first) (at_last s second) 0 0x22 5 ≡ (f.ref_ptr.0, f.ref_ptr.1 + 33)
-  pub place_in_second : (f s : MutBor (List ℕ)) → field_place (at_last f first) (at_last s second) 1 0x0B 5 ≡ (s.ref_ptr.0, s.ref_ptr.1 + 10)
-  pub place_of_none : (f s : MutBor (List ℕ)) → field_place (at_last f first) (at_last s second) 1 0 5 ≡ s.ref_ptr
+  pub place_in_first : (f s : Bor (List ℕ)) → field_place (holding f first) (holding s second) 0 0x22 5 ≡ (f.ref_ptr.0, f.ref_ptr.1 + 33)
+  pub place_in_second : (f s : Bor (List ℕ)) → field_place (holding f first) (holding s second) 1 0x0B 5 ≡ (s.ref_ptr.0, s.ref_ptr.1 + 10)
+  pub place_of_none : (f s : Bor (List ℕ)) → field_place (holding f first) (holding s second) 1 0 5 ≡ s.ref_ptr
 
 pub samples : Samples
 unfolding stretch_of stretch_place field_of field_place

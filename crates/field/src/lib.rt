@@ -1,5 +1,7 @@
 // A field of a log record (request Eight): a stretch of First's data or of Second's, in the very
 // buffer it was found in. Nothing is copied.
+#![tactic(auto)]
+
 ghost use Rattle.std.specs.Prelude.{◌≡◌, length};
 ghost use Rattle.field.specs.Field.{stretch_of, stretch_place, field_of, field_place};
 

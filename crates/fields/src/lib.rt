@@ -1,5 +1,7 @@
 // The fields of one entry of the Profile Selection File of CPA Annex A, by TABLE A-1: its length, the
 // position P and the length L of a stretch of the data, n blocks of L bytes, the check type, two actions.
+#![tactic(auto)]
+
 ghost use Rattle.std.specs.Prelude.{◌≡◌, ◌<◌};
 ghost use Rattle.fields.specs.Fields.{block_place, blocks_end, check_type, positive_action, negative_action};
 

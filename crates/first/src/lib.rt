@@ -1,4 +1,6 @@
 // First GENERATE AC.
+#![tactic(auto)]
+
 ghost use Rattle.std.specs.Prelude.{◌≡◌};
 ghost use Rattle.rules.specs.Rules.{rules_of};
 ghost use Rattle.first.specs.First.{first_answered, first_performed};

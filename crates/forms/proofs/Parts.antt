@@ -11,7 +11,7 @@ use Rattle.wire.specs.Wire.{byte, number, is_pair}
 use Rattle.numerals.specs.Numeral.{numeral}
 use Rattle.hex_digits.specs.Hex.{hex_digit, hex}
 use Rattle.hex_digits.proofs.Bytes.{size as hex-size}
-use Rattle.words.specs.Words.{same, is_in, all, is_digit, is_number, value, is_hex, name_of, distinct}
+use Rattle.words.specs.Words.{is_in, all, is_digit, is_number, value, is_hex, name_of, distinct}
 use Rattle.words.specs.Lex.{is_plain, is_word, are_words}
 use Rattle.words.proofs.Tests.{both, and, same_refl}
 use Rattle.words.proofs.Decimal as Decimal

@@ -100,8 +100,11 @@ module _ (s : List ℕ) (small : Bytes s) where
       let one = field_back blank indent f at (later ++ ls) refl good alone in
       let rest = fields_back indent fs (at + w) ls more on in
       let mine = cond blank [] (field_line indent f s at ∷ []) in
-      let both-parts : and_then (read_field f (mine ++ (later ++ ls))) (read_fields fs) ≡ Took (bytes_at s at w ++ bytes_at s (at + w) (widths fs)) ls = rw (one, rest) in
-      ap (λ x. and_then (read_field f x) (read_fields fs)) (append_assoc (cond blank [] (field_line indent f s at ∷ [])) later ls) ∙ both-parts ∙ ap (λ b. Took b ls) (sym (split_at s at w (widths fs)))
+      let both-parts : and_then (read_field f (mine ++ (later ++ ls))) (read_fields fs)
+      ≡ Took (bytes_at s at w ++ bytes_at s (at + w) (widths fs)) ls = rw (one, rest) in
+      ap (λ x. and_then (read_field f x) (read_fields fs)) (append_assoc (cond blank [] (field_line indent f s at ∷ [])) later ls)
+      ∙ both-parts
+      ∙ ap (λ b. Took b ls) (sym (split_at s at w (widths fs)))
 
   none-at : (g : Group) (at : ℕ) → [] ≡ bytes_at s at (0 * breadth g)
   unfolding bytes_at

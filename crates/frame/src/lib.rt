@@ -1,4 +1,6 @@
 // The frame of a PUT DATA command, by CPA 18.8: what stands before its elements and behind them.
+#![tactic(auto)]
+
 ghost use Rattle.std.specs.Prelude.{◌≡◌, ◌<◌, ◌≤◌};
 ghost use Rattle.frame.specs.Frame.{is_put_data, list_place, mac_place, is_secured};
 

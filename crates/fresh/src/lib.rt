@@ -1,4 +1,6 @@
 // The fresh card of a set-up.
+#![tactic(auto)]
+
 ghost use Rattle.std.specs.Prelude.{◌≡◌};
 ghost use Rattle.fresh.specs.Fresh.{fresh_state};
 

@@ -31,11 +31,13 @@ unfolding fine_fields second words_in lines_of step lex form_in form_from part_i
 second-fine = refl
 
 pub profile-fine : fine_group profile ≡ true
-unfolding fine_group fine_fields profile words_in lines_of step lex form_in form_from part_in is_sized past up_to is_in all is_number distinct is_word are_words no_numbers fine_part closed solid parted fine
+unfolding fine_group fine_fields profile words_in lines_of step lex form_in form_from part_in is_sized past up_to is_in all is_number distinct is_word
+    are_words no_numbers fine_part closed solid parted fine
 profile-fine = refl
 
 pub conversion-fine : fine_group conversion ≡ true
-unfolding fine_group fine_fields conversion words_in lines_of step lex form_in form_from part_in is_sized past up_to is_in all is_number distinct is_word are_words no_numbers fine_part closed solid parted fine
+unfolding fine_group fine_fields conversion words_in lines_of step lex form_in form_from part_in is_sized past up_to is_in all is_number distinct
+    is_word are_words no_numbers fine_part closed solid parted fine
 conversion-fine = refl
 
 pub tails-fine : fine_tails tails ≡ true
@@ -43,5 +45,6 @@ unfolding tails words_in lines_of step lex form_in form_from part_in is_sized pa
 tails-fine = unfold fine_tails fine_items fine_group fine_fields apart in refl
 
 pub records-fine : fine_rows records any_record ≡ true
-unfolding fine_rows records any_record words_in lines_of step lex form_in form_from part_in is_sized past up_to is_in all is_number distinct is_word are_words no_numbers fine_part closed solid parted fine
+unfolding fine_rows records any_record words_in lines_of step lex form_in form_from part_in is_sized past up_to is_in all is_number distinct is_word
+    are_words no_numbers fine_part closed solid parted fine
 records-fine = refl

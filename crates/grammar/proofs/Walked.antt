@@ -6,7 +6,7 @@ use Prim.Native.Nat.{ℕ, zero, suc, ◌+◌, ◌-◌, ◌<◌, ◌≤◌}
 use native.Mathlib.Omega.{arith}
 use borrow.Author.Tests.{ltb-true, ltb-false}
 use lib.Dec.{ltb}
-use lib.ListN.{length, take, drop, length_take, get_or-eq_default}
+use lib.ListN.{length, take, drop, length-take, get_or-eq_default}
 use lib.Seq.{get_or-take, get_or-drop}
 use Rattle.wire.specs.Wire.{byte}
 use Rattle.paper.specs.Paper.{next_at}
@@ -29,7 +29,7 @@ part-byte s start n small i = by (ltb i n) refl where
   by : (t : Bool) → ltb i n ≡ t → byte (take n (drop start s)) i < 256
   by true e = rw (get_or-take n (drop start s) i 0 (ltb-true i n e), get_or-drop start s i 0) (small (start + i))
   by false e =
-      let past : length (take n (drop start s)) ≤ i = rw (length_take n (drop start s)) (omega (arith, ltb-false i n e)) in
+      let past : length (take n (drop start s)) ≤ i = rw (length-take n (drop start s)) (omega (arith, ltb-false i n e)) in
       rw (get_or-eq_default (take n (drop start s)) 0 past) (omega arith)
 
 sound : (s : List ℕ) (at kind start end : ℕ) → Bytes s → Inside s at kind start end → Sound (record { kind = kind; body = part s start end })

@@ -5,7 +5,7 @@ use mathlib.Core.Bool.{Bool, true, false, cond}
 use Prim.Native.Nat.{ℕ, ◌+◌, ◌-◌, ◌*◌, ◌%◌, ◌≤◌, ◌<◌}
 use native.Mathlib.Nat.{add-zero, le_refl}
 use native.Mathlib.Omega.{arith}
-use lib.ListN.{length, take, drop, length-drop, length_take}
+use lib.ListN.{length, take, drop, length-drop, length-take}
 use lib.Seq.{take_all, get_or-drop}
 use lib.Dec.{leb, eqb}
 use borrow.Author.Tests.{lt-ltb, le-ltb, ne_eqb, leb-true}
@@ -21,7 +21,7 @@ pub rest_all : (s : List ℕ) (k : ℕ) → take (length s - k) (drop k s) ≡ d
 rest_all s k = take_all (length s - k) (drop k s) (simp (length-drop) (le_refl _))
 
 pub part_length : (s : List ℕ) (k n : ℕ) → k + n ≤ length s → length (take n (drop k s)) ≡ n
-part_length s k n h = simp (length_take, length-drop) (omega arith)
+part_length s k n h = simp (length-take, length-drop) (omega arith)
 
 pub rest_length : (s : List ℕ) (k : ℕ) → k < length s → length (take (length s - k) (drop k s)) ≡ length s - k
 rest_length s k h = part_length s k (length s - k) (omega arith)

@@ -1,4 +1,6 @@
 // The head of an object, by EMV Book 3 Annex B: its tag and its length.
+#![tactic(auto)]
+
 ghost use Rattle.std.specs.Prelude.{◌≡◌, ◌+◌, ◌≤◌};
 ghost use Rattle.head.specs.Head.{is_constructed, head_within, head_behind, head_of};
 

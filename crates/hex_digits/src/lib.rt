@@ -1,4 +1,6 @@
 // The two hex digits of a byte.
+#![tactic(auto)]
+
 ghost use Rattle.std.specs.Prelude.{◌≡◌, ◌/◌, ◌%◌, ◌<◌};
 ghost use Rattle.hex_digits.specs.Hex.{hex_digit};
 

@@ -1,6 +1,6 @@
 -- Reading undoes writing, and what can be read is just what writing makes. No byte is taken to be below 256. Assumes nothing.
 use mathlib.Core.Path.{◌≡◌, refl, sym, ap, ◌∙◌}
-use mathlib.Core.Bool.{Bool, true, false, not, cond, ◌&&◌, and_true, and_assoc}
+use mathlib.Core.Bool.{Bool, true, false, not, cond, ◌&&◌, and-true, and_assoc}
 use mathlib.Core.List.{List, ◌∷◌}
 use mathlib.Core.Logic.{◌↔◌}
 use Prim.Native.Nat.{ℕ, ◌≤◌}
@@ -43,7 +43,7 @@ module _ (iad : Iad) where
   -- of bytes that are written reading can refuse the CVR and the profile alone
   refusable : is_iad (iad_bytes iad) ≡ (is_cvr iad.cvr && is_profile iad.profile)
   unfolding is_iad has_fixed_bytes cvr_of
-  refusable = rw digits (unfold iad_bytes pairs_of number in rw and_true)
+  refusable = rw digits (unfold iad_bytes pairs_of number in rw and-true)
 
   -- writing refuses just an accumulator above MAX and fields whose bytes reading refuses
   pub writable : is_writable iad ≡ (leb iad.accumulator.0 max && is_iad (iad_bytes iad))

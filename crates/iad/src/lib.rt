@@ -1,4 +1,6 @@
 // The Issuer Application Data: 32 bytes from its fields, and back.
+#![tactic(auto)]
+
 ghost use Rattle.std.specs.Prelude.{◌≡◌, ◌<◌, length, replicate};
 ghost use Rattle.wire.specs.Wire.{pair_of};
 ghost use Rattle.iad.specs.Iad.{iad_bytes, cvr_of, pairs_value, iad_of, are_zeros, has_fixed_bytes, is_cvr, are_pairs, is_profile};
@@ -10,7 +12,7 @@ use refusal::Refusal;
 const LENGTH: usize = 32;
 
 // The Card Verification Results, byte by byte.
-#[derive(Drop)]
+#[derive(Clone, Copy)]
 pub struct Cvr {
     pub byte1: u8,
     pub byte2: u8,
@@ -20,7 +22,7 @@ pub struct Cvr {
 }
 
 // What an IAD says: accumulator and counters are the values sent, 0 where none is.
-#[derive(Drop)]
+#[derive(Clone, Copy)]
 pub struct Iad {
     pub accumulator: AccumulatorAmount,
     pub key: u8,
@@ -110,7 +112,7 @@ pub fn write(iad: Iad, room: &mut [u8]) -> Written
         return Written::Refused(Refusal::RoomTooSmall);
     }
     let bytes = encode(iad);
-    bytes::copy(&bytes, room);
+    room[..LENGTH].copy_from_slice(&bytes);
     Written::Done
 }
 

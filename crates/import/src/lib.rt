@@ -1,5 +1,7 @@
 // Records of version one's papers: 20 bytes, with a rate and an MTA that are floats, become the 15
 // bytes of a conversion and an MTA.
+#![tactic(auto)]
+
 ghost use Rattle.std.specs.Prelude.{◌≡◌};
 ghost use Rattle.std.specs.Float.{binary64};
 ghost use Rattle.std.specs.Float.Ieee.{of_bits};
@@ -150,7 +152,7 @@ pub fn import_record(old: &[u8], room: &mut [u8]) -> Imported
                 return Imported::Refused(Refusal::RoomTooSmall);
             }
             let bytes = encode(new);
-            bytes::copy(&bytes, room);
+            room[..NEW_LENGTH].copy_from_slice(&bytes);
             Imported::Done
         }
     }

@@ -1,16 +1,18 @@
 // Old records on standard input, one after the other. For each a line on standard output. What is
 // read is answered by `imports`; here it is only read and written.
+#![tactic(auto)]
+
 use imports::Answered;
 use streams::Ending;
 
 // The lines of all records: the buffer has whole ones, and is full but at the input's end. It ends
 // after more turns than any input has.
-fn answer_all(buffer: &mut [u8], room: &mut [u8]) -> Ending {
+fn answer_all(rt: &(impl Input + Print), buffer: &mut [u8], room: &mut [u8]) -> Ending {
     let mut number: u64 = 1;
     let mut turns: u64 = 0;
     while turns < 18_446_744_073_709_551_615 {
         turns += 1;
-        let read = streams::read_all(buffer);
+        let read = streams::read_all(rt, buffer);
         if read.failed {
             return Ending::NotRead;
         }
@@ -18,7 +20,7 @@ fn answer_all(buffer: &mut [u8], room: &mut [u8]) -> Ending {
         let Answered::Whole { end, next } = imports::answer(&buffer[..filled], number, room) else {
             return Ending::NotWritten;
         };
-        if !streams::write_out(room, end) {
+        if !streams::write_out(rt, room, end) {
             return Ending::NotWritten;
         }
         if filled < buffer.len() {
@@ -30,8 +32,8 @@ fn answer_all(buffer: &mut [u8], room: &mut [u8]) -> Ending {
 }
 
 // 3,276 records, and 54 bytes for the line of each.
-fn main() {
+fn main(rt: HostRuntime) {
     let mut buffer = [0u8; 65_520];
     let mut room = [0u8; 176_904];
-    streams::acknowledge(answer_all(&mut buffer, &mut room));
+    streams::acknowledge(&rt, answer_all(&rt, &mut buffer, &mut room));
 }

@@ -1,8 +1,8 @@
 -- What was stored is what is to be told: a line, and where all lines have room the whole answer. Assumes nothing.
-use mathlib.Core.Path.{◌≡◌, refl, sym, ap, ◌∙◌}
+use mathlib.Core.Path.{◌≡◌, sym, ap, ◌∙◌}
 use mathlib.Core.Bool.{false}
 use mathlib.Core.List.{List, [], ◌∷◌, ◌++◌, append_assoc}
-use Prim.Native.Nat.{ℕ, ◌+◌, ◌*◌, ◌-◌, ◌/◌, ◌≤◌, ◌<◌}
+use Prim.Native.Nat.{ℕ, ◌+◌, ◌*◌, ◌-◌, ◌≤◌, ◌<◌}
 use native.Mathlib.Omega.{arith}
 use borrow.Author.Tests.{le-leb, lt-leb}
 use lib.ListN.{length, take, drop, replicate, length-drop}
@@ -13,7 +13,6 @@ use Rattle.hex_digits.specs.Hex.{hex}
 use Rattle.text.specs.Stored.{Stored}
 use Rattle.import.specs.declared.Imported.TheVariants.{Done, Refused}
 use Rattle.import.specs.Import.{import_record, imported}
-use Rattle.imports.specs.declared.Answered.{Answered}
 use Rattle.imports.specs.declared.Answered.TheVariants.{Whole, NoRoom}
 use Rattle.imports.specs.Imports.{numeral, import_line, record_line, records_in, lines_in, imports_from, fits, answered, room_after}
 

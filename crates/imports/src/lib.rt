@@ -1,5 +1,7 @@
 // Old records, one after the other, answered by a line each: its number, then 0 and the new
 // record's bytes in hex, or the refusal.
+#![tactic(auto)]
+
 ghost use Rattle.std.specs.Prelude.{◌≡◌, ◌+◌, ◌*◌, ◌≤◌, length, take, drop};
 ghost use Rattle.hex_digits.specs.Hex.{hex};
 ghost use Rattle.text.specs.Stored.{Stored};
@@ -35,9 +37,7 @@ fn put_number(room: &mut [u8], at: usize, n: u64) -> usize
     requires { at + 20 ≤ length room.old }
     ensures { Stored room.old at (numeral n) 20 result room.new }
 {
-    let mut text = [0u8; 20];
-    let digits = io::decimal(n, &mut text);
-    put_text(room, at, &text[..digits])
+    numerals::put_number(room, at, n)
 }
 
 // The bytes of a new record in hex.

@@ -1,6 +1,10 @@
 // What the tools take in: a tool's name, which is the first argument, and the blocks of a stack, which is
 // standard input.
+#![tactic(auto)]
+
 ghost use Rattle.std.specs.Prelude.{◌≡◌, ◌≤◌, length};
+
+use std::rt::Env;
 
 // What stands next in a stack.
 #[derive(Drop)]
@@ -28,10 +32,10 @@ fn without(found: Found) -> Next
 }
 
 // The block of so many bytes that is next in a stack.
-fn read_block(buffer: &mut [u8], size: usize) -> Found
+fn read_block(rt: &impl Input, buffer: &mut [u8], size: usize) -> Found
     requires { size ≤ length buffer.old }
 {
-    let read = streams::read_all(&mut buffer[..size]);
+    let read = streams::read_all(rt, &mut buffer[..size]);
     if read.failed {
         return Found::NotRead;
     }
@@ -42,19 +46,19 @@ fn read_block(buffer: &mut [u8], size: usize) -> Found
 }
 
 // So many bytes of a stack are passed over, in pieces as long as the buffer.
-fn pass_over(buffer: &mut [u8], size: usize) -> Found
+fn pass_over(rt: &impl Input, buffer: &mut [u8], size: usize) -> Found
     requires { 1 ≤ length buffer.old }
 {
     let piece = buffer.len();
     let mut left = size;
     while piece < left {
-        let found = read_block(buffer, piece);
+        let found = read_block(rt, buffer, piece);
         let Found::Block = found else {
             return found;
         };
         left -= piece;
     }
-    let found = read_block(buffer, left);
+    let found = read_block(rt, buffer, left);
     let Found::Block = found else {
         return found;
     };
@@ -63,13 +67,13 @@ fn pass_over(buffer: &mut [u8], size: usize) -> Found
 
 // The next block of a stack, behind its length in 4 bytes. The buffer is as long as the longest that is
 // taken; one that has no room for a length reads nothing.
-pub fn read_next(buffer: &mut [u8]) -> Next
+pub fn read_next(rt: &impl Input, buffer: &mut [u8]) -> Next
     ensures { result.size ≤ length buffer.old }
 {
     if buffer.len() < 4 {
         return without(Found::NotRead);
     }
-    let read = streams::read_all(&mut buffer[..4]);
+    let read = streams::read_all(rt, &mut buffer[..4]);
     if read.failed {
         return without(Found::NotRead);
     }
@@ -81,18 +85,18 @@ pub fn read_next(buffer: &mut [u8]) -> Next
     }
     let size = wire::u32_at(buffer, 0) as usize;
     if buffer.len() < size {
-        return without(pass_over(buffer, size));
+        return without(pass_over(rt, buffer, size));
     }
     Next {
-        found: read_block(buffer, size),
+        found: read_block(rt, buffer, size),
         size,
     }
 }
 
 // Whether the first argument is a name.
-pub fn is_named(name: &[u8]) -> bool {
+pub fn is_named(rt: &impl Env, name: &[u8]) -> bool {
     let mut argument = [0u8; 16];
-    let size = os::arg(1, &mut argument);
+    let size = rt.arg(1, &mut argument).unwrap_or(0);
     if size != name.len() {
         return false;
     }

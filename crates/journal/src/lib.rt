@@ -1,5 +1,7 @@
 // What goes into a transaction log (request Eight): after each cryptogram, whether it closed a
 // transaction, and whether that is logged.
+#![tactic(auto)]
+
 ghost use Rattle.std.specs.Prelude.{◌≡◌};
 ghost use Rattle.journal.specs.Journal.{is_offline, is_wanted, is_logging};
 
@@ -18,7 +20,7 @@ const OFFLINE_ONLY: u8 = 0x20;
 
 // What a set-up says of its log: the ring's size, the switches, the profiles' numbers, 0 where there is
 // none, and whether each of them logs.
-#[derive(Drop)]
+#[derive(Clone, Copy)]
 pub struct Logging {
     pub size: u8,
     pub switches: u8,
@@ -35,7 +37,7 @@ pub enum Heard {
 }
 
 // A cryptogram, as far as a log listens: the CVR is its five bytes as one number.
-#[derive(Drop)]
+#[derive(Clone, Copy)]
 pub struct Cryptogram {
     pub kind: Kind,
     pub atc: u64,

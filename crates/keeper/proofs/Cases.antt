@@ -1,9 +1,6 @@
 -- What becomes of the cells at the set-up and at a record. Assumes nothing.
 use mathlib.Core.Path.{◌≡◌, refl, sym, ap, ◌∙◌}
 use mathlib.Core.List.{List, [], ◌∷◌}
-use mathlib.Core.Logic.{inl, inr}
-use types.Run.{OneOf}
-use denote.Enum.Declared.{tag_of}
 use Prim.Native.Nat.{ℕ}
 use native.Mathlib.Omega.{arith}
 use Rattle.rules.specs.Rules.{Rules, rules_of}
@@ -18,7 +15,6 @@ use Rattle.records.specs.declared.Event.TheVariants.{SetUp, End, Refused, Answer
 use Rattle.records.specs.Records.{record_taken, record_writes}
 use Rattle.conversation.specs.Conversation.{taken_of, taken_writes}
 use Rattle.opening.specs.Opening.{begun_of, words_begun}
-use Rattle.records.specs.contracts.Event as E
 use Rattle.keeper.specs.Keeper.{rooms_after, rooms_recorded, rooms_taken, set_up_rooms, rooms_begun}
 
 module _ (words rooms paper : List ℕ) {begun : Begun} (is : begun ≡ begun_of paper) where
@@ -27,14 +23,12 @@ module _ (words rooms paper : List ℕ) {begun : Begun} (is : begun ≡ begun_of
   unfolding rooms_begun
   at_set_up w e = let event = ap (λ b. b.event) (sym is) ∙ e in rw (w, is, event)
 
-  pub refused : OneOf (1 ∷ 2 ∷ 3 ∷ []) (tag_of E.the_type begun.event) → rooms ≡ rooms_begun words rooms paper
+  pub refused : (begun.event ≡ SetUp → ⊥) → rooms ≡ rooms_begun words rooms paper
   unfolding rooms_begun
   refused k = by (begun_of paper).event (rw is at k) where
-    by : (event : Event) → OneOf (1 ∷ 2 ∷ 3 ∷ []) (tag_of E.the_type event)
+    by : (event : Event) → (event ≡ SetUp → ⊥)
         → rooms ≡ set_up_rooms (rules_of (words_begun words paper)) (begun_of paper).state.values event rooms
-    by SetUp (inl z) = absurd (omega arith)
-    by SetUp (inr (inl z)) = absurd (omega arith)
-    by SetUp (inr (inr z)) = absurd (omega arith)
+    by SetUp k = absurd (k refl)
     by End k = refl
     by (Refused refusal) k = refl
     by (Answered said answer) k = refl

@@ -1,5 +1,7 @@
 // A conversation that also keeps the room left: the cells beside the card are right after the set-up,
 // every answer and every refusal.
+#![tactic(auto)]
+
 ghost use Rattle.std.specs.Prelude.{◌≡◌};
 ghost use Rattle.rules.specs.Rules.{rules_of};
 ghost use Rattle.script.specs.Script.{rules_after, words_after};

@@ -1,4 +1,6 @@
 // The tails of versions 04 to 06, dates, the card family and scripts: what each says, and where it ends.
+#![tactic(auto)]
+
 ghost use Rattle.std.specs.Prelude.{◌≡◌};
 ghost use Rattle.shape.specs.Shape.{dates, dating_tail, families, family_tail, scripting_tail};
 

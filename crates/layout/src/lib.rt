@@ -1,5 +1,7 @@
 // Where the fields of a set-up's body stand (document 01, "The paper"): each from the beginning of
 // its part. What stands first in its part has no name here.
+#![tactic(auto)]
+
 ghost use Rattle.std.specs.Prelude.{◌≡◌, ◌<◌, ◌^◌};
 ghost use Rattle.layout.specs.Layout.{profile_from, conversion_from, base_length, profile_place, conversion_place, cycles_length, family_length};
 

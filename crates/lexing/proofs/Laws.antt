@@ -7,7 +7,7 @@ use native.Mathlib.Numerals.{add-one}
 use native.Mathlib.Omega.{arith}
 use borrow.Author.Tests.{ltb-true, ltb-false, le-ltb}
 use lib.Dec.{ltb}
-use lib.ListN.{length, take, drop, length_take, length-drop, drop_of_length-le}
+use lib.ListN.{length, take, drop, length-take, length-drop, drop_of_length-le}
 use lib.Seq.{drop-drop}
 use Rattle.words.specs.Words.{is_empty}
 use Rattle.words.specs.Lex.{flush, lex, lines_in}
@@ -32,7 +32,7 @@ module _ (text : List ℕ) (at : ℕ) where
 
   size : length (word_at text at) ≤ length text - at
   unfolding word_at
-  size = omega (arith, ap length left.taken, length_take (length (lex (drop at text)).word) (drop at text), length-drop at text)
+  size = omega (arith, ap length left.taken, length-take (length (lex (drop at text)).word) (drop at text), length-drop at text)
 
   -- its bytes
   pub word-part : take (word_end text at - at) (drop at text) ≡ word_at text at

@@ -1,4 +1,6 @@
 // A text place by place: its words and its lines. A place past the text's end says nothing and leads nowhere else.
+#![tactic(auto)]
+
 ghost use Rattle.std.specs.Prelude.{◌≡◌, length};
 ghost use Rattle.words.specs.Words.{same};
 ghost use Rattle.words.specs.Lex.{is_plain};

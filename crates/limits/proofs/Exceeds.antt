@@ -1,6 +1,6 @@
 -- What it is to exceed a limit, in numbers. Assumes nothing.
 use mathlib.Core.Path.{◌≡◌, refl, sym, ap, ◌∙◌}
-use mathlib.Core.Bool.{Bool, true, false, cond, ◌&&◌, ◌||◌, or_true, or-false}
+use mathlib.Core.Bool.{Bool, true, false, cond, ◌&&◌, ◌||◌, or-true, or-false}
 use mathlib.Core.List.{◌++◌}
 use Prim.Native.Nat.{ℕ, ◌+◌, ◌-◌, ◌*◌, ◌<◌, ◌≤◌}
 use native.Mathlib.Omega.{arith}
@@ -45,7 +45,7 @@ exceeds_sum limit value = by where
 
   by : (include : Bool) (worth : Converted) → value_exceeds limit value include worth ≡ sum_above limit value (cond include worth NoEntry)
   by true (Amount more) = sum_alone limit value more.0
-  by true Over = or_true (ltb limit value)
+  by true Over = or-true (ltb limit value)
   by true NoEntry = or-false (ltb limit value) ∙ alone
   by false worth = or-false (ltb limit value) ∙ alone
 
@@ -102,8 +102,8 @@ module _ (limit value : ℕ) (include : Bool) (worth : Converted) where
 
   pub above-exceeds : Above limit value include worth → value_exceeds limit value include worth ≡ true
   above-exceeds (alone h) = simp (lt-ltb limit value h)
-  above-exceeds (together more i w h) = simp (i, w, lt-ltb limit (value + more.0) h, or_true)
-  above-exceeds (over i w) = simp (i, w, or_true)
+  above-exceeds (together more i w h) = simp (i, w, lt-ltb limit (value + more.0) h, or-true)
+  above-exceeds (over i w) = simp (i, w, or-true)
 
   pub kept-within : value_exceeds limit value include worth ≡ false → Within limit value include worth
   kept-within e = within limit value (ltb limit value) include worth refl e

@@ -1,4 +1,6 @@
 // What it is to exceed a limit, and flags as bits (document 01, "Start and the checks").
+#![tactic(auto)]
+
 ghost use Rattle.std.specs.Prelude.{◌≡◌, ◌≤◌};
 ghost use Rattle.limits.specs.Limits.{bit};
 

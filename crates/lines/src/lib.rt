@@ -1,5 +1,7 @@
 // The events of a conversation as lines, written into lent room from a place on; the place behind is
 // returned.
+#![tactic(auto)]
+
 ghost use Rattle.std.specs.Prelude.{◌≡◌, [], ◌∷◌, ◌++◌, ◌+◌, ◌*◌, ◌-◌, ◌≤◌, ◌<◌, length};
 ghost use Rattle.hex_digits.specs.Hex.{hex_byte, hex};
 ghost use Rattle.lines.specs.Lines.{decimal};

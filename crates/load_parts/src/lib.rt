@@ -1,4 +1,6 @@
 // The conversions of a set-up's body, and what its tails of versions 04 and 05 say, loaded into the words of its rules.
+#![tactic(auto)]
+
 ghost use Rattle.std.specs.Prelude.{◌≡◌, ◌+◌, ◌*◌, ◌≤◌, ◌<◌, ◌^◌};
 ghost use Rattle.std.proofs.lemmas.List.Edits.{sets};
 ghost use Rattle.layout.specs.Layout.{conversion_place};

@@ -1,4 +1,6 @@
 // The lines of a paper's log behind its own, in lent room, and the room that both are asked.
+#![tactic(auto)]
+
 ghost use Rattle.std.specs.Prelude.{◌≡◌, ◌+◌, ◌≤◌, length};
 ghost use Rattle.paper_log.specs.Log.{tail_at};
 ghost use Rattle.log_text.specs.LogText.{placed, place_behind, longest};

@@ -1,5 +1,7 @@
 // The log of a paper (request Eight), from the paper's bytes and the lines that were printed of it: it
 // reads what was answered, and so it changes no answer.
+#![tactic(auto)]
+
 ghost use Rattle.std.specs.Prelude.{◌≡◌, ◌+◌, ◌≤◌, length};
 ghost use Rattle.paper.specs.Paper.{place_after};
 ghost use Rattle.rules.specs.Rules.{rules_of};

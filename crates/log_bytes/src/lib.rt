@@ -1,4 +1,6 @@
 // The bytes of a log record's values: the last ones of a number, an amount in digits, a First's date.
+#![tactic(auto)]
+
 ghost use Rattle.std.specs.Prelude.{◌≡◌, ◌%◌, length};
 ghost use Rattle.iad.specs.Iad.{pairs_of};
 ghost use Rattle.log_bytes.specs.LogBytes.{octets, date_bytes};

@@ -6,7 +6,7 @@ use Prim.Native.Nat.{ℕ, ◌+◌, ◌-◌, ◌≤◌}
 use native.Mathlib.Omega.{arith}
 use borrow.Author.Tests.{le-leb, ltb-false}
 use lib.Dec.{ltb, eqb}
-use lib.ListN.{length, drop, length_take}
+use lib.ListN.{length, drop, length-take}
 use Rattle.log_tail.specs.declared.Entry.{Entry}
 use Rattle.log_tail.specs.LogTail.{reaches_past}
 use Rattle.field.specs.Field.{is_within, stretch_of, field_of}
@@ -21,7 +21,7 @@ cond_most false n = omega arith
 
 part-most : (paper : List ℕ) (at bytes : ℕ) → length (part_of paper at bytes) ≤ bytes
 unfolding part_of
-part-most paper at bytes = omega (arith, length_take bytes (drop at paper))
+part-most paper at bytes = omega (arith, length-take bytes (drop at paper))
 
 none_left : (s : List ℕ) (position long : ℕ) → is_within (length s) position long ≡ false → length (stretch_of s position long) ≡ 0
 unfolding stretch_of

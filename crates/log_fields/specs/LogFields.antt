@@ -49,12 +49,12 @@ field_in paper tail form kept i =
     field_of (first_data paper form kept) (second_data paper kept) entry.source entry.position entry.length
 
 -- and where it lies in the paper: the data as a part of it
-abbrev pub part_ref : (paper : Bor (List ℕ)) (place : ℕ × ℕ) (bytes : List ℕ) → Bor (List ℕ)
-part_ref paper place bytes = record { ref_ptr = place; ghost_name = paper.name; now = bytes }
+abbrev pub part_ref : (place : ℕ × ℕ) (bytes : List ℕ) → Bor (List ℕ)
+part_ref place bytes = record { ref_ptr = place; now = bytes }
 
 unfoldable pub field_place_in : (paper : Bor (List ℕ)) (tail : List ℕ) → Form → Record → (i : ℕ) → ℕ × ℕ
 field_place_in paper tail form kept i =
     let entry = field_entry tail form kept i in
-    let first = part_ref paper (first_data_place paper kept) (first_data paper.now form kept) in
-    let second = part_ref paper (second_data_place paper kept) (second_data paper.now kept) in
+    let first = part_ref (first_data_place paper kept) (first_data paper.now form kept) in
+    let second = part_ref (second_data_place paper kept) (second_data paper.now kept) in
     field_place first second entry.source entry.position entry.length

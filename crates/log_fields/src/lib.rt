@@ -1,5 +1,7 @@
 // The fields of a log record (request Eight): stretches of its First's body and its Second's, where they
 // lie in the paper.
+#![tactic(auto)]
+
 ghost use Rattle.std.specs.Prelude.{◌≡◌, cond, ◌≤◌};
 ghost use Rattle.log_fields.specs.LogFields.{first_length, part_of, part_place, first_data, first_data_place, second_data, second_data_place};
 ghost use Rattle.log_fields.specs.LogFields.{is_of_second, field_count, field_in, field_place_in};
@@ -11,7 +13,7 @@ const SECOND: usize = 8;
 
 // What a log must know of a paper: how many profiles its set-up has, whether its Firsts are dated, and
 // whether its card is a CPACE one.
-#[derive(Drop)]
+#[derive(Clone, Copy)]
 pub struct Form {
     pub profiles: u8,
     pub dated: bool,

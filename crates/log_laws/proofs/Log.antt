@@ -6,7 +6,7 @@ use Prim.Native.Nat.{ℕ, zero, suc, ◌+◌, ◌-◌, ◌≤◌, ◌<◌, min}
 use native.Mathlib.Omega.{arith}
 use borrow.Author.Tests.{ltb-true, ltb-false, le-ltb}
 use lib.Dec.{ltb}
-use lib.ListN.{length, take, get_or, length-append, length_take}
+use lib.ListN.{length, take, get_or, length-append, length-take}
 use lib.Seq.{take_all, take-nil, get_or-take}
 use Rattle.text.specs.Text.{joined}
 use Rattle.refusal.specs.declared.Refusal.{Refusal}
@@ -131,7 +131,7 @@ module _ (log : Log) (paper : List ℕ) (logged : List Record) where
   -- AS MANY AS ARE LOGGED, OR AS THE RING HAS SLOTS
   pub newest-count : length (newest_lines log paper logged) ≡ min slots (length logged)
   unfolding newest_lines
-  newest-count = from-count paper (tail_at paper log.start log.end) log.form 1 (take slots logged) ∙ length_take slots logged
+  newest-count = from-count paper (tail_at paper log.start log.end) log.form 1 (take slots logged) ∙ length-take slots logged
 
   -- LINE k IS THAT OF THE k-TH NEWEST
   pub newest-line : (k : ℕ) → 1 ≤ k → k ≤ min slots (length logged)
@@ -140,7 +140,7 @@ module _ (log : Log) (paper : List ℕ) (logged : List Record) where
   newest-line k least most =
       let tail = tail_at paper log.start log.end in
       let number : 1 + (k - 1) ≡ k = omega arith in
-      from_is paper tail log.form 1 (take slots logged) (k - 1) (omega (arith, length_take slots logged))
+      from_is paper tail log.form 1 (take slots logged) (k - 1) (omega (arith, length-take slots logged))
       ∙ ap (log_line (1 + (k - 1)) paper tail log.form) (get_or-take slots logged (k - 1) blank (omega arith))
       ∙ ap (λ (n : ℕ). log_line n paper tail log.form (get_or logged (k - 1) blank)) number
 

@@ -6,7 +6,7 @@ use Prim.Native.Nat.{ℕ, ◌+◌, ◌-◌, ◌<◌}
 use native.Mathlib.Omega.{arith}
 use borrow.Author.Tests.{eqb-true, eq-eqb, ne_eqb}
 use lib.Dec.{leb, eqb}
-use lib.ListN.{length, drop, length_take}
+use lib.ListN.{length, drop, length-take}
 use lib.Seq.{get_or-take, get_or-drop}
 use Rattle.wire.specs.Wire.{byte, number}
 use Rattle.rules.specs.declared.Values.{Values}
@@ -68,7 +68,7 @@ module _ (paper : List ℕ) (at : ℕ) where
   -- the response code stands in the second byte and the third of a body that has them
   there : length body ≡ 8 → (i k : ℕ) → i < 8 → at + 3 + i ≡ at + k → byte body i ≡ byte (drop at paper) k
   there long i k h same =
-      let size = length_take (end_at paper at - (at + 3)) (drop (at + 3) paper) in
+      let size = length-take (end_at paper at - (at + 3)) (drop (at + 3) paper) in
       get_or-take (end_at paper at - (at + 3)) (drop (at + 3) paper) i 0 (omega arith)
       ∙ get_or-drop (at + 3) paper i 0
       ∙ ap (byte paper) same

@@ -1,5 +1,7 @@
 // The lines of a transaction log (request Eight), written into lent room from a place on; the place
 // behind is returned.
+#![tactic(auto)]
+
 ghost use Rattle.std.specs.Prelude.{◌≡◌, ◌+◌, ◌≤◌, length};
 ghost use Rattle.text.specs.Stored.{Stored};
 ghost use Rattle.log_lines.specs.LogLines.{fields_text, values_text, heading, log_line, longest, placed, place_behind};

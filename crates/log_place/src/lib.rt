@@ -1,4 +1,6 @@
 // The tail of version 07, the log's: where it stands and ends.
+#![tactic(auto)]
+
 ghost use Rattle.std.specs.Prelude.{◌≡◌, ◌+◌, ◌^◌, ◌<◌};
 ghost use Rattle.shape.specs.Shape.{table_end, log_end, logging_tail};
 

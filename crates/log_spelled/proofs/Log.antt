@@ -6,7 +6,7 @@ use Prim.Native.Nat.{ℕ, zero, suc, ◌+◌, ◌-◌, ◌≤◌, ◌<◌}
 use native.Mathlib.Omega.{arith}
 use borrow.Author.Tests.{le-leb}
 use lib.Dec.{eqb}
-use lib.ListN.{length, take, drop, get_or, length-append, length_take, length-drop, get_or-append}
+use lib.ListN.{length, take, drop, get_or, length-append, length-take, length-drop, get_or-append}
 use lib.Seq.{drop-append-le, take-append-le}
 use Rattle.wire.specs.Wire.{byte}
 use Rattle.rules.specs.Word.{word_count}
@@ -96,7 +96,7 @@ module _ (paper body rest : List ℕ) (behind-head : drop 4 paper ≡ body ++ re
       let n = length (log_bytes fields) in
       let size : length (take (at + n - at) (drop at body)) ≡ n = ap length said in
       let left = length-drop at body in
-      let taken = length_take (at + n - at) (drop at body) in
+      let taken = length-take (at + n - at) (drop at body) in
       rw (le-leb (4 + at) (4 + (at + n)) (omega arith), le-leb (4 + (at + n)) (length paper) (omega arith))
       (part_drop paper 4 at (at + n)
       ∙ rw (behind-head, drop-append-le at body rest (omega arith)) (take-append-le (at + n - at) (drop at body) rest (omega arith))

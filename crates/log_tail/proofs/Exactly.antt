@@ -1,7 +1,7 @@
 -- The judgement by its causes: 14 exactly where a tail in range has an entry that reaches past its source, 1 exactly where it is out of range.
 -- Assumes nothing.
 use mathlib.Core.Path.{◌≡◌, refl, ap}
-use mathlib.Core.Bool.{Bool, true, false, cond, not, ◌&&◌, and_false}
+use mathlib.Core.Bool.{Bool, true, false, cond, not, ◌&&◌, and-false}
 use mathlib.Core.List.{List}
 use mathlib.Core.Logic.{◌⊎◌, inl, inr}
 use Prim.Native.Nat.{ℕ, zero, suc, ◌<◌}
@@ -63,7 +63,7 @@ module _ (tail : List ℕ) (profiles first : ℕ) where
   pub fourteen_if : is_in_range tail profiles ≡ true → Past false ⊎ Past true → judged_number (judged tail profiles first) ≡ 14
   unfolding judged is_within are_within
   fourteen_if range (inl p) = rw (range, not_within false p)
-  fourteen_if range (inr p) = rw (range, not_within true p) (ap (λ b. judged_number (cond b Sound PastData)) (and_false (within false)))
+  fourteen_if range (inr p) = rw (range, not_within true p) (ap (λ b. judged_number (cond b Sound PastData)) (and-false (within false)))
 
   pub one-exactly : (judged_number (judged tail profiles first) ≡ 1 → is_in_range tail profiles ≡ false)
       × (is_in_range tail profiles ≡ false → judged_number (judged tail profiles first) ≡ 1)

@@ -1,5 +1,7 @@
 // What a set-up says of its log (request Eight): the tail of version 07 where it is on. It has the
 // ring's size, the switches, whether each profile logs, and two tables, First's and Second's.
+#![tactic(auto)]
+
 ghost use Rattle.std.specs.Prelude.{◌≡◌, ◌≤◌, ◌<◌};
 ghost use Rattle.log_tail.specs.LogTail.{size_in, switches_in, logs_in, first_table, second_table, table_of, entry_in, entry_count, entry_at, data_of};
 ghost use Rattle.log_tail.specs.LogTail.{reaches_past, are_flags, are_sources, are_within, is_in_range, is_within, judged};

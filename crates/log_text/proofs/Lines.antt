@@ -6,7 +6,7 @@ use Prim.Native.Nat.{ℕ, zero, suc, ◌+◌, ◌*◌, ◌-◌, ◌≤◌, ◌<�
 use native.Mathlib.Omega.{arith}
 use borrow.Author.Tests.{le-ltb, ne_eqb, ltb-true, ltb-false}
 use lib.Dec.{ltb, leb}
-use lib.ListN.{length, take, drop, get_or, length-append, length_take, get_or-eq_default}
+use lib.ListN.{length, take, drop, get_or, length-append, length-take, get_or-eq_default}
 use lib.Seq.{get_or-take, get_or-drop}
 use Rattle.wire.specs.Wire.{byte}
 use Rattle.text.specs.Text.{joined}
@@ -62,7 +62,7 @@ small-part paper start end small i = by (leb start end && leb end (length paper)
     at true e = subst (λ v. v < 256) (sym (get_or-take n s i 0 (ltb-true i n e))) (small i)
     at false e =
         let past = ltb-false i n e in
-        let few = length_take n s in
+        let few = length-take n s in
         subst (λ v. v < 256) (sym (get_or-eq_default (take n s) 0 (omega arith))) (omega arith)
 
   by : (b : Bool) → byte (cond b (take (end - start) (drop start paper)) []) i < 256

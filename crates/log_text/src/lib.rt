@@ -1,5 +1,7 @@
 // The text of a log (request Eight): the lines of its records, the newest first, written into lent room
 // from a place on; the place behind is returned.
+#![tactic(auto)]
+
 ghost use Rattle.std.specs.Prelude.{◌≡◌, ◌+◌, ◌≤◌, length};
 ghost use Rattle.text.specs.Text.{joined};
 ghost use Rattle.text.specs.Stored.{Stored};

@@ -1,6 +1,8 @@
 // The values of a line of the transaction log, in hex, written into lent room from a place on; the
 // place behind is returned. Without room for as many bytes as such a value may have nothing is
 // written, and the place stays.
+#![tactic(auto)]
+
 ghost use Rattle.std.specs.Prelude.{◌≡◌, cond, [], ◌+◌, ◌*◌, ◌≤◌, length};
 ghost use Rattle.text.specs.Text.{fits};
 ghost use Rattle.text.specs.Stored.{Stored};

@@ -1,4 +1,6 @@
 // What a card keeps of issuer scripts, in one byte.
+#![tactic(auto)]
+
 ghost use Rattle.std.specs.Prelude.{◌≡◌};
 ghost use Rattle.marks.specs.Marks.{fresh_scripts, marks_of, has_failed_here, started, heard, one_done, one_failed};
 
@@ -7,7 +9,7 @@ use std::num::wrapping_add_u8;
 // As CVR byte 4 shows it: b8 to b5 count the commands done,
 // modulo 16, b4 says whether one failed. Not shown: b1, whether one failed since the last accepted
 // Start. b3 and b2 are 0.
-#[derive(Drop)]
+#[derive(Clone, Copy)]
 pub struct Scripts(pub u8);
 
 // One command, in the count.

@@ -1,4 +1,6 @@
 // What an element of a command says: which of the card's values or limits it writes.
+#![tactic(auto)]
+
 ghost use Rattle.std.specs.Prelude.{◌≡◌, ◌<◌};
 ghost use Rattle.element.specs.Element.{as_meaning, is_one_of, meaning_of, element_meaning};
 

@@ -1,6 +1,6 @@
 -- What a change enters into a meter, and what entries do to a value. Assumes nothing.
 use mathlib.Core.Path.{◌≡◌, refl}
-use mathlib.Core.Bool.{Bool, true, false, cond, ◌&&◌, and_false}
+use mathlib.Core.Bool.{Bool, true, false, cond, ◌&&◌, and-false}
 use mathlib.Core.List.{List, [], ◌∷◌, ◌++◌}
 use Prim.Native.Nat.{ℕ, ◌+◌, ◌≤◌}
 use native.Mathlib.Omega.{arith}
@@ -33,7 +33,7 @@ module _ (rules : Rules) (place : Place) (values : Values) (change : Change) whe
 -- nothing is entered into what is not active
 pub inactive_still : (rules : Rules) (meter : Meter) (rule : MeterRule) (change : Change) → rule.active ≡ false
     → (based rule change ++ added rules meter rule change) ≡ []
-inactive_still rules meter rule (Approve purchase) e = simp (e, and_false)
+inactive_still rules meter rule (Approve purchase) e = simp (e, and-false)
 inactive_still rules meter rule Decline e = simp e
 inactive_still rules meter rule SetToLimits e = simp e
 inactive_still rules meter rule Clear e = simp e

@@ -1,4 +1,6 @@
 // What approvals, declines and the issuer's orders do to a value, and what they do to a counter.
+#![tactic(auto)]
+
 ghost use Rattle.std.specs.Prelude.{◌≡◌};
 ghost use Rattle.rules.specs.Rules.{rules_of};
 ghost use Rattle.purchase.specs.Meter.{counter, counter_cap};
@@ -8,7 +10,7 @@ use purchase::Purchase;
 use rules::{Place, Words};
 
 // What a command does to the values.
-#[derive(Drop)]
+#[derive(Clone, Copy)]
 pub enum Change {
     // An offline approval, or the addition that CSU order 11 asks for.
     Approve(Purchase),

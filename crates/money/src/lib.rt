@@ -1,19 +1,21 @@
 // Amounts of two kinds, and the conversion that alone leads from one to the other.
+#![tactic(auto)]
+
 ghost use Rattle.std.specs.Prelude.{◌≡◌, ◌+◌, ◌≤◌, ◌<◌, ◌^◌};
 ghost use Rattle.money.specs.Money.{max, stopped, is_for, rate_for, is_rate, rounded, scaled, amount_or_over, convert_of};
 
 pub const MAX: u64 = 999_999_999_999;
 
 // An amount in the transaction's currency.
-#[derive(Drop)]
+#[derive(Clone, Copy)]
 pub struct TransactionAmount(pub u64);
 
 // An amount in the currency of an accumulator, of a limit or of the maximum transaction amount.
-#[derive(Drop)]
+#[derive(Clone, Copy)]
 pub struct AccumulatorAmount(pub u64);
 
 // One entry of the conversion table: digits d, and shift, the paper's s + 9. A blank one has d 0.
-#[derive(Drop)]
+#[derive(Clone, Copy)]
 pub struct Rate {
     pub from: u16,
     pub to: u16,
@@ -23,7 +25,7 @@ pub struct Rate {
 
 // The conversion table, and what becomes of a fraction: by syllabus 0 it is dropped, by syllabus 1
 // rounded up to a whole unit.
-#[derive(Drop)]
+#[derive(Clone, Copy)]
 pub struct Rates {
     pub entries: [Rate; 5],
     pub up: bool,

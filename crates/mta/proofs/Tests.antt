@@ -1,5 +1,6 @@
 -- What the code's tests tell of a float: out of range, or the float of a whole number and not -0. Assumes nothing.
-use Rattle.std.proofs.Common.{◌≡◌, ℕ, zero, suc, ◌+◌, ◌*◌, ◌/◌, ◌<◌, ◌≤◌, Bool, true, false, not, ◌&&◌, ◌||◌, T, eqb, pos, sym, refl, ap, ◌∙◌, subst, lt_of_lt_of_le, lt_irrefl, zero-lt-suc, mul-pos, le-div_iff_mul-le, zero-mul, mul-one, mul_right_comm, arith, le→leb, eqb→eq, ltb-false, le-ltb}
+use Rattle.std.proofs.Common.{◌≡◌, ℕ, zero, suc, ◌+◌, ◌*◌, ◌/◌, ◌<◌, ◌≤◌, Bool, true, false, not, ◌&&◌, ◌||◌, T, eqb, pos, sym, refl, ap, ◌∙◌, subst, lt_of_lt_of_le, lt_irrefl, zero-lt-suc}
+use Rattle.std.proofs.Common.{mul-pos, le-div_iff_mul-le, zero-mul, mul-one, mul_right_comm, arith, le→leb, eqb→eq, ltb-false, le-ltb}
 use mathlib.Core.Bool.{beq}
 use native.Mathlib.Nat.{eq_of_mul-eq-mul_right}
 use lib.Dec.{eqb_refl, eqb-suc-zero}
@@ -66,8 +67,14 @@ cross a e b d n D v w =
 
 equal_of : (x y : Float) (n : ℕ) → HasValue y false n 1 → T (fits binary64 y) → T (fits binary64 x) → T (eq y x) → negative x ≡ false → x ≡ y
 unfolding eq
+equal_of nan nan n v fy fx q s = elim v [ ]
+equal_of nan (inf _) n v fy fx q s = elim v [ ]
 equal_of nan (fin t m' e') n v fy fx q s = absurd q
+equal_of (inf u) nan n v fy fx q s = elim v [ ]
+equal_of (inf u) (inf _) n v fy fx q s = elim v [ ]
 equal_of (inf u) (fin t m' e') n v fy fx q s = absurd q
+equal_of (fin u m e) nan n v fy fx q s = elim v [ ]
+equal_of (fin u m e) (inf _) n v fy fx q s = elim v [ ]
 equal_of (fin u m e) (fin t m' e') n v fy fx q s =
     let a = m' * up e' * down e in
     let b = m * up e * down e' in
@@ -76,6 +83,8 @@ equal_of (fin u m e) (fin t m' e') n v fy fx q s =
 
 self : (x : Float) → T (in_unsigned binary64 64 x) → T (eq x x)
 unfolding eq in_unsigned
+self nan t = elim t [ ]
+self (inf _) t = elim t [ ]
 self (fin true m e) t = absurd (and_r (whole binary64 (fin true m e)) false t)
 self (fin false m e) t = and_i (eqb (m * up e * down e) (m * up e * down e)) true (eqb_refl (m * up e * down e)) tt
 

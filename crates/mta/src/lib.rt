@@ -1,4 +1,6 @@
 // The MTA of an old record, a 64-bit float, as an amount.
+#![tactic(auto)]
+
 ghost use Rattle.std.specs.Prelude.{◌≡◌, ◌≤◌};
 ghost use Rattle.money.specs.Money.{max};
 ghost use Rattle.std.specs.Float.{binary64};

@@ -1,4 +1,6 @@
 // New limits of a rule, written into the words that hold the rules: in every profile.
+#![tactic(auto)]
+
 ghost use Rattle.std.specs.Prelude.{◌≡◌, ◌+◌, ◌≤◌, length};
 ghost use Rattle.rules.specs.Word.{word_count, profile_length, rule_length};
 ghost use Rattle.rules.specs.Rules.{rules_of};

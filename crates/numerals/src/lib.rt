@@ -1,4 +1,6 @@
 // A number in decimal, written into lent room from a place on; the place behind is returned.
+#![tactic(auto)]
+
 ghost use Rattle.std.specs.Prelude.{◌≡◌, [], ◌∷◌, ◌+◌, ◌≤◌, ◌<◌, length};
 ghost use Rattle.text.specs.Stored.{Stored};
 ghost use Rattle.numerals.specs.Numeral.{numeral, number_placed, number_behind, field_placed, field_behind};

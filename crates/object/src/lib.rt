@@ -1,6 +1,8 @@
 // The objects of an issuer's template, by EMV Book 3 Annex B: each has a tag, a length and a value,
 // and the value of a constructed object is a list of objects. `read_template` says whether a template
 // is sound.
+#![tactic(auto)]
+
 ghost use Rattle.std.specs.Prelude.{◌≡◌, ◌≤◌};
 ghost use Rattle.object.specs.Object.{read_object, read_list, read_template};
 ghost use Rattle.head.specs.declared.Head.TheVariants.{Right};

@@ -1,4 +1,6 @@
 // The set-up of a paper, read into lent words: a fresh card, or a refusal.
+#![tactic(auto)]
+
 ghost use Rattle.std.specs.Prelude.{◌≡◌, ◌+◌, ◌<◌, ◌^◌, length};
 ghost use Rattle.shape.specs.Shape.{cycles_part, family_part, Lies, Spans, Holds, Keeps, selecting_at, dating_at, family_at, logging_at, shape_at};
 ghost use Rattle.shape.specs.declared.ReadShape.TheVariants.{Taken as ShapeTaken};

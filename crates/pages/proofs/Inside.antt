@@ -13,7 +13,7 @@ use Rattle.blocks.specs.declared.Turned.{Turned}
 use Rattle.blocks.specs.declared.Wants.{Wants}
 use Rattle.blocks.specs.declared.Wants.TheVariants.{Turn, Input, Room}
 use Rattle.pages.specs.Stack.{page_of, size_of, paper_of}
-use Rattle.pages.specs.Turn.{too_long, longest_paper, Deal, hold, page, passing, opening, deal_of, said_by}
+use Rattle.pages.specs.Turn.{too_long, longest_paper, hold, page, passing, opening, deal_of, said_by}
 
 pub record Inside (bytes : ℕ) (said : Turned) : Type 0 where
   pub taken : said.taken ≤ bytes

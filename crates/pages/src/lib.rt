@@ -1,5 +1,7 @@
 // A stack of papers, taken block by block from the bytes at hand. The page of a paper is its lines and
 // an empty one.
+#![tactic(auto)]
+
 ghost use Rattle.std.specs.Prelude.{◌≡◌, length};
 ghost use Rattle.paper_text.specs.PaperText.{words_put};
 ghost use Rattle.pages.specs.Turn.{page_put, page_room, deal_of, said_by, room_by, words_by};

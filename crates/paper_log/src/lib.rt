@@ -1,4 +1,6 @@
 // The log of a paper (request Eight): what its set-up says of it, and what a record is to it.
+#![tactic(auto)]
+
 ghost use Rattle.std.specs.Prelude.{◌≡◌};
 ghost use Rattle.rules.specs.Rules.{rules_of};
 ghost use Rattle.paper_log.specs.Log.{tail_at, tail_place, logging_in, is_dated, form_of, no_logging, log_of, heard_in};

@@ -1,4 +1,6 @@
 // The room that a paper's text is asked, and what becomes of the text.
+#![tactic(auto)]
+
 ghost use Rattle.std.specs.Prelude.{◌≡◌};
 ghost use Rattle.paper_room.specs.PaperRoom.{has_room};
 

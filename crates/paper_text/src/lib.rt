@@ -1,4 +1,6 @@
 // The text of a whole paper, in lent room: its lines, and behind them those of its log.
+#![tactic(auto)]
+
 ghost use Rattle.std.specs.Prelude.{◌≡◌, length};
 ghost use Rattle.rules.specs.Rules.{blank_words};
 ghost use Rattle.transcript.specs.Transcript.{transcript_of};

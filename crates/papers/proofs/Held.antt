@@ -6,7 +6,7 @@ use Prim.Native.Nat.{ℕ, zero, suc, ◌+◌, ◌-◌, ◌<◌, ◌≤◌}
 use native.Mathlib.Omega.{arith}
 use borrow.Author.Tests.{ne_eqb}
 use lib.Dec.{eqb}
-use lib.ListN.{length, get_or, take, length_take}
+use lib.ListN.{length, get_or, take, length-take}
 use Rattle.wire.specs.Wire.{byte}
 use Rattle.rules.specs.declared.Values.{Values}
 use Rattle.purchase.specs.Meter.{Meter, accumulator, counter, IsMeter, value_of}
@@ -31,7 +31,7 @@ use Rattle.papers.specs.Papers.{body_in, tails_in, behind_dating, profiles_in, s
 tested-there : (b : Bool) (p : ℕ) (s : List ℕ) → eqb (byte s 0) 0 ≡ b → is_tested (cond b cpa cpace) ≡ not (eqb (length (cond b [] (take (9 + p) s))) 0)
 tested-there true p s e = refl
 tested-there false p [] e = let z : ◌≡◌ {A = ℕ} 0 1 = cc in absurd (omega arith)
-tested-there false p (x ∷ s) e = rw (ne_eqb (length (take (9 + p) (x ∷ s))) 0 (λ z. omega (arith, length_take (9 + p) (x ∷ s))))
+tested-there false p (x ∷ s) e = rw (ne_eqb (length (take (9 + p) (x ∷ s))) 0 (λ z. omega (arith, length-take (9 + p) (x ∷ s))))
 
 pub tested-is : (paper : List ℕ) → is_tested (card_of paper) ≡ not (eqb (length (setup_of paper).family) 0)
 unfolding setup_of manner_of

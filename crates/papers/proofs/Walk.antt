@@ -1,6 +1,6 @@
 -- The conversation takes each record of a paper once, in order: what the walk over its bytes meets. Assumes nothing.
 use mathlib.Core.Path.{◌≡◌, refl, sym, ap, ◌∙◌}
-use mathlib.Core.Bool.{Bool, true, false, cond, ◌&&◌, and_true, and_false}
+use mathlib.Core.Bool.{Bool, true, false, cond, ◌&&◌, and-true, and-false}
 use mathlib.Core.List.{List, [], ◌∷◌, ◌++◌}
 use Prim.Native.Nat.{ℕ, zero, suc, ◌+◌, ◌-◌, ◌*◌, ◌≤◌, ◌<◌}
 use native.Mathlib.Omega.{arith}
@@ -165,13 +165,13 @@ meant-read on manner scripts slots kind body = by (eqb kind 2) (eqb kind 3) (eqb
   by : (two three four five : Bool) → eqb kind 2 ≡ two → eqb kind 3 ≡ three → eqb kind 4 ≡ four → eqb kind 5 ≡ five
       → read_as on manner slots kind body ≡ as_read (meant manner slots kind body)
   by true three four five e f g h =
-      rw (eqb-true kind 2 e, and_false on) (start-meant body manner.choice manner.dates manner.family manner.scripts slots)
+      rw (eqb-true kind 2 e, and-false on) (start-meant body manner.choice manner.dates manner.family manner.scripts slots)
   by false true four five e f g h =
-      rw (eqb-true kind 3 f, and_false on) (other 3 (λ z. omega arith) ∙ first-meant body manner.dates manner.family)
+      rw (eqb-true kind 3 f, and-false on) (other 3 (λ z. omega arith) ∙ first-meant body manner.dates manner.family)
   by false false true five e f g h =
-      rw (eqb-true kind 4 g, and_false on) (other 4 (λ z. omega arith) ∙ second-meant body (dating_of manner.dates) (family_of manner.family))
-  by false false false true e f g h = rw (eqb-true kind 5 h, and_true on, scripts) (script-meant manner slots on body)
-  by false false false false e f g h = rw (e, f, g, h, and_false on) (other kind (eqb-false kind 2 e) ∙ rw (e, f, g))
+      rw (eqb-true kind 4 g, and-false on) (other 4 (λ z. omega arith) ∙ second-meant body (dating_of manner.dates) (family_of manner.family))
+  by false false false true e f g h = rw (eqb-true kind 5 h, and-true on, scripts) (script-meant manner slots on body)
+  by false false false false e f g h = rw (e, f, g, h, and-false on) (other kind (eqb-false kind 2 e) ∙ rw (e, f, g))
 
 -- ---- one turn, and all of them
 

@@ -181,7 +181,7 @@ abbrev pub shown_at : (at : ℕ) (body : List ℕ) → Presented
 shown_at at body = shown (byte body at) (byte body (at + 1)) (byte body (at + 2)) (number body (at + 3) 6)
 
 abbrev pub presented_meant : Dates → CardFamily → (body : List ℕ) → Presented
-presented_meant dates cpa body = unshown
+presented_meant _ cpa body = unshown
 presented_meant undated cpace body = shown_at 12 body
 presented_meant dated cpace body = shown_at 15 body
 

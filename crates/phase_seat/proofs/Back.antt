@@ -10,13 +10,12 @@ use Rattle.purchase.specs.declared.Timing.{Timing}
 use Rattle.purchase.specs.declared.Timing.TheVariants.{Undated, InOrder, DateError}
 use Rattle.rules.specs.declared.Place.{Place}
 use Rattle.rules.specs.declared.Place.TheVariants.{One, Two, Three, Four}
-use Rattle.state.specs.declared.Pending.{Pending}
 use Rattle.state.specs.declared.Phase.{Phase}
 use Rattle.state.specs.declared.Phase.TheVariants.{Idle, Opened, Asked}
 use Rattle.cells.proofs.Spread.{four}
 use Rattle.cells.proofs.Back.{flag_back}
 use Rattle.phase_seat.specs.Phases.{place_number, place_of, cvm_number, cvm_of, timing_cells, timing_at, purchase_cells, purchase_at, pending_cells, pending_at, phase_cells, phase_at}
-use Rattle.phase_seat.specs.Phases.{TimingFits, PendingFits, PhaseFits}
+use Rattle.phase_seat.specs.Phases.{TimingFits, PhaseFits}
 use Rattle.phase_seat.proofs.Spread.{timing_spread}
 
 place_back : (place : Place) → place_of (place_number place) ≡ place

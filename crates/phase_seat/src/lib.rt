@@ -1,5 +1,7 @@
 // The phase of a card's state in cells, one cell to a field. An enum's first cell says which case it
 // is, and a field that the case lacks is 0. Whatever the cells hold, they are read as some phase.
+#![tactic(auto)]
+
 ghost use Rattle.std.specs.Prelude.{◌≡◌, ◌≤◌};
 ghost use Rattle.phase_seat.specs.Phases.{place_number, place_of, cvm_number, cvm_of, timing_cells, timing_at, purchase_at, pending_at, phase_cells, phase_at};
 ghost use Rattle.phase_seat.specs.Phases.{TimingFits, PendingFits, PhaseFits};

@@ -1,4 +1,6 @@
 // What stands in a text before its first mark, and what behind it.
+#![tactic(auto)]
+
 ghost use Rattle.std.specs.Prelude.{◌≡◌, ◌≤◌, ◌<◌, length};
 ghost use Rattle.pieces.specs.Pieces.{place_of, before, behind, behind_place};
 

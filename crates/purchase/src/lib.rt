@@ -1,4 +1,6 @@
 // A purchase, and what it is worth.
+#![tactic(auto)]
+
 ghost use Rattle.std.specs.Prelude.{◌≡◌};
 ghost use Rattle.money.specs.Money.{convert_of};
 ghost use Rattle.rules.specs.Rules.{rules_of};
@@ -10,14 +12,14 @@ use money::{AccumulatorAmount, Converted, TransactionAmount};
 use rules::Words;
 
 // How a purchase's date stands to the card's last one: an earlier one is a date error.
-#[derive(Drop)]
+#[derive(Clone, Copy)]
 pub enum Timing {
     Undated,
     InOrder,
     DateError(Date),
 }
 
-#[derive(Drop)]
+#[derive(Clone, Copy)]
 pub struct Purchase {
     pub amount: TransactionAmount,
     pub currency: u16,

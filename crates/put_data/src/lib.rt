@@ -1,4 +1,6 @@
 // The PUT DATA command of an issuer script, by CPA 18.8: whether it is valid, and what it writes.
+#![tactic(auto)]
+
 ghost use Rattle.std.specs.Prelude.{◌≡◌, ◌+◌, ◌≤◌, length, drop};
 ghost use Rattle.element.specs.Element.{element_size, element_meaning};
 ghost use Rattle.put_data.specs.PutData.{writes_in, told, next_in, is_some};

@@ -1,8 +1,8 @@
 -- Bytes, names and flags one by one. Assumes nothing.
 use mathlib.Core.Path.{◌≡◌, refl, sym, ap, ap₂, ◌∙◌}
-use mathlib.Core.Bool.{Bool, true, false, cond, ◌&&◌, and_true}
+use mathlib.Core.Bool.{Bool, true, false, cond, ◌&&◌, and-true}
 use mathlib.Core.List.{List, [], ◌∷◌, ◌++◌, append_assoc, append-nil}
-use Prim.Native.Nat.{ℕ, zero, suc, ◌+◌, ◌*◌, ◌-◌, ◌/◌, ◌%◌, ◌^◌, ◌≤◌, ◌<◌}
+use Prim.Native.Nat.{ℕ, suc, ◌+◌, ◌*◌, ◌-◌, ◌/◌, ◌%◌, ◌^◌, ◌≤◌, ◌<◌}
 use native.Mathlib.Nat.{zero-add, pow-suc, one-le-pow}
 use native.Mathlib.Omega.{arith}
 use borrow.Author.Tests.{lt-ltb, le-ltb, ltb-true, ltb-false, ne_eqb, eq-eqb}
@@ -131,11 +131,11 @@ module _ (close grammar : List ℕ) (t : ℕ) where
 module _ (s : List ℕ) where
   pub code_not : (is_letter (byte s 0) && is_letter (byte s 1)) ≡ false → word_of code s 0 ≡ hex (bytes_at s 0 2)
   unfolding word_of bytes_at all
-  code_not h = rw (and_true (is_letter (byte s 1)), h)
+  code_not h = rw (and-true (is_letter (byte s 1)), h)
 
   pub code_is : (is_letter (byte s 0) && is_letter (byte s 1)) ≡ true → word_of code s 0 ≡ (byte s 0 ∷ []) ++ (byte s 1 ∷ [])
   unfolding word_of bytes_at all
-  code_is h = rw (and_true (is_letter (byte s 1)), h)
+  code_is h = rw (and-true (is_letter (byte s 1)), h)
 
   all-pairs : all is_pair (bytes_at s 0 3) ≡ (is_pair (byte s 0) && is_pair (byte s 1) && is_pair (byte s 2))
   unfolding bytes_at all

@@ -1,16 +1,16 @@
 -- The lines of rows. Assumes nothing.
 use mathlib.Core.Path.{◌≡◌, refl, sym, ap, ap₂, ◌∙◌}
-use mathlib.Core.Bool.{Bool, true, false, cond}
+use mathlib.Core.Bool.{Bool, true, false}
 use mathlib.Core.List.{List, [], ◌∷◌, ◌++◌, append_assoc, append-nil}
-use Prim.Native.Nat.{ℕ, zero, suc, ◌+◌, ◌*◌, ◌-◌, ◌≤◌, ◌<◌}
+use Prim.Native.Nat.{ℕ, suc, ◌+◌, ◌*◌, ◌-◌}
 use native.Mathlib.Nat.{zero-add, add-zero, add_comm, suc-mul, zero-mul}
 use native.Mathlib.Omega.{arith}
-use lib.ListN.{length, drop, replicate}
+use lib.ListN.{drop, replicate}
 use Rattle.words.specs.Words.{is_empty}
-use Rattle.words.specs.Lex.{Line, behind, spaced, line_text, text_of, flush}
-use Rattle.lexing.specs.Places.{word_at, words_at, ends_line, next_word, after_word, next_line, below_at, lines_at}
+use Rattle.words.specs.Lex.{Line, behind, line_text, text_of, flush}
+use Rattle.lexing.specs.Places.{word_at, words_at, ends_line, next_word, after_word, next_line}
 use Rattle.lexing.proofs.Laws.{words-next, word_next, ended, lines_next}
-use Rattle.forms.specs.Form.{Form, done, width, said, is_blank, print_form}
+use Rattle.forms.specs.Form.{Form, width, said, is_blank, print_form}
 use Rattle.forms.specs.Grammar.{form_in}
 use Rattle.forms.specs.Table.{Field, field_in, fields_in, widths, Group, breadth, field_line, print_fields, print_groups}
 use Rattle.forms.proofs.Suffix.{fields-from, groups_from}

@@ -1,16 +1,15 @@
 -- What a row says of bytes, by its first mark. Assumes nothing.
-use mathlib.Core.Path.{◌≡◌, refl, sym, ap, ap₂, ◌∙◌}
-use mathlib.Core.Bool.{Bool, true, false, cond, ◌&&◌, and_true}
+use mathlib.Core.Path.{◌≡◌, refl, sym, ap, ◌∙◌}
+use mathlib.Core.Bool.{Bool, true, false, ◌&&◌}
 use mathlib.Core.List.{List, [], ◌∷◌, ◌++◌, append_assoc}
-use Prim.Native.Nat.{ℕ, zero, suc, ◌+◌, ◌-◌, ◌≤◌, ◌<◌}
+use Prim.Native.Nat.{ℕ, ◌+◌}
 use native.Mathlib.Nat.{zero-add, add-zero, sub-zero}
-use native.Mathlib.Omega.{arith}
 use lib.Dec.{eqb}
 use lib.ListN.{length, drop}
 use Rattle.words.specs.Words.{word, all, up_to}
 use Rattle.words.specs.Lex.{behind}
 use Rattle.lexing.specs.Places.{word_at, words_at, after_word}
-use Rattle.forms.specs.Form.{Form, done, rest, may, part, bits, either, fits_length, bytes_at, said, is_blank, word_of, rest_words, bit_words, print_form}
+use Rattle.forms.specs.Form.{Form, may, fits_length, bytes_at, said, is_blank, word_of, rest_words, bit_words, print_form}
 use Rattle.forms.specs.Grammar.{form_in, past}
 use Rattle.forms.proofs.Bytes.{whole_from}
 use Rattle.forms.proofs.Suffix.{said-from, form-from}
@@ -196,3 +195,18 @@ parts_on (Bytes n) h = refl
 parts_on Date h = refl
 parts_on Code h = refl
 parts_on Word h = refl
+
+-- the last arm of `put_form`
+pub among_parts : (m : Kind) → (m ≡ End → ⊥) → (m ≡ Rest → ⊥) → (m ≡ MayEnd → ⊥) → (m ≡ Opens → ⊥) → (m ≡ Silent → ⊥) → ((x : ℕ) → m ≡ Flags x → ⊥) → is_among parts (tag m) ≡ true
+among_parts End a b c d e f = absurd (a refl)
+among_parts Rest a b c d e f = absurd (b refl)
+among_parts MayEnd a b c d e f = absurd (c refl)
+among_parts Opens a b c d e f = absurd (d refl)
+among_parts Silent a b c d e f = absurd (e refl)
+among_parts Names a b c d e f = refl
+among_parts (Flags x) a b c d e f = absurd (f x refl)
+among_parts (Number x) a b c d e f = refl
+among_parts (Bytes x) a b c d e f = refl
+among_parts Date a b c d e f = refl
+among_parts Code a b c d e f = refl
+among_parts Word a b c d e f = refl

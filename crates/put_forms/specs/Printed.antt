@@ -1,5 +1,5 @@
 -- What is put of a part, and of a table.
-use Rattle.std.specs.Prelude.{◌≡◌, cond, List, [], ◌∷◌, ◌++◌, ℕ, ◌*◌, ◌-◌, ◌≤◌}
+use Rattle.std.specs.Prelude.{◌≡◌, cond, List, [], ◌∷◌, ◌++◌, ℕ, ◌≤◌}
 use Rattle.words.specs.Words.{word, up_to}
 use Rattle.words.specs.Lex.{Line, text_of}
 use Rattle.words.specs.Put.{Put}

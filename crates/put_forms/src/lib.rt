@@ -1,4 +1,6 @@
 // What rows of the grammar say of bytes, put into lent room. What lies past the end of the bytes reads as 0.
+#![tactic(auto)]
+
 ghost use Rattle.std.specs.Prelude.{◌≡◌, ◌||◌, ◌&&◌, List, [], ◌∷◌, ℕ, ◌-◌, ◌*◌, ◌≤◌, ◌<◌, ◌^◌, ltb, length, drop, replicate};
 ghost use Rattle.wire.specs.Wire.{number};
 ghost use Rattle.numerals.specs.Numeral.{numeral};

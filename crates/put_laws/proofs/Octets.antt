@@ -4,7 +4,7 @@ use mathlib.Core.List.{List, [], ◌∷◌, ◌++◌}
 use mathlib.Core.Bool.{Bool, true, false}
 use Prim.Native.Nat.{ℕ, zero, suc, ◌+◌, ◌<◌, ◌/◌}
 use native.Mathlib.Omega.{arith}
-use lib.ListN.{length, take, drop, length_take, get_or, get_or-eq_default}
+use lib.ListN.{length, take, drop, length-take, get_or, get_or-eq_default}
 use lib.Seq.{get_or-drop, get_or-take}
 use lib.Dec.{ltb}
 use borrow.Author.Tests.{ltb-true, ltb-false}
@@ -23,7 +23,7 @@ drop_bytes n s h i = rw (get_or-drop n s i 0) (h (n + i))
 
 take_by : (n : ℕ) (s : List ℕ) → Bytes s → (i : ℕ) (b : Bool) → ltb i n ≡ b → get_or (take n s) i 0 < 256
 take_by n s h i true e = rw (get_or-take n s i 0 (ltb-true i n e)) (h i)
-take_by n s h i false e = rw (get_or-eq_default (take n s) 0 {n = i} (omega (arith, length_take n s, ltb-false i n e))) (omega arith)
+take_by n s h i false e = rw (get_or-eq_default (take n s) 0 {n = i} (omega (arith, length-take n s, ltb-false i n e))) (omega arith)
 
 pub take-bytes : (n : ℕ) (s : List ℕ) → Bytes s → Bytes (take n s)
 take-bytes n s h i = take_by n s h i (ltb i n) refl

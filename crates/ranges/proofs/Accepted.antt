@@ -14,7 +14,7 @@ use Rattle.ranges.specs.Ranges.{has_length, is_head, is_accumulator, are_accumul
 use Rattle.ranges.specs.Ranges.{are_masks, is_maximum_amount, is_accumulator_rule, are_accumulator_rules, are_counter_rules, are_sent}
 use Rattle.ranges.specs.Ranges.{is_profile, is_profile_or_absent, are_profiles, is_conversion, is_conversion_or_absent, are_conversions}
 use Rattle.ranges.specs.Ranges.{profile_number, are_numbers_apart, conversion_pair, are_pairs_apart}
-use Rattle.ranges.proofs.Decides.{Decides, ◌and◌, ◌or◌, ◌with◌, at_most, below, equal, denied, each, itself, stated, if_there, different}
+use Rattle.ranges.proofs.Decides.{Decides, ◌and◌, ◌with◌, at_most, below, equal, denied, each, itself, stated, if_there, different}
 
 -- three decimal digits in two bytes
 pub record Currency (code : ℕ) : Type 0 where

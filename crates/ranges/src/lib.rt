@@ -1,5 +1,7 @@
 // Whether the bytes of a set-up's body are a set-up: its length, and the range of every field
 // (document 01, "Numbers" and "The paper"). Ranges hold for inactive entries too.
+#![tactic(auto)]
+
 ghost use Rattle.std.specs.Prelude.{◌≡◌, [], ◌∷◌, ◌+◌, ◌<◌, ◌^◌};
 ghost use Rattle.layout.specs.Layout.{accumulator_from, accumulator_rule_from, counter_rule_from, profile_length, conversion_length};
 ghost use Rattle.ranges.specs.Ranges.{has_length, is_head, is_accumulator, are_accumulators, is_setup};

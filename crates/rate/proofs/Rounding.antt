@@ -27,7 +27,11 @@ not_zero u p d h P D = lt_irrefl 0 (subst (λ (z : ℕ). 0 < z) (sym h ∙ ap (�
 -- two floats that are whole numbers
 divided : (a b : Float) (n p : ℕ) → 0 < p → HasValue a false n 1 → HasValue b false p 1 → div binary64 a b ≡ round binary64 false n p
 unfolding div
+divided nan b n p P v w = elim v [ ]
+divided (inf _) b n p P v w = elim v [ ]
 divided (fin true m e) b n p P v w = absurd (true≢false v.0)
+divided (fin false m e) nan n p P v w = elim w [ ]
+divided (fin false m e) (inf _) n p P v w = elim w [ ]
 divided (fin false m e) (fin true k g) n p P v w = absurd (true≢false w.0)
 divided (fin false m e) (fin false zero g) n p P v w = absurd (not_zero (up g) p (down g) w.1 P (down_pos g))
 divided (fin false m e) (fin false (suc k) g) n p P v w =

@@ -1,4 +1,6 @@
 // A rate of version one, a 64-bit float, as digits and a shift.
+#![tactic(auto)]
+
 ghost use Rattle.std.specs.Prelude.{◌≡◌, ◌≤◌, ◌^◌};
 ghost use Rattle.rate.specs.Rate.{shift_at, digits_of, digits_at, rate_of};
 

@@ -1,16 +1,17 @@
 -- Words read one behind the other. Assumes nothing.
-use Rattle.std.proofs.Common.{◌≡◌, ℕ, zero, suc, ◌+◌, ◌-◌, ◌*◌, ◌/◌, ◌%◌, ◌^◌, ◌<◌, ◌≤◌, Bool, true, false, cond, not, ◌&&◌, ◌||◌, eqb, ltb, leb, List, [], ◌∷◌, ◌++◌, length, take, drop, sym, refl, ap, ◌∙◌, ap₂, append_assoc, append-nil, arith, drop_of_length-le, ltb-true, le-ltb, lt-ltb, eqb-true, leb-true}
-use Rattle.words.specs.Words.{word, same, is_in, place_in, up_to, is_empty, is_hex, hex_bytes, hex_said, begins, tail, Flags, double, read_flags}
+use Rattle.std.proofs.Common.{◌≡◌, ℕ, zero, suc, ◌+◌, ◌-◌, ◌%◌, ◌^◌, ◌<◌, ◌≤◌, Bool, true, false, ◌||◌, List, [], ◌∷◌, ◌++◌, length, take, sym, refl, ap, ◌∙◌}
+use Rattle.std.proofs.Common.{append_assoc, append-nil, arith, drop_of_length-le}
+use Rattle.words.specs.Words.{word, same, is_in, place_in, up_to, is_empty, is_hex, hex_bytes, hex_said, begins, tail, read_flags}
 use Rattle.words.specs.Lex.{lex, flush}
 use Rattle.words.specs.Put.{Put}
 use Rattle.words.proofs.Puts.{nothing, next}
-use Rattle.words.proofs.Tests.{both, neither}
+use Rattle.words.proofs.Tests.{neither}
 use Rattle.lexing.specs.Places.{word_at, words_at, ends_line, word_end, next_word, after_word}
 use Rattle.lexing.proofs.Steps.{in_line_lem}
 use Rattle.lexing.proofs.Laws.{words-behind, words-next, word_next, word-passed, next-behind, ended}
 use Rattle.forms.specs.Form.{Want, hex_pairs, Read, Said, Wrong, before, read_rest}
 use Rattle.read_forms.specs.Places.{behind_word, behind_words, left_at, Onward}
-use Rattle.read_forms.specs.Reads.{Ended, Offence, Heard, names_at, flags_at, Begins, Gathered}
+use Rattle.read_forms.specs.Reads.{Heard, Begins, Gathered}
 use Rattle.read_forms.specs.declared.Reading.{Reading}
 use Rattle.read_forms.specs.declared.Reading.TheVariants.{On, Wrong as Amiss}
 

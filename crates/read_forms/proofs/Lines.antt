@@ -1,7 +1,7 @@
 -- The next line, and the word that it begins with. Assumes nothing.
 use Rattle.std.proofs.Common.{◌≡◌, ℕ, zero, suc, ◌-◌, ◌<◌, ◌≤◌, Bool, true, false, ltb, List, [], ◌∷◌, length, drop, sym, refl, ap, ◌∙◌, arith, drop_of_length-le, ltb-false, ltb-true}
 use Rattle.words.specs.Words.{begins}
-use Rattle.words.specs.Lex.{Line, flush, lines_of, lex, lines_in}
+use Rattle.words.specs.Lex.{flush, lines_of, lex, lines_in}
 use Rattle.lexing.specs.Places.{word_at, words_at, below_at, lines_at, ends_line, next_word, below_line, next_line}
 use Rattle.lexing.proofs.Laws.{lines_next, word-from, below-behind, below_next, words-behind, words-next}
 use Rattle.forms.specs.Form.{Form, Want, Read, Said, Wrong, read_form}

@@ -1,8 +1,9 @@
 -- Parts of a line: one word, or the names of bits. Assumes nothing.
-use Rattle.std.proofs.Common.{◌≡◌, ℕ, zero, suc, ◌+◌, ◌*◌, ◌%◌, ◌^◌, ◌<◌, ◌≤◌, Bool, true, false, cond, not, ◌&&◌, ◌||◌, ltb, leb, List, [], ◌∷◌, length, sym, refl, ap, ◌∙◌, pow-suc, arith, ltb-false, ltb-true, le-ltb, lt-ltb, leb-true}
+use Rattle.std.proofs.Common.{◌≡◌, ℕ, suc, ◌*◌, ◌^◌, ◌<◌, ◌≤◌, Bool, true, false, cond, not, ◌&&◌, ◌||◌, ltb, leb, List, [], ◌∷◌, length, sym, refl, ap, ◌∙◌, pow-suc}
+use Rattle.std.proofs.Common.{arith, ltb-false, ltb-true, le-ltb, lt-ltb, leb-true}
 use native.Mathlib.Nat.{pow-le-pow_right}
 use borrow.Author.Tests.{not-true}
-use Rattle.words.specs.Words.{word, same, is_in, is_number, value, place_in, begins, tail, Flags, double, read_flags, up_to}
+use Rattle.words.specs.Words.{word, same, is_in, is_number, value, place_in, begins, tail, double, read_flags}
 use Rattle.words.specs.Lex.{lex, step, are_words}
 use Rattle.words.specs.Number.{number_in}
 use Rattle.words.specs.declared.Number.TheVariants.{Is, Not as None}
@@ -11,7 +12,7 @@ use Rattle.words.specs.Words.{distinct}
 use Rattle.words.proofs.Tests.{both, same_true}
 use Rattle.words.proofs.Puts.{nothing}
 use Rattle.lexing.specs.Places.{word_at, words_at, next_word}
-use Rattle.forms.specs.Form.{Part, say, count, bytes, named, says, bytes_in, no_numbers, fine_part, big_endian, Want, a_part, Read, Wrong, before, one}
+use Rattle.forms.specs.Form.{Part, say, count, bytes, named, says, bytes_in, no_numbers, fine_part, big_endian, Want, a_part, one}
 use Rattle.walk.specs.declared.Mark.{Mark as Kind}
 use Rattle.walk.specs.declared.Mark.TheVariants.{End, Rest, MayEnd, Opens, Silent, Names, Flags as Bits, Number, Bytes, Date, Code, Word}
 use Rattle.walk.proofs.Keys.{is_among, tag, never}
@@ -19,8 +20,8 @@ use Rattle.read_words.specs.Told.{Told, Says, is_count}
 use Rattle.read_words.specs.declared.Said.{Said}
 use Rattle.read_words.specs.declared.Said.TheVariants.{To, Not}
 use Rattle.read_words.proofs.Laws.{number_is, no_number}
-use Rattle.read_forms.specs.Places.{behind_word, left_at, Onward}
-use Rattle.read_forms.specs.Reads.{Offence, Passed, Stopped, Piece, part_by, flags_then, Gathered}
+use Rattle.read_forms.specs.Places.{behind_word}
+use Rattle.read_forms.specs.Reads.{Passed, Stopped, Piece, part_by, flags_then, Gathered}
 use Rattle.read_forms.specs.declared.Reading.{Reading}
 use Rattle.read_forms.specs.declared.Reading.TheVariants.{On, Wrong as Amiss}
 use Rattle.read_forms.proofs.Laws.{none_left, first-left, one_on, along, begun-word}
@@ -60,6 +61,21 @@ said-by (Bytes n) w ws h = never h
 said-by Date w ws h = never h
 said-by Code w ws h = never h
 said-by Word w ws h = refl
+
+-- the last arm of `read_part`
+pub among_others : (m : Kind) → (m ≡ Names → ⊥) → ((x : ℕ) → m ≡ Number x → ⊥) → ((x : ℕ) → m ≡ Bytes x → ⊥) → (m ≡ Date → ⊥) → (m ≡ Code → ⊥) → is_among others (tag m) ≡ true
+among_others End a b c d e = refl
+among_others Rest a b c d e = refl
+among_others MayEnd a b c d e = refl
+among_others Opens a b c d e = refl
+among_others Silent a b c d e = refl
+among_others Names a b c d e = absurd (a refl)
+among_others (Bits x) a b c d e = refl
+among_others (Number x) a b c d e = absurd (b x refl)
+among_others (Bytes x) a b c d e = absurd (c x refl)
+among_others Date a b c d e = absurd (d refl)
+among_others Code a b c d e = absurd (e refl)
+among_others Word a b c d e = refl
 
 -- ---- a name or a number
 

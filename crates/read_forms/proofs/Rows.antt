@@ -1,6 +1,6 @@
 -- A line by a row, from a part on. Assumes nothing.
 use Rattle.std.proofs.Common.{◌≡◌, ℕ, ◌^◌, ◌<◌, ◌≤◌, Bool, true, false, cond, not, ◌&&◌, ◌||◌, leb, List, [], ◌∷◌, length, replicate, sym, refl, ap, ◌∙◌, arith, leb-true}
-use Rattle.words.specs.Words.{word, same, is_empty, up_to, begins, tail, distinct}
+use Rattle.words.specs.Words.{word, same, is_empty, begins, distinct}
 use Rattle.words.specs.Lex.{flush, is_word, are_words}
 use Rattle.words.specs.Put.{Put}
 use Rattle.words.proofs.Tests.{both, and, same_true}
@@ -8,8 +8,8 @@ use Rattle.words.proofs.Puts.{nothing}
 use Rattle.lexing.specs.Places.{word_at, words_at, ends_line, word_end, next_word, after_word}
 use Rattle.lexing.proofs.Steps.{in_line_lem}
 use Rattle.lexing.proofs.Laws.{words-next}
-use Rattle.forms.specs.Form.{Part, bytes, Form, done, rest, may, part, bits, either, width, fine_part, closed, solid, parted, fine}
-use Rattle.forms.specs.Form.{Want, a_part, line_end, hex_pairs, Read, Said, Wrong, before, one, line_done, or_zeros, first_word, read_rest, read_form}
+use Rattle.forms.specs.Form.{bytes, Form, done, may, part, width, fine_part, closed, solid, parted, fine}
+use Rattle.forms.specs.Form.{Want, line_end, Read, one, line_done, first_word, read_rest, read_form}
 use Rattle.forms.specs.Grammar.{form_in, past, is_sized, size_in}
 use Rattle.walk.specs.declared.Mark.{Mark as Kind}
 use Rattle.walk.specs.declared.Mark.TheVariants.{End, Rest, MayEnd, Opens, Silent, Names, Flags, Number, Bytes, Date, Code, Word}
@@ -17,8 +17,8 @@ use Rattle.walk.specs.Marks.{mark_of, mark_at, behind_part}
 use Rattle.walk.proofs.Keys.{is_among, tag, never}
 use Rattle.walk.proofs.Forms.{by_mark}
 use Rattle.walk.proofs.Places.{words-after, form-at, mark_end, moves}
-use Rattle.read_forms.specs.Places.{behind_word, left_at}
-use Rattle.read_forms.specs.Reads.{narrow, clauses, is_row, form_at, want_of, want_at, Ended, Offence, Heard, Passed, Stopped, Piece, flags_at, part_by, part_at, flags_then}
+use Rattle.read_forms.specs.Places.{behind_word}
+use Rattle.read_forms.specs.Reads.{narrow, clauses, is_row, form_at, Heard, Passed, Stopped, Piece, flags_at, part_by, part_at, flags_then}
 use Rattle.read_forms.specs.declared.Reading.{Reading}
 use Rattle.read_forms.specs.declared.Reading.TheVariants.{On, Wrong as Amiss}
 use Rattle.read_forms.proofs.Laws.{no_word, a_word, none_left, first-left, heard-on, begun-word}
@@ -360,3 +360,18 @@ module _ (text : List ℕ) (at : ℕ) (reads : (List (List ℕ) → Read) → Re
       → Heard text x wants lent mid (read_form g (words_at text x)) r after → Heard text at wants room to (read_form f (words_at text at)) r after
   unfolding Piece
   piece_passed lent q x mid e p after r h = passed-heard f g is wants room to after r (rw e at p) h
+
+-- the last arm of `read_form`
+pub among_wordy : (m : Kind) → (m ≡ End → ⊥) → (m ≡ Rest → ⊥) → (m ≡ MayEnd → ⊥) → (m ≡ Opens → ⊥) → (m ≡ Silent → ⊥) → ((x : ℕ) → m ≡ Flags x → ⊥) → is_among wordy (tag m) ≡ true
+among_wordy End a b c d e f = absurd (a refl)
+among_wordy Rest a b c d e f = absurd (b refl)
+among_wordy MayEnd a b c d e f = absurd (c refl)
+among_wordy Opens a b c d e f = absurd (d refl)
+among_wordy Silent a b c d e f = absurd (e refl)
+among_wordy Names a b c d e f = refl
+among_wordy (Flags x) a b c d e f = absurd (f x refl)
+among_wordy (Number x) a b c d e f = refl
+among_wordy (Bytes x) a b c d e f = refl
+among_wordy Date a b c d e f = refl
+among_wordy Code a b c d e f = refl
+among_wordy Word a b c d e f = refl

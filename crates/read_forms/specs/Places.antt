@@ -1,7 +1,6 @@
 -- Places of a line, by the words that are left behind them.
 use Rattle.std.specs.Prelude.{◌≡◌, ℕ, zero, suc, ◌-◌, ◌≤◌, List, length}
-use Rattle.words.specs.Lex.{Line}
-use Rattle.lexing.specs.Places.{words_at, below_at, word_end, next_word}
+use Rattle.lexing.specs.Places.{words_at, word_end, next_word}
 
 -- behind the next word
 abbrev pub behind_word : List ℕ → ℕ → ℕ

@@ -1,4 +1,6 @@
 // Lines of a text read by rows of the grammar, and what they say put into lent room.
+#![tactic(auto)]
+
 ghost use Rattle.std.specs.Prelude.{◌≡◌, ℕ, ◌≤◌, true, [], ◌∷◌, length, if◌then◌else◌};
 ghost use Rattle.words.specs.Words.{is_in, place_in, begins};
 ghost use Rattle.lexing.specs.Places.{word_at, words_at, below_at, ends_line, next_word, after_word};

@@ -1,20 +1,19 @@
 -- What words of each kind say. Assumes nothing.
 use mathlib.Core.Path.{◌≡◌, refl, sym, ap, ◌∙◌}
-use mathlib.Core.Bool.{Bool, true, false, cond, not, ◌&&◌, ◌||◌}
+use mathlib.Core.Bool.{Bool, true, false, cond, ◌&&◌}
 use mathlib.Core.List.{List, [], ◌∷◌, ◌++◌}
 use Prim.Native.Nat.{ℕ, zero, suc, ◌+◌, ◌*◌, ◌-◌, ◌/◌, ◌%◌, ◌^◌, ◌<◌, ◌≤◌}
 use native.Mathlib.Nat.{pow-suc}
 use native.Mathlib.Numerals.{add-one, unary_clauses}
 use native.Mathlib.Omega.{arith}
 use borrow.Author.Tests.{ltb-true, ltb-false, lt-ltb, le-ltb, eqb-true, eqb-false, eq-eqb, ne_eqb}
-use lib.Dec.{leb, ltb, eqb}
+use lib.Dec.{ltb, eqb}
 use lib.ListN.{length, drop, get_or, replicate, replicate-append-replicate}
 use lib.Seq.{drop-cons}
 use Rattle.words.specs.Words.{all, is_digit, is_number, value, is_hex_digit, is_hex, hex_bytes, hex_said}
 use Rattle.words.specs.Number.{number_in}
-use Rattle.words.specs.declared.Number.{Number as Found}
 use Rattle.words.specs.declared.Number.TheVariants.{Is, Not}
-use Rattle.words.proofs.Tests.{both, and}
+use Rattle.words.proofs.Tests.{both}
 use Rattle.forms.specs.Form.{big_endian, is_letter, is_date, date_digits}
 use Rattle.read_words.specs.Told.{is_count}
 

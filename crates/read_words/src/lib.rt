@@ -1,4 +1,6 @@
 // What a word says of a part of a line, put into lent room from a place on: what does not fit is left out.
+#![tactic(auto)]
+
 ghost use Rattle.std.specs.Prelude.{◌≡◌, cond, ◌^◌, ltb, replicate};
 ghost use Rattle.words.specs.Words.{all, same, is_digit, value};
 ghost use Rattle.words.specs.Put.{Put};

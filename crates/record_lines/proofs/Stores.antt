@@ -1,18 +1,14 @@
 -- What stands in the room behind each part of a text. Assumes nothing.
-use mathlib.Core.Path.{◌≡◌, sym, ◌∙◌}
-use mathlib.Core.Bool.{Bool, true, false, not}
+use mathlib.Core.Path.{◌≡◌, refl, sym, ◌∙◌}
+use mathlib.Core.Bool.{Bool, true, false}
 use mathlib.Core.List.{List, [], ◌∷◌, append-nil}
-use mathlib.Core.Logic.{inl, inr}
-use types.Run.{OneOf}
-use denote.Enum.Declared.{tag_of}
 use Prim.Native.Nat.{ℕ, ◌+◌, ◌≤◌}
 use native.Mathlib.Omega.{arith}
-use borrow.Author.Tests.{leb-true, not-false}
+use borrow.Author.Tests.{leb-true}
 use lib.ListN.{length}
 use Rattle.rules.specs.Rules.{Rules}
 use Rattle.records.specs.declared.Event.{Event}
 use Rattle.records.specs.declared.Event.TheVariants.{SetUp, End, Refused, Answered}
-use Rattle.records.specs.contracts.Event as E
 use Rattle.text.specs.Stored.{Stored}
 use Rattle.text.proofs.Stores.{next, within}
 use Rattle.lines.specs.Lines as lines
@@ -37,15 +33,13 @@ module _ {room between : List ℕ} {at middle : ℕ} (showing : Showing) (rules 
   unfolding set_up_text
   set_up_lem e p q = rw e (next (rw e at p) q)
 
-  pub not_set_up : OneOf (1 ∷ 2 ∷ 3 ∷ []) (tag_of E.the_type event) → Stored room at (event_line 0 event) 82 middle between
+  pub not_set_up : (event ≡ SetUp → ⊥) → Stored room at (event_line 0 event) 82 middle between
       → Stored room at (set_up_text showing rules rooms event) longest middle between
   unfolding set_up_text
   not_set_up k p = by event k (within p (omega arith)) where
-    by : (v : Event) → OneOf (1 ∷ 2 ∷ 3 ∷ []) (tag_of E.the_type v) → Stored room at (event_line 0 v) longest middle between
+    by : (v : Event) → (v ≡ SetUp → ⊥) → Stored room at (event_line 0 v) longest middle between
         → Stored room at (set_up_text showing rules rooms v) longest middle between
-    by SetUp (inl z) q = absurd (omega arith)
-    by SetUp (inr (inl z)) q = absurd (omega arith)
-    by SetUp (inr (inr z)) q = absurd (omega arith)
+    by SetUp k q = absurd (k refl)
     by End k q = q
     by (Refused refusal) k q = rw (append-nil (event_line 0 (Refused refusal))) q
     by (Answered said answer) k q = rw (append-nil (event_line 0 (Answered said answer))) q
@@ -58,26 +52,24 @@ module _ {room between : List ℕ} {at middle : ℕ} (showing : Showing) (rules 
     unfolding record_text
     at-end e p = rw e (within (rw e at p) (omega arith))
 
-    pub recorded : {after : List ℕ} {end : ℕ} → OneOf (0 ∷ 2 ∷ 3 ∷ []) (tag_of E.the_type event)
+    pub recorded : {after : List ℕ} {end : ℕ} → (event ≡ End → ⊥)
         → Stored room at (event_line number event) 82 middle between → Stored between middle (shown_lines showing (room_lines rules rooms)) 372 end after
         → Stored room at (record_text showing rules rooms number event) longest end after
     unfolding record_text
     recorded {after} {end} k p q = by event k p where
-      by : (v : Event) → OneOf (0 ∷ 2 ∷ 3 ∷ []) (tag_of E.the_type v) → Stored room at (event_line number v) 82 middle between
+      by : (v : Event) → (v ≡ End → ⊥) → Stored room at (event_line number v) 82 middle between
           → Stored room at (record_text showing rules rooms number v) longest end after
       by SetUp k s = next s q
-      by End (inl z) s = absurd (omega arith)
-      by End (inr (inl z)) s = absurd (omega arith)
-      by End (inr (inr z)) s = absurd (omega arith)
+      by End k s = absurd (k refl)
       by (Refused refusal) k s = next s q
       by (Answered said answer) k s = next s q
 
 -- ---- a text, where the longest fits and where it does not
 
-pub fits : (room : List ℕ) (at : ℕ) {asked : Bool} → asked ≡ has_room (length room) at → not asked ≡ false → has_room (length room) at ≡ true
-fits room at e is = sym e ∙ not-false _ is
+pub fits : (room : List ℕ) (at : ℕ) {asked : Bool} → asked ≡ has_room (length room) at → asked ≡ true → has_room (length room) at ≡ true
+fits room at e is = sym e ∙ is
 
-pub enough : (room : List ℕ) (at : ℕ) {asked : Bool} → asked ≡ has_room (length room) at → not asked ≡ false → at + longest ≤ length room
+pub enough : (room : List ℕ) (at : ℕ) {asked : Bool} → asked ≡ has_room (length room) at → asked ≡ true → at + longest ≤ length room
 enough room at e is = leb-true (at + longest) (length room) (fits room at e is)
 
 pub place : {room after text : List ℕ} {at end most : ℕ} → has_room (length room) at ≡ true → Stored room at text most end after

@@ -1,5 +1,7 @@
 // The lines of a set-up and of a record, in lent room: that of the sitting and, where the rooms are
 // shown too, behind it the room left of each profile, while there is a card.
+#![tactic(auto)]
+
 ghost use Rattle.std.specs.Prelude.{◌≡◌, ◌+◌, ◌≤◌, length};
 ghost use Rattle.rules.specs.Rules.{rules_of};
 ghost use Rattle.text.specs.Stored.{Stored};
@@ -15,7 +17,7 @@ use rules::Words;
 pub const LONGEST: usize = 454;
 
 // What is shown: the sitting's lines alone, or behind them the rooms.
-#[derive(Drop)]
+#[derive(Clone, Copy)]
 pub enum Showing {
     Lines,
     Rooms,

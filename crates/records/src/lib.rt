@@ -1,4 +1,6 @@
 // One record answered, as a value: the card after it, and what happened. No text and no room is here.
+#![tactic(auto)]
+
 ghost use Rattle.std.specs.Prelude.{◌≡◌};
 ghost use Rattle.rules.specs.Rules.{rules_of};
 ghost use Rattle.script.specs.Script.{rules_after, words_after};
@@ -13,13 +15,13 @@ use state::{Answer, State};
 const SCRIPT: u8 = 5;
 
 // What is answered.
-#[derive(Drop)]
+#[derive(Clone, Copy)]
 pub enum Said {
     Command(Command),
     Script,
 }
 
-#[derive(Drop)]
+#[derive(Clone, Copy)]
 pub enum Event {
     // The card is set up.
     SetUp,
@@ -31,7 +33,7 @@ pub enum Event {
 }
 
 // The card after a record, the place of the next one, and what happened.
-#[derive(Drop)]
+#[derive(Clone, Copy)]
 pub struct Taken {
     pub state: State,
     pub at: usize,

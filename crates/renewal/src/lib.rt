@@ -1,4 +1,6 @@
 // The rooms left worked out anew, in the lent cells: all of them, or those whose value moved.
+#![tactic(auto)]
+
 ghost use Rattle.std.specs.Prelude.{◌≡◌, ◌<◌, length};
 ghost use Rattle.rules.specs.Rules.{rules_of};
 ghost use Rattle.rooms.specs.Rooms.{cell_count, cell_set, column_set, column_renewed, filled, renewed};

@@ -1,4 +1,6 @@
 // What a printed line of a sitting says, read back from its bytes: words with one space between them.
+#![tactic(auto)]
+
 ghost use Rattle.std.specs.Prelude.{◌≡◌, ◌<◌};
 ghost use Rattle.replies.specs.Replies.{before, behind, digit_value, pair_at, decimal_in, kind_in, cvr_in, reply_in, is_ending};
 

@@ -1,5 +1,7 @@
 // The ring of a transaction log (request Eight), in lent cells: the newest records, 20 at most. A new
 // record takes the oldest one's slot, and no other record moves.
+#![tactic(auto)]
+
 ghost use Rattle.std.specs.Prelude.{◌≡◌, ◌-◌, ◌≤◌, ◌<◌};
 ghost use Rattle.ring.specs.Ring.{most, no_records, slots_of, slot_named, count_kept, slot_back, record_in, record_put, added_in};
 ghost use Rattle.ring.specs.Ring.{added, count_in, found, first_opened, first_place};
@@ -24,7 +26,7 @@ const CELLS: u64 = 5;
 
 // A logged transaction: where its First's body lies and where its Second's does, 0 for none; the CVR,
 // its five bytes as one number, ATC and CID of the answer that closed it.
-#[derive(Drop)]
+#[derive(Clone, Copy)]
 pub struct Record {
     pub first: u64,
     pub second: u64,

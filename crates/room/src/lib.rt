@@ -1,4 +1,6 @@
 // The room left of one accumulator in one profile.
+#![tactic(auto)]
+
 ghost use Rattle.std.specs.Prelude.{◌≡◌};
 ghost use Rattle.rules.specs.Rules.{rules_of};
 ghost use Rattle.room.specs.Room.{left_in};

@@ -1,5 +1,7 @@
 // The lines of the rooms left, one for each profile in the set-up's order, written into lent room from
 // a place on; the place behind is returned.
+#![tactic(auto)]
+
 ghost use Rattle.std.specs.Prelude.{◌≡◌, ◌+◌, ◌≤◌, length};
 ghost use Rattle.text.specs.Stored.{Stored};
 ghost use Rattle.rules.specs.Rules.{rules_of};

@@ -1,5 +1,7 @@
 // What can still be spent offline: the room left of each accumulator of each profile, stored beside
 // the card in lent cells.
+#![tactic(auto)]
+
 ghost use Rattle.std.specs.Prelude.{◌≡◌, ◌+◌, ◌≤◌};
 ghost use Rattle.rules.specs.Rules.{rules_of};
 ghost use Rattle.rooms.specs.Rooms.{no_rooms, cell_of, stored_at, room_left};

@@ -461,8 +461,8 @@ module _ (base : List ℕ) (c : Choosing) (y : ℕ) (d : Dates) (f : Families) (
     profiles-kept = byte-kept base sized (choosing_bytes c ++ (y ∷ dates_bytes d ++ (families_bytes f ++ ends))) 3 (omega arith)
 
   abbrev shape_of_lem : Shape → Logs → (at : ℕ) → Shape
-  shape_of_lem shape unlogged at = shape
-  shape_of_lem shape (logged l) at = logs shape (logging_from (logged l) at)
+  shape_of_lem shape unlogged from = shape
+  shape_of_lem shape (logged l) from = logs shape (logging_from (logged l) from)
 
   module _ (scripting : Bool) where
     log-read : (l : Logs) (fine-log : FineLogs (byte base 3) l) (shape : Shape)

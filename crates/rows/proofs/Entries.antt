@@ -7,7 +7,7 @@ use native.Mathlib.Numerals.{add-one}
 use native.Mathlib.Omega.{arith}
 use borrow.Author.Tests.{lt-ltb, le-ltb, ltb-true, ltb-false, eqb-true, eqb-false, ne_eqb}
 use lib.Dec.{eqb, ltb}
-use lib.ListN.{get_or-eq_default, length, take, drop, length-append, length_take, take-append-drop}
+use lib.ListN.{get_or-eq_default, length, take, drop, length-append, length-take, take-append-drop}
 use lib.Seq.{take_at, drop_at, length-take-le, get_or-drop, get_or-take}
 use Rattle.wire.specs.Wire.{byte}
 use Rattle.wire.proofs.Pairs.{both}
@@ -51,7 +51,7 @@ small-take s h n i = by (ltb i n) refl where
   by : (t : Bool) → ltb i n ≡ t → byte (take n s) i < 256
   by true e = rw (get_or-take n s i 0 (ltb-true i n e)) (h i)
   by false e =
-      let past : length (take n s) ≤ i = omega (arith, length_take n s, ltb-false i n e) in
+      let past : length (take n s) ≤ i = omega (arith, length-take n s, ltb-false i n e) in
       rw (get_or-eq_default (take n s) 0 past) (omega arith)
 
 -- entries whose spelling the file is

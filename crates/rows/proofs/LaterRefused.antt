@@ -2,7 +2,7 @@
 use mathlib.Core.Path.{◌≡◌, refl, sym, ap, subst, ◌∙◌}
 use mathlib.Core.Bool.{Bool, true, false, cond}
 use mathlib.Core.List.{List, [], ◌∷◌, ◌++◌}
-use Prim.Native.Nat.{ℕ, suc, ◌+◌, ◌*◌, ◌≤◌, ◌<◌}
+use Prim.Native.Nat.{ℕ, zero, suc, ◌+◌, ◌*◌, ◌≤◌, ◌<◌}
 use native.Mathlib.Nat.{add-zero}
 use native.Mathlib.Omega.{arith}
 use borrow.Author.Tests.{lt-ltb, ltb-true, ltb-false, le-leb, lt-leb, leb-false, eqb-true, eqb-false, ne_eqb}
@@ -35,6 +35,7 @@ use Rattle.rows.proofs.Later.{Late, four, five, six, seven, from-four}
 module _ (body : List ℕ) where
   -- entries that are cut short end past the body
   past_end : (n at : ℕ) {file : List ℕ} → CutFile file n → file ≡ drop at body → at ≤ length body → length body < entries_end body at n
+  past_end zero at {file} cut e l = elim cut [ ]
   past_end (suc n) at {file} (cut-here h) e l =
       let here : byte file 0 ≡ byte body at = ap (λ (t : List ℕ). byte t 0) e ∙ get_or-drop at body 0 0 ∙ ap (byte body) (add-zero at) in
       let size : length file ≡ length (drop at body) = ap length e in

@@ -182,7 +182,7 @@ module _ (version : ℕ) (s : List ℕ) (bytes : Bytes s) (least : 1 ≤ version
       → ((x : Setup) (tail : Tail) → Fits (setup_row x) → Fine (length x.profiles) tail
       → log_whole (shape_said (body x) tail) (whole_body x tail) ≡ found → LogsRange (logs_of tail) × Q tail)
       → IsTaken found version s → (i : IsInRange version s) × Q i.tail
-  there found Q logged taken =
+  there verdict Q logged taken =
       let shape = taken.shape in
       let t = tails_if_read version s bytes least most (ap shape_number taken.shape_is) in
       let k = kept t shape taken.shape_is in
@@ -219,7 +219,7 @@ module _ (version : ℕ) (s : List ℕ) (bytes : Bytes s) (least : 1 ≤ version
 
   back : (found : Judged) (i : IsInRange version s) → log_whole (shape_said (body i.setup) i.tail) (whole_body i.setup i.tail) ≡ found
       → IsTaken found version s
-  back found i log =
+  back verdict i log =
       let shape = shape_said (body i.setup) i.tail in
       let answered = answers i.setup i.tail i.fits i.fine i.in_range_lem i.dates_in_range i.families_in_range in
       record {

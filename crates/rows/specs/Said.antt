@@ -70,9 +70,9 @@ conversion_said c = record { from = c.from; to = c.to; digits = c.digits; shift 
 
 -- what the entry at a place says, blank where there is none
 abbrev pub said_at : {A B : Type 0} → (A → B) → B → List A → ℕ → B
-said_at said blank [] i = blank
-said_at said blank (x ∷ xs) zero = said x
-said_at said blank (x ∷ xs) (suc i) = said_at said blank xs i
+said_at said missing [] i = missing
+said_at said missing (x ∷ xs) zero = said x
+said_at said missing (x ∷ xs) (suc i) = said_at said missing xs i
 
 abbrev pub profile_at : Setup → ℕ → ProfileRules
 profile_at x i = said_at profile_said blank_profile x.profiles i

@@ -1,5 +1,7 @@
 // What a set-up says, in lent words: one word to a field. Where they stand is said here alone; the
 // crates above ask by name. Whatever the words hold, each question has an answer.
+#![tactic(auto)]
+
 pub mod word;
 
 ghost use Rattle.std.specs.Prelude.{◌≡◌, ◌+◌, ◌≤◌, ◌<◌};
@@ -14,7 +16,7 @@ use money::{AccumulatorAmount, Rate, Rates};
 pub type Words = [u64; word::COUNT];
 
 // One of the four places of a profile.
-#[derive(Drop)]
+#[derive(Clone, Copy)]
 pub enum Place {
     One,
     Two,
@@ -79,7 +81,7 @@ pub struct CyclicRule {
 }
 
 // The values of the accumulators, the counters and the cyclic accumulators.
-#[derive(Drop)]
+#[derive(Clone, Copy)]
 pub struct Values {
     pub accumulators: [AccumulatorAmount; 4],
     pub counters: [u8; 4],

@@ -1,5 +1,7 @@
 // A block of a stack that is a run: the size of the room to lend, in 4 bytes, and the records; and the room as it
 // is lent.
+#![tactic(auto)]
+
 ghost use Rattle.std.specs.Prelude.{◌≡◌, ◌≤◌, length, drop, replicate};
 ghost use Rattle.run_block.specs.RunBlock.{filler, size_in, records_in, head_in};
 

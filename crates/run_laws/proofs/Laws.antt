@@ -1,7 +1,7 @@
 -- A run, by the records that it is made of: none, one, and two runs one behind the other, which leave one answer for every run; what is refused,
 -- and what a refusal and an answer leave untouched. Assumes nothing.
 use mathlib.Core.Path.{◌≡◌, refl, sym, ap, subst, ◌∙◌}
-use mathlib.Core.Bool.{Bool, true, false, cond, ◌&&◌, and_false}
+use mathlib.Core.Bool.{Bool, true, false, cond, ◌&&◌, and-false}
 use mathlib.Core.List.{List, [], ◌∷◌, ◌++◌, append_assoc, append-nil}
 use mathlib.Core.Logic.{◌⊎◌, inl, inr}
 use Prim.Native.Nat.{ℕ, zero, suc, ◌+◌, ◌-◌, ◌*◌, ◌/◌, ◌%◌, ◌≤◌, ◌<◌}
@@ -298,7 +298,7 @@ module _ (shape : Shape) (paper : List ℕ) where
       → all_read shape (before ++ met ∷ behind) ≡ false
   unfolding all_read
   read_no_more [] behind met c = rw c
-  read_no_more (first ∷ before) behind met c = rw (read_no_more before behind met c) (and_false (can_be_read shape first.kind (length first.body)))
+  read_no_more (first ∷ before) behind met c = rw (read_no_more before behind met c) (and-false (can_be_read shape first.kind (length first.body)))
 
   module _ (run : List ℕ) where
     abbrev whole_is : Bool
@@ -346,7 +346,7 @@ module _ (shape : Shape) (paper : List ℕ) where
       pub nine_back : Card → Broken run ⊎ Unread run → ruled_run shape run room ≡ Refused Unreadable
       unfolding ruled_run is_run
       nine_back card (inl broken) = rw (if_broken broken)
-      nine_back card (inr unread) = rw (if_unread card unread, and_false whole_is)
+      nine_back card (inr unread) = rw (if_unread card unread, and-false whole_is)
 
       -- where it is not 9: 17 exactly where the room is short, and otherwise every record is answered
       pub seventeen : (ruled_run shape run room ≡ Refused Unreadable → ⊥)

@@ -1,21 +1,18 @@
 -- A run watched from a place on: what is in the ring, and the records still to come. Assumes nothing.
-use mathlib.Core.Path.{◌≡◌, sym, ap, ◌∙◌}
+use mathlib.Core.Path.{◌≡◌, refl, sym, ap, ◌∙◌}
 use mathlib.Core.List.{List, [], ◌∷◌}
 use mathlib.Core.Logic.{inl, inr}
-use types.Run.{OneOf}
-use denote.Enum.Declared.{tag_of}
 use Prim.Native.Nat.{ℕ, ◌+◌, ◌*◌, ◌-◌, ◌^◌, ◌≤◌, ◌<◌}
 use native.Mathlib.Nat.{add-zero}
 use native.Mathlib.Omega.{arith}
 use borrow.Author.Tests.{lt-ltb, le-ltb}
-use lib.ListN.{length, drop, length_take, length-drop}
+use lib.ListN.{length, drop, length-take, length-drop}
 use lib.Seq.{drop-drop}
 use Rattle.wire.specs.Wire.{byte, number}
 use Rattle.wire.proofs.Numbers.{split, one}
 use Rattle.state.specs.declared.Kind.{Kind}
 use Rattle.paper.specs.declared.Next.{Next}
 use Rattle.paper.specs.declared.Next.TheVariants.{Record, Fault, End}
-use Rattle.paper.specs.contracts.Next as N
 use Rattle.paper.specs.Paper.{next_at}
 use Rattle.paper.specs.Walk.{part, met_in}
 use Rattle.paper.proofs.Walk.{inside, Stopped, past_end, rests, walk-on}
@@ -39,11 +36,10 @@ same-fields k a p c = rw (k, a, p, c)
 -- ---- the loop
 
 -- what stands at a place is no record
-pub stopped : (s : List ℕ) (at : ℕ) (next : Next) → OneOf (1 ∷ 2 ∷ []) (tag_of N.the_type next) → next ≡ next_at s at → Stopped s at
-stopped s at (Record kind start end) (inl z) e = absurd (omega arith)
-stopped s at (Record kind start end) (inr z) e = absurd (omega arith)
-stopped s at Fault k e = inr (sym e)
-stopped s at End k e = inl (sym e)
+pub stopped : (s : List ℕ) (at : ℕ) (next : Next) → ((kind start end : ℕ) → next ≡ Record kind start end → ⊥) → next ≡ next_at s at → Stopped s at
+stopped s at (Record kind start end) none e = absurd (none kind start end refl)
+stopped s at Fault none e = inr (sym e)
+stopped s at End none e = inl (sym e)
 
 module _ (logging : Logging) (records : List ℕ) (place : ℕ) (answers : List ℕ) where
   abbrev rest : (at from : ℕ) (ring : List ℕ) → List ℕ
@@ -78,7 +74,7 @@ module _ (logging : Logging) (records : List ℕ) (place : ℕ) (answers : List 
           let on = (walk-on records at kind start end e).0 in
           let long = le-ltb (length (drop from answers)) size (omega (arith, length-drop from answers)) in
           let body : length (part records start end) ≡ end - start =
-          omega (arith, length_take (end - start) (drop start records), length-drop start records, i.fits, i.start_is, i.holds) in
+          omega (arith, length-take (end - start) (drop start records), length-drop start records, i.fits, i.start_is, i.holds) in
           let here : place + at + 3 ≡ place + start = omega (arith, i.start_is) in
           let next : place + at + 3 + length (part records start end) ≡ place + end = omega (arith, body, i.start_is, i.holds) in
           let left = drop-drop size from answers in

@@ -1,6 +1,8 @@
 // What a run of commands logs (requests Eight and Eleven): behind the run, from its records, which lie at
 // a place of the buffer that the log points into, and their answers, 36 bytes each. What reads the answers
 // changes none.
+#![tactic(auto)]
+
 ghost use Rattle.std.specs.Prelude.{◌≡◌};
 ghost use Rattle.run_log.specs.RunLog.{heard_by, kind_by, given_by, watched_answer, ring_run};
 

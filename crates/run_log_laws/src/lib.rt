@@ -1,1 +1,2 @@
 // What a run logs, as theorems over the definitions that the contracts cite: no code that runs.
+#![tactic(auto)]

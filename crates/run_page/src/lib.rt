@@ -1,4 +1,6 @@
 // What the page of a run says before the room that was lent: the refusal, and the number of answers.
+#![tactic(auto)]
+
 ghost use Rattle.std.specs.Prelude.{◌≡◌};
 ghost use Rattle.run_page.specs.RunPage.{refusal_in, answers_in};
 

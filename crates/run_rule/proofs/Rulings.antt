@@ -2,9 +2,6 @@
 use mathlib.Core.Path.{◌≡◌, refl, sym, ap, ◌∙◌}
 use mathlib.Core.Bool.{Bool, true, false, cond}
 use mathlib.Core.List.{List, [], ◌∷◌}
-use mathlib.Core.Logic.{inl, inr}
-use types.Run.{OneOf}
-use denote.Enum.Declared.{tag_of}
 use Prim.Native.Nat.{ℕ, ◌*◌, ◌/◌, ◌≤◌, ◌<◌}
 use native.Mathlib.Omega.{arith}
 use borrow.Author.Tests.{lt-ltb, le-ltb, ltb-false}
@@ -17,15 +14,14 @@ use Rattle.run_rule.specs.declared.Counted.{Counted}
 use Rattle.run_rule.specs.declared.Counted.TheVariants.{Records, Unreadable as NotCounted}
 use Rattle.run_rule.specs.declared.Ran.TheVariants.{Done, Refused}
 use Rattle.run_rule.specs.Ruling.{records_in, is_run, count_of, ruled_run}
-use Rattle.run_rule.specs.contracts.Counted as C
 
 module _ (shape : Shape) (run : List ℕ) where
   -- the count tells whether it is a run
-  pub uncounted : (counted : Counted) → counted ≡ count_of shape run → OneOf (1 ∷ []) (tag_of C.the_type counted) → is_run shape run ≡ false
+  pub uncounted : (counted : Counted) → counted ≡ count_of shape run → ((count : ℕ) → counted ≡ Records count → ⊥) → is_run shape run ≡ false
   unfolding count_of
   uncounted counted is k = by (is_run shape run) (rw is at k) where
-    by : (b : Bool) → OneOf (1 ∷ []) (tag_of C.the_type (cond b (Records (length (records_in run))) NotCounted)) → b ≡ false
-    by true z = absurd (omega arith)
+    by : (b : Bool) → ((count : ℕ) → cond b (Records (length (records_in run))) NotCounted ≡ Records count → ⊥) → b ≡ false
+    by true z = absurd (z _ refl)
     by false z = refl
 
   counted : {count : ℕ} → count_of shape run ≡ Records count → (is_run shape run ≡ true) × (length (records_in run) ≡ count)

@@ -3,17 +3,14 @@ use mathlib.Core.Path.{◌≡◌, refl, sym, ap, ◌∙◌}
 use mathlib.Core.Bool.{Bool, true, false, cond, ◌&&◌}
 use mathlib.Core.List.{List, [], ◌∷◌}
 use mathlib.Core.Logic.{inl, inr}
-use types.Run.{OneOf}
-use denote.Enum.Declared.{tag_of}
 use Prim.Native.Nat.{ℕ, suc, ◌+◌, ◌-◌, ◌≤◌, ◌<◌}
 use native.Mathlib.Omega.{arith}
 use borrow.Author.Tests.{le-leb, lt-leb}
 use lib.Dec.{leb}
-use lib.ListN.{length, length_take, length-drop}
+use lib.ListN.{length, length-take, length-drop}
 use Rattle.shape.specs.declared.Shape.{Shape}
 use Rattle.paper.specs.declared.Next.{Next}
 use Rattle.paper.specs.declared.Next.TheVariants.{Record, Fault, End}
-use Rattle.paper.specs.contracts.Next as N
 use Rattle.paper.specs.Paper.{next_at}
 use Rattle.paper.specs.Walk.{Met, part, met_in, place_in}
 use Rattle.paper.proofs.Walk.{inside, Stopped, past_end, rests, walk-on}
@@ -23,9 +20,8 @@ use Rattle.run_rule.specs.declared.Counted.TheVariants.{Records, Unreadable}
 use Rattle.run_rule.specs.Ruling.{records_in, all_read, is_run, count_of}
 
 -- what stands at a place is no record
-pub stopped : (run : List ℕ) (at : ℕ) (next : Next) → OneOf (1 ∷ 2 ∷ []) (tag_of N.the_type next) → next ≡ next_at run at → Stopped run at
-stopped run at (Record kind start end) (inl z) e = absurd (omega arith)
-stopped run at (Record kind start end) (inr z) e = absurd (omega arith)
+pub stopped : (run : List ℕ) (at : ℕ) (next : Next) → ((kind start end : ℕ) → next ≡ Record kind start end → ⊥) → next ≡ next_at run at → Stopped run at
+stopped run at (Record kind start end) k e = absurd (k kind start end refl)
 stopped run at Fault k e = inr (sym e)
 stopped run at End k e = inl (sym e)
 
@@ -39,7 +35,7 @@ module _ (shape : Shape) (run : List ℕ) where
   -- by the first record, and the rest behind it
   module _ (at kind start end : ℕ) (e : next_at run at ≡ Record kind start end) where
     pub body_length : length (part run start end) ≡ end - start
-    body_length = let i = inside run at kind start end e in simp (length_take, length-drop) (omega arith)
+    body_length = let i = inside run at kind start end e in simp (length-take, length-drop) (omega arith)
 
     pub first : is_run_from at ≡ (can_be_read shape kind (end - start) && is_run_from end)
     unfolding all_read

@@ -1,5 +1,7 @@
 // What is ruled of a run before anything of it is run: whether its bytes are records that can be read,
 // and whether the lent room has the bytes for all answers.
+#![tactic(auto)]
+
 ghost use Rattle.std.specs.Prelude.{◌≡◌};
 ghost use Rattle.run_rule.specs.Ruling.{count_of, ruled_run};
 
@@ -7,7 +9,7 @@ use paper::Next;
 use refusal::Refusal;
 use shape::Shape;
 
-#[derive(Drop)]
+#[derive(Clone, Copy)]
 pub enum Ran {
     // So many records were answered.
     Done { answers: usize },

@@ -1,5 +1,7 @@
 // The page of a run, written to the front of lent text: the refusal, the number of answers, and the
 // room that was lent.
+#![tactic(auto)]
+
 ghost use Rattle.std.specs.Prelude.{◌≡◌, ◌++◌, ◌+◌, ◌*◌, ◌≤◌, length};
 ghost use Rattle.hex_digits.specs.Hex.{hex_byte};
 ghost use Rattle.text.specs.Stored.{Stored};

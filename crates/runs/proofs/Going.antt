@@ -3,8 +3,6 @@ use mathlib.Core.Path.{◌≡◌, refl, sym, ap, subst, ◌∙◌}
 use mathlib.Core.Bool.{Bool, true, false, cond, ◌&&◌}
 use mathlib.Core.List.{List, [], ◌∷◌, ◌++◌}
 use mathlib.Core.Logic.{inl, inr}
-use types.Run.{OneOf}
-use denote.Enum.Declared.{tag_of}
 use Prim.Native.Nat.{ℕ, ◌+◌, ◌*◌, ◌-◌, ◌^◌, ◌≤◌, ◌<◌}
 use native.Mathlib.Omega.{arith}
 use borrow.Author.Tests.{le-leb, leb-true}
@@ -29,7 +27,6 @@ use Rattle.records.specs.declared.Event.{Event}
 use Rattle.records.specs.declared.Event.TheVariants.{SetUp, End, Refused, Answered}
 use Rattle.records.specs.declared.Taken.{Taken}
 use Rattle.records.specs.Records.{answered_by, scripted_by, is_script, record_taken, record_writes, can_be_read}
-use Rattle.records.specs.contracts.Event as E
 use Rattle.records.proofs.Readable.{IsAnswered, Answers, answered_or_not}
 use Rattle.keeper.specs.Keeper.{rooms_after, rooms_recorded}
 use Rattle.answers.specs.Answers.{size, answer_bytes, placed}
@@ -55,12 +52,8 @@ elsewhere rules shape state paper kind body end = by (is_script shape kind) body
   by false body (CommandRefused refusal) = (refl, refl)
 
 -- what was not answered was not read
-pub not_answered : (event : Event) {said : Said} {answer : Answer} → OneOf (0 ∷ 1 ∷ 2 ∷ []) (tag_of E.the_type event) → event ≡ Answered said answer → ⊥
-not_answered event {said} {answer} k e = by (rw e at k) where
-  by : OneOf (0 ∷ 1 ∷ 2 ∷ []) (tag_of E.the_type (Answered said answer)) → ⊥
-  by (inl z) = omega arith
-  by (inr (inl z)) = omega arith
-  by (inr (inr z)) = omega arith
+pub not_answered : (event : Event) {said : Said} {answer : Answer} → ((said : Said) (answer : Answer) → event ≡ Answered said answer → ⊥) → event ≡ Answered said answer → ⊥
+not_answered event {said} {answer} k e = k said answer e
 
 -- ---- the loop
 

@@ -1,5 +1,7 @@
 // A run: records as they stand in a paper, answered by one call. All of it is looked at first; then
 // each command is answered in lent room, a refused one too.
+#![tactic(auto)]
+
 ghost use Rattle.std.specs.Prelude.{◌≡◌, true, ◌*◌, ◌≤◌, length};
 ghost use Rattle.std.proofs.lemmas.List.Edits.{sets};
 ghost use Rattle.rules.specs.Rules.{rules_of};

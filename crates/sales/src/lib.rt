@@ -1,5 +1,7 @@
 // What the sheet of a class has to know of a conversation, from the commands and the answers alone:
 // whether a cryptogram is decided offline, and what the transaction's First asked.
+#![tactic(auto)]
+
 ghost use Rattle.std.specs.Prelude.{◌≡◌};
 ghost use Rattle.sales.specs.Sales.{is_unable, offline_command, is_offline, is_given, command_sale, sale_by};
 

@@ -1,4 +1,6 @@
 // What an issuer script's template does to a card: its commands are tried in order until one fails.
+#![tactic(auto)]
+
 ghost use Rattle.std.specs.Prelude.{◌≡◌, true};
 ghost use Rattle.rules.specs.Rules.{rules_of};
 ghost use Rattle.put_data.specs.PutData.{writes_of, is_some, is_valid};

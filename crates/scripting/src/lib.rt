@@ -1,4 +1,6 @@
 // An issuer's script sent to a card: whether it is taken, and what it comes to.
+#![tactic(auto)]
+
 ghost use Rattle.std.specs.Prelude.{◌≡◌};
 ghost use Rattle.rules.specs.Rules.{rules_of};
 ghost use Rattle.script.specs.Script.{rules_after, words_after, rules_run, words_run};

@@ -1,5 +1,7 @@
 // The card for C and for whatever calls C: it sits in cells that the caller lends, behind three
 // functions. A seat that is too short is refusal 7 before all else. A refusal changes nothing.
+#![tactic(auto)]
+
 ghost use Rattle.std.specs.Prelude.{◌≡◌, length};
 ghost use Rattle.card_cells.specs.Seat.{card_in};
 ghost use Rattle.seat.specs.Calls.{event_number, open_number, open_cells, fresh_card, ran_number, run_number, run_cells, run_room, card_behind};

@@ -1,5 +1,7 @@
 // A card's state in cells, one cell to a field: its values, its phase and its marks, one behind the
 // other. Whatever the cells hold, they are read as some state.
+#![tactic(auto)]
+
 ghost use Rattle.std.specs.Prelude.{◌≡◌, ◌≤◌};
 ghost use Rattle.seating.specs.States.{value_cells, values_at, mark_cells, state_in, ValuesFit, MarksFit};
 

@@ -1,4 +1,6 @@
 // Second GENERATE AC.
+#![tactic(auto)]
+
 ghost use Rattle.std.specs.Prelude.{◌≡◌, cond};
 ghost use Rattle.rules.specs.Rules.{rules_of};
 ghost use Rattle.marks.specs.Marks.{heard};

@@ -5,7 +5,7 @@ use mathlib.Core.List.{List}
 use Prim.Native.Nat.{ℕ, zero, suc, ◌+◌, ◌*◌, ◌-◌, ◌≤◌, ◌<◌}
 use native.Mathlib.Nat.{min-le_right}
 use native.Mathlib.Omega.{arith}
-use lib.ListN.{length, drop, length_take, length-drop}
+use lib.ListN.{length, drop, length-take, length-drop}
 use lib.Seq.{get_or-take, get_or-drop, length-take-le}
 use lib.Dec.{ltb, leb, eqb}
 use borrow.Author.Tests.{le-leb, lt-leb, eqb-true, ltb-true, ltb-false}
@@ -32,7 +32,7 @@ same_number d d' p (suc n) h =
 
 module _ (e d : List ℕ) (p : 0 < position e) (l : 0 < block_length e) where
   cut : length d < position e + block_length e - 1 → length (stretch e d) < block_length e
-  cut h = simp (length_take, length-drop) (omega (arith, min-le_right (block_length e) (length d - (position e - 1))))
+  cut h = simp (length-take, length-drop) (omega (arith, min-le_right (block_length e) (length d - (position e - 1))))
 
   whole : position e + block_length e - 1 ≤ length d → block_length e ≤ length (stretch e d)
   whole h = omega (arith, length-take-le (block_length e) (drop (position e - 1) d) (simp length-drop (omega arith)))

@@ -1,4 +1,6 @@
 // The Profile Selection File of CPA Annex A: its entries, and the walk over them to a profile.
+#![tactic(auto)]
+
 ghost use Rattle.std.specs.Prelude.{◌≡◌};
 ghost use Rattle.selection.specs.Selection.{first_entry, below, skipped, is_file, selection_of};
 
@@ -6,7 +8,7 @@ use entry::Action;
 use slot::Slots;
 use wire::byte_at;
 
-#[derive(Drop)]
+#[derive(Clone, Copy)]
 pub enum Selection {
     Selected { profile: u8, visits: u8 },
     NotSelected,

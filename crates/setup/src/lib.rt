@@ -1,4 +1,6 @@
 // A set-up's body, read into lent rules and what a fresh card starts from, or refused.
+#![tactic(auto)]
+
 ghost use Rattle.std.specs.Prelude.{◌≡◌, ◌<◌};
 ghost use Rattle.setup.specs.Setup.{value_in, amount_in, is_accepted, fresh_in, no_card, read_setup, words_after};
 

@@ -1,10 +1,12 @@
 // The shape of a paper: what its version adds to a set-up's body. Behind the base stands a tail for
 // each addition, in the order of the versions, each beginning with a byte that can say "off". A
 // tail tells where it ends; the last one ends where the body does.
+#![tactic(auto)]
+
 use refusal::Refusal;
 
 // Whether profiles are selected. The Profile Selection File stands from start up to end.
-#[derive(Drop)]
+#[derive(Clone, Copy)]
 pub enum Selecting {
     Off,
     On {
@@ -15,14 +17,14 @@ pub enum Selecting {
 }
 
 // Whether a First carries a date. The tail with the cyclic accumulators stands from start up to end.
-#[derive(Drop)]
+#[derive(Clone, Copy)]
 pub enum Dating {
     Off,
     On { start: usize, end: usize },
 }
 
 // The card family. The tail with a CPACE card's controls and cashback checks stands from start up to end.
-#[derive(Drop)]
+#[derive(Clone, Copy)]
 pub enum Family {
     Cpa,
     Cpace { start: usize, end: usize },
@@ -30,7 +32,7 @@ pub enum Family {
 
 // Whether transactions are logged. The tail with the log's settings and tables stands from start up to
 // end.
-#[derive(Drop)]
+#[derive(Clone, Copy)]
 pub enum Logging {
     Off,
     On { start: usize, end: usize },
@@ -38,7 +40,7 @@ pub enum Logging {
 
 // The base's length, what the tails say, an older paper's being off, and the first mask bit that is
 // unnamed.
-#[derive(Drop)]
+#[derive(Clone, Copy)]
 pub struct Shape {
     pub base: usize,
     pub selecting: Selecting,

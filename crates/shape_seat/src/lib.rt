@@ -1,5 +1,7 @@
 // The shape of a card's paper in cells, one cell to a field. An enum's first cell says which case it
 // is, and a field that the case lacks is 0. Whatever the cells hold, they are read as some shape.
+#![tactic(auto)]
+
 ghost use Rattle.std.specs.Prelude.{◌≡◌, ◌≤◌};
 ghost use Rattle.shape_seat.specs.Shapes.{selecting_cells, selecting_at, dating_cells, dating_at, family_cells, family_at, logging_cells, logging_at, shape_cells, shape_in};
 ghost use Rattle.shape_seat.specs.Shapes.{SelectingFits, ShapeFits};

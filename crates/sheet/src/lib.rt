@@ -1,6 +1,8 @@
 // The sheet of a class, in lent cells: how many papers were taken, how many answers of each kind each
 // profile gave, how often each refusal was given; and the currencies with their sums, which the crate
 // `sums` writes. Every number stops at the largest that a cell holds.
+#![tactic(auto)]
+
 ghost use Rattle.std.specs.Prelude.{◌≡◌, ◌+◌, ◌<◌};
 ghost use Rattle.sheet.specs.Sheet.{blank_sheet, papers, stopped, counted, answer_counted, refusal_counted};
 

@@ -63,7 +63,7 @@ module _ (currency amount : ℕ) where
   pub sold_ascends : {low : ℕ} → low ≤ currency → (sums : List Sum) → Ascending low (codes sums) → Ascending low (codes (sold currency amount sums))
   unfolding sold
   sold_ascends l [] none = next l none
-  sold_ascends {low} l (sum ∷ more) (next h rest) = by (at currency amount sum more) (λ less. sold_ascends less more rest) where
+  sold_ascends {low} l (sum ∷ more) (next h rest) = by (at currency amount sum more) (λ less. sold_ascends {low = sum.currency + 1} less more rest) where
     by : At currency amount sum more → (sum.currency + 1 ≤ currency → Ascending (sum.currency + 1) (codes (sold currency amount more)))
         → Ascending low (codes (sold currency amount (sum ∷ more)))
     by (behind less e) later = rw e (next h (later (omega arith)))
@@ -120,7 +120,7 @@ module _ (currency amount : ℕ) where
       → sum_in currency (sold currency amount sums) ≡ stopped (sum_in currency sums + amount)
   unfolding sold sum_in
   sold-here small [] none = rw (eq-eqb currency currency refl) (alone small)
-  sold-here small (sum ∷ more) (next h rest) = by (at currency amount sum more) (sold-here small more rest) where
+  sold-here small {low = low} (sum ∷ more) (next h rest) = by (at currency amount sum more) (sold-here small {low = sum.currency + 1} more rest) where
     by : At currency amount sum more → sum_in currency (sold currency amount more) ≡ stopped (sum_in currency more + amount)
         → sum_in currency (sold currency amount (sum ∷ more)) ≡ stopped (sum_in currency (sum ∷ more) + amount)
     by (behind less e) later = rw (e, ne_eqb sum.currency currency (λ z. omega arith)) later
@@ -169,12 +169,12 @@ pub same_lists : {low : ℕ} (s t : List ℕ) → Ascending low s → Ascending 
 same_lists [] [] a b same = refl
 same_lists [] (n ∷ t) a b same = absurd (differ (is_in n (n ∷ t)) (first-is n t) (sym (same n) ∙ below n {low = n + 1} none (omega arith)))
 same_lists (m ∷ s) [] a b same = absurd (differ (is_in m (m ∷ s)) (first-is m s) (same m ∙ below m {low = m + 1} none (omega arith)))
-same_lists (m ∷ s) (n ∷ t) (next h a) (next k b) same =
+same_lists {low = low} (m ∷ s) (n ∷ t) (next h a) (next k b) same =
     let le = not_below m n s t (next k b) (same m) in
     let ge = not_below n m t s (next h a) (sym (same n)) in
     let e : n ≡ m = by (ltb m n) refl (ltb n m) refl le ge in
     let b' = subst (λ i. Ascending (i + 1) t) e b in
-    ap₂ (λ i l. i ∷ l) (sym e) (same_lists s t a b' (λ i. rest-same m i a b' (same i ∙ ap (λ j. is_in i (j ∷ t)) e)))
+    ap₂ (λ i l. i ∷ l) (sym e) (same_lists {low = m + 1} s t a b' (λ i. rest-same m i a b' (same i ∙ ap (λ j. is_in i (j ∷ t)) e)))
   where
     by : (p : Bool) → ltb m n ≡ p → (q : Bool) → ltb n m ≡ q → (m < n → ⊥) → (n < m → ⊥) → n ≡ m
     by true e q f le ge = absurd (le (ltb-true m n e))

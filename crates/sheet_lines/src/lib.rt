@@ -1,5 +1,7 @@
 // The sheet of a class as text, in lent room: for the board, in columns and without rows of zeros, or for
 // machines, with every row and nothing padded.
+#![tactic(auto)]
+
 ghost use Rattle.std.specs.Prelude.{◌≡◌, [], ◌∷◌, ◌++◌, ◌+◌, ◌*◌, ◌-◌, ◌≤◌, ◌<◌, length, replicate};
 ghost use Rattle.text.specs.Stored.{Stored};
 ghost use Rattle.sheet_lines.specs.SheetLines.{padded, head_of, field_of, last_of, kinds_of, code_of, papers_line, profile_row, profile_rest, refusal_row, refusal_rest};
@@ -20,7 +22,7 @@ const LONGEST: usize = 19_602;
 
 const LONGEST_REFUSED: usize = 78;
 
-#[derive(Drop)]
+#[derive(Clone, Copy)]
 pub enum Form {
     Report,
     Tally,

@@ -1,4 +1,6 @@
 // How far a paper is shown, and what is wanted next.
+#![tactic(auto)]
+
 ghost use Rattle.std.specs.Prelude.{◌≡◌};
 ghost use Rattle.shown.specs.Shown.{wants_after, unshown, shown_behind};
 

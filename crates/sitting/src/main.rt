@@ -1,4 +1,6 @@
 // A paper on standard input, its lines on standard output.
-fn main() {
-    desk::run_sitting();
+#![tactic(auto)]
+
+fn main(rt: HostRuntime) {
+    desk::run_sitting(&rt);
 }

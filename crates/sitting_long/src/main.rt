@@ -1,4 +1,6 @@
 // A paper of 65,537 bytes, one more than the longest: refusal 9, though every record could be read.
-fn main() {
-    desk::run_sitting();
+#![tactic(auto)]
+
+fn main(rt: HostRuntime) {
+    desk::run_sitting(&rt);
 }

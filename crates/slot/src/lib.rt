@@ -1,5 +1,7 @@
 // The test of an accumulator or a counter by an entry of a CPACE card's Profile Selection File: the value
 // against the entry's block, by CPACE C.45.
+#![tactic(auto)]
+
 ghost use Rattle.std.specs.Prelude.{◌≡◌, ◌-◌, ◌≤◌};
 ghost use Rattle.slot.specs.Slot.{tests_slot, slot_of, asks_amount, has_amount, lacks_amount};
 ghost use Rattle.slot.specs.Slot.{number_of, value_of, with_transaction, slot_value, slot_passes};
@@ -11,7 +13,7 @@ use money::AccumulatorAmount;
 use wire::byte_at;
 
 // What a card's entries may test: of a CPA card nothing.
-#[derive(Drop)]
+#[derive(Clone, Copy)]
 pub struct Slots {
     pub testable: bool,
     pub amounts: [u64; 4],

@@ -1,5 +1,5 @@
 -- Numbers in bytes, there and back, over the width and the place; and bytes of a part. Assumes nothing.
-use mathlib.Core.Path.{◌≡◌, refl, sym, ap, ◌∙◌}
+use mathlib.Core.Path.{◌≡◌, refl, sym, ap, subst, ◌∙◌}
 use mathlib.Core.List.{List, [], ◌∷◌, ◌++◌, append_assoc}
 use Prim.Native.Nat.{ℕ, zero, suc, ◌+◌, ◌*◌, ◌/◌, ◌%◌, ◌^◌, ◌<◌, ◌≤◌}
 use native.Mathlib.Nat.{zero-add, pow-suc}
@@ -28,7 +28,9 @@ big-read front (suc n) k rest h =
     let before = big-read front n (k / 256) (k % 256 ∷ rest) small in
     let last : byte (front ++ (big n (k / 256) ++ k % 256 ∷ rest)) (length front + n) ≡ k % 256 =
     get_or-append-add front (big n (k / 256) ++ k % 256 ∷ rest) n 0 ∙ get_or_at (big n (k / 256)) (k % 256) rest 0 n (big_length n (k / 256)) in
-    rw (append_assoc (big n (k / 256)) (k % 256 ∷ []) rest, before, last) (omega arith)
+    let whole : big (suc n) k ++ rest ≡ big n (k / 256) ++ k % 256 ∷ rest = append_assoc (big n (k / 256)) (k % 256 ∷ []) rest in
+    let read : number (front ++ (big n (k / 256) ++ k % 256 ∷ rest)) (length front) (suc n) ≡ k = rw (before, last) (omega arith) in
+    subst (λ (s : List ℕ). number (front ++ s) (length front) (suc n) ≡ k) (sym whole) read
 
 -- ---- back
 

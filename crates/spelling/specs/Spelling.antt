@@ -178,21 +178,21 @@ FitPresented cpace unshown = ⊥
 FitPresented cpace (shown r1 r2 r3 cashback) = (r1 < 256) × (r2 < 256) × (r3 < 256) × (cashback < 256 ^ 6)
 
 abbrev pub FitsBy : Choice → Dates → CardFamily → Scripting → Sent → Type 0
-FitsBy by_name dates family scripts (names interface profile) = FitInterface family interface × (profile < 256)
-FitsBy by_name dates family scripts (brings interface terminal) = ⊥
-FitsBy (by_file file entries) dates family scripts (names interface profile) = ⊥
-FitsBy (by_file file entries) dates family scripts (brings interface terminal) =
+FitsBy by_name _ family _ (names interface profile) = FitInterface family interface × (profile < 256)
+FitsBy by_name _ family _ (brings interface terminal) = ⊥
+FitsBy (by_file file entries) _ family _ (names interface profile) = ⊥
+FitsBy (by_file file entries) _ family _ (brings interface terminal) =
     FitInterface family interface × (length (start_bytes interface terminal) < 65535) × Bytes terminal
-FitsBy choice undated family scripts (first type amount currency terminal presented) =
+FitsBy choice undated family _ (first type amount currency terminal presented) =
     FitFirst type amount currency terminal × FitPresented family presented
-FitsBy choice undated family scripts (first_on date type amount currency terminal presented) = ⊥
-FitsBy choice dated family scripts (first type amount currency terminal presented) = ⊥
-FitsBy choice dated family scripts (first_on date type amount currency terminal presented) =
+FitsBy choice undated family _ (first_on date type amount currency terminal presented) = ⊥
+FitsBy choice dated family _ (first type amount currency terminal presented) = ⊥
+FitsBy choice dated family _ (first_on date type amount currency terminal presented) =
     FitFirst type amount currency terminal × FitDate date × FitPresented family presented
-FitsBy choice dates family scripts (second type code issuer csu) =
+FitsBy choice _ family _ (second type code issuer csu) =
     (type < 256) × (code < 256 ^ 2) × (issuer < 256) × (csu < 256 ^ 4)
-FitsBy choice dates family unscripted (script result template) = ⊥
-FitsBy choice dates family scripted (script result template) = (result < 256) × (1 + length template < 65535) × Bytes template
+FitsBy choice _ family unscripted (script result template) = ⊥
+FitsBy choice _ family scripted (script result template) = (result < 256) × (1 + length template < 65535) × Bytes template
 
 unfoldable pub Fits : Manner → Sent → Type 0
 Fits manner x = FitsBy manner.choice manner.dates manner.family manner.scripts x

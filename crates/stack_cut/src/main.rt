@@ -1,4 +1,6 @@
 // A stack that ends one byte before its second paper does.
-fn main() {
-    desk::run_stack();
+#![tactic(auto)]
+
+fn main(rt: HostRuntime) {
+    desk::run_stack(&rt);
 }

@@ -1,4 +1,6 @@
 // Start: a profile is opened.
+#![tactic(auto)]
+
 ghost use Rattle.std.specs.Prelude.{◌≡◌};
 ghost use Rattle.rules.specs.Rules.{rules_of};
 ghost use Rattle.start.specs.Start.{opening_step, start_step};

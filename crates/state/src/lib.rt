@@ -1,4 +1,6 @@
 // The card's state, and what a command comes to.
+#![tactic(auto)]
+
 ghost use Rattle.std.specs.Prelude.{◌≡◌};
 ghost use Rattle.state.specs.State.{cid_of, uncompleted_in, failed_in, unable_in, missing_in};
 ghost use Rattle.state.specs.Ruling.{refused};
@@ -12,7 +14,7 @@ use rules::{Place, Values};
 
 // The previous transactions: last online not completed, go online next, issuer authentication
 // failed, unable to go online, issuer data not received.
-#[derive(Drop)]
+#[derive(Clone, Copy)]
 pub struct History {
     pub uncompleted: bool,
     pub online: bool,
@@ -54,7 +56,7 @@ impl History {
 
 // What a Second needs of its First: the purchase, CVR byte 3, the profile, and the history and what is
 // kept of scripts as the First found them.
-#[derive(Drop)]
+#[derive(Clone, Copy)]
 pub struct Pending {
     pub purchase: Purchase,
     pub limits: u8,
@@ -63,7 +65,7 @@ pub struct Pending {
     pub scripts: Scripts,
 }
 
-#[derive(Drop)]
+#[derive(Clone, Copy)]
 pub enum Phase {
     Idle,
     Opened(Place),
@@ -71,7 +73,7 @@ pub enum Phase {
 }
 
 // The last date is that of the last First without a date error.
-#[derive(Drop)]
+#[derive(Clone, Copy)]
 pub struct State {
     pub values: Values,
     pub phase: Phase,
@@ -82,7 +84,7 @@ pub struct State {
 }
 
 // A cryptogram's type.
-#[derive(Drop)]
+#[derive(Clone, Copy)]
 pub enum Kind {
     Aac,
     Tc,
@@ -102,7 +104,7 @@ impl Kind {
     }
 }
 
-#[derive(Drop)]
+#[derive(Clone, Copy)]
 pub enum Answer {
     Refused(Refusal),
     // The entries visited, none where the profile was named.

@@ -1,5 +1,14 @@
 // Standard input read, standard output written, and how it ended said: what the programs share.
+#![tactic(auto)]
+
 ghost use Rattle.std.specs.Prelude.{◌≤◌, length};
+
+use std::fs::{self, OpenOptions};
+use std::io::{self, Read as _, Write};
+use std::rt::Files;
+
+// Descriptor 3, as the system names it among the files.
+const DESCRIPTOR: &str = "/proc/self/fd/3";
 
 #[derive(Drop)]
 pub enum Ending {
@@ -18,20 +27,24 @@ pub struct Read {
 }
 
 // Reads once, behind the bytes that are there. No more of them is the input's end.
-fn read_behind(buffer: &mut [u8], filled: usize) -> Read
+fn read_behind(rt: &impl Input, buffer: &mut [u8], filled: usize) -> Read
     requires { filled ≤ length buffer.old }
     ensures { (filled ≤ result.filled) × (result.filled ≤ length buffer.old) }
 {
-    let got = libc::read(0, &mut buffer[filled..]);
-    let more = io::count(got, &buffer[filled..]);
-    Read {
-        filled: filled + more,
-        failed: got < 0,
+    match rt.reader().read(&mut buffer[filled..]) {
+        Ok(more) => Read {
+            filled: filled + more,
+            failed: false,
+        },
+        Err(_) => Read {
+            filled,
+            failed: true,
+        },
     }
 }
 
 // The same behind any place; behind the buffer's end it is a read that failed.
-pub fn read_on(buffer: &mut [u8], filled: usize) -> Read
+pub fn read_on(rt: &impl Input, buffer: &mut [u8], filled: usize) -> Read
     ensures { result.filled ≤ length buffer.old }
 {
     if buffer.len() < filled {
@@ -40,34 +53,49 @@ pub fn read_on(buffer: &mut [u8], filled: usize) -> Read
             failed: true,
         };
     }
-    read_behind(buffer, filled)
+    read_behind(rt, buffer, filled)
 }
 
 // Writes what stands before a place of the room.
-pub fn write_out(room: &[u8], to: usize) -> bool {
+pub fn write_out(rt: &impl Print, room: &[u8], to: usize) -> bool {
     if room.len() < to {
         return false;
     }
-    io::write_all(1, &room[..to])
+    rt.write_all(&room[..to]).is_ok()
+}
+
+// Writes to descriptor 3, where that is open for writing.
+fn write_word(rt: &impl Files, word: &[u8]) -> io::Result<()> {
+    if fs::symlink_metadata(rt, DESCRIPTOR)?
+        .permissions()
+        .readonly()
+    {
+        return Ok(());
+    }
+    OpenOptions::new()
+        .append(true)
+        .open(rt, DESCRIPTOR)?
+        .write_all(word)
 }
 
 // Says on descriptor 3 how it ended. Whoever started the program believes nothing else.
-pub fn acknowledge(ending: Ending) {
-    match ending {
-        Ending::Done => io::write_all(3, b"done\n"),
-        Ending::CutShort => io::write_all(3, b"cut short\n"),
-        Ending::NotRead => io::write_all(3, b"not read\n"),
-        Ending::NotWritten => io::write_all(3, b"not written\n"),
+pub fn acknowledge(rt: &impl Files, ending: Ending) {
+    let word: &[u8] = match ending {
+        Ending::Done => b"done\n",
+        Ending::CutShort => b"cut short\n",
+        Ending::NotRead => b"not read\n",
+        Ending::NotWritten => b"not written\n",
     };
+    let _ = write_word(rt, word);
 }
 
 // Reads until the input ends, the buffer is full or a read fails.
-pub fn read_all(buffer: &mut [u8]) -> Read
+pub fn read_all(rt: &impl Input, buffer: &mut [u8]) -> Read
     ensures { result.filled ≤ length buffer.old }
 {
     let mut filled: usize = 0;
     while filled < buffer.len() {
-        let read = read_behind(buffer, filled);
+        let read = read_behind(rt, buffer, filled);
         if read.failed {
             return read;
         }

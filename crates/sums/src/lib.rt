@@ -1,4 +1,6 @@
 // The currencies of a class's sheet, in ascending order, each with the sum of what was approved in it.
+#![tactic(auto)]
+
 ghost use Rattle.std.specs.Prelude.{◌≡◌, ◌∷◌, ◌+◌, ◌-◌, ◌≤◌, ◌<◌};
 ghost use Rattle.sums.specs.Sums.{new, sums_from, written, place_of, fits_sale, sale_added};
 

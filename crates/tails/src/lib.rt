@@ -1,5 +1,7 @@
 // Whether the bytes of a set-up's tails are in range, those of version 04 and of version 05. Ranges hold
 // for inactive entries too.
+#![tactic(auto)]
+
 ghost use Rattle.std.specs.Prelude.{◌≡◌, ◌<◌};
 ghost use Rattle.layout.specs.Layout.{cycle_from, cyclic_rule_from};
 ghost use Rattle.ranges.specs.Ranges.{all};

@@ -1,5 +1,7 @@
 // What an answer adds to the sheet of a class: one for its refusal, or one for its kind, by the profile
 // that the IAD names, and the amount of an offline approval.
+#![tactic(auto)]
+
 ghost use Rattle.std.specs.Prelude.{◌≡◌};
 ghost use Rattle.tallies.specs.Tallies.{kind_number, is_approval, cryptogram_tallies, answer_tallies, all_fit, all_tallied};
 
@@ -7,7 +9,7 @@ use sheet::Sheet;
 use state::{Answer, Kind};
 
 // What a First asked.
-#[derive(Drop)]
+#[derive(Clone, Copy)]
 pub struct Sale {
     pub amount: u64,
     pub currency: u16,

@@ -2,6 +2,8 @@
 // 0, 18 or 19, and behind a 0 three words for each command: where it starts, how long it is, and what
 // it writes. v1=5 is the value of accumulator 1, a1=5-6 and c1=5-6 are limits of an accumulator and of
 // a counter, with commas between; + is nothing at all, and - a command that fails.
+#![tactic(auto)]
+
 ghost use Rattle.std.specs.Prelude.{◌≡◌, ◌+◌, ◌≤◌, ◌<◌, length};
 
 use cursor::{Next, next_command};
@@ -33,9 +35,7 @@ fn put_number(room: &mut [u8], at: usize, n: u64) -> usize
     requires { at + 20 ≤ length room.old }
     ensures { result ≤ at + 20 }
 {
-    let mut text = [0u8; 20];
-    let digits = io::decimal(n, &mut text);
-    put_text(room, at, &text[..digits])
+    numerals::put_number(room, at, n)
 }
 
 // Two numbers with a dash between.
@@ -88,22 +88,22 @@ fn put_written(room: &mut [u8], at: usize, write: Write) -> usize
 }
 
 // Whether a write is of a kind, v, a or c, and to a slot.
-fn is_to(write: Write, kind: u8, slot: usize) -> bool {
+fn is_to(write: &Write, kind: u8, slot: usize) -> bool {
     match write {
         Write::Value {
             slot: to,
             amount: _,
-        } => (kind == b'v') & (slot == to),
+        } => (kind == b'v') & (slot == *to),
         Write::AccumulatorLimits {
             slot: to,
             lower: _,
             upper: _,
-        } => (kind == b'a') & (slot == to),
+        } => (kind == b'a') & (slot == *to),
         Write::CounterLimits {
             slot: to,
             lower: _,
             upper: _,
-        } => (kind == b'c') & (slot == to),
+        } => (kind == b'c') & (slot == *to),
     }
 }
 
@@ -115,7 +115,7 @@ fn last_to(command: &[u8], kind: u8, slot: usize) -> Last {
         let put_data::Next::Element { write, end } = next_write(command, at) else {
             return last;
         };
-        if is_to(write, kind, slot) {
+        if is_to(&write, kind, slot) {
             last = Last::Written(write);
         }
         at = end;
@@ -171,7 +171,13 @@ fn put_writes(room: &mut [u8], at: usize, command: &[u8]) -> usize
 }
 
 // The three words of a command.
-fn print_command(room: &mut [u8], template: &[u8], start: usize, end: usize) -> bool
+fn print_command(
+    rt: &impl Print,
+    room: &mut [u8],
+    template: &[u8],
+    start: usize,
+    end: usize,
+) -> bool
     requires { (583 ≤ length room.old) × (start ≤ end) × (end ≤ length template.now) }
 {
     let at = put_text(room, 0, b" ");
@@ -180,11 +186,11 @@ fn print_command(room: &mut [u8], template: &[u8], start: usize, end: usize) -> 
     let at = put_number(room, at, (end - start) as u64);
     let at = put_text(room, at, b" ");
     let at = put_writes(room, at, &template[start..end]);
-    streams::write_out(room, at)
+    streams::write_out(rt, room, at)
 }
 
 // The words of all commands.
-fn print_commands(room: &mut [u8], template: &[u8]) -> bool
+fn print_commands(rt: &impl Print, room: &mut [u8], template: &[u8]) -> bool
     requires { 583 ≤ length room.old }
 {
     let mut at = 0;
@@ -193,7 +199,7 @@ fn print_commands(room: &mut [u8], template: &[u8]) -> bool
             return true;
         };
         let end = start + size;
-        if !print_command(room, template, start, end) {
+        if !print_command(rt, room, template, start, end) {
             return false;
         }
         at = end;
@@ -201,58 +207,58 @@ fn print_commands(room: &mut [u8], template: &[u8]) -> bool
 }
 
 // The line of a sound template.
-fn print_sound(room: &mut [u8], template: &[u8]) -> bool
+fn print_sound(rt: &impl Print, room: &mut [u8], template: &[u8]) -> bool
     requires { 583 ≤ length room.old }
 {
-    if !io::write_all(1, b"0") {
+    if rt.write_all(b"0").is_err() {
         return false;
     }
-    if !print_commands(room, template) {
+    if !print_commands(rt, room, template) {
         return false;
     }
-    io::write_all(1, b"\n")
+    rt.write_all(b"\n").is_ok()
 }
 
 // The line of a template.
-fn print_line(room: &mut [u8], template: &[u8]) -> bool
+fn print_line(rt: &impl Print, room: &mut [u8], template: &[u8]) -> bool
     requires { 583 ≤ length room.old }
 {
     match read_template(template) {
-        Reading::Sound => print_sound(room, template),
-        Reading::Malformed => io::write_all(1, b"18\n"),
-        Reading::TooDeep => io::write_all(1, b"19\n"),
+        Reading::Sound => print_sound(rt, room, template),
+        Reading::Malformed => rt.write_all(b"18\n").is_ok(),
+        Reading::TooDeep => rt.write_all(b"19\n").is_ok(),
     }
 }
 
 // The template of so many bytes that comes next, read and answered.
-fn answer(buffer: &mut [u8], size: usize, room: &mut [u8]) -> Ending
+fn answer(rt: &(impl Input + Print), buffer: &mut [u8], size: usize, room: &mut [u8]) -> Ending
     requires { 583 ≤ length room.old }
 {
     if buffer.len() < size {
         return Ending::NotRead;
     }
-    let read = streams::read_all(&mut buffer[..size]);
+    let read = streams::read_all(rt, &mut buffer[..size]);
     if read.failed {
         return Ending::NotRead;
     }
     if read.filled < size {
         return Ending::CutShort;
     }
-    if print_line(room, &buffer[..size]) {
+    if print_line(rt, room, &buffer[..size]) {
         return Ending::Done;
     }
     Ending::NotWritten
 }
 
 // All templates. It ends after more turns than any input has.
-fn answer_all(buffer: &mut [u8], room: &mut [u8]) -> Ending
+fn answer_all(rt: &(impl Input + Print), buffer: &mut [u8], room: &mut [u8]) -> Ending
     requires { 583 ≤ length room.old }
 {
     let mut size = [0u8; 4];
     let mut turns: u64 = 0;
     while turns < 18_446_744_073_709_551_615 {
         turns += 1;
-        let read = streams::read_all(&mut size);
+        let read = streams::read_all(rt, &mut size);
         if read.failed {
             return Ending::NotRead;
         }
@@ -262,7 +268,7 @@ fn answer_all(buffer: &mut [u8], room: &mut [u8]) -> Ending
         if read.filled < 4 {
             return Ending::CutShort;
         }
-        let ending = answer(buffer, wire::u32_at(&size, 0) as usize, room);
+        let ending = answer(rt, buffer, wire::u32_at(&size, 0) as usize, room);
         let Ending::Done = ending else {
             return ending;
         };
@@ -271,8 +277,8 @@ fn answer_all(buffer: &mut [u8], room: &mut [u8]) -> Ending
 }
 
 // The longest template, and the longest text of a command: 43 bytes, and 45 for each of 12 slots.
-fn main() {
+fn main(rt: HostRuntime) {
     let mut buffer = [0u8; 65_536];
     let mut room = [0u8; 583];
-    streams::acknowledge(answer_all(&mut buffer, &mut room));
+    streams::acknowledge(&rt, answer_all(&rt, &mut buffer, &mut room));
 }

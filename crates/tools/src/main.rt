@@ -1,4 +1,6 @@
 // The tools beside the sitting: the first argument names one.
-fn main() {
-    toolbox::run_tool();
+#![tactic(auto)]
+
+fn main(rt: HostRuntime) {
+    toolbox::run_tool(&rt);
 }

@@ -1,4 +1,6 @@
 // The tool `bench`, on the printed sitting's card.
-fn main() {
-    toolbox::run_tool();
+#![tactic(auto)]
+
+fn main(rt: HostRuntime) {
+    toolbox::run_tool(&rt);
 }

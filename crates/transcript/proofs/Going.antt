@@ -1,9 +1,6 @@
 -- A loop over the records: what stands in the room and what is still to come is the whole text. Assumes nothing.
-use mathlib.Core.Path.{◌≡◌, sym, ap, subst, ◌∙◌}
+use mathlib.Core.Path.{◌≡◌, refl, sym, ap, subst, ◌∙◌}
 use mathlib.Core.List.{List, [], ◌∷◌, ◌++◌}
-use mathlib.Core.Logic.{inl, inr}
-use types.Run.{OneOf}
-use denote.Enum.Declared.{tag_of}
 use Prim.Native.Nat.{ℕ, ◌+◌, ◌*◌, ◌-◌, ◌≤◌, ◌<◌}
 use native.Mathlib.Omega.{arith}
 use lib.ListN.{length, length-append}
@@ -23,7 +20,6 @@ use Rattle.opening.specs.Opening.{begun_of, words_begun}
 use Rattle.conversation.specs.Conversation.{taken_of, taken_writes}
 use Rattle.conversation.specs.Events.{words_from, words_left}
 use Rattle.conversation.proofs.Events.{GoesOn, further}
-use Rattle.records.specs.contracts.Event as E
 use Rattle.lines.specs.Lines.{longest, refusal_line, placed, place_behind}
 use Rattle.lines.specs.Sitting.{answer_line}
 use Rattle.lines.proofs.Placed.{behind-is, placed-is}
@@ -95,7 +91,7 @@ module _ {words : List ℕ} {shape : Shape} {paper whole left before room : List
     pub leaves : words' ≡ left
 
   pub last-is : (words' : List ℕ) → Written words' → (event : Event) → at < length paper → taken.event ≡ event
-      → OneOf (0 ∷ 1 ∷ 2 ∷ []) (tag_of E.the_type event) → Last event words'
+      → ((said : Said) (answer : Answer) → event ≡ Answered said answer → ⊥) → Last event words'
   last-is words' w SetUp h e n = absurd (Steps.never_set_up (rules_of words) shape state paper at e)
   last-is words' w End h e n =
       record {
@@ -107,9 +103,7 @@ module _ {words : List ℕ} {shape : Shape} {paper whole left before room : List
         line = Steps.last (rules_of words) shape state paper at number h refusal e;
         leaves = w.0 ∙ sym (Steps.words_last words shape state paper at h (Refused refusal) (λ on. on) e) ∙ going.leaves;
       }
-  last-is words' w (Answered said answer) h e (inl z) = absurd (omega arith)
-  last-is words' w (Answered said answer) h e (inr (inl z)) = absurd (omega arith)
-  last-is words' w (Answered said answer) h e (inr (inr z)) = absurd (omega arith)
+  last-is words' w (Answered said answer) h e k = absurd (k said answer refl)
 
   -- nothing is left
   pub over : length paper ≤ at → (end ≡ to + length whole) × (room ≡ sets before to whole) × (words ≡ left)

@@ -29,7 +29,8 @@ use Rattle.command.specs.declared.Command.{Command}
 use Rattle.command.specs.declared.Command.TheVariants.{Start as StartCommand, First as FirstCommand, Second as SecondCommand}
 use Rattle.command.specs.declared.ReadCommand.{ReadCommand}
 use Rattle.command.specs.declared.ReadCommand.TheVariants.{Taken, Refused as NotTaken}
-use Rattle.command.specs.Command.{is_cpace, interface_of, start_length, start_of, plain_length, first_length, first_of, second_of, command_of, start_selected, selecting_of, slots_of, file_in, read_by, command_in}
+use Rattle.command.specs.Command.{is_cpace, interface_of, start_length, start_of, plain_length, first_length, first_of, second_of, command_of}
+use Rattle.command.specs.Command.{start_selected, selecting_of, slots_of, file_in, read_by, command_in}
 use Rattle.state.specs.declared.State.{State}
 use Rattle.state.specs.Ruling.{Ruling, take as rule, refuse, carried}
 use Rattle.card.specs.Card.{rule_start, start_performed, start_step, step_of}

@@ -3,8 +3,6 @@ use mathlib.Core.Path.{◌≡◌, refl, sym, ap, subst, ◌∙◌}
 use mathlib.Core.Bool.{Bool, true, false, cond, ◌||◌}
 use mathlib.Core.List.{List, [], ◌∷◌, ◌++◌, append-nil}
 use mathlib.Core.Logic.{inl, inr}
-use types.Run.{OneOf}
-use denote.Enum.Declared.{tag_of}
 use Prim.Native.Nat.{ℕ, suc, ◌+◌, ◌-◌, ◌≤◌, ◌<◌}
 use native.Mathlib.Omega.{arith}
 use borrow.Author.Tests.{ltb-false}
@@ -50,7 +48,6 @@ use Rattle.conversation.specs.Conversation.{next_taken, taken_of, taken_writes}
 use Rattle.conversation.specs.Events.{following, events_from, events_of, ending, words_from, words_left}
 use Rattle.conversation.proofs.Events.{GoesOn, further, settled, words-settled}
 use Rattle.script.specs.Script.{rules_after, words_after}
-use Rattle.records.specs.contracts.Event as E
 use Rattle.lines.specs.Lines.{refusal_line}
 use Rattle.lines.specs.Sitting.{answer_line, lines_of, sitting_lines}
 use Rattle.transcript.specs.Transcript.{set_up_number, joined, transcript_of, rest_of}
@@ -268,17 +265,10 @@ module _ (words paper : List ℕ) where
       ap (λ v. ending v (words_begun words paper) (words_from (length paper) (words_begun words paper) begun.shape begun.state paper begun.at)) e
 
   -- one that is not
-  pub refused-text : OneOf (1 ∷ 2 ∷ 3 ∷ []) (tag_of E.the_type begun.event)
+  pub refused-text : (begun.event ≡ SetUp → ⊥)
       → (transcript_of words paper ≡ refusal_line 0 (set_up_number begun.event)) × (words_left words paper ≡ words_begun words paper)
   refused-text k = by (begins paper) where
-    not_taken : (event : Event) → event ≡ SetUp → OneOf (1 ∷ 2 ∷ 3 ∷ []) (tag_of E.the_type event) → ⊥
-    not_taken event e n = by-tag (subst (λ v. OneOf (1 ∷ 2 ∷ 3 ∷ []) (tag_of E.the_type v)) e n) where
-      by-tag : OneOf (1 ∷ 2 ∷ 3 ∷ []) (tag_of E.the_type SetUp) → ⊥
-      by-tag (inl z) = omega arith
-      by-tag (inr (inl z)) = omega arith
-      by-tag (inr (inr z)) = omega arith
-
     by : Beginning paper begun
         → (transcript_of words paper ≡ refusal_line 0 (set_up_number begun.event)) × (words_left words paper ≡ words_begun words paper)
-    by (accepted e o) = absurd (not_taken begun.event e k)
+    by (accepted e o) = absurd (k e)
     by (refused refusal e) = (not_set_up refusal e ∙ ap (λ v. refusal_line 0 (set_up_number v)) (sym e), words_not_set_up refusal e)

@@ -1,4 +1,6 @@
 // A whole paper answered: its lines, one behind the other, in lent room.
+#![tactic(auto)]
+
 ghost use Rattle.std.specs.Prelude.{◌≡◌, ◌+◌, ◌-◌, ◌≤◌, length};
 ghost use Rattle.std.proofs.lemmas.List.Edits.{sets};
 ghost use Rattle.rules.specs.Rules.{rules_of};
@@ -41,7 +43,7 @@ fn put_records(
     let mut at = start;
     let mut end = to;
     let mut number: u16 = 1;
-    while at < paper.len() {
+    'records: while at < paper.len() {
         let taken = conversation::take(words, shape, state, paper, at);
         let event = taken.event;
         state = taken.state;

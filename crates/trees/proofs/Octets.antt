@@ -4,7 +4,7 @@ use mathlib.Core.List.{List, [], ◌∷◌, ◌++◌}
 use mathlib.Core.Bool.{Bool, true, false}
 use Prim.Native.Nat.{ℕ, zero, suc, ◌+◌, ◌<◌}
 use native.Mathlib.Omega.{arith}
-use lib.ListN.{length, get_or, take, drop, length_take, get_or-eq_default}
+use lib.ListN.{length, get_or, take, drop, length-take, get_or-eq_default}
 use lib.Seq.{get_or-drop, get_or-take}
 use lib.Dec.{ltb}
 use borrow.Author.Tests.{ltb-true, ltb-false}
@@ -62,4 +62,4 @@ take-bytes n s h i = go (ltb i n) refl
   where
     go : (b : Bool) → ltb i n ≡ b → get_or (take n s) i 0 < 256
     go true e = rw (get_or-take n s i 0 (ltb-true i n e)) (h i)
-    go false e = rw (get_or-eq_default (take n s) 0 {n = i} (omega (arith, length_take n s, ltb-false i n e))) (omega arith)
+    go false e = rw (get_or-eq_default (take n s) 0 {n = i} (omega (arith, length-take n s, ltb-false i n e))) (omega arith)

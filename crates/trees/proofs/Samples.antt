@@ -95,7 +95,8 @@ pub record Samples : Type 0 where
   pub template-cut : T (faulty 18 (0x71 ∷ 0x01 ∷ []))
 
 pub samples : Samples
-unfolding written commands length_size length_at value_size head_size head_formed head_right value_of read_object read_behind read_list is_template read_template places_behind places_from cut commands_of
+unfolding written commands length_size length_at value_size head_size head_formed head_right value_of read_object read_behind read_list is_template
+    read_template places_behind places_from cut commands_of
 samples =
     record {
       empty = tt;

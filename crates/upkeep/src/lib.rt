@@ -1,4 +1,6 @@
 // What an event does to the room left.
+#![tactic(auto)]
+
 ghost use Rattle.std.specs.Prelude.{◌≡◌};
 ghost use Rattle.rules.specs.Rules.{rules_of};
 ghost use Rattle.upkeep.specs.Upkeep.{is_scripted, rooms_after};

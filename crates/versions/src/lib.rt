@@ -1,1 +1,2 @@
 // What a version of papers means to an older one, as theorems.
+#![tactic(auto)]

@@ -4,7 +4,7 @@ use mathlib.Core.Bool.{Bool, true, false, cond}
 use mathlib.Core.List.{List, [], ◌∷◌}
 use Prim.Native.Nat.{ℕ}
 use Rattle.words.specs.Words.{word, same, up_to}
-use Rattle.forms.specs.Form.{Part, say, count, bytes, named, date, code, Form, done, rest, may, part, bits, either}
+use Rattle.forms.specs.Form.{say, count, bytes, named, date, code, Form, done, rest, may, part, bits, either}
 use Rattle.forms.specs.Grammar.{past, is_sized, size_in, part_in, form_from, form_in}
 use Rattle.forms.proofs.Grammars as Grammars
 use Rattle.walk.specs.declared.Mark.{Mark as Kind}

@@ -1,6 +1,6 @@
 -- Which marks the last arm of a `match` is for. Assumes nothing.
 use denote.Enum.Declared.{tag_of}
-use mathlib.Core.Path.{◌≡◌, refl, sym, ap, ◌∙◌}
+use mathlib.Core.Path.{◌≡◌, refl}
 use mathlib.Core.Bool.{Bool, true, false, ◌||◌}
 use mathlib.Core.List.{List, [], ◌∷◌}
 use mathlib.Core.Logic.{inl, inr}
@@ -44,3 +44,49 @@ going = 2 ∷ 4 ∷ 5 ∷ 6 ∷ 7 ∷ 8 ∷ 9 ∷ 10 ∷ 11 ∷ []
 -- all but names and flags
 abbrev pub single : List ℕ
 single = 0 ∷ 1 ∷ 2 ∷ 3 ∷ 4 ∷ 7 ∷ 8 ∷ 9 ∷ 10 ∷ 11 ∷ []
+
+-- the last arm of `size`
+pub among_empty : (m : Kind) → (m ≡ Names → ⊥) → ((x : ℕ) → m ≡ Flags x → ⊥) → ((x : ℕ) → m ≡ Number x → ⊥)
+    → ((x : ℕ) → m ≡ Bytes x → ⊥) → (m ≡ Date → ⊥) → (m ≡ Code → ⊥) → is_among empty (tag m) ≡ true
+among_empty End a b c d e f = refl
+among_empty Rest a b c d e f = refl
+among_empty MayEnd a b c d e f = refl
+among_empty Opens a b c d e f = refl
+among_empty Silent a b c d e f = refl
+among_empty Names a b c d e f = absurd (a refl)
+among_empty (Flags x) a b c d e f = absurd (b x refl)
+among_empty (Number x) a b c d e f = absurd (c x refl)
+among_empty (Bytes x) a b c d e f = absurd (d x refl)
+among_empty Date a b c d e f = absurd (e refl)
+among_empty Code a b c d e f = absurd (f refl)
+among_empty Word a b c d e f = refl
+
+-- the last arm of a walk of a row
+pub among_going : (m : Kind) → (m ≡ End → ⊥) → (m ≡ Rest → ⊥) → (m ≡ Opens → ⊥) → is_among going (tag m) ≡ true
+among_going End a b c = absurd (a refl)
+among_going Rest a b c = absurd (b refl)
+among_going MayEnd a b c = refl
+among_going Opens a b c = absurd (c refl)
+among_going Silent a b c = refl
+among_going Names a b c = refl
+among_going (Flags x) a b c = refl
+among_going (Number x) a b c = refl
+among_going (Bytes x) a b c = refl
+among_going Date a b c = refl
+among_going Code a b c = refl
+among_going Word a b c = refl
+
+-- the last arm of `part_behind`
+pub among_single : (m : Kind) → (m ≡ Names → ⊥) → ((x : ℕ) → m ≡ Flags x → ⊥) → is_among single (tag m) ≡ true
+among_single End a b = refl
+among_single Rest a b = refl
+among_single MayEnd a b = refl
+among_single Opens a b = refl
+among_single Silent a b = refl
+among_single Names a b = absurd (a refl)
+among_single (Flags x) a b = absurd (b x refl)
+among_single (Number x) a b = refl
+among_single (Bytes x) a b = refl
+among_single Date a b = refl
+among_single Code a b = refl
+among_single Word a b = refl

@@ -1,20 +1,20 @@
 -- What the grammar says at a place, and where it goes on. Assumes nothing.
-use mathlib.Core.Path.{◌≡◌, refl, sym, ap, ap₂, ◌∙◌}
-use mathlib.Core.Bool.{Bool, true, false, cond, not, ◌&&◌, ◌||◌, and_true, and_false}
+use mathlib.Core.Path.{◌≡◌, refl, sym, ap, ◌∙◌}
+use mathlib.Core.Bool.{Bool, true, false, cond, ◌&&◌, ◌||◌, and-true, and-false}
 use mathlib.Core.List.{List, [], ◌∷◌}
 use Prim.Native.Nat.{ℕ, zero, suc, ◌+◌, ◌-◌, ◌≤◌, ◌<◌}
 use native.Mathlib.Nat.{sub-zero, zero-add, add-zero}
 use native.Mathlib.Numerals.{add-one}
 use native.Mathlib.Omega.{arith}
 use borrow.Author.Tests.{le-leb, lt-leb, leb-true, eqb-true, eqb-false, ne_eqb}
-use lib.Dec.{leb, ltb, eqb}
+use lib.Dec.{leb, eqb}
 use lib.ListN.{length, take, drop}
 use lib.Seq.{drop-cons}
 use Rattle.wire.specs.Wire.{byte}
 use Rattle.words.specs.Words.{word, same, is_empty}
 use Rattle.words.proofs.Tests.{both}
-use Rattle.words.specs.Lex.{is_plain, flush}
-use Rattle.lexing.specs.Places.{word_at, words_at, ends_line, word_end, next_word, after_word, is_blank}
+use Rattle.words.specs.Lex.{flush}
+use Rattle.lexing.specs.Places.{word_at, words_at, ends_line, word_end, next_word, after_word}
 use Rattle.lexing.proofs.Steps.{in_line_lem}
 use Rattle.lexing.proofs.Laws.{word-part, word_in, words-behind, words-next, word_next, next-behind, word-passed, ended}
 use Rattle.forms.specs.Form.{Form, done, rest, either, width, fits_length}
@@ -34,7 +34,7 @@ three-more (suc (suc (suc n))) a b c = omega arith
 
 long : (a b c : ℕ) (w : List ℕ) → mark_of (a ∷ b ∷ c ∷ w) ≡ Word
 unfolding mark_of is_sized
-long a b c w = simp (and_false, ne_eqb (length (a ∷ b ∷ c ∷ w)) 2 (λ e. omega arith))
+long a b c w = simp (and-false, ne_eqb (length (a ∷ b ∷ c ∷ w)) 2 (λ e. omega arith))
 
 module _ (text : List ℕ) (t : ℕ) where
   pub words-after : words_at text t ≡ flush (word_at text t) (words_at text (after_word text t))
@@ -140,14 +140,14 @@ module _ (text : List ℕ) (t : ℕ) where
   same-one m h = go (ends_line text t) refl where
     go : (b : Bool) → ends_line text t ≡ b → same (word_at text t) (m ∷ []) ≡ eqb (byte text t) m
     go true e = let none = ended-word e in let size = word_size in absurd (omega (arith, ap length none))
-    go false e = rw (one_byte e h) (and_true (eqb (byte text t) m))
+    go false e = rw (one_byte e h) (and-true (eqb (byte text t) m))
 
   pub same-other : (m : ℕ) → (word_end text t - t ≡ 1 → ⊥) → same (word_at text t) (m ∷ []) ≡ false
   same-other m h = go (word_at text t) word_size where
     go : (w : List ℕ) → length w ≡ word_end text t - t → same w (m ∷ []) ≡ false
     go [] k = refl
     go (a ∷ []) k = absurd (h (sym k))
-    go (a ∷ b ∷ w) k = and_false (eqb a m)
+    go (a ∷ b ∷ w) k = and-false (eqb a m)
 
   -- ---- past a mark
 

@@ -1,18 +1,17 @@
 -- The rows of a table, one below the other. Assumes nothing.
-use mathlib.Core.Path.{◌≡◌, refl, sym, ap, ap₂, ◌∙◌}
-use mathlib.Core.Bool.{Bool, true, false, cond, ◌||◌}
+use mathlib.Core.Path.{◌≡◌, refl, sym, ap, ◌∙◌}
+use mathlib.Core.Bool.{Bool, true, false, cond}
 use mathlib.Core.List.{List, [], ◌∷◌, ◌++◌}
 use Prim.Native.Nat.{ℕ, zero, suc, ◌+◌, ◌-◌, ◌≤◌, ◌<◌}
 use native.Mathlib.Nat.{add-zero, zero-add}
 use native.Mathlib.Omega.{arith}
-use borrow.Author.Tests.{ltb-true, ltb-false, leb-true, leb-false, le-leb, lt-leb, eqb-true, eq-eqb}
+use borrow.Author.Tests.{ltb-false, leb-true, leb-false, le-leb, lt-leb, eqb-true}
 use lib.Dec.{leb, ltb, eqb}
-use lib.ListN.{length, take, drop, get_or, drop_of_length-le}
+use lib.ListN.{length, take, drop, drop_of_length-le}
 use lib.Seq.{drop-cons}
 use Rattle.wire.specs.Wire.{byte}
 use Rattle.words.specs.Words.{is_empty, all}
-use Rattle.words.specs.Lex.{Line, flush, shut, lines_of, lex, lines_in}
-use Rattle.words.proofs.Tests.{neither}
+use Rattle.words.specs.Lex.{Line, flush, shut, lines_of, lex}
 use Rattle.lexing.specs.Places.{word_at, words_at, below_at, lines_at, ends_line, word_end, after_word, line_end, line_rest, next_word, below_line, line_from, next_line}
 use Rattle.lexing.proofs.Steps.{in_line_lem}
 use Rattle.lexing.proofs.Steps as Steps
@@ -20,7 +19,6 @@ use Rattle.lexing.proofs.Laws.{word-part, words-next, below_next, word_next, nex
 use Rattle.forms.specs.Form.{done, width, said, is_blank}
 use Rattle.forms.specs.Table.{Field, field_in, fields_in, widths, field_line, print_fields}
 use Rattle.walk.specs.Walk.{is_header, rows_of, past_rows, table_at, ends_table}
-use Rattle.walk.proofs.Forms.{form-none}
 use Rattle.walk.proofs.Places.{words-after}
 
 -- a word is not empty where it begins

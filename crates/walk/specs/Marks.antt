@@ -1,5 +1,5 @@
 -- What a word of a row of the grammar marks.
-use Rattle.std.specs.Prelude.{cond, List, [], ◌∷◌, ℕ}
+use Rattle.std.specs.Prelude.{cond, List, ℕ}
 use Rattle.words.specs.Words.{word, same, is_empty}
 use Rattle.lexing.specs.Places.{word_at, ends_line}
 use Rattle.forms.specs.Grammar.{is_sized, size_in, past}

@@ -1,5 +1,5 @@
 -- Places of the grammar: parts, rows and tables.
-use Rattle.std.specs.Prelude.{◌≡◌, Bool, true, false, cond, ◌||◌, List, [], ◌∷◌, ℕ, ◌≤◌, ◌*◌, ◌-◌, leb, eqb, length}
+use Rattle.std.specs.Prelude.{◌≡◌, Bool, false, cond, ◌||◌, List, [], ◌∷◌, ℕ, ◌≤◌, ◌*◌, ◌-◌, leb, eqb, length}
 use Rattle.wire.specs.Wire.{byte}
 use Rattle.words.specs.Lex.{Line}
 use Rattle.walk.specs.declared.Mark.{Mark as Kind}

@@ -1,6 +1,8 @@
 // The grammar of papers as text, walked word by word: a row is a line, its first word the key, and each word
 // behind it a part, or a mark around parts. The rows of a table stand one below the other, and a line that begins
 // with "-" below them.
+#![tactic(auto)]
+
 ghost use Rattle.std.specs.Prelude.{◌≡◌, List, [], ◌∷◌, ◌≤◌, ◌*◌, ◌-◌};
 ghost use Rattle.words.specs.Words.{same};
 ghost use Rattle.lexing.specs.Places.{word_at, words_at, after_word, lines_at};
@@ -14,7 +16,7 @@ use lexing::{after_word, ends_line, next_line, next_word, word_end};
 pub type Grammar = [u8; 2909];
 
 // What a word of a row says.
-#[derive(Drop)]
+#[derive(Clone, Copy)]
 pub enum Mark {
     // The row's end.
     End,

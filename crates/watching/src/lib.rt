@@ -1,4 +1,6 @@
 // After each cryptogram, the transaction that it closed is added to the log (request Eight), if it is logged.
+#![tactic(auto)]
+
 ghost use Rattle.std.specs.Prelude.{◌≡◌};
 ghost use Rattle.journal.specs.Journal.{closed_by, noted, watched};
 

@@ -1,5 +1,7 @@
 // Words put into lent room from a place on; the place behind is returned, and what does not fit is left out.
 // What a word says: a number, bytes.
+#![tactic(auto)]
+
 ghost use Rattle.std.specs.Prelude.{◌≡◌, true, ◌&&◌, [], ◌∷◌, ◌-◌, ◌<◌};
 ghost use Rattle.hex_digits.specs.Hex.{hex_byte, hex};
 ghost use Rattle.numerals.specs.Numeral.{numeral};

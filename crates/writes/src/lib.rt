@@ -1,4 +1,6 @@
 // What one element of a PUT DATA command does to values and limits.
+#![tactic(auto)]
+
 ghost use Rattle.std.specs.Prelude.{◌≡◌};
 ghost use Rattle.rules.specs.Rules.{rules_of};
 ghost use Rattle.writes.specs.Writes.{value_in, values_with, rules_with, words_with};

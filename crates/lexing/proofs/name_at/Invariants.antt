@@ -1,0 +1,11 @@
+-- The invariant: the name is as many names on as are left.
+use mathlib.Core.Path.{◌≡◌}
+use Prim.Native.Nat.{◌-◌, ◌≤◌}
+use Rattle.lexing.specs.Names.{names_on, name_at}
+use Rattle.lexing.proofs.name_at.Given as goal
+
+abbrev pub invariant-loop-i : goal.invariant-loop-i
+invariant-loop-i l = (name_at l.close l.n l.table l.at ≡ names_on l.close (l.n - l.i) l.table l.name) × (l.i ≤ l.n)
+
+abbrev pub decreases-loop-i : goal.decreases-loop-i
+decreases-loop-i l = l.n - l.i

@@ -1,0 +1,23 @@
+use borrow.Author.Rules.{rules}
+use borrow.Author.Tests.{leb-true}
+use mathlib.Core.Path.{sym, ◌∙◌}
+use Rattle.log_values.proofs.Stores.{place, stay}
+use Rattle.log_values.proofs.put_hex.Goals as goal
+
+pub store_hex-requires : goal.store_hex-requires
+store_hex-requires c =
+    let taken = c in
+    leb-true _ _ (sym taken.has_room.ensures ∙ taken.if-has_room.true)
+
+pub returns-then-has_room : goal.returns-then-has_room
+returns-then-has_room c =
+    let put = c in
+    let taken = put in
+    place (sym taken.has_room.ensures ∙ taken.if-has_room.true) put.store_hex.ensures
+
+pub returns : goal.returns
+returns c =
+    let asked = c in
+    let known = asked in
+    let a = known.args in
+    stay a.room.now _ a.at _ (sym asked.has_room.ensures ∙ c.if-has_room.false)

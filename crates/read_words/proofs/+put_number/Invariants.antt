@@ -1,0 +1,5 @@
+-- The bytes above, then the lowest.
+use Rattle.read_words.proofs.+put_number.Given as goal
+
+abbrev pub decreases-put_number : goal.decreases-put_number
+decreases-put_number l = l.count

@@ -1,0 +1,28 @@
+-- Room, or none.
+use borrow.Author.Rules.{rules}
+use native.Mathlib.Omega.{arith}
+use Rattle.text.proofs.Stores.{next}
+use Rattle.run_text.proofs.Pages.{no_page, page}
+use Rattle.run_text.proofs.put_page.Goals as goal
+
+pub returns-then-text-lt-LONGEST_HEAD : goal.returns-then-text-lt-LONGEST_HEAD
+returns-then-text-lt-LONGEST_HEAD c =
+    let start = c in
+    let a = start.args in
+    no_page a.text.now a.ran a.room.now (omega arith)
+
+pub returns-then-text-room : goal.returns-then-text-room
+returns-then-text-room c =
+    let start = c in
+    let a = start.args in
+    no_page a.text.now a.ran a.room.now (omega arith)
+
+pub returns : goal.returns
+returns c =
+    let lines = c in
+    let to-lines = lines in
+    let line = to-lines in
+    let start = line in
+    let known = start in
+    let a = known.args in
+    page a.text.now a.ran a.room.now (omega arith) (next line.put_ran-at.ensures lines.put_lines.ensures)

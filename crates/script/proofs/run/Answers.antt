@@ -1,0 +1,59 @@
+use borrow.Author.Rules.{rules}
+use native.Mathlib.Omega.{arith}
+use mathlib.Core.List.{List}
+use mathlib.Core.Path.{◌≡◌, sym, ◌∙◌}
+use Prim.Native.Nat.{ℕ}
+use Rattle.cursor.specs.declared.Next.{Next}
+use Rattle.cursor.specs.declared.Next.TheVariants.{Command}
+use Rattle.cursor.specs.Cursor.{next_command}
+use Rattle.cursor.proofs.Cursor.{Step, next-command, next-end}
+use Rattle.script.proofs.Commands.{done-some, Going, starts, ends, fails, goes_on_lem}
+use Rattle.script.proofs.run.Goals as goal
+
+-- at a command: where it lies, and what is left behind it
+step : (s : List ℕ) (at start size : ℕ) (found : Next) → found ≡ next_command s at → found ≡ Command start size → Step s at start size
+step s at start size found e is = next-command _ _ _ _ (sym e ∙ is)
+
+pub loop-start-init : goal.loop-start-init
+loop-start-init c = starts _ _ _ _ _
+
+pub returns-in_default : goal.returns-in_default
+returns-in_default c =
+    let asked = c in
+    let l = asked.loop-start in
+    ends _ _ _ _ _ _ _ _ _ l.invariant (next-end _ _ (sym asked.next_command.ensures ∙ c.in_default.is))
+
+pub overflow_add-end : goal.overflow_add-end
+overflow_add-end c = let h = step _ _ _ _ _ c.next_command.ensures c.in-Command.is in omega (arith, h.within)
+
+pub slice_bounds-command-end : goal.slice_bounds-command-end
+slice_bounds-command-end c = let h = step _ _ _ _ _ c.next_command.ensures c.in-Command.is in omega (arith, h.within)
+
+pub returns-then-not-is_done : goal.returns-then-not-is_done
+returns-then-not-is_done c =
+    let asked = c in
+    let told = asked in
+    let next = told in
+    let failed = sym asked.is_done.ensures ∙ c.if-not-is_done.true in
+    simp c.with_failure.ensures (fails _ _ _ _ _ _ _ _ _ next.loop-start.invariant _ _ (step _ _ _ _ _ c.next_command.ensures c.in-Command.is) failed)
+
+pub write_elements-values-requires : goal.write_elements-values-requires
+write_elements-values-requires c =
+    let asked = c in
+    (done-some _ _ _ (sym asked.is_done.ensures ∙ c.if-not-is_done.false)).0
+
+pub loop-start-smaller : goal.loop-start-smaller
+loop-start-smaller c =
+    let branch = c in
+    let h = step _ _ _ _ _ c.next_command.ensures c.in-Command.is in
+    omega (arith, h.later, h.within)
+
+pub loop-start-preserved : goal.loop-start-preserved
+loop-start-preserved c =
+    let branch = c in
+    let asked = branch in
+    let told = asked in
+    let next = told in
+    let is-done = sym asked.is_done.ensures ∙ branch.if-not-is_done.false in
+    simp c.with_done-scripts.ensures
+    (goes_on_lem _ _ _ _ _ _ _ _ _ next.loop-start.invariant _ _ (step _ _ _ _ _ c.next_command.ensures c.in-Command.is) is-done _ _ c.write_elements-values.ensures)

@@ -1,0 +1,36 @@
+use borrow.Author.Rules.{rules}
+use borrow.Author.Tests.{lt-ltb, le-ltb}
+use mathlib.Core.Path.{sym, ◌∙◌}
+use Rattle.script.specs.Script.{words_run, rules_run}
+use Rattle.scripting.specs.Scripting.{script_taken, template_writes}
+use Rattle.scripting.proofs.take_script.Goals as goal
+
+pub returns-then-res-gt1 : goal.returns-then-res-gt1
+unfolding script_taken template_writes
+returns-then-res-gt1 c = let above = lt-ltb _ _ c.if-res-gt1.true in (simp (above, c.refuse.ensures), simp (above), simp (above))
+
+pub returns-in-Sound : goal.returns-in-Sound
+unfolding script_taken template_writes words_run rules_run
+returns-in-Sound c =
+    let told = c in
+    let read = told in
+    let ran = c.run_script.ensures in
+    let within = le-ltb _ _ read.if-res-gt1.false in
+    let sound = sym read.read_template.ensures ∙ told.in-Sound.is in
+    (simp (within, sound, ran.0), simp (within, sound) ran.1, simp (within, sound) ran.2)
+
+pub returns-in-Malformed : goal.returns-in-Malformed
+unfolding script_taken template_writes
+returns-in-Malformed c =
+    let read = c in
+    let within = le-ltb _ _ read.if-res-gt1.false in
+    let fault = sym read.read_template.ensures ∙ c.in-Malformed.is in
+    (simp (within, fault, c.refuse-in-Malformed.ensures), simp (within, fault), simp (within, fault))
+
+pub returns-in-TooDeep : goal.returns-in-TooDeep
+unfolding script_taken template_writes
+returns-in-TooDeep c =
+    let read = c in
+    let within = le-ltb _ _ read.if-res-gt1.false in
+    let fault = sym read.read_template.ensures ∙ c.in-TooDeep.is in
+    (simp (within, fault, c.refuse-in-TooDeep.ensures), simp (within, fault), simp (within, fault))

@@ -1,0 +1,20 @@
+use borrow.Author.Rules.{rules}
+use borrow.Author.Tests.{lt-ltb, le-ltb}
+use Rattle.start.specs.Start.{opening_step, start_step}
+use Rattle.start.proofs.answer_start.Goals as goal
+
+pub returns-then-start-gt1 : goal.returns-then-start-gt1
+unfolding start_step
+returns-then-start-gt1 c = simp (lt-ltb _ _ c.if-start-gt1.true, c.refuse.ensures)
+
+pub returns-in-NotSelected : goal.returns-in-NotSelected
+unfolding start_step
+returns-in-NotSelected c =
+    let told = c in
+    simp (le-ltb _ _ told.if-start-gt1.false, told.in-NotSelected.is, c.refuse-in-NotSelected.ensures)
+
+pub returns-in-Selected : goal.returns-in-Selected
+unfolding start_step opening_step
+returns-in-Selected c =
+    let told = c in
+    simp (le-ltb _ _ told.if-start-gt1.false, told.in-Selected.is, c.open_profile.ensures)

@@ -1,0 +1,6 @@
+-- Each command lies within the template and behind the one before.
+use Rattle.std.proofs.Common.{◌-◌, length}
+use Rattle.templates.proofs.print_commands.Given as goal
+
+abbrev pub decreases-loop-start : goal.decreases-loop-start
+decreases-loop-start g l = length l.template - l.at

@@ -1,0 +1,5 @@
+-- The digits above, then the last.
+use Rattle.words.proofs.+put_decimal.Given as goal
+
+abbrev pub decreases-put_decimal : goal.decreases-put_decimal
+decreases-put_decimal l = l.n
