@@ -19,12 +19,7 @@ returns-in-Started c =
 
 pub returns-in-Given : goal.returns-in-Given
 unfolding answer_bytes
-returns-in-Given c =
-    let put = c in
-    let bytes = put in
-    let cid = bytes in
-    let told = cid in
-    simp told.in-Given.is (simp (cid.cid.ensures, bytes.bytes_of.ensures.0) at put.put_fields-in-Given.ensures)
+returns-in-Given c = simp c.in-Given.is cc
 
 pub returns-in-Done : goal.returns-in-Done
 unfolding answer_bytes
