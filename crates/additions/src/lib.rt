@@ -9,7 +9,7 @@ use early_tails::{read_base, read_selection, read_syllabus};
 use later_tails::{read_dating, read_family, read_scripting};
 use log_place::read_logging;
 use refusal::Refusal;
-use shape::{ReadShape, Tails};
+use shape::Tails;
 
 // The first version with a tail that selects profiles, with a syllabus, with dates, with a card family,
 // with issuer scripts, and with a log.
@@ -26,11 +26,11 @@ const SCRIPTS: u8 = 6;
 const LOG: u8 = 7;
 
 // Version 02's tail behind the base; above the paper's version it is off and has no bytes.
-fn add_selection(version: u8, body: &[u8], tails: Tails) -> Tails
+fn add_selection(version: u8, body: &[u8], tails: Option<Tails>) -> Option<Tails>
     ensures { result ≡ since 2 version tails (selection_tail body.now) }
 {
-    let Tails::Ended { shape, at } = tails else {
-        return Tails::Wrong;
+    let Some(Tails { shape, at }) = tails else {
+        return None;
     };
     if version < SELECTION {
         return tails;
@@ -39,11 +39,11 @@ fn add_selection(version: u8, body: &[u8], tails: Tails) -> Tails
 }
 
 // Version 03's tail behind that.
-fn add_syllabus(version: u8, body: &[u8], tails: Tails) -> Tails
+fn add_syllabus(version: u8, body: &[u8], tails: Option<Tails>) -> Option<Tails>
     ensures { result ≡ since 3 version tails (syllabus_tail body.now) }
 {
-    let Tails::Ended { shape, at } = tails else {
-        return Tails::Wrong;
+    let Some(Tails { shape, at }) = tails else {
+        return None;
     };
     if version < SYLLABUS {
         return tails;
@@ -52,11 +52,11 @@ fn add_syllabus(version: u8, body: &[u8], tails: Tails) -> Tails
 }
 
 // Version 04's tail behind that.
-fn add_dating(version: u8, body: &[u8], tails: Tails) -> Tails
+fn add_dating(version: u8, body: &[u8], tails: Option<Tails>) -> Option<Tails>
     ensures { result ≡ since 4 version tails (dating_tail body.now) }
 {
-    let Tails::Ended { shape, at } = tails else {
-        return Tails::Wrong;
+    let Some(Tails { shape, at }) = tails else {
+        return None;
     };
     if version < DATES {
         return tails;
@@ -65,11 +65,11 @@ fn add_dating(version: u8, body: &[u8], tails: Tails) -> Tails
 }
 
 // Version 05's tail behind that.
-fn add_family(version: u8, body: &[u8], tails: Tails) -> Tails
+fn add_family(version: u8, body: &[u8], tails: Option<Tails>) -> Option<Tails>
     ensures { result ≡ since 5 version tails (family_tail body.now) }
 {
-    let Tails::Ended { shape, at } = tails else {
-        return Tails::Wrong;
+    let Some(Tails { shape, at }) = tails else {
+        return None;
     };
     if version < FAMILY {
         return tails;
@@ -78,11 +78,11 @@ fn add_family(version: u8, body: &[u8], tails: Tails) -> Tails
 }
 
 // Version 06's tail behind that.
-fn add_scripting(version: u8, body: &[u8], tails: Tails) -> Tails
+fn add_scripting(version: u8, body: &[u8], tails: Option<Tails>) -> Option<Tails>
     ensures { result ≡ since 6 version tails (scripting_tail body.now) }
 {
-    let Tails::Ended { shape, at } = tails else {
-        return Tails::Wrong;
+    let Some(Tails { shape, at }) = tails else {
+        return None;
     };
     if version < SCRIPTS {
         return tails;
@@ -91,11 +91,11 @@ fn add_scripting(version: u8, body: &[u8], tails: Tails) -> Tails
 }
 
 // Version 07's tail behind that.
-fn add_logging(version: u8, body: &[u8], tails: Tails) -> Tails
+fn add_logging(version: u8, body: &[u8], tails: Option<Tails>) -> Option<Tails>
     ensures { result ≡ since 7 version tails (logging_tail body.now) }
 {
-    let Tails::Ended { shape, at } = tails else {
-        return Tails::Wrong;
+    let Some(Tails { shape, at }) = tails else {
+        return None;
     };
     if version < LOG {
         return tails;
@@ -104,7 +104,7 @@ fn add_logging(version: u8, body: &[u8], tails: Tails) -> Tails
 }
 
 // The base and the tails of a version, one behind the other.
-fn read_tails(version: u8, body: &[u8]) -> Tails
+fn read_tails(version: u8, body: &[u8]) -> Option<Tails>
     ensures { result ≡ tails_of version body.now }
 {
     let base = read_base(body);
@@ -117,14 +117,14 @@ fn read_tails(version: u8, body: &[u8]) -> Tails
 }
 
 // The shape of a body, or refusal 1 where bytes are missing or left over, or a tail is out of range.
-pub fn read_shape(version: u8, body: &[u8]) -> ReadShape
+pub fn read_shape(version: u8, body: &[u8]) -> Result<Shape, Refusal>
     ensures { result ≡ shape_of version body.now }
 {
-    let Tails::Ended { shape, at } = read_tails(version, body) else {
-        return ReadShape::Refused(Refusal::BadSetup);
+    let Some(Tails { shape, at }) = read_tails(version, body) else {
+        return Err(Refusal::BadSetup);
     };
     if at == body.len() {
-        return ReadShape::Taken(shape);
+        return Ok(shape);
     }
-    ReadShape::Refused(Refusal::BadSetup)
+    Err(Refusal::BadSetup)
 }

@@ -12,8 +12,6 @@ use Rattle.entry.specs.Entry.{action_of, action_taken}
 use Rattle.entry.specs.declared.Action.{Action}
 use Rattle.entry.specs.declared.Action.TheVariants.{Profile, Move, Refused}
 use Rattle.selection.specs.Selection.{first_entry, follow, one_more, selection_of, selection_number, skipped}
-use Rattle.selection.specs.declared.Selection.{Selection}
-use Rattle.selection.specs.declared.Selection.TheVariants.{Selected, NotSelected}
 use Rattle.selection.proofs.Moves.{Visit, none, step, moves-on}
 use Rattle.annex.specs.Annex.{Bytes, place, Acts, passed, failed, Leads, Moves, Walks, names, moves, Stops}
 use Rattle.annex.specs.Annex.{profile_zero, move_zero, past_the_end, profile_7_f, empty-file, ill_formed, lacks_data, onward}
@@ -21,6 +19,8 @@ use Rattle.annex.proofs.Places.{skipped-is, skipped-more}
 use Rattle.annex.proofs.Fields.{entry}
 use Rattle.annex.proofs.Form.{given}
 use Rattle.annex.proofs.Judged.{Judged, ill, lacks, acts, ill_refused, lacks_refused, acts_as, judged}
+use Rattle.std.specs.Prelude.{None, Option, Some}
+use Rattle.selection.specs.declared.Selected.{Selected}
 
 -- AN ACTION BYTE
 profile-is : (a : ℕ) → 1 ≤ a → a ≤ 0x7E → action_of a ≡ Profile a
@@ -37,7 +37,7 @@ refused-is = (refl, refl, refl)
 
 -- THE SELECTION FROM ENTRY k ON
 module _ (file : List ℕ) (entries : ℕ) (slots : Slots) (d : List ℕ) (fs : Bytes file) (ds : Bytes d) where
-  abbrev from : ℕ → Selection
+  abbrev from : ℕ → Option Selected
   from k = selection_of (skipped file k) (entries - k) d slots
 
   abbrev does : ℕ → Action
@@ -47,11 +47,11 @@ module _ (file : List ℕ) (entries : ℕ) (slots : Slots) (d : List ℕ) (fs : 
     here : Visit (skipped file k) d slots (entries - k) (does k)
     here = record { some = λ z. omega arith; does = sym (ap (λ (s : List ℕ). action_taken (first_entry s) d slots) (skipped-is file k)) }
 
-    from-profile : (p : ℕ) → does k ≡ Profile p → from k ≡ Selected p 1
+    from-profile : (p : ℕ) → does k ≡ Profile p → from k ≡ Some (record { profile = p; visits = 1 })
     unfolding follow
     from-profile p e = step here (Profile p) e
 
-    from-refused : does k ≡ Refused → from k ≡ NotSelected
+    from-refused : does k ≡ Refused → from k ≡ None
     unfolding follow
     from-refused e = step here Refused e
 
@@ -63,21 +63,21 @@ module _ (file : List ℕ) (entries : ℕ) (slots : Slots) (d : List ℕ) (fs : 
   acted : (k a : ℕ) (r : Action) → Leads file entries slots d k a → action_of a ≡ r → does k ≡ r
   acted k a r c e = acts_as file (place file k) slots d fs ds a c.1 ∙ e
 
-  refused : (k a : ℕ) → Leads file entries slots d k a → action_of a ≡ Refused → from k ≡ NotSelected
+  refused : (k a : ℕ) → Leads file entries slots d k a → action_of a ≡ Refused → from k ≡ None
   refused k a c e = from-refused k c.0 (acted k a Refused c e)
 
   moved : (k m : ℕ) → Moves file entries slots d k m → from k ≡ one_more (from (k + m))
   moved k m c = from-move k c.0.0 m (acted k (0x80 + m) (Move m) c.0 (move-is m c.1))
 
-  past-last : (k : ℕ) → entries ≤ k → from k ≡ NotSelected
+  past-last : (k : ℕ) → entries ≤ k → from k ≡ None
   past-last k h = none (skipped file k) d slots (entries - k) (omega arith)
 
   -- where the walk leads, the selection does
-  walk-selects : {k p v : ℕ} → Walks file entries slots d k p v → from k ≡ Selected p v
+  walk-selects : {k p v : ℕ} → Walks file entries slots d k p v → from k ≡ Some (record { profile = p; visits = v })
   walk-selects (names k p c l g) = from-profile k c.0 p (acted k p (Profile p) c (profile-is p l g))
   walk-selects (moves k m p v c w) = moved k m c ∙ ap one_more (walk-selects w)
 
-  stop_refuses : {k : ℕ} → Stops file entries slots d k → from k ≡ NotSelected
+  stop_refuses : {k : ℕ} → Stops file entries slots d k → from k ≡ None
   stop_refuses (profile_zero k c) = refused k 0x00 c refused-is.0
   stop_refuses (move_zero k c) = refused k 0x80 c refused-is.1
   stop_refuses (past_the_end k m c e) = moved k m c ∙ ap one_more (past-last (k + m) e)
@@ -131,17 +131,17 @@ module _ (file : List ℕ) (entries : ℕ) (slots : Slots) (d : List ℕ) (fs : 
   begins = ap (λ (n : ℕ). selection_of file n d slots) (sub-zero entries)
 
   -- WHAT IS SELECTED IS WHERE THE WALK LEADS, with as many visits
-  pub walked : (p v : ℕ) → (selection_of file entries d slots ≡ Selected p v) ↔ Walks file entries slots d 0 p v
+  pub walked : (p v : ℕ) → (selection_of file entries d slots ≡ Some (record { profile = p; visits = v })) ↔ Walks file entries slots d 0 p v
   walked p v = (by first_way, λ w. sym begins ∙ walk-selects w)
     where
-      by : Way 0 → selection_of file entries d slots ≡ Selected p v → Walks file entries slots d 0 p v
+      by : Way 0 → selection_of file entries d slots ≡ Some (record { profile = p; visits = v }) → Walks file entries slots d 0 p v
       by (leads q u w) e =
-          let s : selection_of file entries d slots ≡ Selected q u = sym begins ∙ walk-selects w in
+          let s : selection_of file entries d slots ≡ (Some (record { profile = q; visits = u })) = sym begins ∙ walk-selects w in
           let i : q ≡ p = cc in
           let j : u ≡ v = cc in
           rw j at (rw i at w)
       by (stops s) e =
-          let n : selection_of file entries d slots ≡ NotSelected = sym begins ∙ stop_refuses s in
+          let n : selection_of file entries d slots ≡ None = sym begins ∙ stop_refuses s in
           let z : ◌≡◌ {A = ℕ} 0 1 = cc in
           absurd (omega arith)
 

@@ -10,13 +10,13 @@ use lib.Dec.{ltb}
 use lib.ListN.{length, replicate, get_or-eq_default}
 use Rattle.wire.proofs.Pairs.{both}
 use Rattle.selection.specs.Selection.{selection_of}
-use Rattle.selection.specs.declared.Selection.TheVariants.{Selected}
 use Rattle.slot.specs.declared.Slots.{Slots}
 use Rattle.annex.specs.Annex.{Bytes, place, start, width, value, seen, bit, OfSlot, Passes, equal, less, greater, slot_less, slot_greater}
 use Rattle.annex.specs.Annex.{Lacks, reaches_past_lem, amount_nowhere, amount-past, amount_no_digits, passed, failed, Walks, names, moves}
 use Rattle.annex.proofs.Order.{one_way}
 use Rattle.annex.proofs.Form.{Whole, of_data, broken}
 use Rattle.annex.proofs.Walked.{walked}
+use Rattle.std.specs.Prelude.{Some}
 
 -- the entries stand at 0, 13 and 24
 abbrev pub file : List ℕ
@@ -105,5 +105,5 @@ module _ (slots : Slots) where
       (omega arith, passed (λ i. broken file 24 slots i (of_data third whole-third)) (there 24 (omega arith) third) its_less refl) (omega arith) (omega arith)))
 
   -- so that the premises can be met
-  pub selected : selection_of file 3 terminal slots ≡ Selected 3 3
+  pub selected : selection_of file 3 terminal slots ≡ Some (record { profile = 3; visits = 3 })
   selected = (walked file 3 slots terminal (bytes file refl) (bytes terminal refl) 3 3).1 walk

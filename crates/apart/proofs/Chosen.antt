@@ -20,14 +20,14 @@ use Rattle.slot.specs.Slot.{value_of}
 use Rattle.selection.specs.Selection.{selection_of}
 use Rattle.selection.specs.Visits.{Names, Tests, entry_at}
 use Rattle.selection.proofs.Only.{only-tested}
-use Rattle.shape.specs.declared.Selecting.{Selecting}
-use Rattle.shape.specs.declared.Selecting.TheVariants.{Off, On}
 use Rattle.shape.specs.declared.Family.{Family}
 use Rattle.shape.specs.declared.Shape.{Shape}
 use Rattle.choice.specs.Choice.{file_in, slots_of}
 use Rattle.command.specs.Command.{command_of, start_selected, selecting_of, read_by, command_in}
 use Rattle.apart.specs.Off.{IsSlot, IsUntested}
 use Rattle.apart.proofs.Values.{Beside, four-at}
+use Rattle.std.specs.Prelude.{None, Option, Some}
+use Rattle.shape.specs.declared.SelectionFile.{SelectionFile}
 
 -- ---- a slot that an entry tests has a number from 1 on
 
@@ -90,16 +90,16 @@ pub command-same : (x : Meter) (v w : Values) → Beside x v w → (shape : Shap
     → command_in shape v paper kind body ≡ command_in shape w paper kind body
 unfolding command_in
 command-same x v w b shape paper kind body untested = by shape.selecting untested where
-  by : (selecting : Selecting) → IsUntested selecting (slots_of shape.family v) paper kind body x
+  by : (selecting : Option SelectionFile) → IsUntested selecting (slots_of shape.family v) paper kind body x
       → read_by selecting shape.dating shape.family (slots_of shape.family v) paper kind body
       ≡ read_by selecting shape.dating shape.family (slots_of shape.family w) paper kind body
-  by Off untested = refl
-  by (On start end entries) untested = by_kind (eqb kind 2) refl where
+  by None untested = refl
+  by (Some part) untested = by_kind (eqb kind 2) refl where
     by_kind : (t : Bool) → eqb kind 2 ≡ t
-        → selecting_of shape.dating shape.family (slots_of shape.family v) (file_in paper start end) entries kind body
-        ≡ selecting_of shape.dating shape.family (slots_of shape.family w) (file_in paper start end) entries kind body
+        → selecting_of shape.dating shape.family (slots_of shape.family v) (file_in paper part.start part.end) part.entries kind body
+        ≡ selecting_of shape.dating shape.family (slots_of shape.family w) (file_in paper part.start part.end) part.entries kind body
     by_kind true e =
         unfold selecting_of in
         ap (λ chosen. cond (eqb kind 2) (start_selected shape.family chosen body) (command_of shape.dating shape.family kind body))
-        (selection-same x v w b shape.family (file_in paper start end) entries body (untested (eqb-true kind 2 e)))
+        (selection-same x v w b shape.family (file_in paper part.start part.end) part.entries body (untested (eqb-true kind 2 e)))
     by_kind false e = unfold selecting_of in (rw e)

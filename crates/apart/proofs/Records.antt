@@ -9,8 +9,6 @@ use Rattle.rules.specs.Rules.{Rules}
 use Rattle.purchase.specs.Meter.{Meter}
 use Rattle.shape.specs.declared.Shape.{Shape}
 use Rattle.element.specs.declared.Write.{Write}
-use Rattle.command.specs.declared.ReadCommand.{ReadCommand}
-use Rattle.command.specs.declared.ReadCommand.TheVariants.{Taken as CommandTaken, Refused as CommandRefused}
 use Rattle.command.specs.Command.{command_in}
 use Rattle.state.specs.declared.State.{State}
 use Rattle.scripting.specs.Scripting.{script_writes}
@@ -23,6 +21,9 @@ use Rattle.apart.specs.Alike.{with_values, Alike}
 use Rattle.apart.proofs.Values.{Beside, beside}
 use Rattle.apart.proofs.Steps.{alike_with, step-apart, script-apart}
 use Rattle.apart.proofs.Chosen.{command-same}
+use Rattle.std.specs.Prelude.{Err, Ok, Result}
+use Rattle.command.specs.declared.Command.{Command}
+use Rattle.refusal.specs.declared.Refusal.{Refusal}
 
 -- the same event and the same place behind it, and cards that are still alike
 pub record SameTaken (x : Meter) (a b : Taken) : Type 0 where
@@ -44,11 +45,11 @@ module _ (x : Meter) where
   values-are state other alike = beside x state.values other.values (ap (λ (s : State). s.values) alike)
 
   module _ (rules : Rules) (state : State) (w : Values) (b : Beside x state.values w) where
-    answered-same : (read : ReadCommand) (end : ℕ) → Quiet rules x state.phase
+    answered-same : (read : Result Command Refusal) (end : ℕ) → Quiet rules x state.phase
         → SameTaken x (answered_by rules state end read) (answered_by rules (with_values state w) end read)
     unfolding answered_by
-    answered-same (CommandRefused refusal) end quiet = record { events = refl; places = refl; states = alike_with x state state.values w b }
-    answered-same (CommandTaken command) end quiet =
+    answered-same (Err refusal) end quiet = record { events = refl; places = refl; states = alike_with x state state.values w b }
+    answered-same (Ok command) end quiet =
         let same = step-apart x rules state w b command quiet in
         record { events = ap (Answered (SaidCommand command)) same.answers; places = refl; states = same.states }
 
@@ -83,7 +84,7 @@ module _ (x : Meter) where
         by true = scripted-same rules state other.values b body end
         by false =
             subst
-            (λ (command : ReadCommand). SameTaken x (answered_by rules state end (command_in shape state.values paper kind body))
+            (λ (command : Result Command Refusal). SameTaken x (answered_by rules state end (command_in shape state.values paper kind body))
             (answered_by rules (with_values state other.values) end command))
             read (answered-same rules state other.values b (command_in shape state.values paper kind body) end spares.quiet)
 

@@ -16,8 +16,6 @@ use Rattle.limits.specs.Limits.{bit, accumulators_lower, accumulators_upper, cou
 use Rattle.checks.specs.Checks.{maximum_exceeded, decision_bits}
 use Rattle.meters.specs.Meters.{applied}
 use Rattle.marks.specs.Marks.{kept, fresh_scripts, started, heard as heard_again, marks_of}
-use Rattle.selection.specs.declared.Selection.TheVariants.{Selected}
-use Rattle.command.specs.declared.When.TheVariants.{Undated}
 use Rattle.command.specs.declared.Command.{Command}
 use Rattle.command.specs.declared.Command.TheVariants.{Start, First, Second}
 use Rattle.state.specs.declared.Phase.TheVariants.{Idle}
@@ -35,6 +33,7 @@ use Rattle.second.specs.Second.{unable_performed, verified_performed, failed_per
 use Rattle.card.specs.Card.{first_step, second_step, step_of}
 use Rattle.apart.specs.Off.{IsOff, Quiet}
 use Rattle.apart.specs.Alike.{wiped_state}
+use Rattle.std.specs.Prelude.{None, Some}
 
 -- ---- cards
 
@@ -92,7 +91,7 @@ card amount count =
 -- ---- commands: Start 1; First of 1 in 0978 on terminal 22 hex; Second, which asks for a TC
 
 abbrev start : Command
-start = Start (record { interface = 0; chosen = Selected 1 0 })
+start = Start (record { interface = 0; chosen = Some (record { profile = 1; visits = 0 }) })
 
 abbrev first : (requested : ℕ) → Command
 first requested =
@@ -101,7 +100,7 @@ first requested =
       amount = record { 0 = 1 };
       currency = 0x0978;
       terminal = 0x22;
-      when = Undated;
+      when = None;
       cvm = NoCvm;
       cashback = false;
     })

@@ -22,8 +22,6 @@ use Rattle.meters.specs.Meters.{offline, applied}
 use Rattle.checks.specs.Checks.{meets_mask}
 use Rattle.marks.specs.declared.Scripts.{Scripts}
 use Rattle.command.specs.declared.Start.{Start}
-use Rattle.command.specs.declared.When.{When}
-use Rattle.command.specs.declared.When.TheVariants.{Undated, On}
 use Rattle.command.specs.declared.First.{First}
 use Rattle.command.specs.declared.Second.{Second}
 use Rattle.command.specs.declared.Command.{Command}
@@ -58,6 +56,7 @@ use Rattle.apart.specs.Alike.{with_values, Alike}
 use Rattle.apart.proofs.Values.{Beside, wiped-same, applied_beside, begun_beside, scripted_beside}
 use Rattle.apart.proofs.Tests.{bits-same}
 use Rattle.apart.proofs.Sent.{iad_same}
+use Rattle.std.specs.Prelude.{None, Option, Some}
 
 -- the same answer, and cards that are still alike
 pub record Same (x : Meter) (a b : Outcome) : Type 0 where
@@ -119,19 +118,19 @@ module _ (x : Meter) (rules : Rules) where
           (concluded-same (purchase_of first timing) (limits_byte bits) (cvr bits) (kind bits))
 
     -- the cycles of its date begin
-    dated_with : (when : When) → with_values (dated rules state when) (dated rules other when).values ≡ dated rules other when
+    dated_with : (when : Option Date) → with_values (dated rules state when) (dated rules other when).values ≡ dated rules other when
     unfolding dated advanced
-    dated_with Undated = refl
-    dated_with (On date) = by (is_before date state.last) where
+    dated_with None = refl
+    dated_with (Some date) = by (is_before date state.last) where
       by : (t : Bool) → with_values (cond t state (advanced rules state date)) (cond t other (advanced rules other date)).values
           ≡ cond t other (advanced rules other date)
       by true = refl
       by false = refl
 
-    dated_beside : (when : When) → Beside x (dated rules state when).values (dated rules other when).values
+    dated_beside : (when : Option Date) → Beside x (dated rules state when).values (dated rules other when).values
     unfolding dated advanced
-    dated_beside Undated = b
-    dated_beside (On date) = by (is_before date state.last) where
+    dated_beside None = b
+    dated_beside (Some date) = by (is_before date state.last) where
       by : (t : Bool) → Beside x (cond t state (advanced rules state date)).values (cond t other (advanced rules other date)).values
       by true = b
       by false = begun_beside x state.values w b rules state.last date

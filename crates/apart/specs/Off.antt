@@ -1,5 +1,5 @@
 -- A meter that is switched off (document 02, Fourteen): inactive and not sent in the open profile, and tested by no entry that chose it.
-use Rattle.std.specs.Prelude.{ℕ, ◌+◌, ◌≡◌, false, List}
+use Rattle.std.specs.Prelude.{ℕ, ◌+◌, ◌≡◌, false, List, None, Option, Some}
 use Rattle.rules.specs.declared.Place.{Place}
 use Rattle.rules.specs.declared.Sent.{Sent}
 use Rattle.rules.specs.Rules.{Rules, profile_at}
@@ -8,13 +8,12 @@ use Rattle.block.specs.declared.Slot.{Slot}
 use Rattle.block.specs.declared.Slot.TheVariants.{Accumulator, Counter}
 use Rattle.slot.specs.declared.Slots.{Slots}
 use Rattle.selection.specs.Visits.{Tests}
-use Rattle.shape.specs.declared.Selecting.{Selecting}
-use Rattle.shape.specs.declared.Selecting.TheVariants.{Off, On}
 use Rattle.shape.specs.declared.Shape.{Shape}
 use Rattle.choice.specs.Choice.{file_in, slots_of}
 use Rattle.state.specs.declared.Phase.{Phase}
 use Rattle.state.specs.declared.Phase.TheVariants.{Idle, Opened, Asked}
 use Rattle.state.specs.declared.State.{State}
+use Rattle.shape.specs.declared.SelectionFile.{SelectionFile}
 
 -- NOT SENT: another accumulator or none, and two other counters or none; a cyclic accumulator never is
 abbrev pub IsUnsent : Sent → Meter → Type 0
@@ -39,10 +38,10 @@ IsSlot (accumulator i) slot = slot ≡ Accumulator (i + 1)
 IsSlot (counter i) slot = slot ≡ Counter (i + 1)
 IsSlot (cyclic i) slot = ⊥
 
-abbrev pub IsUntested : Selecting → Slots → (paper : List ℕ) (kind : ℕ) (body : List ℕ) → Meter → Type 0
-IsUntested Off slots paper kind body x = Unit
-IsUntested (On start end entries) slots paper kind body x =
-    kind ≡ 2 → (slot : Slot) → IsSlot x slot → Tests (file_in paper start end) entries body slots slot → ⊥
+abbrev pub IsUntested : Option SelectionFile → Slots → (paper : List ℕ) (kind : ℕ) (body : List ℕ) → Meter → Type 0
+IsUntested None slots paper kind body x = Unit
+IsUntested (Some part) slots paper kind body x =
+    kind ≡ 2 → (slot : Slot) → IsSlot x slot → Tests (file_in paper part.start part.end) part.entries body slots slot → ⊥
 
 -- A RECORD SPARES IT on a card: it is off in the open profile, and untested
 pub record Spares (rules : Rules) (shape : Shape) (state : State) (paper : List ℕ) (kind : ℕ) (body : List ℕ) (x : Meter) : Type 0 where

@@ -13,24 +13,13 @@ use lib.Seq.{get_or-take, get_or-drop}
 use Rattle.refusal.specs.declared.Refusal.TheVariants.{Unreadable, BadSetup}
 use Rattle.wire.specs.Wire.{byte}
 use Rattle.purchase.specs.Meter.{Meter, accumulator, counter, cyclic}
-use Rattle.log_tail.specs.declared.Judged.{Judged}
-use Rattle.log_tail.specs.declared.Judged.TheVariants.{Sound, Wrong, PastData}
 use Rattle.log_tail.specs.LogTail.{judged}
 use Rattle.bodies.specs.Bodies.{first_length}
-use Rattle.shape.specs.declared.Logging.{Logging}
-use Rattle.shape.specs.declared.Logging.TheVariants.{Off as LogOff, On as LogOn}
-use Rattle.shape.specs.declared.Selecting.{Selecting}
-use Rattle.shape.specs.declared.Selecting.TheVariants.{Off, On}
 use Rattle.shape.specs.declared.Shape.{Shape}
-use Rattle.shape.specs.declared.ReadShape.{ReadShape}
-use Rattle.shape.specs.declared.ReadShape.TheVariants.{Taken as ShapeTaken, Refused as ShapeRefused}
 use Rattle.shape.specs.Shape.{base_part, cycles_part, family_part, shape_of, shape_at, selecting_at, logging_at}
 use Rattle.paper.specs.declared.Next.TheVariants.{Record, Fault, End}
-use Rattle.paper.specs.declared.Opened.{Opened}
-use Rattle.paper.specs.declared.Opened.TheVariants.{Setup, Refused as OpenRefused}
 use Rattle.paper.specs.Paper.{end_at, is_fault_at, next_at, is_unreadable, setup_in, open_paper}
 use Rattle.paper.specs.Walk.{part}
-use Rattle.setup.specs.declared.SetupAnswer.TheVariants.{Done, Refused as SetupRefused}
 use Rattle.setup.specs.declared.ReadSetup.{ReadSetup}
 use Rattle.setup.specs.Setup.{fresh_in, no_card, is_accepted, read_setup, words_after}
 use Rattle.fresh.specs.Fresh.{fresh_state}
@@ -45,6 +34,14 @@ use Rattle.apart_papers.specs.Start.{IsSwitch, start_at, start_length, SameBut, 
 use Rattle.apart_papers.proofs.Bytes.{Shared, shared, same_number}
 use Rattle.apart_papers.proofs.Shapes.{LateSelecting, LateLogging, Late, shape_same, shape-late, cycles-same, family-same, log-part-same}
 use Rattle.apart_papers.proofs.Fresh.{long, apart-fresh}
+use Rattle.std.specs.Prelude.{Err, None, Ok, Option, Result, Some}
+use Rattle.log_tail.specs.declared.Fault.{Fault}
+use Rattle.log_tail.specs.declared.Fault.TheVariants.{PastData}
+use Rattle.log_tail.specs.declared.Fault.TheVariants.{Wrong}
+use Rattle.paper.specs.declared.Opened.{Opened}
+use Rattle.refusal.specs.declared.Refusal.{Refusal}
+use Rattle.shape.specs.declared.SelectionFile.{SelectionFile}
+use Rattle.shape.specs.declared.Span.{Span}
 
 -- ---- a part of bytes that are the same but for some
 
@@ -100,18 +97,18 @@ module _ (x : Meter) (is : IsSwitch x) (p q : List ℕ) (same : SamePapers x p q
   open_same = rw (same.as_long, early 0 (omega arith), next-same 1 (λ k h. early (1 + k) (omega arith)))
 
   -- the set-up's body stands at 4
-  abbrev AtFour : Opened → Type 0
-  AtFour (OpenRefused refusal) = Unit
-  AtFour (Setup version start end) = start ≡ 4
+  abbrev AtFour : Result Opened Refusal → Type 0
+  AtFour (Err refusal) = Unit
+  AtFour (Ok opened) = opened.start ≡ 4
 
   at-four : AtFour (open_paper p)
   unfolding open_paper next_at
   at-four = by (is_unreadable p) (leb (length p) 1) (is_fault_at p 1) where
-    by_kind : (b : Bool) → AtFour (cond b (Setup (byte p 0) 4 (end_at p 1)) (OpenRefused Unreadable))
+    by_kind : (b : Bool) → AtFour (cond b (Ok (record { version = byte p 0; start = 4; end = end_at p 1 })) (Err Unreadable))
     by_kind true = refl
     by_kind false = tt
 
-    by : (a b c : Bool) → AtFour (cond a (OpenRefused Unreadable) (setup_in (byte p 0) (cond b End (cond c Fault (Record (byte p 3) 4 (end_at p 1))))))
+    by : (a b c : Bool) → AtFour (cond a (Err Unreadable) (setup_in (byte p 0) (cond b End (cond c Fault (Record (byte p 3) 4 (end_at p 1))))))
     by true b c = tt
     by false true c = tt
     by false false true = tt
@@ -120,13 +117,13 @@ module _ (x : Meter) (is : IsSwitch x) (p q : List ℕ) (same : SamePapers x p q
 -- ---- the set-up
 
 -- the file stands behind the head, and so does the log's tail
-abbrev pub LateFile : Selecting → Type 0
-LateFile Off = Unit
-LateFile (On start end entries) = 56 ≤ start
+abbrev pub LateFile : Option SelectionFile → Type 0
+LateFile None = Unit
+LateFile (Some part) = 56 ≤ part.start
 
-abbrev pub LateLog : Logging → Type 0
-LateLog LogOff = Unit
-LateLog (LogOn start end) = 56 ≤ start
+abbrev pub LateLog : Option Span → Type 0
+LateLog None = Unit
+LateLog (Some part) = 56 ≤ part.start
 
 pub record Begins (x : Meter) (a b : Begun) (v w : List ℕ) : Type 0 where
   pub shapes : a.shape ≡ b.shape
@@ -143,7 +140,7 @@ accepted_if : (shape : Shape) (base cycles family : List ℕ) (end : ℕ) → (b
 unfolding base_begun read_setup
 accepted_if shape base cycles family end = by (is_accepted base cycles family shape.unnamed) where
   read : Bool → ReadSetup
-  read b = cond b (record { fresh = fresh_in base cycles; answer = Done }) (record { fresh = no_card; answer = SetupRefused BadSetup })
+  read b = cond b (record { fresh = fresh_in base cycles; answer = Ok tt }) (record { fresh = no_card; answer = Err BadSetup })
 
   by : (b : Bool) → set_up_event (read b).answer ≡ SetUp → b ≡ true
   by true e = refl
@@ -166,33 +163,33 @@ module _ (x : Meter) (is : IsSwitch x) (words s t : List ℕ) (same : SameSetups
     log-same : log_judged shape s ≡ log_judged shape t
     unfolding log_judged
     log-same = by shape.logging l.logging where
-      by : (logging : Logging) → LateLogging logging → log_found logging shape s ≡ log_found logging shape t
-      by LogOff h = refl
-      by (LogOn start to) h =
+      by : (logging : Option Span) → LateLogging logging → log_found logging shape s ≡ log_found logging shape t
+      by None h = refl
+      by (Some part) h =
           ap₂ (λ (tail : List ℕ) (profiles : ℕ). judged tail profiles (first_length shape.dating shape.family))
-          (log-part-same s t share version (LogOn start to) h) (share.early 3 (omega arith))
+          (log-part-same s t share version (Some part) h) (share.early 3 (omega arith))
 
-    file-late : (selecting : Selecting) → LateSelecting selecting → LateFile (selecting_at 4 selecting)
-    file-late Off h = tt
-    file-late (On start to entries) h = omega arith
+    file-late : (selecting : Option SelectionFile) → LateSelecting selecting → LateFile (selecting_at 4 selecting)
+    file-late None h = tt
+    file-late (Some part) h = omega arith
 
-    log-late : (logging : Logging) → LateLogging logging → LateLog (logging_at 4 logging)
-    log-late LogOff h = tt
-    log-late (LogOn start to) h = omega arith
+    log-late : (logging : Option Span) → LateLogging logging → LateLog (logging_at 4 logging)
+    log-late None h = tt
+    log-late (Some part) h = omega arith
 
     -- the base is read, and the log is judged
-    abbrev base_from : Judged → (body : List ℕ) → Begun
+    abbrev base_from : Result Unit Fault → (body : List ℕ) → Begun
     base_from log body =
         let base = base_part shape body in
         logged_begun log (is_accepted base cycles family shape.unnamed) end (base_begun (shape_at 4 shape) base cycles family end)
 
-    by-log : (log : Judged)
+    by-log : (log : Result Unit Fault)
         → (base_from log s).event ≡ SetUp → (base_from log t).event ≡ SetUp
         → Begins x (base_from log s) (base_from log t)
         (logged_words log words (words_after words (base_part shape s) cycles family shape.syllabus shape.unnamed))
         (logged_words log words (words_after words (base_part shape t) cycles family shape.syllabus shape.unnamed))
     unfolding base_begun past_begun
-    by-log Sound e f =
+    by-log (Ok done) e f =
         let good = accepted_if (shape_at 4 shape) (base_part shape s) cycles family end e in
         let fine = accepted_if (shape_at 4 shape) (base_part shape t) cycles family end f in
         let fresh = apart-fresh x is (base_part shape s) (base_part shape t) bases cycles words family shape.syllabus shape.unnamed good fine in
@@ -207,12 +204,12 @@ module _ (x : Meter) (is : IsSwitch x) (words s t : List ℕ) (same : SameSetups
           idle = (unfold fresh_state in refl);
           behind = omega (arith, room, base, length-take shape.base s, min-le_right shape.base (length s));
         }
-    by-log Wrong e f = let z : ◌≡◌ {A = ℕ} 0 1 = cc in absurd (omega arith)
-    by-log PastData e f = let z : ◌≡◌ {A = ℕ} 0 1 = cc in absurd (omega arith)
+    by-log (Err Wrong) e f = let z : ◌≡◌ {A = ℕ} 0 1 = cc in absurd (omega arith)
+    by-log (Err PastData) e f = let z : ◌≡◌ {A = ℕ} 0 1 = cc in absurd (omega arith)
 
     -- the other's tails are the same
     abbrev OtherBegun : Begun
-    OtherBegun = shaped_begun t 4 end (ShapeTaken shape)
+    OtherBegun = shaped_begun t 4 end (Ok shape)
 
     other-begun : base_from (log_judged shape s) t ≡ OtherBegun
     other-begun =
@@ -222,54 +219,54 @@ module _ (x : Meter) (is : IsSwitch x) (words s t : List ℕ) (same : SameSetups
         λ i. logged_begun (j i) (is_accepted (base_part shape t) (c i) (f i) shape.unnamed) end (base_begun (shape_at 4 shape) (base_part shape t) (c i) (f i) end)
 
     other-words : logged_words (log_judged shape s) words (words_after words (base_part shape t) cycles family shape.syllabus shape.unnamed)
-        ≡ shaped_words words t (ShapeTaken shape)
+        ≡ shaped_words words t (Ok shape)
     other-words =
         let j = log-same in
         let c = cycles-same s t share version shape.dating l.dating in
         let f = family-same s t share version shape.family l.family in
         λ i. logged_words (j i) words (words_after words (base_part shape t) (c i) (f i) shape.syllabus shape.unnamed)
 
-    taken-begins : (shaped_begun s 4 end (ShapeTaken shape)).event ≡ SetUp → OtherBegun.event ≡ SetUp
-        → Begins x (shaped_begun s 4 end (ShapeTaken shape)) OtherBegun (shaped_words words s (ShapeTaken shape)) (shaped_words words t (ShapeTaken shape))
+    taken-begins : (shaped_begun s 4 end (Ok shape)).event ≡ SetUp → OtherBegun.event ≡ SetUp
+        → Begins x (shaped_begun s 4 end (Ok shape)) OtherBegun (shaped_words words s (Ok shape)) (shaped_words words t (Ok shape))
     taken-begins e f =
         let g = ap (λ (b : Begun). b.event) other-begun ∙ f in
-        subst₂ (λ (b : Begun) (w : List ℕ). Begins x (shaped_begun s 4 end (ShapeTaken shape)) b (shaped_words words s (ShapeTaken shape)) w)
+        subst₂ (λ (b : Begun) (w : List ℕ). Begins x (shaped_begun s 4 end (Ok shape)) b (shaped_words words s (Ok shape)) w)
         other-begun other-words (by-log (log_judged shape s) e g)
 
   setup-begins : (setup_begun version s 4 end).event ≡ SetUp → (setup_begun version t 4 end).event ≡ SetUp
       → Begins x (setup_begun version s 4 end) (setup_begun version t 4 end) (setup_words words version s) (setup_words words version t)
   unfolding setup_begun setup_words
   setup-begins e f =
-      subst (λ (read : ReadShape). (shaped_begun t 4 end read).event ≡ SetUp
+      subst (λ (read : Result Shape Refusal). (shaped_begun t 4 end read).event ≡ SetUp
       → Begins x (shaped_begun s 4 end (shape_of version s)) (shaped_begun t 4 end read) (shaped_words words s (shape_of version s)) (shaped_words words t read))
       (shape_same s t share version) (by (shape_of version s) refl e) f
     where
-      by : (read : ReadShape) → shape_of version s ≡ read → (shaped_begun s 4 end read).event ≡ SetUp → (shaped_begun t 4 end read).event ≡ SetUp
+      by : (read : Result Shape Refusal) → shape_of version s ≡ read → (shaped_begun s 4 end read).event ≡ SetUp → (shaped_begun t 4 end read).event ≡ SetUp
           → Begins x (shaped_begun s 4 end read) (shaped_begun t 4 end read) (shaped_words words s read) (shaped_words words t read)
-      by (ShapeRefused refusal) r e f = let z : ◌≡◌ {A = ℕ} 0 1 = cc in absurd (omega arith)
-      by (ShapeTaken shape) r e f = taken-begins shape (shape-late s t share version shape r) e f
+      by (Err refusal) r e f = let z : ◌≡◌ {A = ℕ} 0 1 = cc in absurd (omega arith)
+      by (Ok shape) r e f = taken-begins shape (shape-late s t share version shape r) e f
 
 -- TWO PAPERS whose set-ups are the same but for x's start, both accepted
 pub paper-begins : (x : Meter) → IsSwitch x → (words p q : List ℕ) → SamePapers x p q → (begun_of p).event ≡ SetUp → (begun_of q).event ≡ SetUp
     → Begins x (begun_of p) (begun_of q) (words_begun words p) (words_begun words q)
 unfolding begun_of words_begun
 paper-begins x is words p q same e f =
-    subst (λ (opened : Opened). (opened_begun q opened).event ≡ SetUp
+    subst (λ (opened : Result Opened Refusal). (opened_begun q opened).event ≡ SetUp
     → Begins x (opened_begun p (open_paper p)) (opened_begun q opened) (opened_words words p (open_paper p)) (opened_words words q opened))
     (open_same x is p q same) (by (open_paper p) (at-four x is p q same) e) f
   where
-    by : (opened : Opened) → AtFour x is p q same opened → (opened_begun p opened).event ≡ SetUp → (opened_begun q opened).event ≡ SetUp
+    by : (opened : Result Opened Refusal) → AtFour x is p q same opened → (opened_begun p opened).event ≡ SetUp → (opened_begun q opened).event ≡ SetUp
         → Begins x (opened_begun p opened) (opened_begun q opened) (opened_words words p opened) (opened_words words q opened)
-    by (OpenRefused refusal) four e f = let z : ◌≡◌ {A = ℕ} 0 1 = cc in absurd (omega arith)
-    by (Setup version start end) four e f = subst At (sym four) from-four e f where
-      At : (start : ℕ) → Type 0
-      At start =
-          (opened_begun p (Setup version start end)).event ≡ SetUp → (opened_begun q (Setup version start end)).event ≡ SetUp
-          → Begins x (opened_begun p (Setup version start end)) (opened_begun q (Setup version start end))
-          (opened_words words p (Setup version start end)) (opened_words words q (Setup version start end))
+    by (Err refusal) four e f = let z : ◌≡◌ {A = ℕ} 0 1 = cc in absurd (omega arith)
+    by (Ok opened) four e f = subst At (sym four) from-four e f where
+      At : (opened.start : ℕ) → Type 0
+      At opened.start =
+          (opened_begun p (Ok opened)).event ≡ SetUp → (opened_begun q (Ok opened)).event ≡ SetUp
+          → Begins x (opened_begun p (Ok opened)) (opened_begun q (Ok opened))
+          (opened_words words p (Ok opened)) (opened_words words q (Ok opened))
 
       from-four : At 4
       from-four e f =
-          setup-begins x is words (part p 4 end) (part q 4 end)
-          (take_same (start_at x) (start_length x) (end - 4) (drop 4 p) (drop 4 q) (drop_same (start_at x) (start_length x) 4 p q same)) version end
-          (omega (arith, length-take (end - 4) (drop 4 p), min-le_left (end - 4) (length (drop 4 p)))) e f
+          setup-begins x is words (part p 4 opened.end) (part q 4 opened.end)
+          (take_same (start_at x) (start_length x) (opened.end - 4) (drop 4 p) (drop 4 q) (drop_same (start_at x) (start_length x) 4 p q same)) opened.version opened.end
+          (omega (arith, length-take (opened.end - 4) (drop 4 p), min-le_left (opened.end - 4) (length (drop 4 p)))) e f

@@ -12,14 +12,9 @@ use Rattle.wire.specs.Wire.{byte}
 use Rattle.rules.specs.Rules.{Rules, rules_of}
 use Rattle.purchase.specs.Meter.{Meter}
 use Rattle.slot.specs.declared.Slots.{Slots}
-use Rattle.shape.specs.declared.Selecting.{Selecting}
-use Rattle.shape.specs.declared.Selecting.TheVariants.{Off, On}
-use Rattle.shape.specs.declared.Dating.{Dating}
 use Rattle.shape.specs.declared.Family.{Family}
 use Rattle.shape.specs.declared.Shape.{Shape}
 use Rattle.choice.specs.Choice.{file_in, slots_of}
-use Rattle.command.specs.declared.ReadCommand.{ReadCommand}
-use Rattle.command.specs.declared.ReadCommand.TheVariants.{Taken as CommandTaken, Refused as CommandRefused}
 use Rattle.command.specs.Command.{selecting_of, read_by, command_in}
 use Rattle.script.specs.Script.{rules_after}
 use Rattle.state.specs.declared.State.{State}
@@ -40,15 +35,20 @@ use Rattle.apart.proofs.Records.{SameTaken, record_apart, writes_apart}
 use Rattle.apart_papers.specs.Start.{IsSwitch, SamePapers}
 use Rattle.apart_papers.specs.Spared.{SparesNext, going, SparedFrom, SparedBy}
 use Rattle.apart_papers.proofs.Begun.{late, next-same, LateFile, paper-begins}
+use Rattle.std.specs.Prelude.{Err, None, Ok, Option, Result, Some}
+use Rattle.command.specs.declared.Command.{Command}
+use Rattle.refusal.specs.declared.Refusal.{Refusal}
+use Rattle.shape.specs.declared.SelectionFile.{SelectionFile}
+use Rattle.shape.specs.declared.Span.{Span}
 
 -- the place behind a record is its end
 record_place : (rules : Rules) (shape : Shape) (state : State) (paper : List ℕ) (kind : ℕ) (body : List ℕ) (end : ℕ)
     → (record_taken rules shape state paper kind body end).at ≡ end
 unfolding answered_by scripted_by
 record_place rules shape state paper kind body end = by (is_script shape kind) where
-  by-command : (read : ReadCommand) → (answered_by rules state end read).at ≡ end
-  by-command (CommandRefused refusal) = refl
-  by-command (CommandTaken command) = refl
+  by-command : (read : Result Command Refusal) → (answered_by rules state end read).at ≡ end
+  by-command (Err refusal) = refl
+  by-command (Ok command) = refl
 
   by-script : (body : List ℕ) → (scripted_by state body end).at ≡ end
   by-script [] = refl
@@ -97,18 +97,18 @@ module _ (x : Meter) (is : IsSwitch x) (p q : List ℕ) (same : SamePapers x p q
   file-same start end h =
       ap₂ (λ (n : ℕ) (rest : List ℕ). cond (leb start end && leb end n) (take (end - start) rest) []) same.as_long (drop_late start h)
 
-  read_same : (selecting : Selecting) → LateFile selecting → (dating : Dating) (family : Family) (slots : Slots) (kind : ℕ) (body : List ℕ)
+  read_same : (selecting : Option SelectionFile) → LateFile selecting → (dating : Option Span) (family : Family) (slots : Slots) (kind : ℕ) (body : List ℕ)
       → read_by selecting dating family slots p kind body ≡ read_by selecting dating family slots q kind body
-  read_same Off l dating family slots kind body = refl
-  read_same (On start end entries) l dating family slots kind body =
-      ap (λ (file : List ℕ). selecting_of dating family slots file entries kind body) (file-same start end l)
+  read_same None l dating family slots kind body = refl
+  read_same (Some part) l dating family slots kind body =
+      ap (λ (file : List ℕ). selecting_of dating family slots file part.entries kind body) (file-same part.start part.end l)
 
   module _ (shape : Shape) (file : LateFile shape.selecting) where
     record_same : (rules : Rules) (state : State) (kind : ℕ) (body : List ℕ) (end : ℕ)
         → record_taken rules shape state p kind body end ≡ record_taken rules shape state q kind body end
     unfolding command_in
     record_same rules state kind body end =
-        ap (λ (command : ReadCommand). cond (is_script shape kind) (scripted_by state body end) (answered_by rules state end command))
+        ap (λ (command : Result Command Refusal). cond (is_script shape kind) (scripted_by state body end) (answered_by rules state end command))
         (read_same shape.selecting file shape.dating shape.family (slots_of shape.family state.values) kind body)
 
     -- ---- the record at a place

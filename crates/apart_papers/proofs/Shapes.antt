@@ -8,41 +8,38 @@ use lib.Dec.{eqb, ltb, leb}
 use lib.ListN.{length, take}
 use Rattle.wire.specs.Wire.{byte}
 use Rattle.refusal.specs.declared.Refusal.TheVariants.{BadSetup}
-use Rattle.shape.specs.declared.Selecting.{Selecting}
-use Rattle.shape.specs.declared.Selecting.TheVariants.{Off, On}
-use Rattle.shape.specs.declared.Dating.{Dating}
-use Rattle.shape.specs.declared.Dating.TheVariants.{Off as DatesOff, On as DatesOn}
 use Rattle.shape.specs.declared.Family.{Family}
 use Rattle.shape.specs.declared.Family.TheVariants.{Cpa, Cpace}
-use Rattle.shape.specs.declared.Logging.{Logging}
-use Rattle.shape.specs.declared.Logging.TheVariants.{Off as LogOff, On as LogOn}
 use Rattle.shape.specs.declared.Shape.{Shape}
-use Rattle.shape.specs.declared.Tails.{Tails}
-use Rattle.shape.specs.declared.Tails.TheVariants.{Ended, Wrong}
-use Rattle.shape.specs.declared.ReadShape.TheVariants.{Taken, Refused}
 use Rattle.shape.specs.Shape.{base_length, based, base_tail, entries_end, file_end, selects, selection_tail, follows, syllabus_tail, dates, dates_end, dating_tail}
 use Rattle.shape.specs.Shape.{families, family_end, family_tail, scripts, scripting_tail, logs, table_end, log_end, logging_tail}
 use Rattle.shape.specs.Shape.{behind, since, tails_of, whole, shape_of}
 use Rattle.shape.specs.Shape.{cycles_part, family_part, log_part}
 use Rattle.apart_papers.proofs.Bytes.{Shared, late_drop}
+use Rattle.std.specs.Prelude.{Err, None, Ok, Option}
+use Rattle.shape.specs.Shape.{ended_at}
+use Rattle.shape.specs.Shape.{span}
+use Rattle.shape.specs.declared.SelectionFile.{SelectionFile}
+use Rattle.shape.specs.declared.Span.{Span}
+use Rattle.shape.specs.declared.Tails.{Tails}
 
 -- ---- behind the head
 
-abbrev pub LateSelecting : Selecting → Type 0
-LateSelecting Off = Unit
-LateSelecting (On start end entries) = 52 ≤ start
+abbrev pub LateSelecting : Option SelectionFile → Type 0
+LateSelecting None = Unit
+LateSelecting (Some part) = 52 ≤ part.start
 
-abbrev pub LateDating : Dating → Type 0
-LateDating DatesOff = Unit
-LateDating (DatesOn start end) = 52 ≤ start
+abbrev pub LateDating : Option Span → Type 0
+LateDating None = Unit
+LateDating (Some part) = 52 ≤ part.start
 
 abbrev pub LateFamily : Family → Type 0
 LateFamily Cpa = Unit
 LateFamily (Cpace start end) = 52 ≤ start
 
-abbrev pub LateLogging : Logging → Type 0
-LateLogging LogOff = Unit
-LateLogging (LogOn start end) = 52 ≤ start
+abbrev pub LateLogging : Option Span → Type 0
+LateLogging None = Unit
+LateLogging (Some part) = 52 ≤ part.start
 
 pub record Late (shape : Shape) : Type 0 where
   pub selecting : LateSelecting shape.selecting
@@ -50,18 +47,18 @@ pub record Late (shape : Shape) : Type 0 where
   pub family : LateFamily shape.family
   pub logging : LateLogging shape.logging
 
-abbrev LateTails : Tails → Type 0
-LateTails Wrong = Unit
-LateTails (Ended shape at) = Late shape × (52 ≤ at)
+abbrev LateTails : Option Tails → Type 0
+LateTails None = Unit
+LateTails (Some tails) = Late tails.shape × (52 ≤ tails.at)
 
 -- ---- tests one behind the other
 
-two_ways : (a b : Bool) (ended : Tails) → LateTails ended → LateTails (cond a Wrong (cond b Wrong ended))
+two_ways : (a b : Bool) (ended : Option Tails) → LateTails ended → LateTails (cond a None (cond b None ended))
 two_ways true b ended h = tt
 two_ways false true ended h = tt
 two_ways false false ended h = h
 
-four_ways : (a b c d : Bool) (off on : Tails) → LateTails off → LateTails on → LateTails (cond a Wrong (cond b off (cond c Wrong (cond d Wrong on))))
+four_ways : (a b c d : Bool) (off on : Option Tails) → LateTails off → LateTails on → LateTails (cond a None (cond b off (cond c None (cond d None on))))
 four_ways true b c d off on h k = tt
 four_ways false true c d off on h k = h
 four_ways false false true d off on h k = tt
@@ -74,7 +71,7 @@ entries-late s at zero = omega arith
 entries-late s at (suc n) = let h = entries-late s at n in omega arith
 
 -- the same tails of two bodies, and late ones
-pub record Both (a b : Tails) : Type 0 where
+pub record Both (a b : Option Tails) : Type 0 where
   pub same : a ≡ b
   pub late : LateTails a
 
@@ -98,7 +95,7 @@ module _ (s t : List ℕ) (share : Shared s t) where
         late = by (ltb (length s) (base_length s));
       }
     where
-      by : (b : Bool) → LateTails (cond b Wrong (Ended (based (base_length s)) (base_length s)))
+      by : (b : Bool) → LateTails (cond b None (ended_at (based (base_length s)) (base_length s)))
       by true = tt
       by false = (record { selecting = tt; dating = tt; family = tt; logging = tt }, omega arith)
 
@@ -115,8 +112,8 @@ module _ (s t : List ℕ) (share : Shared s t) where
         record {
           same = rw (long, here, e, n);
           late =
-              four_ways (leb (length s) at) (eqb (byte s at) 0) (ltb 1 (byte s at)) (ltb (length s) (file_end s at)) (Ended shape (at + 1))
-              (Ended (selects shape (at + 2) (file_end s at) (byte s (at + 1))) (file_end s at)) (l, omega arith) (
+              four_ways (leb (length s) at) (eqb (byte s at) 0) (ltb 1 (byte s at)) (ltb (length s) (file_end s at)) (ended_at shape (at + 1))
+              (ended_at (selects shape (at + 2) (file_end s at) (byte s (at + 1))) (file_end s at)) (l, omega arith) (
                 record { selecting = omega arith; dating = l.dating; family = l.family; logging = l.logging },
                 omega (arith, entries-late s (at + 2) (byte s (at + 1))),
               );
@@ -128,7 +125,7 @@ module _ (s t : List ℕ) (share : Shared s t) where
         record {
           same = rw (long, here);
           late =
-              two_ways (leb (length s) at) (ltb 1 (byte s at)) (Ended (follows shape (byte s at)) (at + 1))
+              two_ways (leb (length s) at) (ltb 1 (byte s at)) (ended_at (follows shape (byte s at)) (at + 1))
               (record { selecting = l.selecting; dating = l.dating; family = l.family; logging = l.logging }, omega arith);
         }
 
@@ -138,8 +135,8 @@ module _ (s t : List ℕ) (share : Shared s t) where
         record {
           same = rw (long, here, share.early 3 (omega arith));
           late =
-              four_ways (leb (length s) at) (eqb (byte s at) 0) (ltb 1 (byte s at)) (ltb (length s) (dates_end s at)) (Ended (dates shape DatesOff) (at + 1))
-              (Ended (dates shape (DatesOn at (dates_end s at))) (dates_end s at))
+              four_ways (leb (length s) at) (eqb (byte s at) 0) (ltb 1 (byte s at)) (ltb (length s) (dates_end s at)) (ended_at (dates shape None) (at + 1))
+              (ended_at (dates shape (Some (span at (dates_end s at)))) (dates_end s at))
               (record { selecting = l.selecting; dating = tt; family = l.family; logging = l.logging }, omega arith)
               (record { selecting = l.selecting; dating = h; family = l.family; logging = l.logging }, omega arith);
         }
@@ -150,8 +147,8 @@ module _ (s t : List ℕ) (share : Shared s t) where
         record {
           same = rw (long, here, share.early 3 (omega arith));
           late =
-              four_ways (leb (length s) at) (eqb (byte s at) 0) (ltb 1 (byte s at)) (ltb (length s) (family_end s at)) (Ended (families shape Cpa) (at + 1))
-              (Ended (families shape (Cpace at (family_end s at))) (family_end s at))
+              four_ways (leb (length s) at) (eqb (byte s at) 0) (ltb 1 (byte s at)) (ltb (length s) (family_end s at)) (ended_at (families shape Cpa) (at + 1))
+              (ended_at (families shape (Cpace at (family_end s at))) (family_end s at))
               (record { selecting = l.selecting; dating = l.dating; family = tt; logging = l.logging }, omega arith)
               (record { selecting = l.selecting; dating = l.dating; family = h; logging = l.logging }, omega arith);
         }
@@ -162,7 +159,7 @@ module _ (s t : List ℕ) (share : Shared s t) where
         record {
           same = rw (long, here);
           late =
-              two_ways (leb (length s) at) (ltb 1 (byte s at)) (Ended (scripts shape (eqb (byte s at) 1)) (at + 1))
+              two_ways (leb (length s) at) (ltb 1 (byte s at)) (ended_at (scripts shape (eqb (byte s at) 1)) (at + 1))
               (record { selecting = l.selecting; dating = l.dating; family = l.family; logging = l.logging }, omega arith);
         }
 
@@ -182,22 +179,22 @@ module _ (s t : List ℕ) (share : Shared s t) where
         record {
           same = rw (long, here, log-same);
           late =
-              four_ways (leb (length s) at) (eqb (byte s at) 0) (ltb 1 (byte s at)) (ltb (length s) (log_end s at)) (Ended shape (at + 1))
-              (Ended (logs shape (LogOn at (log_end s at))) (log_end s at)) (l, omega arith)
+              four_ways (leb (length s) at) (eqb (byte s at) 0) (ltb 1 (byte s at)) (ltb (length s) (log_end s at)) (ended_at shape (at + 1))
+              (ended_at (logs shape (Some (span at (log_end s at)))) (log_end s at)) (l, omega arith)
               (record { selecting = l.selecting; dating = l.dating; family = l.family; logging = h }, omega arith);
         }
 
 -- one tail behind another
-since_both : (first version : ℕ) (a b : Tails) (f g : Shape → ℕ → Tails) → Both a b
+since_both : (first version : ℕ) (a b : Option Tails) (f g : Shape → ℕ → Option Tails) → Both a b
     → ((shape : Shape) (at : ℕ) → Late shape → 52 ≤ at → Both (f shape at) (g shape at)) → Both (since first version a f) (since first version b g)
 since_both first version a b f g both on =
-    subst (λ (c : Tails). Both (since first version a f) (since first version c g)) both.same (by (ltb version first) a both.late)
+    subst (λ (c : Option Tails). Both (since first version a f) (since first version c g)) both.same (by (ltb version first) a both.late)
   where
-    by-tails : (c : Tails) → LateTails c → Both (behind c f) (behind c g)
-    by-tails Wrong l = record { same = refl; late = tt }
-    by-tails (Ended shape at) l = on shape at l.0 l.1
+    by-tails : (c : Option Tails) → LateTails c → Both (behind c f) (behind c g)
+    by-tails None l = record { same = refl; late = tt }
+    by-tails (Some tails) l = on tails.shape tails.at l.0 l.1
 
-    by : (older : Bool) (c : Tails) → LateTails c → Both (cond older c (behind c f)) (cond older c (behind c g))
+    by : (older : Bool) (c : Option Tails) → LateTails c → Both (cond older c (behind c f)) (cond older c (behind c g))
     by true c l = record { same = refl; late = l }
     by false c l = by-tails c l
 
@@ -218,30 +215,30 @@ module _ (s t : List ℕ) (share : Shared s t) (version : ℕ) where
   unfolding shape_of
   shape_same =
       ap (whole s) tails_both.same ∙ by (tails_of version t) where
-        by : (tails : Tails) → whole s tails ≡ whole t tails
-        by Wrong = refl
-        by (Ended shape at) = ap (λ (n : ℕ). cond (eqb at n) (Taken shape) (Refused BadSetup)) share.as_long
+        by : (tails : Option Tails) → whole s tails ≡ whole t tails
+        by None = refl
+        by (Some tails) = ap (λ (n : ℕ). cond (eqb tails.at n) (Ok tails.shape) (Err BadSetup)) share.as_long
 
-  pub shape-late : (shape : Shape) → shape_of version s ≡ Taken shape → Late shape
+  pub shape-late : (shape : Shape) → shape_of version s ≡ Ok shape → Late shape
   unfolding shape_of
   shape-late shape e = by (tails_of version s) tails_both.late e where
-    by_end : (b : Bool) (found : Shape) → Late found → cond b (Taken found) (Refused BadSetup) ≡ Taken shape → Late shape
+    by_end : (b : Bool) (found : Shape) → Late found → cond b (Ok found) (Err BadSetup) ≡ Ok shape → Late shape
     by_end true found l e = subst Late (let z : found ≡ shape = cc in z) l
     by_end false found l e = let z : ◌≡◌ {A = ℕ} 0 1 = cc in absurd (omega arith)
 
-    by : (tails : Tails) → LateTails tails → whole s tails ≡ Taken shape → Late shape
-    by Wrong l e = let z : ◌≡◌ {A = ℕ} 0 1 = cc in absurd (omega arith)
-    by (Ended found at) l e = by_end (eqb at (length s)) found l.0 e
+    by : (tails : Option Tails) → LateTails tails → whole s tails ≡ Ok shape → Late shape
+    by None l e = let z : ◌≡◌ {A = ℕ} 0 1 = cc in absurd (omega arith)
+    by (Some tails) l e = by_end (eqb tails.at (length s)) tails.shape l.0 e
 
   -- its parts behind the base
-  pub cycles-same : (dating : Dating) → LateDating dating → cycles_part dating s ≡ cycles_part dating t
-  cycles-same DatesOff l = refl
-  cycles-same (DatesOn start end) l = ap (take (end - start)) (late_drop s t share start l)
+  pub cycles-same : (dating : Option Span) → LateDating dating → cycles_part dating s ≡ cycles_part dating t
+  cycles-same None l = refl
+  cycles-same (Some part) l = ap (take (part.end - part.start)) (late_drop s t share part.start l)
 
   pub family-same : (family : Family) → LateFamily family → family_part family s ≡ family_part family t
   family-same Cpa l = refl
   family-same (Cpace start end) l = ap (take (end - start)) (late_drop s t share start l)
 
-  pub log-part-same : (logging : Logging) → LateLogging logging → log_part logging s ≡ log_part logging t
-  log-part-same LogOff l = refl
-  log-part-same (LogOn start end) l = ap (take (end - start)) (late_drop s t share start l)
+  pub log-part-same : (logging : Option Span) → LateLogging logging → log_part logging s ≡ log_part logging t
+  log-part-same None l = refl
+  log-part-same (Some part) l = ap (take (part.end - part.start)) (late_drop s t share part.start l)

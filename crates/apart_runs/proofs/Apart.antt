@@ -14,8 +14,6 @@ use Rattle.state.specs.declared.State.{State}
 use Rattle.records.specs.declared.Event.{Event}
 use Rattle.upkeep.specs.Upkeep.{rooms_after}
 use Rattle.keeper.specs.Keeper.{rooms_recorded}
-use Rattle.run_rule.specs.declared.Ran.{Ran}
-use Rattle.run_rule.specs.declared.Ran.TheVariants.{Done, Refused}
 use Rattle.runs.specs.Runs.{Card, answered_in, taken_by, writes_of, card_behind, card_after, answers_to, records_in, ruled_run, unless, card_run, room_run}
 use Rattle.apart.specs.Off.{Spares}
 use Rattle.apart.specs.Alike.{Alike}
@@ -23,6 +21,8 @@ use Rattle.apart.proofs.Values.{Beside, beside}
 use Rattle.apart.proofs.Records.{SameTaken, record_apart, writes_apart}
 use Rattle.apart_runs.specs.Spared.{wiped_rooms, AlikeCards, Spared, events_to}
 use Rattle.apart_runs.proofs.Rooms.{Cells, cells, wiped-rooms, after_cells}
+use Rattle.std.specs.Prelude.{Err, Ok, Result}
+use Rattle.refusal.specs.declared.Refusal.{Refusal}
 
 module _ (x : Meter) (shape : Shape) (paper : List ℕ) where
   -- ---- a record
@@ -112,9 +112,9 @@ module _ (x : Meter) (shape : Shape) (paper : List ℕ) where
       all : Apart card other (records_in records)
       all = apart (records_in records) card other alike spared
 
-      by : (ran : Ran)
+      by : (ran : Result ℕ Refusal)
           → (unless ran room (sets room 0 (answers_to shape paper card (records_in records)))
           ≡ unless ran room (sets room 0 (answers_to shape paper other (records_in records))))
           × AlikeCards x (unless ran card (card_after shape paper card (records_in records))) (unless ran other (card_after shape paper other (records_in records)))
-      by (Refused refusal) = (refl, alike)
-      by (Done n) = (ap (sets room 0) all.answers, all.cards)
+      by (Err refusal) = (refl, alike)
+      by (Ok n) = (ap (sets room 0) all.answers, all.cards)

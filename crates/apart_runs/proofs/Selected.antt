@@ -7,8 +7,6 @@ use Rattle.rules.specs.declared.Values.{Values}
 use Rattle.purchase.specs.Meter.{Meter, accumulator}
 use Rattle.slot.specs.declared.Slots.{Slots}
 use Rattle.selection.proofs.Only.{cpa_tests_none, fourth-untested}
-use Rattle.shape.specs.declared.Selecting.{Selecting}
-use Rattle.shape.specs.declared.Selecting.TheVariants.{Off, On}
 use Rattle.shape.specs.declared.Shape.{Shape}
 use Rattle.bodies.specs.Bodies.{is_cpace}
 use Rattle.choice.specs.Choice.{file_in, slots_of}
@@ -17,20 +15,22 @@ use Rattle.runs.specs.Runs.{Card, card_behind}
 use Rattle.apart.specs.Off.{IsUntested}
 use Rattle.apart_runs.specs.Spared.{AlikeCards, Spared, Chosen}
 use Rattle.apart_runs.proofs.Apart.{Apart, apart}
+use Rattle.std.specs.Prelude.{None, Option, Some}
+use Rattle.shape.specs.declared.SelectionFile.{SelectionFile}
 
 -- no entry of a CPA card
-cpa-untested : (selecting : Selecting) (slots : Slots) (paper : List ℕ) (kind : ℕ) (body : List ℕ) (x : Meter) → slots.testable ≡ false
+cpa-untested : (selecting : Option SelectionFile) (slots : Slots) (paper : List ℕ) (kind : ℕ) (body : List ℕ) (x : Meter) → slots.testable ≡ false
     → IsUntested selecting slots paper kind body x
-cpa-untested Off slots paper kind body x none = tt
-cpa-untested (On start end entries) slots paper kind body x none =
-    λ is slot its tests. cpa_tests_none (file_in paper start end) entries body slots none slot tests
+cpa-untested None slots paper kind body x none = tt
+cpa-untested (Some part) slots paper kind body x none =
+    λ is slot its tests. cpa_tests_none (file_in paper part.start part.end) part.entries body slots none slot tests
 
 -- no entry tests accumulator 4
-pub fourth_spared : (selecting : Selecting) (slots : Slots) (paper : List ℕ) (kind : ℕ) (body : List ℕ)
+pub fourth_spared : (selecting : Option SelectionFile) (slots : Slots) (paper : List ℕ) (kind : ℕ) (body : List ℕ)
     → IsUntested selecting slots paper kind body (accumulator 3)
-fourth_spared Off slots paper kind body = tt
-fourth_spared (On start end entries) slots paper kind body =
-    λ is slot its tests. fourth-untested (file_in paper start end) entries body slots (rw its at tests)
+fourth_spared None slots paper kind body = tt
+fourth_spared (Some part) slots paper kind body =
+    λ is slot its tests. fourth-untested (file_in paper part.start part.end) part.entries body slots (rw its at tests)
 
 module _ (x : Meter) (shape : Shape) (paper : List ℕ) where
   untested : (values : Values) (kind : ℕ) (body : List ℕ)

@@ -15,8 +15,6 @@ use Rattle.rules.specs.declared.Place.{Place}
 use Rattle.rules.specs.declared.Sent.{Sent}
 use Rattle.rules.specs.Rules.{Rules, profile_at, blank_words, rules_of}
 use Rattle.purchase.specs.Meter.{Meter, accumulator, counter, cyclic, rule_of}
-use Rattle.shape.specs.declared.Selecting.{Selecting}
-use Rattle.shape.specs.declared.Selecting.TheVariants.{Off, On}
 use Rattle.shape.specs.declared.Shape.{Shape}
 use Rattle.slot.specs.declared.Slots.{Slots}
 use Rattle.choice.specs.Choice.{slots_of}
@@ -44,6 +42,8 @@ use Rattle.apart_papers.proofs.Lines.{apart-lines}
 use Rattle.spelling.specs.Spelling.{big, record_of, unshown, first, second, kind_of, body_of, spell, paper_of}
 use Rattle.spelling.proofs.Computed.{begun as set_up, answered, heard}
 use Rattle.apart_samples.proofs.Samples.{zeros, base, sale, putting, reads}
+use Rattle.std.specs.Prelude.{None, Option, Some}
+use Rattle.shape.specs.declared.SelectionFile.{SelectionFile}
 
 -- ---- the test
 
@@ -61,9 +61,9 @@ quiet_in rules x (Opened place) = off_in rules x place
 quiet_in rules x (Asked pending) = off_in rules x pending.place
 
 -- where profiles are named no entry tests anything
-abbrev named : Selecting → Bool
-named Off = true
-named (On start end entries) = false
+abbrev named : Option SelectionFile → Bool
+named None = true
+named (Some part) = false
 
 abbrev spares : Rules → Shape → State → Meter → Next → Bool
 spares rules shape state x PaperEnd = true
@@ -110,10 +110,10 @@ quiet-holds rules x Idle e = tt
 quiet-holds rules x (Opened place) e = off-holds rules x place e
 quiet-holds rules x (Asked pending) e = off-holds rules x pending.place e
 
-untested-holds : (selecting : Selecting) → named selecting ≡ true → (slots : Slots) (paper : List ℕ) (kind : ℕ) (body : List ℕ) (x : Meter)
+untested-holds : (selecting : Option SelectionFile) → named selecting ≡ true → (slots : Slots) (paper : List ℕ) (kind : ℕ) (body : List ℕ) (x : Meter)
     → IsUntested selecting slots paper kind body x
-untested-holds Off e slots paper kind body x = tt
-untested-holds (On start end entries) e slots paper kind body x = let z : ◌≡◌ {A = ℕ} 0 1 = cc in absurd (omega arith)
+untested-holds None e slots paper kind body x = tt
+untested-holds (Some part) e slots paper kind body x = let z : ◌≡◌ {A = ℕ} 0 1 = cc in absurd (omega arith)
 
 next-holds : (rules : Rules) (shape : Shape) (state : State) (paper : List ℕ) (x : Meter) (next : Next) → spares rules shape state x next ≡ true
     → SparesNext rules shape state paper x next

@@ -19,8 +19,6 @@ use Rattle.command.specs.declared.Start.{Start}
 use Rattle.command.specs.declared.First.{First}
 use Rattle.command.specs.declared.Second.{Second}
 use Rattle.command.specs.declared.Command.TheVariants.{Start as StartCommand, First as FirstCommand, Second as SecondCommand}
-use Rattle.command.specs.declared.ReadCommand.{ReadCommand}
-use Rattle.command.specs.declared.ReadCommand.TheVariants.{Taken as CommandTaken, Refused as CommandRefused}
 use Rattle.command.specs.Command.{command_in}
 use Rattle.state.specs.declared.Answer.{Answer}
 use Rattle.state.specs.declared.Answer.TheVariants.{Refused as AnswerRefused, Started, Given, Done}
@@ -53,6 +51,8 @@ use Rattle.journal.specs.declared.Heard.TheVariants.{First as HeardFirst, Second
 use Rattle.journal.specs.Journal.{is_logged, closed_by}
 use Rattle.journal.specs.Logged.{Seen, is_given, first_in, cryptogram, logged_by, logged_in, turned}
 use Rattle.log_laws.specs.Spoken.{heard_of, seen_then, seen_from}
+use Rattle.std.specs.Prelude.{Err, Ok, Result}
+use Rattle.command.specs.declared.Command.{Command}
 
 -- WHERE A LOGGED TRANSACTION STANDS
 pub record Behind (kept : Record) : Type 0 where
@@ -201,13 +201,13 @@ module _ (logging : Logging) (at : ℕ) (h : 56 ≤ at) (before : List Seen) whe
   KeptBy (Answered said answer) phase = Kept (heard_of said) answer phase
 
   module _ (rules : Rules) (state : State) (asking : Asking state.phase (first_in before)) where
-    answered-kept : (end : ℕ) (read : ReadCommand)
+    answered-kept : (end : ℕ) (read : Result Command Refusal)
         → KeptBy (answered_by rules state end read).event (answered_by rules state end read).state.phase
     unfolding answered_by step_of
-    answered-kept end (CommandRefused refusal) = tt
-    answered-kept end (CommandTaken (StartCommand start)) = start-kept rules state start asking
-    answered-kept end (CommandTaken (FirstCommand first)) = first-kept rules state first asking
-    answered-kept end (CommandTaken (SecondCommand second)) = second-kept rules state second second.code asking
+    answered-kept end (Err refusal) = tt
+    answered-kept end (Ok (StartCommand start)) = start-kept rules state start asking
+    answered-kept end (Ok (FirstCommand first)) = first-kept rules state first asking
+    answered-kept end (Ok (SecondCommand second)) = second-kept rules state second second.code asking
 
     scripted-kept : (body : List ℕ) (end : ℕ) → KeptBy (scripted_by state body end).event (scripted_by state body end).state.phase
     unfolding scripted_by
@@ -218,7 +218,7 @@ module _ (logging : Logging) (at : ℕ) (h : 56 ≤ at) (before : List Seen) whe
         → KeptBy (taken_of rules shape state paper place).event (taken_of rules shape state paper place).state.phase
     unfolding taken_of
     taken-kept shape paper place = by (next_at paper place) where
-      by-script : (b : Bool) (body : List ℕ) (end : ℕ) (read : ReadCommand)
+      by-script : (b : Bool) (body : List ℕ) (end : ℕ) (read : Result Command Refusal)
           → KeptBy (cond b (scripted_by state body end) (answered_by rules state end read)).event
           (cond b (scripted_by state body end) (answered_by rules state end read)).state.phase
       by-script true body end read = scripted-kept body end

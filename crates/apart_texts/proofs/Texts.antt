@@ -15,8 +15,6 @@ use Rattle.rules.specs.Word.{word_count}
 use Rattle.rules.specs.Rules.{Rules, rules_of}
 use Rattle.purchase.specs.Meter.{Meter}
 use Rattle.bodies.specs.Bodies.{is_cpace}
-use Rattle.shape.specs.declared.Logging.{Logging}
-use Rattle.shape.specs.declared.Logging.TheVariants.{Off, On}
 use Rattle.shape.specs.declared.Shape.{Shape}
 use Rattle.script.specs.Script.{rules_after}
 use Rattle.state.specs.declared.Phase.{Phase}
@@ -48,6 +46,8 @@ use Rattle.apart_papers.specs.Spared.{going, SparedFrom, SparedBy}
 use Rattle.apart_papers.proofs.Begun.{early, LateFile, LateLog, paper-begins}
 use Rattle.apart_papers.proofs.Lines.{drop_late, taken-apart, writes-same, place-late, apart-events, apart-lines}
 use Rattle.apart_texts.proofs.Placed.{Behind, AllBehind, take_behind, Asking, all-behind}
+use Rattle.std.specs.Prelude.{None, Option, Some}
+use Rattle.shape.specs.declared.Span.{Span}
 
 -- where the conversation goes on, the rest is the same
 seen_then_lem : (at : ℕ) (event : Event) (spared : Type 0) (a b : List Seen) → going event spared → (spared → a ≡ b) → seen_then at event a ≡ seen_then at event b
@@ -117,18 +117,18 @@ module _ (x : Meter) (is : IsSwitch x) (p q : List ℕ) (same : SamePapers x p q
         let count = early x is p q same 7 (omega arith) in
         λ i. record { profiles = count i; dated = is_dated shape.dating; cpace = is_cpace shape.family }
 
-    log-same : (logging : Logging) → LateLog logging → tailed rules shape p logging ≡ tailed rules shape q logging
-    log-same Off h = let form = form-same in λ i. record { logging = no_logging; form = form i; start = 0; end = 0 }
-    log-same (On start end) h =
+    log-same : (logging : Option Span) → LateLog logging → tailed rules shape p logging ≡ tailed rules shape q logging
+    log-same None h = let form = form-same in λ i. record { logging = no_logging; form = form i; start = 0; end = 0 }
+    log-same (Some part) h =
         let form = form-same in
-        let tail = tail-same start end h in
-        λ i. record { logging = logging_in rules (tail i); form = form i; start = start; end = end }
+        let tail = tail-same part.start part.end h in
+        λ i. record { logging = logging_in rules (tail i); form = form i; start = part.start; end = part.end }
 
-    log-tail-same : (logging : Logging) → LateLog logging
+    log-tail-same : (logging : Option Span) → LateLog logging
         → tail_at p (tailed rules shape p logging).start (tailed rules shape p logging).end
         ≡ tail_at q (tailed rules shape p logging).start (tailed rules shape p logging).end
-    log-tail-same Off h = no_tail p ∙ sym (no_tail q)
-    log-tail-same (On start end) h = tail-same start end h
+    log-tail-same None h = no_tail p ∙ sym (no_tail q)
+    log-tail-same (Some part) h = tail-same part.start part.end h
 
   -- ---- the records that are answered, and where they stand
 

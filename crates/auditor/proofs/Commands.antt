@@ -11,11 +11,11 @@ use lib.Seq.{take-append_seam, drop-append_seam}
 use borrow.Author.Tests.{lt-ltb, le-leb, eq-eqb, ne_eqb}
 use Rattle.object.specs.Object.{read_template}
 use Rattle.cursor.specs.Cursor.{commands_of}
-use Rattle.object.specs.declared.Reading.TheVariants.{Sound}
 use Rattle.trees.specs.Tree.{Tag, short, long, Form, plain, with81, with82, Objects, end, filler, primitive, constructed, tree}
 use Rattle.trees.specs.Tree.{length_bytes, object_bytes, written, is86, if_command, commands, limit, Tagged, Good}
 use Rattle.trees.proofs.Back.{written_if_sound, sound_if_written}
 use Rattle.auditor.specs.Template.{parted, short_in, value_in, commands_by, commands_in, Bytes}
+use Rattle.std.specs.Prelude.{Ok}
 
 -- ---- a value behind its length, whatever is behind it
 parted-there : (v r : List ℕ) → parted (length v) (v ++ r) ≡ some (record { value = v; behind = r })
@@ -76,7 +76,7 @@ in_order (suc n) (constructed t f o r) g l =
     constructed-there n t f (written o) (written r) g.0 g.1 ∙ ap₂ ◌++◌ (in_order n o g.2 (omega arith)) (in_order n r g.3 (omega arith))
 
 -- THEOREM: of a sound template the auditor reads the commands that the card's reader finds
-pub same-commands : (s : List ℕ) → Bytes s → read_template s ≡ Sound → commands_in s ≡ commands_of s
+pub same-commands : (s : List ℕ) → Bytes s → read_template s ≡ Ok tt → commands_in s ≡ commands_of s
 unfolding commands_in
 same-commands s b h =
     let w = written_if_sound s b h in

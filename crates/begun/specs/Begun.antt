@@ -1,9 +1,7 @@
 -- What a set-up comes to (document 01, "The paper").
-use Rattle.std.specs.Prelude.{ℕ, Bool, cond, List}
+use Rattle.std.specs.Prelude.{ℕ, Bool, cond, List, Err, Ok, Result}
 use Rattle.refusal.specs.declared.Refusal.{Refusal}
 use Rattle.refusal.specs.declared.Refusal.TheVariants.{BadSetup, PastData}
-use Rattle.setup.specs.declared.SetupAnswer.{SetupAnswer}
-use Rattle.setup.specs.declared.SetupAnswer.TheVariants.{Done, Refused as SetupRefused}
 use Rattle.setup.specs.Setup.{read_setup, no_card}
 use Rattle.shape.specs.declared.Shape.{Shape}
 use Rattle.shape.specs.Shape.{based}
@@ -16,9 +14,9 @@ use Rattle.begun.specs.declared.Begun.{Begun}
 abbrev pub refused_at : Refusal → (at : ℕ) → Begun
 refused_at refusal at = record { shape = based 0; state = fresh_state no_card; at = at; event = Refused refusal }
 
-abbrev pub set_up_event : SetupAnswer → Event
-set_up_event Done = SetUp
-set_up_event (SetupRefused refusal) = Refused refusal
+abbrev pub set_up_event : Result Unit Refusal → Event
+set_up_event (Ok done) = SetUp
+set_up_event (Err refusal) = Refused refusal
 
 unfoldable pub base_begun : Shape → (base cycles family : List ℕ) (end : ℕ) → Begun
 base_begun shape base cycles family end =

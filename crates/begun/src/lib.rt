@@ -8,8 +8,7 @@ ghost use Rattle.begun.specs.Begun.{set_up_event, refused_at, base_begun, past_b
 use records::Event;
 use refusal::Refusal;
 use rules::Words;
-use setup::SetupAnswer;
-use shape::{Dating, Family, Logging, Selecting, Shape};
+use shape::{Family, SelectionFile, Shape, Span};
 use state::State;
 
 // After the set-up: the paper's shape, the card, the place of the first record, and what happened.
@@ -21,12 +20,12 @@ pub struct Begun {
     pub event: Event,
 }
 
-fn event_of(answer: SetupAnswer) -> Event
+fn event_of(answer: Result<(), Refusal>) -> Event
     ensures { result ≡ set_up_event answer }
 {
     match answer {
-        SetupAnswer::Done => Event::SetUp,
-        SetupAnswer::Refused(refusal) => Event::Refused(refusal),
+        Ok(()) => Event::SetUp,
+        Err(refusal) => Event::Refused(refusal),
     }
 }
 
@@ -38,12 +37,12 @@ pub fn refuse(refusal: Refusal, at: usize) -> Begun
     Begun {
         shape: Shape {
             base: 0,
-            selecting: Selecting::Off,
+            selecting: None,
             syllabus: 0,
-            dating: Dating::Off,
+            dating: None,
             family: Family::Cpa,
             scripting: false,
-            logging: Logging::Off,
+            logging: None,
             unnamed: 4_194_304,
         },
         state: fresh::fresh_card(none),

@@ -14,11 +14,11 @@ use Rattle.run_page.specs.RunPage.{page_of, page_size, page_text, page_end}
 use Rattle.run_text.proofs.Pages.{whole}
 use Rattle.runs.specs.declared.RunEnd.{RunEnd}
 use Rattle.runs.specs.Runs.{Card, card_of, card_run, room_run, ruled_run, end_of}
-use Rattle.bench.specs.declared.Page.TheVariants.{Whole, NoRoom}
 use Rattle.bench.specs.declared.Turn.{Turn}
 use Rattle.run_block.specs.RunBlock.{filler, size_in, records_in}
 use Rattle.bench.specs.Bench.{has_room, turned}
 use Rattle.bench.specs.Bench.{card_behind, room_behind, page_behind, turn_of, card_turned, room_turned, text_turned}
+use Rattle.std.specs.Prelude.{None, Some}
 
 -- room enough, as numbers
 pub enough : (size : ℕ) (room text : List ℕ) {b : Bool} → b ≡ has_room size (length room) (length text) → not b ≡ false
@@ -55,7 +55,7 @@ module _ (shape : Shape) (paper words rooms : List ℕ) (state : State) where
         → room' ≡ room_run shape paper card records lent
         → rules_of words' ≡ (card_run shape paper card records (length lent)).rules
         → page_size (length room') ≤ length text → end ≡ page_end (length text) run.ran room' → text' ≡ page_text text run.ran room'
-        → RanIn (record { state = run.state; page = Whole end }) words' rooms' room' text'
+        → RanIn (record { state = run.state; page = Some end }) words' rooms' room' text'
     ran_in_lem {lent} {room'} {words'} {rooms'} {text'} {run} {end} f r w o m u fits e p =
         let sized : length lent ≡ size = ap length f ∙ length-replicate size filler in
         let run_is : run ≡ end_of shape paper card records size = rw sized at r in
@@ -78,7 +78,7 @@ module _ (shape : Shape) (paper words rooms : List ℕ) (state : State) where
         × (rules_of words' ≡ (card_turned shape paper card block (length room) (length text)).rules)
 
     pub no_room : has_room (size_in block) (length room) (length text) ≡ false
-        → Turned (record { state = state; page = NoRoom }) words rooms room text
+        → Turned (record { state = state; page = None }) words rooms room text
     unfolding turn_of card_turned room_turned text_turned
     no_room e = (rw e, rw e, rw e, rw e, rw e, rw e)
 

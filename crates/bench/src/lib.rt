@@ -12,22 +12,14 @@ ghost use Rattle.bench.specs.Bench.{has_room, turn_of, card_turned, room_turned,
 
 use rooms::Rooms;
 use rules::Words;
-use run_rule::Ran;
 use shape::Shape;
 use state::State;
-
-// Where a block's text ends, or that there was no room for it and nothing was run.
-#[derive(Drop)]
-pub enum Page {
-    Whole { end: usize },
-    NoRoom,
-}
 
 // The card after a block, and its text.
 #[derive(Drop)]
 pub struct Turn {
     pub state: State,
-    pub page: Page,
+    pub page: Option<usize>,
 }
 
 // Whether there is room for a run in a room of some size, and for its text.
@@ -64,7 +56,7 @@ fn run_in(
     let state = run.state;
     Turn {
         state,
-        page: Page::Whole {
+        page: Some {
             end: run_text::put_page(text, ran, room),
         },
     }
@@ -95,7 +87,7 @@ pub fn answer_block(
     if !has_room(size, room.len(), text.len()) {
         return Turn {
             state,
-            page: Page::NoRoom,
+            page: None,
         };
     }
     let from = run_block::head_in(block);

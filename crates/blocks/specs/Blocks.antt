@@ -1,9 +1,7 @@
 -- A stack's bytes come in pieces: the block at the front of those at hand, and what a turn makes of it where no paper is to be answered.
-use Rattle.std.specs.Prelude.{cond, ◌&&◌, List, [], ◌∷◌, ℕ, ◌+◌, ◌-◌, eqb, ltb, leb, length, take, drop}
+use Rattle.std.specs.Prelude.{cond, ◌&&◌, List, [], ◌∷◌, ℕ, ◌+◌, ◌-◌, eqb, ltb, leb, length, take, drop, None, Option, Some}
 use Rattle.std.proofs.lemmas.List.Edits.{sets}
 use Rattle.wire.specs.Wire.{number}
-use Rattle.paper_room.specs.declared.Transcript.{Transcript}
-use Rattle.paper_room.specs.declared.Transcript.TheVariants.{Whole, NoRoom}
 use Rattle.blocks.specs.declared.Front.{Front}
 use Rattle.blocks.specs.declared.Front.TheVariants.{Done, Paper}
 use Rattle.blocks.specs.declared.Turned.{Turned}
@@ -32,8 +30,8 @@ abbrev pub longest_paper : ℕ
 longest_paper = 65536
 
 -- a text in the room, and where it ends
-abbrev pub placed_text : (room to : ℕ) (text : List ℕ) → Transcript
-placed_text room to text = cond (leb (to + length text) room) (Whole (to + length text)) NoRoom
+abbrev pub placed_text : (room to : ℕ) (text : List ℕ) → Option ℕ
+placed_text room to text = cond (leb (to + length text) room) (Some (to + length text)) None
 
 abbrev pub text_room : (room : List ℕ) (to : ℕ) (text : List ℕ) → List ℕ
 text_room room to text = cond (leb (to + length text) (length room)) (sets room to text) room
@@ -52,9 +50,9 @@ passing skip words input =
 abbrev pub waiting : (taken skip to : ℕ) → Turned
 waiting taken skip to = record { taken = taken; skip = skip; end = to; wants = Input }
 
-abbrev pub turned_over : (taken skip to : ℕ) → Transcript → Turned
-turned_over taken skip to (Whole end) = record { taken = taken; skip = 0; end = end; wants = Turn }
-turned_over taken skip to NoRoom = record { taken = 0; skip = skip; end = to; wants = Room }
+abbrev pub turned_over : (taken skip to : ℕ) → Option ℕ → Turned
+turned_over taken skip to (Some end) = record { taken = taken; skip = 0; end = end; wants = Turn }
+turned_over taken skip to None = record { taken = 0; skip = skip; end = to; wants = Room }
 
 abbrev pub said_by : (room to skip : ℕ) → Deal → Turned
 said_by room to skip (hold taken left wants) = record { taken = taken; skip = left; end = to; wants = wants }

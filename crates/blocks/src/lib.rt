@@ -6,7 +6,6 @@ ghost use Rattle.std.specs.Prelude.{◌≡◌, [], ◌+◌, ◌≤◌, length};
 ghost use Rattle.std.proofs.lemmas.List.Edits.{sets};
 ghost use Rattle.blocks.specs.Blocks.{placed_text, text_room, waiting, turned_over, passing, said_by, room_by, front_of, front_room, last_text};
 
-use paper_room::Transcript;
 
 const LONGEST_PAPER: usize = 65_536;
 
@@ -47,16 +46,16 @@ fn put_text(room: &mut [u8], at: usize, text: &[u8]) -> usize
 }
 
 // The same, or that there is no room for it.
-fn place_text(room: &mut [u8], at: usize, text: &[u8]) -> Transcript
+fn place_text(room: &mut [u8], at: usize, text: &[u8]) -> Option<usize>
     ensures { (result ≡ placed_text (length room.old) at text.now) × (room.new ≡ text_room room.old at text.now) }
 {
     if room.len() < at {
-        return Transcript::NoRoom;
+        return None;
     }
     if room.len() - at < text.len() {
-        return Transcript::NoRoom;
+        return None;
     }
-    Transcript::Whole {
+    Some {
         end: put_text(room, at, text),
     }
 }
@@ -74,17 +73,17 @@ fn wait(taken: usize, skip: usize, end: usize) -> Turned
 }
 
 // So many bytes are done with, if their page found room.
-pub fn turn_over(page: Transcript, taken: usize, skip: usize, to: usize) -> Turned
+pub fn turn_over(page: Option<usize>, taken: usize, skip: usize, to: usize) -> Turned
     ensures { result ≡ turned_over taken skip to page }
 {
     match page {
-        Transcript::Whole { end } => Turned {
+        Some(end) => Turned {
             taken,
             skip: 0,
             end,
             wants: Wants::Turn,
         },
-        Transcript::NoRoom => Turned {
+        None => Turned {
             taken: 0,
             skip,
             end: to,
@@ -130,7 +129,7 @@ pub fn take_front(input: &[u8], skip: usize, room: &mut [u8], to: usize) -> Fron
 }
 
 // The stack has ended: a block that was begun is cut short.
-pub fn finish(left: usize, skip: usize, room: &mut [u8], to: usize) -> Transcript
+pub fn finish(left: usize, skip: usize, room: &mut [u8], to: usize) -> Option<usize>
     ensures { (result ≡ placed_text (length room.old) to (last_text left skip)) × (room.new ≡ text_room room.old to (last_text left skip)) }
 {
     if (left == 0) & (skip == 0) {

@@ -5,7 +5,7 @@ ghost use Rattle.std.specs.Prelude.{◌≡◌, ◌≤◌};
 ghost use Rattle.bodies.specs.Bodies.{is_cpace, interface_of, start_length, profile_named, plain_length, first_length, cvm_of, cashback_of};
 
 use cpace::Cvm;
-use shape::{Dating, Family};
+use shape::{Family, Span};
 
 pub fn is_cpace(family: Family) -> bool
     ensures { result ≡ is_cpace family }
@@ -47,24 +47,24 @@ pub fn profile_named(family: Family, body: &[u8]) -> u8
 }
 
 // 12 bytes, and the date's 3 where the paper is dated.
-fn plain_length(dating: Dating) -> usize
+fn plain_length(dating: Option<Span>) -> usize
     ensures { (result ≡ plain_length dating) × (result ≤ 15) }
 {
     match dating {
-        Dating::Off => 12,
-        Dating::On { .. } => 15,
+        None => 12,
+        Some(Span { .. }) => 15,
     }
 }
 
 // These, and the 9 bytes of a CPACE card's CVM results and cashback.
-pub fn first_length(dating: Dating, family: Family) -> usize
+pub fn first_length(dating: Option<Span>, family: Family) -> usize
     ensures { result ≡ first_length dating family }
 {
     let plain = plain_length(dating);
     if is_cpace(family) { plain + 9 } else { plain }
 }
 
-pub fn read_cvm(dating: Dating, family: Family, body: &[u8]) -> Cvm
+pub fn read_cvm(dating: Option<Span>, family: Family, body: &[u8]) -> Cvm
     ensures { result ≡ cvm_of dating family body.now }
 {
     if is_cpace(family) {
@@ -73,7 +73,7 @@ pub fn read_cvm(dating: Dating, family: Family, body: &[u8]) -> Cvm
     Cvm::NoCvm
 }
 
-pub fn read_cashback(dating: Dating, family: Family, body: &[u8]) -> bool
+pub fn read_cashback(dating: Option<Span>, family: Family, body: &[u8]) -> bool
     ensures { result ≡ cashback_of dating family body.now }
 {
     if is_cpace(family) {

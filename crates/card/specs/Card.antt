@@ -1,5 +1,5 @@
 -- The card: a ruling, then a performance (document 01, "Refusal numbers", "Start and the checks"; document 02, Three, Five and Thirteen).
-use Rattle.std.specs.Prelude.{ℕ, Bool, true, cond, ◌&&◌, ltb, leb}
+use Rattle.std.specs.Prelude.{ℕ, Bool, true, cond, ◌&&◌, ltb, leb, None, Option, Some}
 use Rattle.wire.specs.Wire.{is_currency}
 use Rattle.money.specs.Money.{max}
 use Rattle.calendar.specs.Calendar.{is_day}
@@ -8,8 +8,6 @@ use Rattle.refusal.specs.Refusal.{refusal_number}
 use Rattle.rules.specs.declared.Place.{Place}
 use Rattle.rules.specs.Rules.{Rules}
 use Rattle.command.specs.declared.Start.{Start}
-use Rattle.command.specs.declared.When.{When}
-use Rattle.command.specs.declared.When.TheVariants.{Undated, On}
 use Rattle.command.specs.declared.First.{First}
 use Rattle.command.specs.declared.Second.{Second}
 use Rattle.command.specs.declared.Command.{Command}
@@ -26,11 +24,12 @@ pub use Rattle.start.specs.Start.{rule_opening, rule_chosen, rule_start, start_p
 unfoldable pub use Rattle.start.specs.Start.{opening_step, start_step}
 use Rattle.first.specs.First.{first_performed}
 use Rattle.second.specs.Second.{second_performed}
+use Rattle.calendar.specs.declared.Date.{Date}
 
 -- First: 2, 5, 6, and 13 for a date that isn't a calendar day
-abbrev pub is_dated : When → Bool
-is_dated Undated = true
-is_dated (On date) = is_day date
+abbrev pub is_dated : Option Date → Bool
+is_dated None = true
+is_dated (Some date) = is_day date
 
 abbrev pub rule_first_fields : First → Place → Ruling Place
 rule_first_fields first place =

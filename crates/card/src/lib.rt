@@ -5,19 +5,19 @@ ghost use Rattle.std.specs.Prelude.{◌≡◌};
 ghost use Rattle.rules.specs.Rules.{rules_of};
 ghost use Rattle.card.specs.Card.{is_dated, first_taken, first_step, second_taken, second_step, step_of};
 
-use command::{Command, First, Second, When};
+use command::{Command, First, Second};
 use refusal::Refusal;
 use rules::{Place, Words};
 use start::answer_start;
 use state::{Outcome, Pending, Phase, State, refuse};
 
 // Whether a First's date, if it has one, is a calendar day.
-fn is_dated(when: When) -> bool
+fn is_dated(when: Option<Date>) -> bool
     ensures { result ≡ is_dated when }
 {
     match when {
-        When::Undated => true,
-        When::On(date) => calendar::is_day(date),
+        None => true,
+        Some(date) => calendar::is_day(date),
     }
 }
 

@@ -6,8 +6,8 @@ ghost use Rattle.choice.specs.Choice.{slots_of, selected_in};
 
 use bodies::is_cpace;
 use rules::Values;
-use selection::Selection;
-use shape::{Family, Selecting};
+use selection::Selected;
+use shape::{Family, SelectionFile};
 use slot::Slots;
 
 // What the file's entries may test: a CPACE card's accumulators and counters, as they are.
@@ -25,16 +25,16 @@ pub fn slots_of(family: Family, values: Values) -> Slots
 
 // What the paper's file selects for the terminal's data. A file that does not lie in the paper is
 // empty.
-pub fn select_profile(selecting: Selecting, slots: Slots, paper: &[u8], data: &[u8]) -> Selection
+pub fn select_profile(selecting: Option<SelectionFile>, slots: Slots, paper: &[u8], data: &[u8]) -> Option<Selected>
     ensures { result ≡ selected_in selecting slots paper.now «data».now }
 {
     match selecting {
-        Selecting::Off => Selection::NotSelected,
-        Selecting::On {
+        None => None,
+        Some(SelectionFile {
             start,
             end,
             entries,
-        } => {
+        }) => {
             if (start <= end) & (end <= paper.len()) {
                 return selection::select(&paper[start..end], entries, data, slots);
             }

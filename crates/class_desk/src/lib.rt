@@ -4,7 +4,6 @@
 
 ghost use Rattle.std.specs.Prelude.{◌≤◌, length};
 
-use class_sheet::Taken;
 use intake::Found;
 use sheet::Sheet;
 use sheet_lines::Form;
@@ -30,7 +29,7 @@ fn enter(
     number: u64,
     text: &mut [u8],
 ) -> Papers {
-    let Taken::Refused(refusal) = class_sheet::take_paper(sheet, paper) else {
+    let Err(refusal) = class_sheet::take_paper(sheet, paper) else {
         return Papers::More;
     };
     let end = sheet_lines::put_refused(text, 0, form, refusal.number(), number);

@@ -13,8 +13,6 @@ use Rattle.refusal.specs.declared.Refusal.TheVariants.{TooManyCurrencies, TooMan
 use Rattle.sheet.specs.Sheet.{blank_sheet, stopped}
 use Rattle.sums.specs.Sums.{Sum, most}
 use Rattle.tallies.specs.Tallies.{Tally}
-use Rattle.class_sheet.specs.declared.Taken.{Taken}
-use Rattle.class_sheet.specs.declared.Taken.TheVariants.{Done, Refused}
 use Rattle.class_sheet.specs.ClassSheet.{paper_tallies, taken_of, sheet_after}
 use Rattle.sheet_laws.specs.Class.{joined, sales_of, amounts_of}
 use Rattle.sheet_laws.proofs.Totals.{any_order as total-order, same_length}

@@ -21,8 +21,6 @@ use Rattle.paper.specs.Walk.{part}
 use Rattle.command.specs.declared.First.{First}
 use Rattle.command.specs.declared.Command.{Command}
 use Rattle.command.specs.declared.Command.TheVariants.{Start as StartCommand, First as FirstCommand, Second as SecondCommand}
-use Rattle.command.specs.declared.ReadCommand.{ReadCommand}
-use Rattle.command.specs.declared.ReadCommand.TheVariants.{Taken as CommandTaken, Refused as CommandRefused}
 use Rattle.command.specs.Command.{command_in}
 use Rattle.state.specs.declared.Answer.{Answer}
 use Rattle.state.specs.declared.Answer.TheVariants.{Refused, Started, Given, Done}
@@ -41,16 +39,8 @@ use Rattle.records.specs.declared.Event.{Event}
 use Rattle.records.specs.declared.Event.TheVariants.{SetUp, End, Refused as EndRefused, Answered}
 use Rattle.records.specs.Records.{answered_by, scripted_by, is_script, record_taken}
 use Rattle.script.specs.Script.{rules_after}
-use Rattle.setup.specs.declared.SetupAnswer.{SetupAnswer}
-use Rattle.setup.specs.declared.SetupAnswer.TheVariants.{Done as SetupDone, Refused as SetupRefused}
 use Rattle.setup.specs.Setup.{is_accepted, read_setup}
-use Rattle.log_tail.specs.declared.Judged.{Judged}
-use Rattle.log_tail.specs.declared.Judged.TheVariants.{Sound, Wrong, PastData as TableFault}
-use Rattle.shape.specs.declared.ReadShape.{ReadShape}
-use Rattle.shape.specs.declared.ReadShape.TheVariants.{Taken as ShapeTaken, Refused as ShapeRefused}
 use Rattle.shape.specs.Shape.{base_part, cycles_part, family_part, shape_of, shape_at}
-use Rattle.paper.specs.declared.Opened.{Opened as Opening}
-use Rattle.paper.specs.declared.Opened.TheVariants.{Setup, Refused as OpenRefused}
 use Rattle.begun.specs.declared.Begun.{Begun}
 use Rattle.begun.specs.Begun.{set_up_event, base_begun, past_begun}
 use Rattle.opening.specs.Opening.{log_judged, logged_begun, shaped_begun, setup_begun, opened_begun, begun_of, words_begun}
@@ -63,6 +53,12 @@ use Rattle.class_sheet.specs.ClassSheet.{paper_tallies}
 use Rattle.sheet_laws.specs.Class.{total}
 use Rattle.sheet_laws.proofs.Totals.{total_append}
 use Rattle.sheet_laws.proofs.Bounds.{approvals_of, Payable, AllPayable, none_paid, more_paid}
+use Rattle.std.specs.Prelude.{Err, Ok, Result}
+use Rattle.log_tail.specs.declared.Fault.{Fault}
+use Rattle.log_tail.specs.declared.Fault.TheVariants.{PastData}
+use Rattle.log_tail.specs.declared.Fault.TheVariants.{Wrong}
+use Rattle.paper.specs.declared.Opened.{Opened}
+use Rattle.refusal.specs.declared.Refusal.{Refusal}
 
 -- ---- a First that a cryptogram answers asks at most MAX
 
@@ -112,17 +108,17 @@ module _ (rules : Rules) (shape : Shape) (state : State) (paper : List ℕ) wher
   step_paid (FirstCommand first) = first-most rules state first
   step_paid (SecondCommand second) = tt
 
-  answered_paid : (end : ℕ) (read : ReadCommand) → EventPaid (answered_by rules state end read).event
+  answered_paid : (end : ℕ) (read : Result Command Refusal) → EventPaid (answered_by rules state end read).event
   unfolding answered_by
-  answered_paid end (CommandRefused refusal) = tt
-  answered_paid end (CommandTaken command) = step_paid command
+  answered_paid end (Err refusal) = tt
+  answered_paid end (Ok command) = step_paid command
 
   script_paid : (body : List ℕ) (end : ℕ) → EventPaid (scripted_by state body end).event
   unfolding scripted_by
   script_paid [] end = tt
   script_paid (result ∷ template) end = tt
 
-  record_paid : (scripted : Bool) (body : List ℕ) (end : ℕ) (read : ReadCommand)
+  record_paid : (scripted : Bool) (body : List ℕ) (end : ℕ) (read : Result Command Refusal)
       → EventPaid (cond scripted (scripted_by state body end) (answered_by rules state end read)).event
   record_paid true body end read = script_paid body end
   record_paid false body end read = answered_paid end read
@@ -241,31 +237,31 @@ from-most (suc n) rules shape state paper at =
     )
 
 -- its first event is no answer
-logged_paid : (judged : Judged) (accepted : Bool) (end : ℕ) (begun : Begun) → EventPaid begun.event
+logged_paid : (judged : Result Unit Fault) (accepted : Bool) (end : ℕ) (begun : Begun) → EventPaid begun.event
     → EventPaid (logged_begun judged accepted end begun).event
 unfolding past_begun
-logged_paid Sound accepted end begun h = h
-logged_paid Wrong accepted end begun h = tt
-logged_paid TableFault accepted end begun h = tt
+logged_paid (Ok done) accepted end begun h = h
+logged_paid (Err Wrong) accepted end begun h = tt
+logged_paid (Err PastData) accepted end begun h = tt
 
-answer_paid : (answer : SetupAnswer) → EventPaid (set_up_event answer)
-answer_paid SetupDone = tt
-answer_paid (SetupRefused refusal) = tt
+answer_paid : (answer : Result Unit Refusal) → EventPaid (set_up_event answer)
+answer_paid (Ok done) = tt
+answer_paid (Err refusal) = tt
 
-shaped_paid : (body : List ℕ) (place end : ℕ) (read : ReadShape) → EventPaid (shaped_begun body place end read).event
+shaped_paid : (body : List ℕ) (place end : ℕ) (read : Result Shape Refusal) → EventPaid (shaped_begun body place end read).event
 unfolding base_begun
-shaped_paid body place end (ShapeRefused refusal) = tt
-shaped_paid body place end (ShapeTaken shape) =
+shaped_paid body place end (Err refusal) = tt
+shaped_paid body place end (Ok shape) =
     let base = base_part shape body in
     let cycles = cycles_part shape.dating body in
     let family = family_part shape.family body in
     logged_paid (log_judged shape body) (is_accepted base cycles family shape.unnamed) end (base_begun (shape_at place shape) base cycles family end)
     (answer_paid (read_setup base cycles family (shape_at place shape).unnamed).answer)
 
-opened_paid : (paper : List ℕ) (opened : Opening) → EventPaid (opened_begun paper opened).event
+opened_paid : (paper : List ℕ) (opened : Result Opened Refusal) → EventPaid (opened_begun paper opened).event
 unfolding setup_begun
-opened_paid paper (OpenRefused refusal) = tt
-opened_paid paper (Setup version start end) = shaped_paid (part paper start end) start end (shape_of version (part paper start end))
+opened_paid paper (Err refusal) = tt
+opened_paid paper (Ok opened) = shaped_paid (part paper opened.start opened.end) opened.start opened.end (shape_of opened.version (part paper opened.start opened.end))
 
 begun_paid : (paper : List ℕ) → EventPaid (begun_of paper).event
 unfolding begun_of
@@ -282,7 +278,7 @@ paper_paid paper =
     (following_paid begun.event (begun_paid paper) more)
     ).paid
 
-opened_as : (paper : List ℕ) {opened : Opening} → open_paper paper ≡ opened → begun_of paper ≡ opened_begun paper opened
+opened_as : (paper : List ℕ) {opened : Result Opened Refusal} → open_paper paper ≡ opened → begun_of paper ≡ opened_begun paper opened
 unfolding begun_of
 opened_as paper e = ap (opened_begun paper) e
 
@@ -290,12 +286,12 @@ opened_as paper e = ap (opened_begun paper) e
 wider : {m n : ℕ} {tallies : List Tally} → m ≤ n → Within m tallies → Within n tallies
 wider h w = record { paid = w.paid; sales = omega (arith, w.sales); size = omega (arith, w.size) }
 
-too_long_lem : (paper : List ℕ) → ltb 65536 (length paper) ≡ true → open_paper paper ≡ OpenRefused Unreadable
+too_long_lem : (paper : List ℕ) → ltb 65536 (length paper) ≡ true → open_paper paper ≡ Err Unreadable
 unfolding open_paper
 too_long_lem paper e = by (eqb (length paper) 0) where
   by : (empty : Bool)
-      → cond (empty || ltb 65536 (length paper) || eqb (byte paper 0) 0 || ltb latest (byte paper 0)) (OpenRefused Unreadable)
-      (setup_in (byte paper 0) (next_at paper 1)) ≡ OpenRefused Unreadable
+      → cond (empty || ltb 65536 (length paper) || eqb (byte paper 0) 0 || ltb latest (byte paper 0)) (Err Unreadable)
+      (setup_in (byte paper 0) (next_at paper 1)) ≡ Err Unreadable
   by true = refl
   by false = rw e
 
@@ -316,9 +312,9 @@ paper-within paper = by (ltb 65536 (length paper)) refl where
 
   by : (long : Bool) → ltb 65536 (length paper) ≡ long → Within 65_537 (tallies_from no_sale (following (begun_of paper).event (more (begun_of paper))))
   by true e =
-      let refused-first : begun_of paper ≡ opened_begun paper (OpenRefused Unreadable) = opened_as paper (too_long_lem paper e) in
+      let refused-first : begun_of paper ≡ opened_begun paper (Err Unreadable) = opened_as paper (too_long_lem paper e) in
       subst (λ b. Within 65_537 (tallies_from no_sale (following b.event (more b)))) (sym refused-first)
-      (wider (omega arith) (all (opened_begun paper (OpenRefused Unreadable)) tt))
+      (wider (omega arith) (all (opened_begun paper (Err Unreadable)) tt))
   by false e =
       let short = ltb-false 65536 (length paper) e in
       let begun = begun_of paper in

@@ -12,8 +12,6 @@ use Rattle.refusal.specs.declared.Refusal.TheVariants.{TooManyCurrencies, TooMan
 use Rattle.sheet.specs.Sheet.{blank_sheet, papers, largest, stopped, counted}
 use Rattle.sums.specs.Sums.{Sum, count_cell, most}
 use Rattle.tallies.specs.Tallies.{Tally, answered, refused, approved, all_fit, all_tallied}
-use Rattle.class_sheet.specs.declared.Taken.{Taken}
-use Rattle.class_sheet.specs.declared.Taken.TheVariants.{Done, Refused}
 use Rattle.class_sheet.specs.ClassSheet.{paper_tallies, is_full, has_room, taken_of, sheet_after}
 use Rattle.sheet_laws.specs.Class.{joined, class_of, Lists, Says, stopped_class}
 use Rattle.sheet_laws.proofs.Listing.{as_is}
@@ -24,6 +22,7 @@ use Rattle.sheet_laws.proofs.Only.{only, same_class}
 use Rattle.sheet_laws.proofs.Bounds.{Payable, AllPayable, none_paid, more_paid}
 use Rattle.class_laws.specs.Taking.{is_done, sheet_of, taken_from, all_done}
 use Rattle.class_laws.proofs.Paid.{paper_paid}
+use Rattle.std.specs.Prelude.{Err, Ok}
 
 small : (tally : Tally) → Payable tally → Small tally
 small (answered profile kind) p = tt
@@ -70,24 +69,24 @@ module _ {taken : List (List Tally)} {sheet : List ℕ} (s : Stands taken sheet)
     sells_then = rw (joined-one taken (paper_tallies paper)) (sells_all (paper_tallies paper) s.sells (all_small (paper_paid paper)))
 
     pub taken_is : taken_of sheet paper
-        ≡ cond (leb 200 (length taken)) (Refused TooManyPapers) (cond (leb (length then) most) Done (Refused TooManyCurrencies))
+        ≡ cond (leb 200 (length taken)) (Err TooManyPapers) (cond (leb (length then) most) (Ok tt) (Err TooManyCurrencies))
     unfolding taken_of
-    taken_is = ap₂ (λ full room. cond full (Refused TooManyPapers) (cond room Done (Refused TooManyCurrencies))) full_is room_is
+    taken_is = ap₂ (λ full room. cond full (Err TooManyPapers) (cond room (Ok tt) (Err TooManyCurrencies))) full_is room_is
 
     -- TAKEN OR NOT: 16 where 200 are taken, else 15 where the currencies of the class with this paper are more than 32
     pub taken_or_not : (currencies : List ℕ) → Lists (class_of (taken ++ paper_tallies paper ∷ [])) currencies
         → taken_of sheet paper
-        ≡ cond (leb 200 (length taken)) (Refused TooManyPapers) (cond (leb (length currencies) 32) Done (Refused TooManyCurrencies))
+        ≡ cond (leb 200 (length taken)) (Err TooManyPapers) (cond (leb (length currencies) 32) (Ok tt) (Err TooManyCurrencies))
     taken_or_not currencies l =
         taken_is
-        ∙ ap (λ n. cond (leb 200 (length taken)) (Refused TooManyPapers) (cond (leb n 32) Done (Refused TooManyCurrencies)))
+        ∙ ap (λ n. cond (leb 200 (length taken)) (Err TooManyPapers) (cond (leb n 32) (Ok tt) (Err TooManyCurrencies)))
         (as_many (taken ++ paper_tallies paper ∷ []) sells_then currencies l)
 
     -- refused, the sheet stays
     pub refused_stays : is_done (taken_of sheet paper) ≡ false → sheet_after sheet paper ≡ sheet
     unfolding taken_of sheet_after
     refused_stays e = by (is_full sheet) (has_room sheet (paper_tallies paper)) e where
-      by : (full room : Bool) → is_done (cond full (Refused TooManyPapers) (cond room Done (Refused TooManyCurrencies))) ≡ false
+      by : (full room : Bool) → is_done (cond full (Err TooManyPapers) (cond room (Ok tt) (Err TooManyCurrencies))) ≡ false
           → cond full sheet (cond room (counted (all_tallied sheet (paper_tallies paper)) papers) sheet) ≡ sheet
       by true room e = refl
       by false true e = absurd (let z : ◌≡◌ {A = ℕ} 0 1 = cc in let w : ⊥ = omega arith in w)
@@ -98,7 +97,7 @@ module _ {taken : List (List Tally)} {sheet : List ℕ} (s : Stands taken sheet)
     unfolding taken_of sheet_after
     taken-stands e = by (is_full sheet) refl (has_room sheet (paper_tallies paper)) refl e where
       by : (full : Bool) → is_full sheet ≡ full → (room : Bool) → has_room sheet (paper_tallies paper) ≡ room
-          → is_done (cond full (Refused TooManyPapers) (cond room Done (Refused TooManyCurrencies))) ≡ true
+          → is_done (cond full (Err TooManyPapers) (cond room (Ok tt) (Err TooManyCurrencies))) ≡ true
           → Stands (taken ++ paper_tallies paper ∷ []) (cond full sheet (cond room (counted (all_tallied sheet (paper_tallies paper)) papers) sheet))
       by true p room q e = absurd (let z : ◌≡◌ {A = ℕ} 0 1 = cc in let w : ⊥ = omega arith in w)
       by false p false q e = absurd (let z : ◌≡◌ {A = ℕ} 0 1 = cc in let w : ⊥ = omega arith in w)

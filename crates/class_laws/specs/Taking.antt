@@ -1,12 +1,11 @@
 -- Papers taken into a class's sheet one after the other (document 02, Ten).
-use Rattle.std.specs.Prelude.{ℕ, Bool, true, false, cond, ◌&&◌, List, [], ◌∷◌}
-use Rattle.class_sheet.specs.declared.Taken.{Taken}
-use Rattle.class_sheet.specs.declared.Taken.TheVariants.{Done, Refused}
+use Rattle.std.specs.Prelude.{ℕ, Bool, true, false, cond, ◌&&◌, List, [], ◌∷◌, Err, Ok, Result}
 use Rattle.class_sheet.specs.ClassSheet.{taken_of, sheet_after}
+use Rattle.refusal.specs.declared.Refusal.{Refusal}
 
-abbrev pub is_done : Taken → Bool
-is_done Done = true
-is_done (Refused refusal) = false
+abbrev pub is_done : Result Unit Refusal → Bool
+is_done (Ok done) = true
+is_done (Err refusal) = false
 
 -- the sheet after papers, and those of them that were taken
 unfoldable pub sheet_of : (sheet : List ℕ) (papers : List (List ℕ)) → List ℕ

@@ -1,5 +1,5 @@
 -- The sheet of a class, paper by paper (document 02, Ten).
-use Rattle.std.specs.Prelude.{ℕ, Bool, cond, ◌&&◌, List, [], ◌∷◌, leb, length, get_or}
+use Rattle.std.specs.Prelude.{ℕ, Bool, cond, ◌&&◌, List, [], ◌∷◌, leb, length, get_or, Err, Ok, Result}
 use Rattle.refusal.specs.declared.Refusal.TheVariants.{TooManyCurrencies, TooManyPapers}
 use Rattle.refusal.specs.Refusal.{refusal_number}
 use Rattle.rules.specs.Rules.{Rules, blank_words}
@@ -13,8 +13,7 @@ use Rattle.sums.specs.Sums.{count_cell, most}
 use Rattle.tallies.specs.declared.Sale.{Sale}
 use Rattle.tallies.specs.Tallies.{Tally, refused, all_fit, all_tallied}
 use Rattle.sales.specs.Sales.{no_sale, tallies_from}
-use Rattle.class_sheet.specs.declared.Taken.{Taken}
-use Rattle.class_sheet.specs.declared.Taken.TheVariants.{Done, Refused}
+use Rattle.refusal.specs.declared.Refusal.{Refusal}
 
 -- WHAT A PAPER ADDS: its events are those whose lines the sitting prints
 unfoldable pub paper_tallies : (paper : List ℕ) → List Tally
@@ -38,13 +37,13 @@ is_full sheet = leb 200 (get_or sheet papers 0)
 unfoldable pub has_room : (sheet : List ℕ) → List Tally → Bool
 has_room sheet tallies = leb (get_or sheet count_cell 0) most && all_fit sheet tallies
 
-unfoldable pub taken_of : (sheet paper : List ℕ) → Taken
+unfoldable pub taken_of : (sheet paper : List ℕ) → Result Unit Refusal
 taken_of sheet paper =
-    cond (is_full sheet) (Refused TooManyPapers) (cond (has_room sheet (paper_tallies paper)) Done (Refused TooManyCurrencies))
+    cond (is_full sheet) (Err TooManyPapers) (cond (has_room sheet (paper_tallies paper)) (Ok tt) (Err TooManyCurrencies))
 
-abbrev pub taken_number : Taken → ℕ
-taken_number Done = 0
-taken_number (Refused refusal) = refusal_number refusal
+abbrev pub taken_number : Result Unit Refusal → ℕ
+taken_number (Ok done) = 0
+taken_number (Err refusal) = refusal_number refusal
 
 -- the sheet with all that it adds, and one paper more; refused, the sheet stays
 unfoldable pub sheet_after : (sheet paper : List ℕ) → List ℕ

@@ -23,12 +23,6 @@ const PAPERS: usize = 0;
 
 const CURRENCIES: usize = 393;
 
-#[derive(Drop)]
-pub enum Taken {
-    Done,
-    Refused(Refusal),
-}
-
 // The refusal that ends a paper.
 fn take_end(sheet: &mut Sheet, event: Event)
     ensures { sheet.new ≡ all_tallied sheet.old (end_tallies event) }
@@ -93,21 +87,21 @@ fn take_events(sheet: &mut Sheet, paper: &[u8]) -> bool
 
 // A paper is taken, or refused: 16 where 200 are taken, then 15 where it would bring a thirty-third
 // currency. Refused, the sheet stays as it was.
-pub fn take_paper(sheet: &mut Sheet, paper: &[u8]) -> Taken
+pub fn take_paper(sheet: &mut Sheet, paper: &[u8]) -> Result<(), Refusal>
     ensures { (result ≡ taken_of sheet.old paper.now)
         × (sheet.new ≡ sheet_after sheet.old paper.now) }
 {
     if MOST_PAPERS <= sheet[PAPERS] {
-        return Taken::Refused(Refusal::TooManyPapers);
+        return Err(Refusal::TooManyPapers);
     }
     if MOST_CURRENCIES < sheet[CURRENCIES] {
-        return Taken::Refused(Refusal::TooManyCurrencies);
+        return Err(Refusal::TooManyCurrencies);
     }
     let mut after = *sheet;
     if !take_events(&mut after, paper) {
-        return Taken::Refused(Refusal::TooManyCurrencies);
+        return Err(Refusal::TooManyCurrencies);
     }
     sheet::count_paper(&mut after);
     *sheet = after;
-    Taken::Done
+    Ok(())
 }

@@ -10,32 +10,31 @@ use lib.ListN.{length}
 use Rattle.refusal.specs.declared.Refusal.TheVariants.{Unreadable}
 use Rattle.rules.specs.declared.Values.{Values}
 use Rattle.slot.specs.declared.Slots.{Slots}
-use Rattle.selection.specs.declared.Selection.{Selection}
-use Rattle.shape.specs.declared.Selecting.{Selecting}
-use Rattle.shape.specs.declared.Dating.{Dating}
 use Rattle.shape.specs.declared.Family.{Family}
 use Rattle.shape.specs.declared.Shape.{Shape}
 use Rattle.command.specs.declared.Command.{Command}
-use Rattle.command.specs.declared.ReadCommand.{ReadCommand}
-use Rattle.command.specs.declared.ReadCommand.TheVariants.{Taken, Refused}
 use Rattle.command.specs.declared.Command.TheVariants.{Start}
 use Rattle.command.specs.Command.{is_cpace, interface_of, start_length, first_length, is_selecting, command_of, selected_in, start_selected, slots_of, read_by, command_in, is_command}
 use Rattle.command.proofs.Selecting.{selected, unselected}
+use Rattle.std.specs.Prelude.{Err, Ok, Option, Result}
+use Rattle.refusal.specs.declared.Refusal.{Refusal}
+use Rattle.selection.specs.declared.Selected.{Selected}
+use Rattle.shape.specs.declared.Span.{Span}
 
-pub record Read (read : ReadCommand) : Type 0 where
+pub record Read (read : Result Command Refusal) : Type 0 where
   pub command : Command
-  pub is : read ≡ Taken command
+  pub is : read ≡ Ok command
 
 -- a command is read, or refusal 9 is given
-abbrev pub Reads : Bool → ReadCommand → Type 0
+abbrev pub Reads : Bool → Result Command Refusal → Type 0
 Reads true read = Read read
-Reads false read = read ≡ Refused Unreadable
+Reads false read = read ≡ Err Unreadable
 
-one : (b : Bool) (command : Command) → Reads b (cond b (Taken command) (Refused Unreadable))
+one : (b : Bool) (command : Command) → Reads b (cond b (Ok command) (Err Unreadable))
 one true command = record { command = command; is = refl }
 one false command = refl
 
-module _ (dating : Dating) (family : Family) (body : List ℕ) where
+module _ (dating : Option Span) (family : Family) (body : List ℕ) where
   start : Reads (eqb (length body) (start_length family)) (command_of dating family 2 body)
   unfolding command_of
   start = one (eqb (length body) (start_length family)) _
@@ -62,13 +61,13 @@ module _ (dating : Dating) (family : Family) (body : List ℕ) where
         subst (λ (k : ℕ). Reads (eqb (length body) (first_length dating family)) (command_of dating family k body)) (sym (eqb-true kind 3 f)) first
     by false false e f = rw (e, f) (one (eqb kind 4 && eqb (length body) 8) _)
 
-  selecting : (chosen : Selection) → Reads (ltb 0 (length body) || not (is_cpace family)) (start_selected family chosen body)
+  selecting : (chosen : Option Selected) → Reads (ltb 0 (length body) || not (is_cpace family)) (start_selected family chosen body)
   unfolding start_selected
   selecting chosen = by (is_cpace family) (ltb 0 (length body)) refl where
     by : (cpace some : Bool) → ltb 0 (length body) ≡ some
         → Reads (some || not cpace)
-        (cond (cpace && eqb (length body) 0) (Refused Unreadable)
-        (Taken (Start (record { interface = interface_of family body; chosen = chosen }))))
+        (cond (cpace && eqb (length body) 0) (Err Unreadable)
+        (Ok (Start (record { interface = interface_of family body; chosen = chosen }))))
     by false true e = record { command = _; is = refl }
     by false false e = record { command = _; is = refl }
     by true true e = let some = ltb-true 0 (length body) e in rw (ne_eqb (length body) 0 (λ z. omega arith)) (record { command = _; is = refl })

@@ -14,8 +14,8 @@ use cpace::Cvm;
 use money::TransactionAmount;
 use refusal::Refusal;
 use rules::Values;
-use selection::Selection;
-use shape::{Dating, Family, Selecting, Shape};
+use selection::Selected;
+use shape::{Family, SelectionFile, Shape, Span};
 
 const START: u8 = 2;
 
@@ -27,15 +27,8 @@ const SECOND: u8 = 4;
 // with no entry visited, or what selection gave.
 #[derive(Clone, Copy)]
 pub struct Start {
-    pub chosen: Selection,
+    pub chosen: Option<Selected>,
     pub interface: u8,
-}
-
-// A First's date, where the paper is dated.
-#[derive(Clone, Copy)]
-pub enum When {
-    Undated,
-    On(Date),
 }
 
 // To a CPA card every transaction is one with no CVM and no cashback.
@@ -45,7 +38,7 @@ pub struct First {
     pub currency: u16,
     pub requested: u8,
     pub terminal: u8,
-    pub when: When,
+    pub when: Option<Date>,
     pub cvm: Cvm,
     pub cashback: bool,
 }
@@ -67,36 +60,30 @@ pub enum Command {
     Second(Second),
 }
 
-#[derive(Drop)]
-pub enum ReadCommand {
-    Taken(Command),
-    Refused(Refusal),
-}
-
 fn read_start(family: Family, body: &[u8]) -> Start
     ensures { result ≡ start_of family body.now }
 {
     Start {
         interface: interface_of(family, body),
-        chosen: Selection::Selected {
+        chosen: Some(Selected {
             profile: profile_named(family, body),
             visits: 0,
-        },
+        }),
     }
 }
 
-fn read_when(dating: Dating, body: &[u8]) -> When
+fn read_when(dating: Option<Span>, body: &[u8]) -> Option<Date>
     ensures { result ≡ when_of dating body.now }
 {
     match dating {
-        Dating::Off => When::Undated,
-        Dating::On { .. } => When::On(calendar::date_at(body, 12)),
+        None => None,
+        Some(Span { .. }) => Some(calendar::date_at(body, 12)),
     }
 }
 
 // Type, amount (8), currency (2), terminal type, the date (3) where the paper is dated, and CVM
 // results (3) and cashback (6) where the card is a CPACE one.
-fn read_first(dating: Dating, family: Family, body: &[u8]) -> First
+fn read_first(dating: Option<Span>, family: Family, body: &[u8]) -> First
     ensures { result ≡ first_of dating family body.now }
 {
     First {
@@ -124,28 +111,28 @@ fn read_second(body: &[u8]) -> Second
 
 // The command in a record of a kind, or refusal 9 for an unknown kind, a repeated set-up or a body
 // of another length.
-fn read_command(dating: Dating, family: Family, kind: u8, body: &[u8]) -> ReadCommand
+fn read_command(dating: Option<Span>, family: Family, kind: u8, body: &[u8]) -> Result<Command, Refusal>
     ensures { result ≡ command_of dating family kind body.now }
 {
     if (kind == START) & (body.len() == start_length(family)) {
-        return ReadCommand::Taken(Command::Start(read_start(family, body)));
+        return Ok(Command::Start(read_start(family, body)));
     }
     if (kind == FIRST) & (body.len() == first_length(dating, family)) {
-        return ReadCommand::Taken(Command::First(read_first(dating, family, body)));
+        return Ok(Command::First(read_first(dating, family, body)));
     }
     if (kind == SECOND) & (body.len() == 8) {
-        return ReadCommand::Taken(Command::Second(read_second(body)));
+        return Ok(Command::Second(read_second(body)));
     }
-    ReadCommand::Refused(Refusal::Unreadable)
+    Err(Refusal::Unreadable)
 }
 
 // Whether a record of a kind is a Start that selects its profile.
-fn selects(selecting: Selecting, kind: u8) -> bool
+fn selects(selecting: Option<SelectionFile>, kind: u8) -> bool
     ensures { result ≡ is_selecting selecting kind }
 {
     match selecting {
-        Selecting::Off => false,
-        Selecting::On { .. } => kind == START,
+        None => false,
+        Some(SelectionFile { .. }) => kind == START,
     }
 }
 
@@ -153,25 +140,25 @@ fn selects(selecting: Selecting, kind: u8) -> bool
 // interface stands. Both together are what the file reads.
 fn read_selecting(
     family: Family,
-    selecting: Selecting,
+    selecting: Option<SelectionFile>,
     values: Values,
     paper: &[u8],
     body: &[u8],
-) -> ReadCommand
+) -> Result<Command, Refusal>
     ensures { result ≡ start_selected family (selected_in selecting (slots_of family values) paper.now body.now) body.now }
 {
     if is_cpace(family) & (body.len() == 0) {
-        return ReadCommand::Refused(Refusal::Unreadable);
+        return Err(Refusal::Unreadable);
     }
     let chosen = select_profile(selecting, slots_of(family, values), paper, body);
-    ReadCommand::Taken(Command::Start(Start {
+    Ok(Command::Start(Start {
         interface: interface_of(family, body),
         chosen,
     }))
 }
 
 // The command in a record of a paper, by the paper's shape and the card's present values.
-pub fn read_record(shape: Shape, values: Values, paper: &[u8], kind: u8, body: &[u8]) -> ReadCommand
+pub fn read_record(shape: Shape, values: Values, paper: &[u8], kind: u8, body: &[u8]) -> Result<Command, Refusal>
     ensures { result ≡ command_in shape values paper.now kind body.now }
 {
     let selecting = shape.selecting;

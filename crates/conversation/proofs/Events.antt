@@ -14,8 +14,6 @@ use Rattle.paper.specs.Paper.{next_at}
 use Rattle.paper.specs.Walk.{part}
 use Rattle.paper.proofs.Walk.{inside}
 use Rattle.command.specs.declared.Command.{Command}
-use Rattle.command.specs.declared.ReadCommand.{ReadCommand}
-use Rattle.command.specs.declared.ReadCommand.TheVariants.{Taken as CommandTaken, Refused as CommandRefused}
 use Rattle.command.specs.Command.{command_in}
 use Rattle.shape.specs.declared.Shape.{Shape}
 use Rattle.state.specs.declared.Answer.{Answer}
@@ -27,6 +25,8 @@ use Rattle.script.specs.Script.{rules_after, words_after}
 use Rattle.records.specs.Records.{answered_by, scripted_by, is_script}
 use Rattle.conversation.specs.Conversation.{next_taken, taken_of, taken_writes}
 use Rattle.conversation.specs.Events.{following, events_from, ending, words_from}
+use Rattle.std.specs.Prelude.{Err, Ok, Result}
+use Rattle.refusal.specs.declared.Refusal.{Refusal}
 
 -- the conversation goes on behind an event
 abbrev pub GoesOn : Event → Type 0
@@ -36,10 +36,10 @@ GoesOn (Refused refusal) = ⊥
 GoesOn (Answered said answer) = Unit
 
 module _ (shape : Shape) (paper : List ℕ) where
-  record_end : (rules : Rules) (state : State) (end : ℕ) (read : ReadCommand) → (answered_by rules state end read).at ≡ end
+  record_end : (rules : Rules) (state : State) (end : ℕ) (read : Result Command Refusal) → (answered_by rules state end read).at ≡ end
   unfolding answered_by
-  record_end rules state end (CommandTaken command) = refl
-  record_end rules state end (CommandRefused refusal) = refl
+  record_end rules state end (Ok command) = refl
+  record_end rules state end (Err refusal) = refl
 
   script-end : (state : State) (body : List ℕ) (end : ℕ) → (scripted_by state body end).at ≡ end
   unfolding scripted_by

@@ -9,11 +9,11 @@ use lib.ListN.{length, drop, length-drop}
 use lib.Seq.{drop-drop}
 use lib.Dec.{ltb, eqb}
 use borrow.Author.Tests.{ltb-true, ltb-false, eqb-true}
-use Rattle.cursor.specs.declared.Next.TheVariants.{Command, End}
 use Rattle.head.specs.Head.{value_size, head_size, head_right, is_constructed, object_size}
 use Rattle.cursor.specs.Cursor.{Place, places_behind, places_from, first_of, next_command}
 use Rattle.head.proofs.Heads.{right_fits, head-some}
 use Rattle.cursor.proofs.Places.{command-first, places_end}
+use Rattle.std.specs.Prelude.{None, Some}
 
 -- the first place of those of u, which stands at a: where it lies, and that the others are those from its end on
 record Ahead (u : List ℕ) (a : ℕ) (ps : List Place) (x y : ℕ) : Type 0 where
@@ -21,10 +21,10 @@ record Ahead (u : List ℕ) (a : ℕ) (ps : List Place) (x y : ℕ) : Type 0 whe
   later : a < x
   within : x + y ≤ a + length u
 
-not_end : (x y : ℕ) → End ≡ Command x y → ⊥
+not_end : (x y : ℕ) → None ≡ Some (record { start = x; size = y }) → ⊥
 not_end x y e = let z : ◌≡◌ {A = ℕ} 0 1 = cc in omega arith
 
-same : (a b x y : ℕ) → Command a b ≡ Command x y → (x ≡ a) × (y ≡ b)
+same : (a b x y : ℕ) → (Some (record { start = a; size = b })) ≡ Some (record { start = x; size = y }) → (x ≡ a) × (y ≡ b)
 same a b x y e = (cc, cc)
 
 shift : (b : ℕ) (s : List ℕ) (a : ℕ) (ps : List Place) (x y : ℕ) → Ahead s (a + 1) ps x y → Ahead (b ∷ s) a ps x y
@@ -54,8 +54,8 @@ here a u x y r i j ps k =
     }
 
 module _ (a b : ℕ) (s : List ℕ) (x y : ℕ)
-    (ih : (m : ℕ) → first_of (places_behind (a + 1) m s) ≡ Command x y → Ahead s (a + 1) (places_behind (a + 1) m s) x y)
-    (e : first_of (places_behind a 0 (b ∷ s)) ≡ Command x y) where
+    (ih : (m : ℕ) → first_of (places_behind (a + 1) m s) ≡ Some (record { start = x; size = y }) → Ahead s (a + 1) (places_behind (a + 1) m s) x y)
+    (e : first_of (places_behind a 0 (b ∷ s)) ≡ Some (record { start = x; size = y })) where
   via : (m : ℕ) → places_behind a 0 (b ∷ s) ≡ places_behind (a + 1) m s → Ahead (b ∷ s) a (places_behind a 0 (b ∷ s)) x y
   via m p = subst (λ ps. Ahead (b ∷ s) a ps x y) (sym p) (shift b s a (places_behind (a + 1) m s) x y (ih m (sym (ap first_of p) ∙ e)))
 
@@ -71,7 +71,7 @@ module _ (a b : ℕ) (s : List ℕ) (x y : ℕ)
       let h = same (a + head_size u) (value_size u) x y (sym (ap first_of k) ∙ e) in
       here a u x y q h.0 h.1 (places_behind a 0 u) k
 
-found : (a n : ℕ) (s : List ℕ) (x y : ℕ) → first_of (places_behind a n s) ≡ Command x y → Ahead s a (places_behind a n s) x y
+found : (a n : ℕ) (s : List ℕ) (x y : ℕ) → first_of (places_behind a n s) ≡ Some (record { start = x; size = y }) → Ahead s a (places_behind a n s) x y
 unfolding places_behind
 found a n [] x y e = absurd (not_end x y e)
 found a (suc n) (b ∷ s) x y e = shift b s a (places_behind (a + 1) n s) x y (found (a + 1) n s x y e)
@@ -83,7 +83,7 @@ pub record Step (s : List ℕ) (at x y : ℕ) : Type 0 where
   pub later : at < x
   pub within : x + y ≤ length s
 
-pub next-command : (s : List ℕ) (at x y : ℕ) → next_command s at ≡ Command x y → Step s at x y
+pub next-command : (s : List ℕ) (at x y : ℕ) → next_command s at ≡ Some (record { start = x; size = y }) → Step s at x y
 unfolding next_command places_from
 next-command s at x y e = go (ltb at (length s)) refl
   where
@@ -102,10 +102,10 @@ next-command s at x y e = go (ltb at (length s)) refl
         }
     go false t = absurd (not_end x y (sym (ap first_of (places_end s at (ltb-false at (length s) t))) ∙ e))
 
-pub next-end : (s : List ℕ) (at : ℕ) → next_command s at ≡ End → places_from s at ≡ []
+pub next-end : (s : List ℕ) (at : ℕ) → next_command s at ≡ None → places_from s at ≡ []
 unfolding next_command
 next-end s at e = go (places_from s at) e
   where
-    go : (ps : List Place) → first_of ps ≡ End → ps ≡ []
+    go : (ps : List Place) → first_of ps ≡ None → ps ≡ []
     go [] h = refl
     go (p ∷ ps) h = absurd (not_end p.start p.size (sym h))

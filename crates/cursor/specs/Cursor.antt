@@ -1,8 +1,7 @@
 -- The commands of a template (EMV Book 3 Annex B): the values of its primitive objects 86, in reading order.
-use Rattle.std.specs.Prelude.{ℕ, zero, suc, ◌+◌, ◌-◌, List, [], ◌∷◌, map, cond, take, drop, eqb}
+use Rattle.std.specs.Prelude.{ℕ, zero, suc, ◌+◌, ◌-◌, List, [], ◌∷◌, map, cond, take, drop, eqb, None, Option, Some}
 use Rattle.head.specs.Head.{head_size, value_size, object_size, head_right, is_constructed}
-use Rattle.cursor.specs.declared.Next.{Next}
-use Rattle.cursor.specs.declared.Next.TheVariants.{Command, End}
+use Rattle.cursor.specs.declared.Span.{Span}
 
 -- where a value lies
 pub record Place : Type 0 where
@@ -28,11 +27,11 @@ places_behind at zero (b ∷ s) =
 unfoldable pub places_from : List ℕ → (at : ℕ) → List Place
 places_from s at = places_behind at 0 (drop at s)
 
-abbrev pub first_of : List Place → Next
-first_of [] = End
-first_of (p ∷ ps) = Command p.start p.size
+abbrev pub first_of : List Place → Option Span
+first_of [] = None
+first_of (p ∷ ps) = Some p
 
-unfoldable pub next_command : List ℕ → (from : ℕ) → Next
+unfoldable pub next_command : List ℕ → (from : ℕ) → Option Span
 next_command s at = first_of (places_from s at)
 
 -- the commands themselves

@@ -8,15 +8,15 @@ use head::{Head, is_constructed, read_head};
 use wire::byte_at;
 
 // A command is the value of an object 86.
-#[derive(Drop)]
-pub enum Next {
-    Command { start: usize, size: usize },
-    End,
+#[derive(Clone, Copy)]
+pub struct Span {
+    pub start: usize,
+    pub size: usize,
 }
 
 // The first command at or behind a place of a sound template: 0, or the end of a command. The objects
 // of a constructed one stand behind its head and end where it ends.
-pub fn next_command(template: &[u8], from: usize) -> Next
+pub fn next_command(template: &[u8], from: usize) -> Option<Span>
     ensures { result ≡ next_command template.now from }
 {
     let mut at = from;
@@ -26,20 +26,20 @@ pub fn next_command(template: &[u8], from: usize) -> Next
             at = at + 1;
             continue;
         }
-        let Head::Right { size, length } = read_head(&template[at..]) else {
-            return Next::End;
+        let Some(Head { size, length }) = read_head(&template[at..]) else {
+            return None;
         };
         if is_constructed(tag) {
             at = at + size;
             continue;
         }
         if tag == 0x86 {
-            return Next::Command {
+            return Some(Span {
                 start: at + size,
                 size: length,
-            };
+            });
         }
         at = at + (size + length);
     }
-    Next::End
+    None
 }

@@ -1,5 +1,5 @@
 -- A First's date, before the tests (document 02, Five): whether it is in order, the cycles that begin with it, and the last date.
-use Rattle.std.specs.Prelude.{ℕ, cond}
+use Rattle.std.specs.Prelude.{ℕ, cond, None, Option, Some}
 use Rattle.calendar.specs.declared.Date.{Date}
 use Rattle.calendar.specs.Calendar.{is_before, begins}
 use Rattle.money.specs.declared.AccumulatorAmount.{AccumulatorAmount}
@@ -8,14 +8,12 @@ use Rattle.rules.specs.Rules.{Rules, two, cycle_of}
 use Rattle.purchase.specs.declared.Timing.{Timing}
 use Rattle.purchase.specs.declared.Timing.TheVariants.{Undated, InOrder, DateError}
 use Rattle.purchase.specs.Meter.{cyclic_at}
-use Rattle.command.specs.declared.When.{When}
-use Rattle.command.specs.declared.When.TheVariants.{Undated as NoDate, On}
 use Rattle.state.specs.declared.State.{State}
 
 -- a date earlier than the last one is a date error
-unfoldable pub timing_of : Date → When → Timing
-timing_of last NoDate = Undated
-timing_of last (On date) = cond (is_before date last) (DateError date) InOrder
+unfoldable pub timing_of : Date → Option Date → Timing
+timing_of last None = Undated
+timing_of last (Some date) = cond (is_before date last) (DateError date) InOrder
 
 -- a present cycle begins when a date after the last one falls in another cycle: the amount becomes zero, active or not
 abbrev pub amount_begun : Rules → (i : ℕ) → AccumulatorAmount → (last date : Date) → AccumulatorAmount
@@ -43,6 +41,6 @@ advanced rules state date =
     }
 
 -- the card after an accepted First's date: a date error leaves both amounts and the last date as they were
-unfoldable pub dated : Rules → State → When → State
-dated rules state NoDate = state
-dated rules state (On date) = cond (is_before date state.last) state (advanced rules state date)
+unfoldable pub dated : Rules → State → Option Date → State
+dated rules state None = state
+dated rules state (Some date) = cond (is_before date state.last) state (advanced rules state date)

@@ -6,17 +6,16 @@ ghost use Rattle.rules.specs.Rules.{rules_of};
 ghost use Rattle.cycles.specs.Cycles.{timing_of, amount_begun, advanced, dated};
 
 use calendar::Date;
-use command::When;
 use money::AccumulatorAmount;
 use purchase::Timing;
 use rules::{Values, Words};
 use state::State;
 
 // A date earlier than the last one is a date error.
-pub fn timing_of(last: Date, when: When) -> Timing
+pub fn timing_of(last: Date, when: Option<Date>) -> Timing
     ensures { result ≡ timing_of last when }
 {
-    let When::On(date) = when else {
+    let Some(date) = when else {
         return Timing::Undated;
     };
     if calendar::is_before(date, last) {
@@ -73,10 +72,10 @@ fn advance(words: &Words, state: State, date: Date) -> State
 }
 
 // The card after an accepted First's date. A date error leaves it as it was.
-pub fn take_date(words: &Words, state: State, when: When) -> State
+pub fn take_date(words: &Words, state: State, when: Option<Date>) -> State
     ensures { result ≡ dated (rules_of words.now) state when }
 {
-    let When::On(date) = when else {
+    let Some(date) = when else {
         return state;
     };
     let last = state.last;

@@ -16,8 +16,6 @@ use Rattle.rules.specs.declared.Values.{Values}
 use Rattle.rules.specs.declared.Masks.{Masks}
 use Rattle.rules.specs.Rules.{Rules, index_of, profile_at}
 use Rattle.setup.specs.Setup.{profile_in}
-use Rattle.selection.specs.declared.Selection.{Selection}
-use Rattle.selection.specs.declared.Selection.TheVariants.{Selected, NotSelected}
 use Rattle.selection.specs.Selection.{profile_of, visits_of}
 use Rattle.command.specs.declared.First.{First}
 use Rattle.command.specs.declared.Second.{Second}
@@ -73,6 +71,8 @@ use Rattle.demands.proofs.Past.{Recalls, did_keeps, begin_recalls}
 use Rattle.demands.proofs.Decision.{met-is}
 use Rattle.demands.proofs.First.{flags-same, kind-answers}
 use Rattle.demands.proofs.Verification.{limits-are, limits_by, limits-audited, verifies, same_cvr, sends-audited}
+use Rattle.std.specs.Prelude.{None, Option, Some}
+use Rattle.selection.specs.declared.Selected.{Selected}
 
 -- what the card keeps of First for Second's CVR
 pub record Pends (setup : Setup) (before : List Exchange) (at : ℕ) (purchase : Purchase) (pending : Pending) : Type 0 where
@@ -373,9 +373,9 @@ module _ (setup : Setup) (sitting : Sitting) (ruled : Ruled setup sitting) (know
   said_visits (Given kind atc iad) = 0
   said_visits Done = 0
 
-  selected : (chosen : Selection) → 1 ≤ profile_of chosen → chosen ≡ Selected (profile_of chosen) (visits_of chosen)
-  selected (Selected profile visits) some = refl
-  selected NotSelected some = absurd (omega arith)
+  selected : (chosen : Option Selected) → 1 ≤ profile_of chosen → chosen ≡ Some (record { profile = profile_of chosen; visits = visits_of chosen })
+  selected (Some chosen) some = refl
+  selected None some = absurd (omega arith)
 
   refused-kept : (command : Message) (r : Refusal) → Keeping setup (after sitting command (refused state r))
   unfolding before_first named dealing in_force
@@ -413,7 +413,7 @@ module _ (setup : Setup) (sitting : Sitting) (ruled : Ruled setup sitting) (know
   did_gives (started_it start place holds) held = λ atc visits e.
       record {
         counts = sym (ap said_atc e) ∙ ap (λ n. n + 1) knows.recalls.atc-is;
-        chose = selected start.chosen holds.some ∙ ap (Selected (profile_of start.chosen)) (ap said_visits e);
+        chose = selected start.chosen holds.some ∙ ap ((λ visits. Some (record { profile = profile_of start.chosen; visits = visits }))) (ap said_visits e);
         known = in_bytes now good _ (in_rules rules _ place holds);
       }
   did_gives (took_first first place is type small day) held = first_gives first place (stood place is) type small day held

@@ -23,7 +23,6 @@ use Rattle.setup.specs.Setup.{rate_in, accumulator_in, counter_in, profile_in, c
 use Rattle.command.specs.declared.First.{First}
 use Rattle.rules.specs.Limits.{with_accumulator_limits, with_counter_limits}
 use Rattle.digits.specs.Digits.{are_pairs, pairs_value}
-use Rattle.object.specs.declared.Reading.{Reading}
 use Rattle.object.specs.Object.{length_size, length_at, head_size, value_size, head_formed, head_right, value_of, read_object, read_behind, read_list, is_template}
 use Rattle.object.specs.Object.{read_template}
 use Rattle.cursor.specs.Cursor.{places_behind, places_from, cut, commands_of}
@@ -60,6 +59,8 @@ use Rattle.demands.specs.Scripts.{Trial, trial, remembered}
 use Rattle.demands.specs.Audit.{place_of, converted, named, dealing, in_force, ledger, audited}
 use Rattle.demands.specs.Past.{past, atc_by}
 use Rattle.demands.specs.Due.{due}
+use Rattle.std.specs.Prelude.{Result}
+use Rattle.object.specs.declared.Fault.{Fault}
 
 -- the ranges of a set-up's base and of its tails, and the calendar
 unfoldable pub in_range : List ℕ → (unnamed : ℕ) → Bool
@@ -107,7 +108,7 @@ unfolding tested_bits begun_by timing_of dated advanced first_performed first_an
 answered rules state first place = first_performed rules state first place
 
 -- a template: how it is read, and what its commands write
-unfoldable pub read_in : List ℕ → Reading
+unfoldable pub read_in : List ℕ → Result Unit Fault
 unfolding length_size length_at head_size value_size head_formed head_right value_of read_object read_behind read_list is_template read_template places_behind places_from cut
 read_in template = read_template template
 

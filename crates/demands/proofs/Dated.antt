@@ -21,8 +21,6 @@ use Rattle.rules.specs.declared.Cycle.{Cycle}
 use Rattle.rules.specs.Rules.{Rules, period_of, cycle_of}
 use Rattle.rules.proofs.Places.{two_at}
 use Rattle.setup.specs.Setup.{cycle_in}
-use Rattle.command.specs.declared.When.{When}
-use Rattle.command.specs.declared.When.TheVariants.{Undated as NoDate, On}
 use Rattle.purchase.specs.declared.Timing.{Timing}
 use Rattle.purchase.specs.declared.Timing.TheVariants.{Undated, InOrder, DateError}
 use Rattle.purchase.specs.Meter.{Meter, accumulator, counter, cyclic, IsMeter, cyclic_at, value_of}
@@ -36,30 +34,31 @@ use Rattle.demands.specs.Audit.{cap_of, is_late, timed, latest, begins_on, begun
 use Rattle.tails.proofs.Accepted.{CyclesAccepted}
 use Rattle.demands.proofs.Owed.{Fair, nothing, putting, fair_or}
 use Rattle.demands.proofs.Bytes.{fits-tail, cycle-is}
+use Rattle.std.specs.Prelude.{None, Option, Some}
 
 -- what a date does not move it leaves
 dated_keeps : (rules : Rules) (state : State) {A : Type 0} (part : State → A) → ((date : Date) → part (advanced rules state date) ≡ part state)
-    → (when : When) → part (dated rules state when) ≡ part state
+    → (when : Option Date) → part (dated rules state when) ≡ part state
 unfolding dated
-dated_keeps rules state part same NoDate = refl
-dated_keeps rules state part same (On date) = by (is_before date state.last) where
+dated_keeps rules state part same None = refl
+dated_keeps rules state part same (Some date) = by (is_before date state.last) where
   by : (b : Bool) → part (cond b state (advanced rules state date)) ≡ part state
   by true = refl
   by false = same date
 
-pub same-history : (rules : Rules) (state : State) (when : When) → (dated rules state when).history ≡ state.history
+pub same-history : (rules : Rules) (state : State) (when : Option Date) → (dated rules state when).history ≡ state.history
 unfolding advanced
 same-history rules state = dated_keeps rules state (λ s. s.history) (λ date. refl)
 
-pub same-atc : (rules : Rules) (state : State) (when : When) → (dated rules state when).atc ≡ state.atc
+pub same-atc : (rules : Rules) (state : State) (when : Option Date) → (dated rules state when).atc ≡ state.atc
 unfolding advanced
 same-atc rules state = dated_keeps rules state (λ s. s.atc) (λ date. refl)
 
-pub same-scripts : (rules : Rules) (state : State) (when : When) → (dated rules state when).scripts ≡ state.scripts
+pub same-scripts : (rules : Rules) (state : State) (when : Option Date) → (dated rules state when).scripts ≡ state.scripts
 unfolding advanced
 same-scripts rules state = dated_keeps rules state (λ s. s.scripts) (λ date. refl)
 
-pub same-accumulators : (rules : Rules) (state : State) (when : When) → (dated rules state when).values.accumulators ≡ state.values.accumulators
+pub same-accumulators : (rules : Rules) (state : State) (when : Option Date) → (dated rules state when).values.accumulators ≡ state.values.accumulators
 unfolding advanced
 same-accumulators rules state = dated_keeps rules state (λ s. s.values.accumulators) (λ date. refl)
 
@@ -111,7 +110,7 @@ module _ (setup : Setup) (good : AcceptedSetup setup) where
 
   -- in another cycle that began since
   begins-is : (last : Date) → Lasting setup last → (date : Date) → is_day date ≡ true → (i : ℕ) → i < 2
-      → begins (cycle_of rules i).period (cycle_of rules i).first last date ≡ begins_on setup i last (On date)
+      → begins (cycle_of rules i).period (cycle_of rules i).first last date ≡ begins_on setup i last (Some date)
   unfolding cycle_in
   begins-is last lasting date day i l =
       ap (λ (c : Cycle). begins c.period c.first last date) (cycle-is setup i l)
@@ -119,47 +118,47 @@ module _ (setup : Setup) (good : AcceptedSetup setup) where
       ∙ by lasting
     where
       by : {last : Date} → Lasting setup last
-          → begins (period_of (tail_byte setup (14 + 12 * i))) (tail_byte setup (15 + 12 * i)) last date ≡ begins_on setup i last (On date)
+          → begins (period_of (tail_byte setup (14 + 12 * i))) (tail_byte setup (15 + 12 * i)) last date ≡ begins_on setup i last (Some date)
       by {last} (a_day h) = agree (period_of (tail_byte setup (14 + 12 * i))) (tail_byte setup (15 + 12 * i)) last date (first-day i l) h day
       by (none_yet off) = rw off (first_ever 0 date day)
 
   module _ (last : Date) (lasting : Lasting setup last) where
-    pub timing-is : (when : When) → is_dated when ≡ true → timing_of last when ≡ timed last when
+    pub timing-is : (when : Option Date) → is_dated when ≡ true → timing_of last when ≡ timed last when
     unfolding timing_of
-    timing-is NoDate day = refl
-    timing-is (On date) day = ap (λ b. cond b (DateError date) InOrder) (late_is last lasting date day)
+    timing-is None day = refl
+    timing-is (Some date) day = ap (λ b. cond b (DateError date) InOrder) (late_is last lasting date day)
 
-    pub on-day : (when : When) → is_dated when ≡ true → OnDay (timed last when)
-    on-day NoDate day = tt
-    on-day (On date) day = by (is_late last date) where
+    pub on-day : (when : Option Date) → is_dated when ≡ true → OnDay (timed last when)
+    on-day None day = tt
+    on-day (Some date) day = by (is_late last date) where
       by : (b : Bool) → OnDay (cond b (DateError date) InOrder)
       by true = day
       by false = tt
 
-    pub still_lasting : (when : When) → is_dated when ≡ true → Lasting setup (latest last when)
-    still_lasting NoDate day = lasting
-    still_lasting (On date) day = by (is_late last date) where
+    pub still_lasting : (when : Option Date) → is_dated when ≡ true → Lasting setup (latest last when)
+    still_lasting None day = lasting
+    still_lasting (Some date) day = by (is_late last date) where
       by : (b : Bool) → Lasting setup (cond b last date)
       by true = lasting
       by false = a_day day
 
   module _ (state : State) (lasting : Lasting setup state.last) where
-    pub last-is : (when : When) → is_dated when ≡ true → (dated rules state when).last ≡ latest state.last when
+    pub last-is : (when : Option Date) → is_dated when ≡ true → (dated rules state when).last ≡ latest state.last when
     unfolding dated advanced
-    last-is NoDate day = refl
-    last-is (On date) day = by (is_before date state.last) ∙ ap (λ b. cond b state.last date) (late_is state.last lasting date day) where
+    last-is None day = refl
+    last-is (Some date) day = by (is_before date state.last) ∙ ap (λ b. cond b state.last date) (late_is state.last lasting date day) where
       by : (b : Bool) → (cond b state (advanced rules state date)).last ≡ cond b state.last date
       by true = refl
       by false = refl
 
     -- each meter is moved by what the auditor enters
-    pub begun-moves : (when : When) → is_dated when ≡ true → (meter : Meter) → IsMeter meter
+    pub begun-moves : (when : Option Date) → is_dated when ≡ true → (meter : Meter) → IsMeter meter
         → value_of (dated rules state when).values meter ≡ moved (cap_of meter) (value_of state.values meter) (begun setup state.last when meter)
     unfolding dated advanced
     begun-moves when day (accumulator i) l = dated_keeps rules state (λ s. value_of s.values (accumulator i)) (λ date. refl) when
     begun-moves when day (counter i) l = dated_keeps rules state (λ s. value_of s.values (counter i)) (λ date. refl) when
-    begun-moves NoDate day (cyclic i) l = refl
-    begun-moves (On date) day (cyclic i) l =
+    begun-moves None day (cyclic i) l = refl
+    begun-moves (Some date) day (cyclic i) l =
         by (is_before date state.last) refl
         ∙ ap (λ b. moved max value (cond b (put 0 ∷ []) [])) (begins-is state.last lasting date day i l)
       where
@@ -181,7 +180,7 @@ module _ (setup : Setup) (good : AcceptedSetup setup) where
             (two_at (λ j. amount_begun rules j (cyclic_at state.values j) state.last date) (record { 0 = 0 }) i l)
             ∙ or_stays new
 
-  pub begun_fair : (last : Date) (when : When) (meter : Meter) → Fair (cap_of meter) (begun setup last when meter)
+  pub begun_fair : (last : Date) (when : Option Date) (meter : Meter) → Fair (cap_of meter) (begun setup last when meter)
   begun_fair last when (accumulator i) = nothing
   begun_fair last when (counter i) = nothing
   begun_fair last when (cyclic i) = fair_or (begins_on setup i last when) (putting (omega arith)) nothing

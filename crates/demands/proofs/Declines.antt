@@ -5,8 +5,6 @@ use Prim.Native.Nat.{ℕ, ◌^◌}
 use lib.Dec.{T, eqb}
 use lib.ListN.{replicate}
 use Rattle.cpace.specs.declared.Cvm.TheVariants.{NoCvm}
-use Rattle.selection.specs.declared.Selection.TheVariants.{Selected}
-use Rattle.command.specs.declared.When.TheVariants.{Undated}
 use Rattle.card.specs.Message.{Message, StartCommand, FirstCommand}
 use Rattle.state.specs.declared.Answer.{Answer}
 use Rattle.state.specs.declared.Answer.TheVariants.{Refused, Started, Given, Done}
@@ -16,6 +14,7 @@ use Rattle.demands.specs.Setup.{Setup}
 use Rattle.purchase.specs.Meter.{counter, value_of}
 use Rattle.demands.specs.Conversation.{next}
 use Rattle.demands.proofs.Computed.{computed}
+use Rattle.std.specs.Prelude.{None, Some}
 
 abbrev zeros : ℕ → List ℕ
 zeros n = replicate n 0
@@ -33,7 +32,7 @@ body value switches lower =
     }
 
 abbrev start : Message
-start = StartCommand (record { interface = 0; chosen = Selected 1 0 })
+start = StartCommand (record { interface = 0; chosen = Some (record { profile = 1; visits = 0 }) })
 
 -- an AAC requested
 abbrev first : Message
@@ -43,7 +42,7 @@ first =
       currency = 0x0978;
       requested = 0;
       terminal = 0x22;
-      when = Undated;
+      when = None;
       cvm = NoCvm;
       cashback = false;
     })

@@ -8,9 +8,8 @@ use lib.Dec.{eqb}
 use lib.ListN.{get_or}
 use Rattle.rules.specs.declared.Place.{Place}
 use Rattle.rules.specs.declared.Place.TheVariants.{One, Two, Three, Four}
-use Rattle.rules.specs.declared.Found.{Found}
-use Rattle.rules.specs.declared.Found.TheVariants.{At, Nothing}
 use Rattle.rules.specs.Rules.{Rules, blank_profile, index_of, profile_at, place_or, find_profile}
+use Rattle.std.specs.Prelude.{None, Option, Some}
 
 pub below-four : (place : Place) → index_of place < 4
 below-four One = omega arith
@@ -23,14 +22,14 @@ pub record Holds (rules : Rules) (number : ℕ) (place : Place) : Type 0 where
   pub its : (profile_at rules place).number ≡ number
 
 module _ (rules : Rules) (number : ℕ) where
-  abbrev pub Known : Found → Type 0
-  Known (At place) = Holds rules number place
-  Known Nothing = 1 ≤ number → (i : ℕ) → i < 4 → (get_or rules.profiles i blank_profile).number ≡ number → ⊥
+  abbrev pub Known : Option Place → Type 0
+  Known (Some place) = Holds rules number place
+  Known None = 1 ≤ number → (i : ℕ) → i < 4 → (get_or rules.profiles i blank_profile).number ≡ number → ⊥
 
-  at_place : (place : Place) (elsewhere : Found) → 1 ≤ number → (((profile_at rules place).number ≡ number → ⊥) → Known elsewhere)
-      → Known (cond (eqb (profile_at rules place).number number) (At place) elsewhere)
+  at_place : (place : Place) (elsewhere : Option Place) → 1 ≤ number → (((profile_at rules place).number ≡ number → ⊥) → Known elsewhere)
+      → Known (cond (eqb (profile_at rules place).number number) (Some place) elsewhere)
   at_place place elsewhere some h = by (eqb (profile_at rules place).number number) refl where
-    by : (b : Bool) → eqb (profile_at rules place).number number ≡ b → Known (cond b (At place) elsewhere)
+    by : (b : Bool) → eqb (profile_at rules place).number number ≡ b → Known (cond b (Some place) elsewhere)
     by true e = record { some = some; its = eqb-true _ _ e }
     by false e = h (eqb-false _ _ e)
 
@@ -47,7 +46,7 @@ module _ (rules : Rules) (number : ℕ) where
   unfolding find_profile
   known = by (eqb number 0) refl where
     by : (b : Bool) → eqb number 0 ≡ b
-        → Known (cond b Nothing (place_or rules One number (place_or rules Two number (place_or rules Three number (place_or rules Four number Nothing)))))
+        → Known (cond b None (place_or rules One number (place_or rules Two number (place_or rules Three number (place_or rules Four number None)))))
     by true e = λ some. let z = eqb-true number 0 e in absurd (omega arith)
     by false e =
         let some : 1 ≤ number = omega (arith, eqb-false number 0 e) in

@@ -17,19 +17,11 @@ use Rattle.refusal.specs.Refusal.{refusal_number}
 use Rattle.calendar.proofs.Dates.{calendar_days}
 use Rattle.ranges.proofs.Accepted.{Currency, currency}
 use Rattle.rules.specs.declared.Place.{Place}
-use Rattle.rules.specs.declared.Found.{Found}
-use Rattle.rules.specs.declared.Found.TheVariants.{At, Nothing}
 use Rattle.rules.specs.Rules.{Rules, index_of, find_profile}
-use Rattle.selection.specs.declared.Selection.{Selection}
-use Rattle.selection.specs.declared.Selection.TheVariants.{Selected, NotSelected as NoneSelected}
 use Rattle.selection.specs.Selection.{profile_of, visits_of}
-use Rattle.command.specs.declared.When.{When}
-use Rattle.command.specs.declared.When.TheVariants.{Undated, On}
 use Rattle.command.specs.declared.Start.{Start}
 use Rattle.command.specs.declared.First.{First}
 use Rattle.command.specs.declared.Second.{Second}
-use Rattle.object.specs.declared.Reading.{Reading}
-use Rattle.object.specs.declared.Reading.TheVariants.{Sound, Malformed as NoTemplate, TooDeep as DeepTemplate}
 use Rattle.object.specs.Object.{read_template, reading_number}
 use Rattle.trees.specs.Tree.{Fault, malformed, too_deep, inside, TemplateFault, unframed, framed}
 use Rattle.trees.proofs.Faults.{fault_if_first, first_if_fault}
@@ -62,6 +54,12 @@ use Rattle.demands.proofs.Past.{atc}
 use Rattle.demands.specs.Rows.{InSetup, InRules, NoStart, NoArqc, IsFirst, Unselected, NoDay, ScriptRow, first-due, no_result, at-fault}
 use Rattle.demands.specs.Rows.{StartRow, no_interface, not_selected, not_in_setup, used_up, FirstRow, no_start, type_three}
 use Rattle.demands.specs.Rows.{above-max, not_digits, not_a_day, SecondRow, no_arqc, type_two, issuer_data, Applies, rank, Numbered, done, refused}
+use Rattle.std.specs.Prelude.{Err, None, Ok, Option, Result, Some}
+use Rattle.calendar.specs.declared.Date.{Date}
+use Rattle.object.specs.declared.Fault.{Fault}
+use Rattle.object.specs.declared.Fault.TheVariants.{Malformed as NoTemplate}
+use Rattle.object.specs.declared.Fault.TheVariants.{TooDeep as DeepTemplate}
+use Rattle.selection.specs.declared.Selected.{Selected}
 
 -- what is taken is answered, and no answer to it is a refusal
 record Taken (outcome : Outcome) : Type 0 where
@@ -102,13 +100,13 @@ module _ (rules : Rules) (atc : ℕ) (start : Start) where
   start-least (used_up n h) i = (omega (arith, ap place_of n), λ selected. (omega (arith, ap place_of n), λ there. omega (arith, ap place_of n)))
 
   module _ (near : start.interface ≤ 1) where
-    opening_ruled : (Unselected start.chosen → ⊥) → (found : Found) → Known rules (profile_of start.chosen) found
+    opening_ruled : (Unselected start.chosen → ⊥) → (found : Option Place) → Known rules (profile_of start.chosen) found
         → Ruled (StartCommand start) Row (rule_opening atc found)
-    opening_ruled selected Nothing missing = (
+    opening_ruled selected None missing = (
       not_in_setup refl (λ i. missing i.some i.index i.below i.its),
       λ m l row. omega (arith, ((start-least row near).1 selected).0),
     )
-    opening_ruled selected (At place) holds = by (eqb atc 65535) refl where
+    opening_ruled selected (Some place) holds = by (eqb atc 65535) refl where
       there : InRules rules (profile_of start.chosen)
       there = in_rules rules (profile_of start.chosen) place holds
 
@@ -123,9 +121,9 @@ module _ (rules : Rules) (atc : ℕ) (start : Start) where
             | used_up n h ↦ eqb-false _ _ e h
           ]
 
-    chosen_ruled : (chosen : Selection) → start.chosen ≡ chosen → Ruled (StartCommand start) Row (rule_chosen rules atc chosen)
-    chosen_ruled NoneSelected is = (not_selected refl (subst Unselected (sym is) tt), λ m l row. omega (arith, (start-least row near).0))
-    chosen_ruled (Selected profile visits) is =
+    chosen_ruled : (chosen : Option Selected) → start.chosen ≡ chosen → Ruled (StartCommand start) Row (rule_chosen rules atc chosen)
+    chosen_ruled None is = (not_selected refl (subst Unselected (sym is) tt), λ m l row. omega (arith, (start-least row near).0))
+    chosen_ruled (Some chosen) is =
         subst (λ c. Ruled (StartCommand start) Row (rule_opening atc (find_profile rules (profile_of c)))) is
         (opening_ruled (λ h. subst Unselected is h) (find_profile rules (profile_of start.chosen)) (known rules (profile_of start.chosen)))
 
@@ -137,13 +135,13 @@ module _ (rules : Rules) (atc : ℕ) (start : Start) where
     by false e = chosen_ruled (ltb-false _ _ e) start.chosen refl
 
 -- a date is one of the almanac's days or none
-day-there : (when : When) → is_dated when ≡ true → NoDay when → ⊥
-day-there Undated e none = none
-day-there (On date) e none = let (n, l, is) = (calendar_days date).0 e in none n l is
+day-there : (when : Option Date) → is_dated when ≡ true → NoDay when → ⊥
+day-there None e none = none
+day-there (Some date) e none = let (n, l, is) = (calendar_days date).0 e in none n l is
 
-no_day : (when : When) → is_dated when ≡ false → NoDay when
-no_day Undated e = absurd (never (sym e))
-no_day (On date) e = λ n l is. never (sym e ∙ (calendar_days date).1 (n, l, is))
+no_day : (when : Option Date) → is_dated when ≡ false → NoDay when
+no_day None e = absurd (never (sym e))
+no_day (Some date) e = λ n l is. never (sym e ∙ (calendar_days date).1 (n, l, is))
 
 -- of First no row is numbered below 2; below 5 none where a Start is open, below 6 none where its type is in range too, and below 13 none
 -- where its fields are
@@ -237,17 +235,17 @@ script-least (no_result n h) = (omega arith, λ closed. (omega arith, λ small. 
 script-least (at-fault f) = let h = some-fault f in (omega arith, λ closed. (omega arith, λ small. f))
 
 module _ (due : Due) (closed : IsFirst due → ⊥) (result : ℕ) (template : List ℕ) (bytes : Bytes template) where
-  reading_ruled : result ≤ 1 → (verified : Bool) (reading : Reading) → read_template template ≡ reading
+  reading_ruled : result ≤ 1 → (verified : Bool) (reading : Result Unit Fault) → read_template template ≡ reading
       → Ruled (ScriptCommand result template) (ScriptRow due result template) (rule_reading verified reading)
-  reading_ruled small verified Sound is =
+  reading_ruled small verified (Ok done) is =
       λ m row.
       let f = fault_if_first (((script-least row).1 closed).1 small) bytes in
       f.1 (sym f.0 ∙ ap reading_number is)
-  reading_ruled small verified NoTemplate is = (
+  reading_ruled small verified (Err NoTemplate) is = (
     at-fault (first_if_fault 18 template bytes (ap reading_number is) (λ z. omega arith)),
     λ m l row. omega (arith, some-fault (((script-least row).1 closed).1 small)),
   )
-  reading_ruled small verified DeepTemplate is = (
+  reading_ruled small verified (Err DeepTemplate) is = (
     at-fault (first_if_fault 19 template bytes (ap reading_number is) (λ z. omega arith)),
     λ m l row. omega (arith, (fault_if_first (((script-least row).1 closed).1 small) bytes).0, ap reading_number is),
   )

@@ -20,10 +20,6 @@ use Rattle.state.specs.declared.Answer.TheVariants.{Refused, Started, Given, Don
 use Rattle.state.specs.declared.Kind.{Kind}
 use Rattle.state.specs.declared.Kind.TheVariants.{Aac, Tc, Arqc}
 use Rattle.cryptogram.specs.Cryptogram.{kind_code}
-use Rattle.selection.specs.declared.Selection.{Selection}
-use Rattle.selection.specs.declared.Selection.TheVariants.{Selected, NotSelected}
-use Rattle.command.specs.declared.When.{When}
-use Rattle.command.specs.declared.When.TheVariants.{Undated}
 use Rattle.card.specs.Message.{Message, StartCommand, FirstCommand, SecondCommand, ScriptCommand}
 use Rattle.card.specs.Card.{answer_number}
 use Rattle.purchase.specs.Meter.{Meter, accumulator, counter, cyclic, value_of}
@@ -40,6 +36,8 @@ use Rattle.demands.proofs.Sittings.{counting, limiting, defaulting, full, sendin
 use Rattle.demands.proofs.Sittings.{start, first, first_on, second, unable, after, on_day, approvals, limits, resets, answered, online, buy, late}
 use Rattle.demands.proofs.Sittings.{week, weeks, years, first_by, pay, pay_online, digits, element, put_data, value, limit, counter_limit, wrong}
 use Rattle.demands.proofs.Sittings.{empties, script, unverified, requiring, between}
+use Rattle.std.specs.Prelude.{None, Option, Some}
+use Rattle.selection.specs.declared.Selected.{Selected}
 
 abbrev same : Bool → Bool → Bool
 same true b = b
@@ -132,20 +130,20 @@ unfoldable pub shows_on : Setup → (day limits : ℕ) → Bool
 shows_on setup day limits = has_limits (next setup (start 1 ∷ []) (first_on (on_day 0x00 0x07 day) 1 0x0978 1)).answer limits
 
 -- `numbered`: the number of a First's answer
-unfoldable pub numbers : When → (amount requested number : ℕ) → Bool
+unfoldable pub numbers : Option Date → (amount requested number : ℕ) → Bool
 numbers when amount requested number =
     eqb (answer_number (next (spending 1 7 0 100) (start 1 ∷ []) (first_on when amount 0x0978 requested)).answer) number
 
 -- what First answers to a CPACE card, requested a TC
 unfoldable pub answers_by : Setup → Cvm → (cashback : Bool) → (amount : ℕ) → Kind → Bool
-answers_by setup cvm cashback amount kind = is_of (next setup (start 1 ∷ []) (first_by cvm cashback Undated amount 0x0978 1)).answer kind
+answers_by setup cvm cashback amount kind = is_of (next setup (start 1 ∷ []) (first_by cvm cashback None amount 0x0978 1)).answer kind
 
 -- and Second after Y3
 unfoldable pub closes_by : Setup → (cashback : Bool) → Kind → Bool
 closes_by setup cashback kind = is_of (next setup (pay NoCvm cashback 2) unable).answer kind
 
 -- the number of a Start's answer
-unfoldable pub opens_as : (interface : ℕ) → Selection → (number : ℕ) → Bool
+unfoldable pub opens_as : (interface : ℕ) → Option Selected → (number : ℕ) → Bool
 opens_as interface chosen number =
     eqb (answer_number (next (dual 0 0 1 6 1) [] (StartCommand (record { interface = interface; chosen = chosen }))).answer) number
 
@@ -330,7 +328,7 @@ pub record Samples : Type 0 where
   pub no_cashback : T (answers_by (dual 0 0 1 6 1) NoCvm false 1 Tc)
   pub cashback_again : T (closes_by (dual 0 0 1 6 1) true Aac && closes_by (dual 0 0 1 6 1) false Tc)
   -- 6 before 12 and before 3
-  pub six_first : T (opens_as 2 NotSelected 6 && opens_as 2 (Selected 9 0) 6 && opens_as 1 NotSelected 12 && opens_as 1 (Selected 9 0) 3)
+  pub six_first : T (opens_as 2 None 6 && opens_as 2 (Some (record { profile = 9; visits = 0 })) 6 && opens_as 1 None 12 && opens_as 1 (Some (record { profile = 9; visits = 0 })) 3)
   pub scripts-accepted : T (are_setups (requiring ∷ []))
   -- a value that a script writes is put, of an accumulator that is active or not, the last of two; an approval goes on from it
   pub value_written_lem : T (agrees_in counting (script (value 1 0x40 0x00 ∷ []) ∷ answered 1) (accumulator 0) 4001)

@@ -10,7 +10,6 @@ use Rattle.refusal.specs.declared.Refusal.{Refusal}
 use Rattle.iad.specs.declared.Cvr.{Cvr}
 use Rattle.rules.specs.declared.Place.{Place}
 use Rattle.rules.specs.Rules.{Rules}
-use Rattle.object.specs.declared.Reading.TheVariants.{Sound}
 use Rattle.object.specs.Object.{read_template}
 use Rattle.cursor.specs.Cursor.{commands_of}
 use Rattle.element.specs.declared.Write.{Write}
@@ -43,6 +42,7 @@ use Rattle.demands.specs.Conversation.{Exchange, IsSpoken, is_accepted}
 use Rattle.demands.specs.Scripts.{Trial, first_tried, trial, Remembered, trial_of, with_trial, clears, remembered_by, remembered, wrote_by}
 use Rattle.demands.proofs.Dated.{same-scripts}
 use Rattle.demands.proofs.Step.{Did, refused_it, started_it, took_first, took_second, took_script}
+use Rattle.std.specs.Prelude.{Ok}
 
 -- the card's byte says what is remembered
 pub record Keeps (memory : Remembered) (scripts : Scripts) : Type 0 where
@@ -149,7 +149,7 @@ module _ (verified : Bool) where
       in_range_lem false ws e = absurd (not_some e)
 
 -- ---- a template that is read
-pub template_agrees : (result : ℕ) (template : List ℕ) → Bytes template → read_template template ≡ Sound → (memory : Remembered) (scripts : Scripts)
+pub template_agrees : (result : ℕ) (template : List ℕ) → Bytes template → read_template template ≡ Ok tt → (memory : Remembered) (scripts : Scripts)
     → Keeps memory scripts
     → Agree memory (trial_of result template memory) (template_tried (eqb result 1) scripts template)
 unfolding template_tried

@@ -7,21 +7,14 @@ use native.Mathlib.Omega.{arith}
 use borrow.Author.Tests.{ne_eqb}
 use lib.Dec.{eqb, ltb}
 use lib.ListN.{length}
-use Rattle.rules.specs.declared.Found.{Found}
-use Rattle.rules.specs.declared.Found.TheVariants.{At, Nothing}
 use Rattle.rules.specs.Rules.{Rules, find_profile}
 use Rattle.slot.specs.declared.Slots.{Slots}
-use Rattle.selection.specs.declared.Selection.{Selection}
-use Rattle.selection.specs.declared.Selection.TheVariants.{Selected, NotSelected}
 use Rattle.selection.specs.Selection.{selection_of, profile_of, visits_of}
-use Rattle.shape.specs.declared.Dating.{Dating}
 use Rattle.shape.specs.declared.Family.TheVariants.{Cpa, Cpace}
 use Rattle.refusal.specs.declared.Refusal.TheVariants.{OutOfRange}
 use Rattle.command.specs.declared.First.{First}
 use Rattle.card.specs.Message.{Message, message_step}
 use Rattle.command.specs.declared.Command.{Command}
-use Rattle.command.specs.declared.ReadCommand.{ReadCommand}
-use Rattle.command.specs.declared.ReadCommand.TheVariants.{Taken}
 use Rattle.command.specs.Command.{start_selected, selecting_of}
 use Rattle.state.specs.declared.Answer.{Answer}
 use Rattle.state.specs.declared.Answer.TheVariants.{Refused, Started, Given, Done}
@@ -45,6 +38,11 @@ use Rattle.demands.proofs.Limit.{limit}
 use Rattle.demands.proofs.First.{first-answers}
 use Rattle.demands.specs.Verification.{Gives}
 use Rattle.demands.proofs.Answers.{gives}
+use Rattle.std.specs.Prelude.{None, Ok, Option, Result, Some}
+use Rattle.refusal.specs.declared.Refusal.{Refusal}
+use Rattle.rules.specs.declared.Place.{Place}
+use Rattle.selection.specs.declared.Selected.{Selected}
+use Rattle.shape.specs.declared.Span.{Span}
 
 -- the visits that an answer says
 visits_in : Answer → ℕ
@@ -60,17 +58,17 @@ is_start (Given kind atc iad) = 0
 is_start Done = 0
 
 -- a record that is read as a command is heard as that command is sent
-pub data Heard : ReadCommand → Message → Type 0 where
-  as_read_lem : (command : Command) → Heard (Taken command) (as_message command)
+pub data Heard : Result Command Refusal → Message → Type 0 where
+  as_read_lem : (command : Command) → Heard (Ok command) (as_message command)
 
 module _ (file : List ℕ) (entries : ℕ) where
   -- A START'S RECORD IS HEARD AS SELECTION OVER THE FILE'S BYTES, of a CPA card and of a CPACE one
-  pub heard_as_read : (dating : Dating) (slots : Slots) (terminal : List ℕ)
+  pub heard_as_read : (dating : Option Span) (slots : Slots) (terminal : List ℕ)
       → Heard (selecting_of dating Cpa slots file entries 2 terminal) (heard file entries slots (start terminal))
   unfolding selecting_of start_selected
   heard_as_read dating slots terminal = as_read_lem _
 
-  pub heard_on_interface : (dating : Dating) (slots : Slots) (from to interface : ℕ) (terminal : List ℕ)
+  pub heard_on_interface : (dating : Option Span) (slots : Slots) (from to interface : ℕ) (terminal : List ℕ)
       → Heard (selecting_of dating (Cpace from to) slots file entries 2 (interface ∷ terminal)) (heard file entries slots (start_on interface terminal))
   unfolding selecting_of start_selected
   heard_on_interface dating slots from to interface terminal = rw (ne_eqb (suc (length terminal)) 0 (λ e. omega arith)) (as_read_lem _)
@@ -78,25 +76,25 @@ module _ (file : List ℕ) (entries : ℕ) where
   -- AN ACCEPTED START OPENS THE PROFILE SELECTED, AND SAYS HOW MANY ENTRIES WERE VISITED
   pub start_selected_lem : (rules : Rules) (state : State) (slots : Slots) (interface : ℕ) (read : List ℕ) (atc visits : ℕ)
       → (message_step rules state (selecting file entries slots interface read)).answer ≡ Started atc visits
-      → selection_of file entries read slots ≡ Selected (profile_of (selection_of file entries read slots)) visits
+      → selection_of file entries read slots ≡ Some (record { profile = profile_of (selection_of file entries read slots); visits = visits })
   unfolding message_step start_step visits_in is_start
   start_selected_lem rules state slots interface read atc visits = on (ltb 1 interface) (selection_of file entries read slots) where
-    opened : (profile seen : ℕ) (found : Found) (b : Bool) → eqb state.atc 65535 ≡ b
+    opened : (profile seen : ℕ) (found : Option Place) (b : Bool) → eqb state.atc 65535 ≡ b
         → (carried state (start_performed state seen) (rule_opening state.atc found)).answer ≡ Started atc visits
-        → Selected profile seen ≡ Selected profile visits
-    opened profile seen Nothing b h e = let z = ap is_start e in absurd (omega arith)
-    opened profile seen (At place) true h e = let z = ap is_start (rw h at e) in absurd (omega arith)
-    opened profile seen (At place) false h e = ap (Selected profile) (ap visits_in (rw h at e))
+        → (Some (record { profile = profile; visits = seen })) ≡ Some (record { profile = profile; visits = visits })
+    opened profile seen None b h e = let z = ap is_start e in absurd (omega arith)
+    opened profile seen (Some place) true h e = let z = ap is_start (rw h at e) in absurd (omega arith)
+    opened profile seen (Some place) false h e = ap ((λ visits. Some (record { profile = profile; visits = visits }))) (ap visits_in (rw h at e))
 
-    by : (chosen : Selection) → (carried state (start_performed state (visits_of chosen)) (rule_chosen rules state.atc chosen)).answer ≡ Started atc visits
-        → chosen ≡ Selected (profile_of chosen) visits
-    by NotSelected e = let z = ap is_start e in absurd (omega arith)
-    by (Selected profile seen) e = opened profile seen (find_profile rules profile) (eqb state.atc 65535) refl e
+    by : (chosen : Option Selected) → (carried state (start_performed state (visits_of chosen)) (rule_chosen rules state.atc chosen)).answer ≡ Started atc visits
+        → chosen ≡ Some (record { profile = profile_of chosen; visits = visits })
+    by None e = let z = ap is_start e in absurd (omega arith)
+    by (Some chosen) e = opened chosen.profile chosen.visits (find_profile rules chosen.profile) (eqb state.atc 65535) refl e
 
-    on : (b : Bool) (chosen : Selection)
+    on : (b : Bool) (chosen : Option Selected)
         → (carried state (start_performed state (visits_of chosen)) (cond b (refuse OutOfRange) (rule_chosen rules state.atc chosen))).answer
         ≡ Started atc visits
-        → chosen ≡ Selected (profile_of chosen) visits
+        → chosen ≡ Some (record { profile = profile_of chosen; visits = visits })
     on true chosen e = let z = ap is_start e in absurd (omega arith)
     on false chosen e = by chosen e
 

@@ -5,11 +5,10 @@ use Prim.Native.Nat.{ℕ, ◌+◌, ◌*◌, ◌^◌}
 use lib.ListN.{length, drop, replicate}
 use Rattle.cpace.specs.declared.Cvm.{Cvm}
 use Rattle.cpace.specs.declared.Cvm.TheVariants.{NoCvm}
-use Rattle.selection.specs.declared.Selection.TheVariants.{Selected}
-use Rattle.command.specs.declared.When.{When}
-use Rattle.command.specs.declared.When.TheVariants.{Undated, On}
 use Rattle.card.specs.Message.{Message, StartCommand, FirstCommand, SecondCommand, ScriptCommand}
 use Rattle.demands.specs.Setup.{Setup}
+use Rattle.std.specs.Prelude.{None, Option, Some}
+use Rattle.calendar.specs.declared.Date.{Date}
 
 abbrev pub zeros : ℕ → List ℕ
 zeros n = replicate n 0
@@ -126,13 +125,13 @@ dual high low control control' cashback =
 -- ---- sittings
 
 abbrev pub start_on : (interface n : ℕ) → Message
-start_on interface n = StartCommand (record { interface = interface; chosen = Selected n 0 })
+start_on interface n = StartCommand (record { interface = interface; chosen = Some (record { profile = n; visits = 0 }) })
 
 abbrev pub start : ℕ → Message
 start n = start_on 0 n
 
 -- requested 0 AAC, 1 TC, 2 ARQC
-abbrev pub first_by : Cvm → (cashback : Bool) → When → (amount currency requested : ℕ) → Message
+abbrev pub first_by : Cvm → (cashback : Bool) → Option Date → (amount currency requested : ℕ) → Message
 first_by cvm cashback when amount currency requested =
     FirstCommand (record {
       amount = record { 0 = amount };
@@ -144,11 +143,11 @@ first_by cvm cashback when amount currency requested =
       cashback = cashback;
     })
 
-abbrev pub first_on : When → (amount currency requested : ℕ) → Message
+abbrev pub first_on : Option Date → (amount currency requested : ℕ) → Message
 first_on when amount currency requested = first_by NoCvm false when amount currency requested
 
 abbrev pub first : (amount currency requested : ℕ) → Message
-first amount currency requested = first_on Undated amount currency requested
+first amount currency requested = first_on None amount currency requested
 
 -- TC requested, the issuer's data verified, CSU byte 2
 abbrev pub second : ℕ → Message
@@ -186,8 +185,8 @@ online command = start 1 ∷ first 1 0x0978 2 ∷ command ∷ []
 
 -- ---- with dates
 
-abbrev pub on_day : (year month day : ℕ) → When
-on_day year month day = On (record { year = year; month = month; day = day })
+abbrev pub on_day : (year month day : ℕ) → Option Date
+on_day year month day = Some (record { year = year; month = month; day = day })
 
 -- a transaction of July 2000 under a profile
 unfoldable pub buy : (n day amount requested : ℕ) → List Message
@@ -215,7 +214,7 @@ years = start 1 ∷ first_on (on_day 0x00 0x07 0x15) 30 0x0978 1 ∷ start 1 ∷
 
 -- a purchase of 4000 by its CVM, with cashback or without; and one that goes online, and a Second
 unfoldable pub pay : Cvm → (cashback : Bool) → (requested : ℕ) → List Message
-pay cvm cashback requested = start 1 ∷ first_by cvm cashback Undated 4000 0x0978 requested ∷ []
+pay cvm cashback requested = start 1 ∷ first_by cvm cashback None 4000 0x0978 requested ∷ []
 
 unfoldable pub pay_online : Cvm → (cashback : Bool) → Message → List Message
 pay_online cvm cashback command = pay cvm cashback 2 ++ command ∷ []

@@ -10,17 +10,11 @@ use Rattle.money.specs.Money.{max}
 use Rattle.refusal.specs.declared.Refusal.{Refusal}
 use Rattle.refusal.specs.declared.Refusal.TheVariants.{OutOfTurn, UnknownProfile, AtcUsedUp, BadType, OutOfRange, NotSelected, NotADay, Malformed, TooDeep}
 use Rattle.rules.specs.declared.Place.{Place}
-use Rattle.rules.specs.declared.Found.{Found}
-use Rattle.rules.specs.declared.Found.TheVariants.{At, Nothing}
 use Rattle.rules.specs.Rules.{Rules, find_profile}
-use Rattle.selection.specs.declared.Selection.{Selection}
-use Rattle.selection.specs.declared.Selection.TheVariants.{Selected, NotSelected as None}
 use Rattle.selection.specs.Selection.{profile_of, visits_of}
 use Rattle.command.specs.declared.Start.{Start}
 use Rattle.command.specs.declared.First.{First}
 use Rattle.command.specs.declared.Second.{Second}
-use Rattle.object.specs.declared.Reading.{Reading}
-use Rattle.object.specs.declared.Reading.TheVariants.{Sound, Malformed as NoTemplate, TooDeep as DeepTemplate}
 use Rattle.object.specs.Object.{read_template}
 use Rattle.script.specs.Script.{template_tried}
 use Rattle.card.specs.Message.{Message, StartCommand, FirstCommand, SecondCommand, ScriptCommand, message_step, message_writes}
@@ -35,6 +29,11 @@ use Rattle.state.specs.Ruling.{refuse, take, carried, refused}
 use Rattle.card.specs.Card.{rule_chosen, rule_opening, is_dated, rule_first, rule_second, start_performed, start_step, first_step, second_step}
 use Rattle.scripting.specs.Scripting.{rule_script, rule_script_fields, rule_reading, script_performed, script_step, writes_ruled, script_writes}
 use Rattle.demands.proofs.Found.{Holds, Known, known}
+use Rattle.std.specs.Prelude.{Err, None, Ok, Option, Result, Some}
+use Rattle.object.specs.declared.Fault.{Fault}
+use Rattle.object.specs.declared.Fault.TheVariants.{Malformed as NoTemplate}
+use Rattle.object.specs.declared.Fault.TheVariants.{TooDeep as DeepTemplate}
+use Rattle.selection.specs.declared.Selected.{Selected}
 
 pub data Did (rules : Rules) (state : State) : Message → Outcome → Type 0 where
   refused_it : {command : Message} (refusal : Refusal) → message_writes state command ≡ [] → Did rules state command (refused state refusal)
@@ -45,26 +44,26 @@ pub data Did (rules : Rules) (state : State) : Message → Outcome → Type 0 wh
       → Did rules state (FirstCommand first) (first_performed rules state first place)
   took_second : (second : Second) (pending : Pending) → state.phase ≡ Asked pending → second.requested ≤ 1 → second.issuer ≤ 2
       → Did rules state (SecondCommand second) (second_performed rules state second pending)
-  took_script : (result : ℕ) (template : List ℕ) → read_template template ≡ Sound
+  took_script : (result : ℕ) (template : List ℕ) → read_template template ≡ Ok tt
       → script_writes state result template ≡ (template_tried (eqb result 1) state.scripts template).writes
       → Did rules state (ScriptCommand result template) (script_performed state template (eqb result 1))
 
 module _ (rules : Rules) (state : State) where
-  opening_did : (start : Start) (found : Found) → Known rules (profile_of start.chosen) found
+  opening_did : (start : Start) (found : Option Place) → Known rules (profile_of start.chosen) found
       → Did rules state (StartCommand start) (carried state (start_performed state (visits_of start.chosen)) (rule_opening state.atc found))
   unfolding message_writes
-  opening_did start Nothing missing = refused_it UnknownProfile refl
-  opening_did start (At place) holds = by (eqb state.atc 65535) where
+  opening_did start None missing = refused_it UnknownProfile refl
+  opening_did start (Some place) holds = by (eqb state.atc 65535) where
     by : (b : Bool)
         → Did rules state (StartCommand start) (carried state (start_performed state (visits_of start.chosen)) (cond b (refuse AtcUsedUp) (take place)))
     by true = refused_it AtcUsedUp refl
     by false = started_it start place holds
 
-  chosen_did : (start : Start) (chosen : Selection) → start.chosen ≡ chosen
+  chosen_did : (start : Start) (chosen : Option Selected) → start.chosen ≡ chosen
       → Did rules state (StartCommand start) (carried state (start_performed state (visits_of chosen)) (rule_chosen rules state.atc chosen))
   unfolding message_writes
   chosen_did start None is = refused_it NotSelected refl
-  chosen_did start (Selected profile visits) is =
+  chosen_did start (Some chosen) is =
       subst (λ c. Did rules state (StartCommand start)
       (carried state (start_performed state (visits_of c)) (rule_opening state.atc (find_profile rules (profile_of c))))) is
       (opening_did start (find_profile rules (profile_of start.chosen)) (known rules (profile_of start.chosen)))
@@ -106,13 +105,13 @@ module _ (rules : Rules) (state : State) where
     by false t true i = refused_it OutOfRange refl
     by false t false i = took_second second pending is (ltb-false 1 second.requested t) (ltb-false 2 second.issuer i)
 
-  reading_did : (result : ℕ) (template : List ℕ) (reading : Reading) → read_template template ≡ reading
+  reading_did : (result : ℕ) (template : List ℕ) (reading : Result Unit Fault) → read_template template ≡ reading
       → script_writes state result template ≡ writes_ruled state.scripts template (rule_reading (eqb result 1) reading)
       → Did rules state (ScriptCommand result template) (carried state (script_performed state template) (rule_reading (eqb result 1) reading))
   unfolding message_writes
-  reading_did result template Sound is wrote = took_script result template is wrote
-  reading_did result template NoTemplate is wrote = refused_it Malformed wrote
-  reading_did result template DeepTemplate is wrote = refused_it TooDeep wrote
+  reading_did result template (Ok done) is wrote = took_script result template is wrote
+  reading_did result template (Err NoTemplate) is wrote = refused_it Malformed wrote
+  reading_did result template (Err DeepTemplate) is wrote = refused_it TooDeep wrote
 
   fields_did : (result : ℕ) (template : List ℕ)
       → script_writes state result template ≡ writes_ruled state.scripts template (rule_script_fields result template)

@@ -26,7 +26,6 @@ use Rattle.command.specs.declared.Second.{Second}
 use Rattle.card.specs.Message.{Message, StartCommand, FirstCommand, SecondCommand, ScriptCommand}
 use Rattle.meters.specs.declared.Change.TheVariants.{Approve, Decline}
 use Rattle.meters.specs.Meters.{Entry, moved, offline, applied}
-use Rattle.object.specs.declared.Reading.TheVariants.{Sound}
 use Rattle.object.specs.Object.{read_template}
 use Rattle.element.specs.declared.Write.{Write}
 use Rattle.element.specs.declared.Write.TheVariants.{Value, AccumulatorLimits, CounterLimits}
@@ -73,6 +72,7 @@ use Rattle.demands.proofs.Scripts.{template_agrees}
 use Rattle.demands.proofs.Puts.{all-put}
 use Rattle.demands.proofs.Deals.{Remembers, Deals, brought_as, begun_then, did_deals, begin_deals}
 use Rattle.demands.proofs.Moves.{approved-moves, declined-moves, ordered-moves, counted_fair, declined_fair, ordered_fair}
+use Rattle.std.specs.Prelude.{Ok}
 
 -- the profile of an open transaction stands where the conversation says
 abbrev pub Agrees : Setup → (profile : ℕ) → Phase → Type 0
@@ -311,7 +311,7 @@ module _ (setup : Setup) (sitting : Sitting) (ruled : Ruled setup sitting) (deal
   script_agrees ws wanted (Opened place) agrees = record { there = agrees.there; offset = place-written now ws wanted ∙ agrees.offset }
   script_agrees ws wanted (Asked pending) agrees = record { there = agrees.there; offset = place-written now ws wanted ∙ agrees.offset }
 
-  script-holds : (result : ℕ) (template : List ℕ) → Bytes template → read_template template ≡ Sound
+  script-holds : (result : ℕ) (template : List ℕ) → Bytes template → read_template template ≡ Ok tt
       → Holding setup (after sitting (ScriptCommand result template) (script_performed state template (eqb result 1)))
   unfolding named dealing in_force ledger script_performed ran_of
   script-holds result template bytes sound =

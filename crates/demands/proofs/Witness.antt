@@ -11,8 +11,6 @@ use Rattle.wire.specs.Wire.{byte}
 use Rattle.ranges.specs.Ranges.{is_setup}
 use Rattle.tails.specs.Tails.{are_cycles, is_family}
 use Rattle.cpace.specs.declared.Cvm.TheVariants.{OnlinePin, Signature, NoCvm}
-use Rattle.selection.specs.declared.Selection.TheVariants.{Selected}
-use Rattle.command.specs.declared.When.TheVariants.{Undated}
 use Rattle.card.specs.Message.{Message}
 use Rattle.auditor.specs.Template.{InRange}
 use Rattle.demands.specs.Setup.{Setup, IsCpa, AcceptedSetup}
@@ -24,6 +22,7 @@ use Rattle.demands.specs.Printed.{body, start, first, second, commands, lines_of
 use Rattle.demands.specs.Alike.{AlikeSetups, AlikeCommands, starts, firsts, seconds, AllAlike, nothing, more}
 use Rattle.demands.proofs.Computed.{computed}
 use Rattle.demands.proofs.Sittings.{zeros, spending, dual, start_on, first_by, first_on, on_day, limit, template_of, script}
+use Rattle.std.specs.Prelude.{None, Some}
 
 abbrev are_bytes : List ℕ → Bool
 are_bytes [] = true
@@ -162,13 +161,13 @@ alike_setups = record { bytes = refl; tail = refl; syllabus = refl; none = refl;
 
 -- contactless Starts, an online PIN and a signature, cashback
 pub alike_commands : AllAlike commands
-    (start_on 1 1 ∷ first_by OnlinePin true Undated 5000 0x0978 1 ∷ start ∷ first_by Signature false Undated 1 0x0978 1 ∷ second
+    (start_on 1 1 ∷ first_by OnlinePin true None 5000 0x0978 1 ∷ start ∷ first_by Signature false None 1 0x0978 1 ∷ second
     ∷ start_on 1 1
     ∷ first 5000
     ∷ second
     ∷ [])
 unfolding commands
 alike_commands =
-    let opens : (interface : ℕ) → interface ≤ 1 → AlikeCommands start (start_on interface 1) = λ i l. starts (Selected 1 0) 0 i (omega arith) l in
+    let opens : (interface : ℕ) → interface ≤ 1 → AlikeCommands start (start_on interface 1) = λ i l. starts (Some (record { profile = 1; visits = 0 })) 0 i (omega arith) l in
     more (opens 1 (omega arith)) (more (firsts _ OnlinePin true) (more (opens 0 (omega arith)) (more (firsts _ Signature false) (more (seconds _)
     (more (opens 1 (omega arith)) (more (firsts _ NoCvm false) (more (seconds _) nothing)))))))

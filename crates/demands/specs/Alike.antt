@@ -1,9 +1,8 @@
 -- Two cards alike but for their family (request Thirteen): the CPACE one closes no slot and checks no cashback. What is said to both, and how they
 -- then stand.
-use Rattle.std.specs.Prelude.{◌≡◌, Bool, List, [], ◌∷◌, ℕ, suc, ◌≤◌}
+use Rattle.std.specs.Prelude.{◌≡◌, Bool, List, [], ◌∷◌, ℕ, suc, ◌≤◌, Option}
 use Rattle.cpace.specs.declared.Cvm.{Cvm}
 use Rattle.rules.specs.declared.Place.{Place}
-use Rattle.selection.specs.declared.Selection.{Selection}
 use Rattle.command.specs.declared.First.{First}
 use Rattle.command.specs.declared.Second.{Second}
 use Rattle.card.specs.Message.{Message, StartCommand, FirstCommand, SecondCommand, ScriptCommand}
@@ -15,6 +14,7 @@ use Rattle.state.specs.declared.Phase.TheVariants.{Idle, Opened, Asked}
 use Rattle.state.specs.declared.State.{State}
 use Rattle.demands.specs.Setup.{Setup, family_byte, IsCpa}
 use Rattle.demands.specs.Conversation.{Exchange, Sitting}
+use Rattle.selection.specs.declared.Selected.{Selected}
 
 -- alike but for the tail of version 05: the one has none, and of the other every control and every cashback switch, behind the family byte, is 0
 pub record AlikeSetups (cpa cpace : Setup) : Type 0 where
@@ -54,7 +54,7 @@ pending_with cvm cashback pending =
 
 -- commands alike but for a Start's interface, 0 or 1, and for a First's CVM and cashback, which may be any
 pub data AlikeCommands : Message → Message → Type 0 where
-  starts : (chosen : Selection) (i j : ℕ) → i ≤ 1 → j ≤ 1
+  starts : (chosen : Option Selected) (i j : ℕ) → i ≤ 1 → j ≤ 1
       → AlikeCommands (StartCommand (record { interface = i; chosen = chosen })) (StartCommand (record { interface = j; chosen = chosen }))
   firsts : (first : First) (cvm : Cvm) (cashback : Bool) → AlikeCommands (FirstCommand first) (FirstCommand (first_with cvm cashback first))
   seconds : (second : Second) → AlikeCommands (SecondCommand second) (SecondCommand second)

@@ -1,7 +1,7 @@
 -- What an auditor reads off the conversation with the set-up in hand, and no card: the ledger of one accumulator, counter or cyclic
 -- accumulator. Each offset and each rule is spelled from document 01 ("The paper", "First: the answer", "Second: the answer", "Numbers")
 -- and requests Five, dates by the almanac, Twelve and Thirteen; nothing here knows of a card's state, of its step or of the rules that it decoded.
-use Rattle.std.specs.Prelude.{ℕ, zero, suc, ◌+◌, ◌-◌, ◌*◌, ◌/◌, ◌%◌, ◌^◌, Bool, true, false, cond, not, ◌&&◌, List, [], ◌∷◌, ◌++◌, ltb, eqb, length}
+use Rattle.std.specs.Prelude.{ℕ, zero, suc, ◌+◌, ◌-◌, ◌*◌, ◌/◌, ◌%◌, ◌^◌, Bool, true, false, cond, not, ◌&&◌, List, [], ◌∷◌, ◌++◌, ltb, eqb, length, None, Option, Some}
 use Rattle.calendar.specs.declared.Date.{Date}
 use Rattle.calendar.specs.declared.Period.{Period}
 use Rattle.calendar.specs.declared.Period.TheVariants.{Day, Week, Month}
@@ -9,8 +9,6 @@ use Rattle.calendar.specs.Almanac.{civil_of, ordinal, is_new}
 use Rattle.cpace.specs.declared.Cvm.{Cvm}
 use Rattle.cpace.specs.declared.Cvm.TheVariants.{OnlinePin, Signature, NoCvm}
 use Rattle.selection.specs.Selection.{profile_of}
-use Rattle.command.specs.declared.When.{When}
-use Rattle.command.specs.declared.When.TheVariants.{Undated as NoDate, On}
 use Rattle.command.specs.declared.First.{First}
 use Rattle.element.specs.declared.Write.{Write}
 use Rattle.element.specs.declared.Write.TheVariants.{Value, AccumulatorLimits, CounterLimits}
@@ -174,9 +172,9 @@ named (exchange ∷ older) = named_by exchange.command exchange.answer (named ol
 abbrev pub is_late : (last date : Date) → Bool
 is_late last date = ltb (ordinal (civil_of date)) (ordinal (civil_of last))
 
-abbrev pub timed : (last : Date) → When → Timing
-timed last NoDate = Undated
-timed last (On date) = cond (is_late last date) (DateError date) InOrder
+abbrev pub timed : (last : Date) → Option Date → Timing
+timed last None = Undated
+timed last (Some date) = cond (is_late last date) (DateError date) InOrder
 
 -- the purchase that a First brings, after the last date
 abbrev pub brought : (last : Date) → First → Purchase
@@ -240,9 +238,9 @@ is_aac Done = false
 
 -- the last date: that of an accepted First without a date error; and where there was one, that of its transaction, if a Second answers TC
 -- with another code than Y3 or Z3 (Annex I's recovery)
-abbrev pub latest : (last : Date) → When → Date
-latest last NoDate = last
-latest last (On date) = cond (is_late last date) last date
+abbrev pub latest : (last : Date) → Option Date → Date
+latest last None = last
+latest last (Some date) = cond (is_late last date) last date
 
 abbrev pub recovered : Timing → (last : Date) → Date
 recovered Undated last = last
@@ -337,11 +335,11 @@ abbrev pub period_of : Setup → (i : ℕ) → Period
 period_of setup i = cond (eqb (tail_byte setup (14 + 12 * i)) 1) Day (cond (eqb (tail_byte setup (14 + 12 * i)) 2) Week Month)
 
 -- a First's date begins its cycle if that began after the last date; the amount is then zero, active or not
-abbrev pub begins_on : Setup → (i : ℕ) → (last : Date) → When → Bool
-begins_on setup i last NoDate = false
-begins_on setup i last (On date) = is_new (period_of setup i) (tail_byte setup (15 + 12 * i)) (civil_of last) (civil_of date)
+abbrev pub begins_on : Setup → (i : ℕ) → (last : Date) → Option Date → Bool
+begins_on setup i last None = false
+begins_on setup i last (Some date) = is_new (period_of setup i) (tail_byte setup (15 + 12 * i)) (civil_of last) (civil_of date)
 
-abbrev pub begun : Setup → (last : Date) → When → Meter → List Entry
+abbrev pub begun : Setup → (last : Date) → Option Date → Meter → List Entry
 begun setup last when (accumulator i) = []
 begun setup last when (counter i) = []
 begun setup last when (cyclic i) = cond (begins_on setup i last when) (put 0 ∷ []) []

@@ -1,11 +1,9 @@
 -- The sitting that document 01 prints in full ("A sitting in full"): its set-up's body, its commands and its lines.
-use Rattle.std.specs.Prelude.{ℕ, List, [], ◌∷◌, ◌++◌, replicate, false}
+use Rattle.std.specs.Prelude.{ℕ, List, [], ◌∷◌, ◌++◌, replicate, false, None, Some}
 use Rattle.cpace.specs.declared.Cvm.TheVariants.{NoCvm}
 use Rattle.refusal.specs.Refusal.{refusal_number}
 use Rattle.iad.specs.Iad.{iad_bytes}
-use Rattle.command.specs.declared.When.TheVariants.{Undated}
 use Rattle.card.specs.Message.{Message, StartCommand, FirstCommand, SecondCommand}
-use Rattle.selection.specs.declared.Selection.TheVariants.{Selected}
 use Rattle.state.specs.declared.Answer.{Answer}
 use Rattle.state.specs.declared.Answer.TheVariants.{Refused, Started, Given, Done}
 use Rattle.state.specs.State.{cid_of}
@@ -34,7 +32,7 @@ unfoldable pub body : List ℕ
 body = head ++ profile_head ++ accumulators ++ counters
 
 abbrev pub start : Message
-start = StartCommand (record { interface = 0; chosen = Selected 1 0 })
+start = StartCommand (record { interface = 0; chosen = Some (record { profile = 1; visits = 0 }) })
 
 -- TC requested, in 0978, terminal 22 hex
 abbrev pub first : ℕ → Message
@@ -44,7 +42,7 @@ first amount =
       currency = 0x0978;
       requested = 1;
       terminal = 0x22;
-      when = Undated;
+      when = None;
       cvm = NoCvm;
       cashback = false;
     })

@@ -1,14 +1,10 @@
 -- Document 01's table of refusal numbers, with document 02's 12, 13, 18, 19 and 6 of a Start or a script, row by row, for the four commands: when a number applies, by which profiles
 -- are known, the ATC and what is due.
-use Rattle.std.specs.Prelude.{◌≡◌, cond, List, ℕ, ◌+◌, ◌*◌, ◌≤◌, ◌<◌, eqb, get_or}
+use Rattle.std.specs.Prelude.{◌≡◌, cond, List, ℕ, ◌+◌, ◌*◌, ◌≤◌, ◌<◌, eqb, get_or, None, Option, Some}
 use Rattle.calendar.specs.Almanac.{date_after}
 use Rattle.ranges.proofs.Accepted.{Currency}
 use Rattle.rules.specs.Rules.{Rules, blank_profile}
-use Rattle.selection.specs.declared.Selection.{Selection}
-use Rattle.selection.specs.declared.Selection.TheVariants.{Selected, NotSelected}
 use Rattle.selection.specs.Selection.{profile_of}
-use Rattle.command.specs.declared.When.{When}
-use Rattle.command.specs.declared.When.TheVariants.{Undated, On}
 use Rattle.command.specs.declared.Start.{Start}
 use Rattle.command.specs.declared.First.{First}
 use Rattle.command.specs.declared.Second.{Second}
@@ -16,6 +12,8 @@ use Rattle.trees.specs.Tree.{TemplateFault}
 use Rattle.card.specs.Message.{Message, StartCommand, FirstCommand, SecondCommand, ScriptCommand}
 use Rattle.demands.specs.Setup.{Setup, byte_at}
 use Rattle.demands.specs.Due.{Due, nothing, a_first, a_second}
+use Rattle.calendar.specs.declared.Date.{Date}
+use Rattle.selection.specs.declared.Selected.{Selected}
 
 -- a profile of this number is in the set-up: one of its p profiles, each of 107 bytes behind the first 52, has it as its first byte
 pub record InSetup (setup : Setup) (number : ℕ) : Type 0 where
@@ -48,9 +46,9 @@ IsFirst a_first = Unit
 IsFirst a_second = ⊥
 
 -- no profile was selected
-abbrev pub Unselected : Selection → Type 0
-Unselected (Selected profile visits) = ⊥
-Unselected NotSelected = Unit
+abbrev pub Unselected : Option Selected → Type 0
+Unselected (Some chosen) = ⊥
+Unselected None = Unit
 
 pub data StartRow (Known : ℕ → Type 0) (atc : ℕ) (start : Start) (n : ℕ) : Type 0 where
   no_interface : n ≡ 6 → 1 < start.interface → StartRow Known atc start n
@@ -59,9 +57,9 @@ pub data StartRow (Known : ℕ → Type 0) (atc : ℕ) (start : Start) (n : ℕ)
   used_up : n ≡ 4 → atc ≡ 65535 → StartRow Known atc start n
 
 -- a date that is none of the 36,525 days from 1 January 2000 to 31 December 2099
-abbrev pub NoDay : When → Type 0
-NoDay Undated = ⊥
-NoDay (On date) = (n : ℕ) → n < 36525 → date ≡ date_after n → ⊥
+abbrev pub NoDay : Option Date → Type 0
+NoDay None = ⊥
+NoDay (Some date) = (n : ℕ) → n < 36525 → date ≡ date_after n → ⊥
 
 pub data FirstRow (due : Due) (first : First) (n : ℕ) : Type 0 where
   no_start : n ≡ 2 → NoStart due → FirstRow due first n

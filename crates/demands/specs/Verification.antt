@@ -1,8 +1,7 @@
 -- The CVR bit by bit, each with its cause, and what else an answer sends (document 01, "CVR and IAD").
-use Rattle.std.specs.Prelude.{◌≡◌, ℕ, zero, suc, ◌+◌, ◌/◌, ◌%◌, Bool, true, false, cond, not, ◌&&◌, ◌||◌, List, ◌∷◌, eqb}
+use Rattle.std.specs.Prelude.{◌≡◌, ℕ, zero, suc, ◌+◌, ◌/◌, ◌%◌, Bool, true, false, cond, not, ◌&&◌, ◌||◌, List, ◌∷◌, eqb, Some}
 use Rattle.iad.specs.declared.Cvr.{Cvr}
 use Rattle.iad.specs.declared.Iad.{Iad}
-use Rattle.selection.specs.declared.Selection.TheVariants.{Selected}
 use Rattle.selection.specs.Selection.{profile_of}
 use Rattle.command.specs.declared.Start.{Start}
 use Rattle.command.specs.declared.First.{First}
@@ -137,7 +136,7 @@ pub record SecondGives (setup : Setup) (before after : List Exchange) (second : 
 -- WHAT AN ACCEPTED START SAYS: the ATC, 1 more than before; the profile was named or selected, and is in the set-up; the entries visited
 pub record StartGives (setup : Setup) (before : List Exchange) (start : Start) (atc visits : ℕ) : Type 0 where
   pub counts : atc ≡ atc_by setup before + 1
-  pub chose : start.chosen ≡ Selected (profile_of start.chosen) visits
+  pub chose : start.chosen ≡ Some (record { profile = profile_of start.chosen; visits = visits })
   pub known : InSetup (in_force setup before) (profile_of start.chosen)
 
 -- WHAT AN OUTCOME GIVES

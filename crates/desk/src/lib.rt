@@ -5,7 +5,6 @@
 ghost use Rattle.std.specs.Prelude.{◌+◌, ◌≤◌, length};
 
 use blocks::{Turned, Wants};
-use paper_room::Transcript;
 use rules::Words;
 use std::rt::Files;
 use streams::{Ending, Read};
@@ -17,7 +16,7 @@ fn sit(rt: &(impl Input + Print), buffer: &mut [u8], words: &mut Words, room: &m
         return Ending::NotRead;
     }
     let filled = read.filled;
-    let Transcript::Whole { end } = paper_text::put_text(&buffer[..filled], words, room, 0) else {
+    let Some(end) = paper_text::put_text(&buffer[..filled], words, room, 0) else {
         return Ending::NotWritten;
     };
     if streams::write_out(rt, room, end) {
@@ -63,7 +62,7 @@ fn turn(
 
 // The stack has ended with so many bytes at hand.
 fn close(rt: &impl Print, left: usize, skip: usize, room: &mut [u8], to: usize) -> Ending {
-    let Transcript::Whole { end } = blocks::finish(left, skip, room, to) else {
+    let Some(end) = blocks::finish(left, skip, room, to) else {
         return Ending::NotWritten;
     };
     if !streams::write_out(rt, room, end) {

@@ -4,32 +4,32 @@
 ghost use Rattle.std.specs.Prelude.{◌≡◌, ◌+◌, ◌≤◌, length};
 ghost use Rattle.shape.specs.Shape.{base_tail, entries_end, selection_tail, syllabus_tail};
 
-use shape::{Dating, Family, Logging, Selecting, Shape, Tails};
+use shape::{Family, SelectionFile, Shape, Span, Tails};
 
 // The first mask bit without a name, up to version 03.
 const UNNAMED: u32 = 4_194_304;
 
 // The base, which is whole.
-pub fn read_base(body: &[u8]) -> Tails
+pub fn read_base(body: &[u8]) -> Option<Tails>
     ensures { result ≡ base_tail body.now }
 {
     let base = layout::base_length(body);
     if body.len() < base {
-        return Tails::Wrong;
+        return None;
     }
-    Tails::Ended {
+    Some(Tails {
         shape: Shape {
             base,
-            selecting: Selecting::Off,
+            selecting: None,
             syllabus: 0,
-            dating: Dating::Off,
+            dating: None,
             family: Family::Cpa,
             scripting: false,
-            logging: Logging::Off,
+            logging: None,
             unnamed: UNNAMED,
         },
         at: base,
-    }
+    })
 }
 
 // Where so many entries from a place on end. An entry that is cut short ends past the body.
@@ -45,36 +45,36 @@ fn entries_end(body: &[u8], at: usize, entries: u8) -> usize
 }
 
 // Version 02's tail at a place: the switch; where it is on, the number of entries and the entries.
-pub fn read_selection(body: &[u8], shape: Shape, at: usize) -> Tails
+pub fn read_selection(body: &[u8], shape: Shape, at: usize) -> Option<Tails>
     ensures { result ≡ selection_tail body.now shape at }
 {
     if body.len() <= at {
-        return Tails::Wrong;
+        return None;
     }
     let switch = wire::byte_at(body, at);
     if switch == 0 {
-        return Tails::Ended { shape, at: at + 1 };
+        return Some(Tails { shape, at: at + 1 });
     }
     if 1 < switch {
-        return Tails::Wrong;
+        return None;
     }
     let start = at + 2;
     let entries = wire::byte_at(body, at + 1);
     let end = entries_end(body, start, entries);
     if body.len() < end {
-        return Tails::Wrong;
+        return None;
     }
     let dating = shape.dating;
     let family = shape.family;
     let logging = shape.logging;
-    Tails::Ended {
+    Some(Tails {
         shape: Shape {
             base: shape.base,
-            selecting: Selecting::On {
+            selecting: Some(SelectionFile {
                 start,
                 end,
                 entries,
-            },
+            }),
             syllabus: shape.syllabus,
             dating,
             family,
@@ -83,25 +83,25 @@ pub fn read_selection(body: &[u8], shape: Shape, at: usize) -> Tails
             unnamed: shape.unnamed,
         },
         at: end,
-    }
+    })
 }
 
 // Version 03's tail at a place: the syllabus, 0 or 1.
-pub fn read_syllabus(body: &[u8], shape: Shape, at: usize) -> Tails
+pub fn read_syllabus(body: &[u8], shape: Shape, at: usize) -> Option<Tails>
     ensures { result ≡ syllabus_tail body.now shape at }
 {
     if body.len() <= at {
-        return Tails::Wrong;
+        return None;
     }
     let syllabus = wire::byte_at(body, at);
     if 1 < syllabus {
-        return Tails::Wrong;
+        return None;
     }
     let selecting = shape.selecting;
     let dating = shape.dating;
     let family = shape.family;
     let logging = shape.logging;
-    Tails::Ended {
+    Some(Tails {
         shape: Shape {
             base: shape.base,
             selecting,
@@ -113,5 +113,5 @@ pub fn read_syllabus(body: &[u8], shape: Shape, at: usize) -> Tails
             unnamed: shape.unnamed,
         },
         at: at + 1,
-    }
+    })
 }

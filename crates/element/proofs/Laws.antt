@@ -11,8 +11,8 @@ use borrow.Author.Tests.{ltb-true, ltb-false, leb-true}
 use Rattle.wire.specs.Wire.{byte, number}
 use Rattle.wire.proofs.Pairs.{both}
 use Rattle.element.specs.declared.Write.{Write}
-use Rattle.element.specs.declared.Meaning.TheVariants.{Writes, Fails}
 use Rattle.element.specs.Element.{as_meaning, is_length, length_size, length_at, is_one_of, meaning_of, head_size, element_size, element_meaning}
+use Rattle.std.specs.Prelude.{None, Some}
 
 -- ---- a part of a list
 -- the part from a to e, by the size that it has
@@ -52,11 +52,11 @@ unfolding element_size
 element-some s = omega (arith, head-some s)
 
 -- what the code's answer says of a meaning
-pub meant : (m : Option Write) (w : Write) → as_meaning m ≡ Writes w → m ≡ some w
+pub meant : (m : Option Write) (w : Write) → as_meaning m ≡ Some w → m ≡ some w
 meant (some v) w e = let same : v ≡ w = cc in ap some same
 meant none w e = let z : ◌≡◌ {A = ℕ} 0 1 = cc in absurd (omega arith)
 
-pub fails : (m : Option Write) → as_meaning m ≡ Fails → m ≡ none
+pub fails : (m : Option Write) → as_meaning m ≡ None → m ≡ none
 fails (some v) e = let z : ◌≡◌ {A = ℕ} 0 1 = cc in absurd (omega arith)
 fails none e = refl
 

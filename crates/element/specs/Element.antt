@@ -1,13 +1,11 @@
 -- One element of a PUT DATA command's list, and what it writes (request Twelve; CPA 18.8, Tables 18-6 and J-1).
-use Rattle.std.specs.Prelude.{Bool, cond, ◌&&◌, ◌||◌, List, ℕ, ◌+◌, ◌-◌, length, take, drop, ltb, leb, eqb}
+use Rattle.std.specs.Prelude.{Bool, cond, ◌&&◌, ◌||◌, List, ℕ, ◌+◌, ◌-◌, length, take, drop, ltb, leb, eqb, None, Some}
 use Rattle.std.proofs.Math.Option.{Option, none, some}
 use Rattle.wire.specs.Wire.{byte, number}
 use Rattle.money.specs.declared.AccumulatorAmount.{AccumulatorAmount}
 use Rattle.digits.specs.Digits.{are_pairs, pairs_value}
 use Rattle.element.specs.declared.Write.{Write}
 use Rattle.element.specs.declared.Write.TheVariants.{Value, AccumulatorLimits, CounterLimits}
-use Rattle.element.specs.declared.Meaning.{Meaning}
-use Rattle.element.specs.declared.Meaning.TheVariants.{Writes, Fails}
 
 -- A LENGTH: one byte, 00 to 7F, or 81 and one byte
 abbrev pub is_length : (lead : ℕ) → Bool
@@ -63,6 +61,6 @@ element_meaning object s =
     none
 
 -- AS THE CODE ANSWERS IT: what an element comes to
-abbrev pub as_meaning : Option Write → Meaning
-as_meaning (some w) = Writes w
-as_meaning none = Fails
+abbrev pub as_meaning : Option Write → Option Write
+as_meaning (some w) = Some w
+as_meaning none = None

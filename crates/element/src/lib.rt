@@ -34,13 +34,6 @@ pub enum Write {
     },
 }
 
-// What an element comes to.
-#[derive(Drop)]
-pub enum Meaning {
-    Writes(Write),
-    Fails,
-}
-
 // A length is one byte, 00 to 7F, or 81 and one byte.
 pub fn is_length(lead: u8) -> bool
     ensures { result ≡ is_length lead }
@@ -67,44 +60,44 @@ pub fn length_at(s: &[u8], at: usize) -> usize
 }
 
 // Six bytes: an accumulator's value.
-pub fn value_written(slot: usize, value: &[u8]) -> Meaning
+pub fn value_written(slot: usize, value: &[u8]) -> Option<Write>
     ensures { result ≡ as_meaning (value_written slot value.now) }
 {
     if (value.len() == 6) & are_pairs(value, 0) {
-        return Meaning::Writes(Write::Value {
+        return Some(Write::Value {
             slot,
             amount: AccumulatorAmount(pairs_value(value, 0)),
         });
     }
-    Meaning::Fails
+    None
 }
 
 // Twelve bytes: an accumulator's lower limit and its upper.
-pub fn limits_written(slot: usize, value: &[u8]) -> Meaning
+pub fn limits_written(slot: usize, value: &[u8]) -> Option<Write>
     ensures { result ≡ as_meaning (limits_written slot value.now) }
 {
     if (value.len() == 12) & are_pairs(value, 0) & are_pairs(value, 6) {
-        return Meaning::Writes(Write::AccumulatorLimits {
+        return Some(Write::AccumulatorLimits {
             slot,
             lower: AccumulatorAmount(pairs_value(value, 0)),
             upper: AccumulatorAmount(pairs_value(value, 6)),
         });
     }
-    Meaning::Fails
+    None
 }
 
 // Two bytes: a counter's lower limit and its upper.
-pub fn counts_written(slot: usize, value: &[u8]) -> Meaning
+pub fn counts_written(slot: usize, value: &[u8]) -> Option<Write>
     ensures { result ≡ as_meaning (counts_written slot value.now) }
 {
     if value.len() == 2 {
-        return Meaning::Writes(Write::CounterLimits {
+        return Some(Write::CounterLimits {
             slot,
             lower: value[0],
             upper: value[1],
         });
     }
-    Meaning::Fails
+    None
 }
 
 // How many bytes an element's tag, of two, and its length take. The list begins with it.

@@ -12,9 +12,9 @@ use borrow.Author.Tests.{lt-ltb, le-ltb, ne_eqb, leb-true}
 use Rattle.wire.specs.Wire.{byte, number}
 use Rattle.wire.proofs.Pairs.{both}
 use Rattle.wire.proofs.Numbers.{halves, one}
-use Rattle.head.specs.declared.Head.{Head}
-use Rattle.head.specs.declared.Head.TheVariants.{Right, Wrong}
 use Rattle.head.specs.Head.{tag_size, tag_right, lead, length_right, length_size, length_at, value_size, head_size, object_size, head_formed, head_right, head_within, head_behind, head_of}
+use Rattle.std.specs.Prelude.{None, Option, Some}
+use Rattle.head.specs.declared.Head.{Head}
 
 -- ---- parts of a list
 pub rest_all : (s : List ℕ) (k : ℕ) → take (length s - k) (drop k s) ≡ drop k s
@@ -51,28 +51,28 @@ pub record IsRight (s : List ℕ) (m n : ℕ) : Type 0 where
   pub size : m ≡ head_size s
   pub value : n ≡ value_size s
 
-no_head : (m n : ℕ) → Wrong ≡ Right m n → ⊥
+no_head : (m n : ℕ) → None ≡ Some (record { size = m; length = n }) → ⊥
 no_head m n e = let z : ◌≡◌ {A = ℕ} 0 1 = cc in omega arith
 
-pub is_right : (s : List ℕ) (m n : ℕ) → head_of s ≡ Right m n → IsRight s m n
+pub is_right : (s : List ℕ) (m n : ℕ) → head_of s ≡ Some (record { size = m; length = n }) → IsRight s m n
 unfolding head_of
 is_right s m n e = go (head_right s) refl
   where
-    sizes : (x y : ℕ) → Right x y ≡ Right m n → (m ≡ x) × (n ≡ y)
+    sizes : (x y : ℕ) → (Some (record { size = x; length = y })) ≡ Some (record { size = m; length = n }) → (m ≡ x) × (n ≡ y)
     sizes x y h = (cc, cc)
 
     go : (t : Bool) → head_right s ≡ t → IsRight s m n
     go true t =
-        let h = sizes (head_size s) (value_size s) (sym (ap (λ (b : Bool). cond b (Right (head_size s) (value_size s)) Wrong) t) ∙ e) in
+        let h = sizes (head_size s) (value_size s) (sym (ap (λ (b : Bool). cond b (Some (record { size = head_size s; length = value_size s })) None) t) ∙ e) in
         record { right = t; size = h.0; value = h.1 }
-    go false t = absurd (no_head m n (sym (ap (λ (b : Bool). cond b (Right (head_size s) (value_size s)) Wrong) t) ∙ e))
+    go false t = absurd (no_head m n (sym (ap (λ (b : Bool). cond b (Some (record { size = head_size s; length = value_size s })) None) t) ∙ e))
 
-pub is_wrong : (s : List ℕ) → head_of s ≡ Wrong → head_right s ≡ false
+pub is_wrong : (s : List ℕ) → head_of s ≡ None → head_right s ≡ false
 unfolding head_of
 is_wrong s e = go (head_right s) refl
   where
     go : (t : Bool) → head_right s ≡ t → head_right s ≡ false
-    go true t = absurd (no_head (head_size s) (value_size s) (sym e ∙ ap (λ (b : Bool). cond b (Right (head_size s) (value_size s)) Wrong) t))
+    go true t = absurd (no_head (head_size s) (value_size s) (sym e ∙ ap (λ (b : Bool). cond b (Some (record { size = head_size s; length = value_size s })) None) t))
     go false t = t
 
 -- an object at a place, whose head was read of the rest of the bytes
@@ -81,7 +81,7 @@ pub record At (s : List ℕ) (at m n : ℕ) : Type 0 where
   pub some : 1 ≤ m
   pub within : at + (m + n) ≤ length s
 
-pub right_at : (s : List ℕ) (at m n : ℕ) (h : Head) → at < length s → h ≡ head_of (take (length s - at) (drop at s)) → h ≡ Right m n → At s at m n
+pub right_at : (s : List ℕ) (at m n : ℕ) (h : Option Head) → at < length s → h ≡ head_of (take (length s - at) (drop at s)) → h ≡ Some (record { size = m; length = n }) → At s at m n
 right_at s at m n h l e r =
     let i = is_right (drop at s) m n (ap head_of (sym (rest_all s at)) ∙ sym e ∙ r) in
     let d = length-drop at s in
@@ -91,11 +91,11 @@ right_at s at m n h l e r =
     let o = head-some (drop at s) in
     record { head = i; some = omega arith; within = omega arith }
 
-pub wrong_at : (s : List ℕ) (at : ℕ) (h : Head) → h ≡ head_of (take (length s - at) (drop at s)) → h ≡ Wrong → head_right (drop at s) ≡ false
+pub wrong_at : (s : List ℕ) (at : ℕ) (h : Option Head) → h ≡ head_of (take (length s - at) (drop at s)) → h ≡ None → head_right (drop at s) ≡ false
 wrong_at s at h e w = is_wrong (drop at s) (ap head_of (sym (rest_all s at)) ∙ sym e ∙ w)
 
 -- ---- the ways through a head
-pub tag_wrong : (s : List ℕ) → tag_right s ≡ false → head_of s ≡ Wrong
+pub tag_wrong : (s : List ℕ) → tag_right s ≡ false → head_of s ≡ None
 unfolding head_of head_right head_formed
 tag_wrong s e = simp (e)
 
@@ -129,5 +129,5 @@ module _ (s : List ℕ) (t : ℕ) where
       let n = ap (λ i. byte s (t + 1) * 256 + byte s i) k ∙ halves 1 s (t + 1) (byte s (t + 1)) (byte s (t + 1 + 1)) (sym (one s (t + 1))) (sym (one s (t + 1 + 1))) in
       formed 3 (number s (t + 1) 2) (ap length_right e) (simp (e)) (simp (e) n)
 
-  pub other_length : (byte s t < 0x80 → ⊥) → (byte s t ≡ 0x81 → ⊥) → (byte s t ≡ 0x82 → ⊥) → head_behind s t ≡ Wrong
+  pub other_length : (byte s t < 0x80 → ⊥) → (byte s t ≡ 0x81 → ⊥) → (byte s t ≡ 0x82 → ⊥) → head_behind s t ≡ None
   other_length h x y = simp (le-ltb (byte s t) 0x80 (omega arith), ne_eqb (byte s t) 0x81 x, ne_eqb (byte s t) 0x82 y)

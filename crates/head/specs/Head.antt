@@ -1,8 +1,6 @@
 -- The head of the object with which s begins (EMV Book 3 Annex B): its tag and its length.
-use Rattle.std.specs.Prelude.{ℕ, ◌+◌, ◌*◌, ◌/◌, ◌%◌, List, Bool, ◌&&◌, ◌||◌, not, cond, length, ltb, leb, eqb}
+use Rattle.std.specs.Prelude.{ℕ, ◌+◌, ◌*◌, ◌/◌, ◌%◌, List, Bool, ◌&&◌, ◌||◌, not, cond, length, ltb, leb, eqb, None, Option, Some}
 use Rattle.wire.specs.Wire.{byte}
-use Rattle.head.specs.declared.Head.{Head}
-use Rattle.head.specs.declared.Head.TheVariants.{Right, Wrong}
 
 -- the tag: two bytes where the low five bits of the first are all ones, else one
 abbrev pub tag_size : List ℕ → ℕ
@@ -44,15 +42,15 @@ head_formed s = tag_right s && length_right (lead s)
 unfoldable pub head_right : List ℕ → Bool
 head_right s = head_formed s && leb (object_size s) (length s)
 
-unfoldable pub head_of : List ℕ → Head
-head_of s = cond (head_right s) (Right (head_size s) (value_size s)) Wrong
+unfoldable pub head_of : List ℕ → Option Head
+head_of s = cond (head_right s) (Some (record { size = head_size s; length = value_size s })) None
 
 -- the same of a head by its two sizes, and of one whose tag is right and whose length stands at a place
-abbrev pub head_within : List ℕ → (size length : ℕ) → Head
-head_within s m n = cond (leb (m + n) (length s)) (Right m n) Wrong
+abbrev pub head_within : List ℕ → (size length : ℕ) → Option Head
+head_within s m n = cond (leb (m + n) (length s)) (Some (record { size = m; length = n })) None
 
-abbrev pub head_behind : List ℕ → (at : ℕ) → Head
-head_behind s at = cond (length_right (byte s at)) (head_within s (at + length_size (byte s at)) (length_at s at)) Wrong
+abbrev pub head_behind : List ℕ → (at : ℕ) → Option Head
+head_behind s at = cond (length_right (byte s at)) (head_within s (at + length_size (byte s at)) (length_at s at)) None
 
 -- bit 6 of a tag's first byte
 abbrev pub is_constructed : ℕ → Bool

@@ -7,10 +7,10 @@ ghost use Rattle.head.specs.Head.{is_constructed, head_within, head_behind, head
 use wire::{byte_at, u16_at};
 
 // How many bytes the head has, and how many the value.
-#[derive(Drop)]
-pub enum Head {
-    Right { size: usize, length: usize },
-    Wrong,
+#[derive(Clone, Copy)]
+pub struct Head {
+    pub size: usize,
+    pub length: usize,
 }
 
 // Bit 6 of a tag's first byte.
@@ -21,19 +21,19 @@ pub fn is_constructed(tag: u8) -> bool
 }
 
 // The value ends within the bytes.
-fn head_within(s: &[u8], size: usize, length: usize) -> Head
+fn head_within(s: &[u8], size: usize, length: usize) -> Option<Head>
     requires { size + length ≤ 65_540 }
     ensures { result ≡ head_within s.now size length }
 {
     if s.len() < size + length {
-        return Head::Wrong;
+        return None;
     }
-    Head::Right { size, length }
+    Some(Head { size, length })
 }
 
 // The head whose length stands at a place, behind a tag of one byte or two. A length is 00 to 7F, or
 // 81 and one byte, or 82 and two.
-fn read_length(s: &[u8], at: usize) -> Head
+fn read_length(s: &[u8], at: usize) -> Option<Head>
     requires { at ≤ 2 }
     ensures { result ≡ head_behind s.now at }
 {
@@ -47,19 +47,19 @@ fn read_length(s: &[u8], at: usize) -> Head
     if lead == 0x82 {
         return head_within(s, at + 3, u16_at(s, at + 1) as usize);
     }
-    Head::Wrong
+    None
 }
 
 // The head of the object with which the bytes begin. A tag has a second byte where the low five bits
 // of its first are all ones; a second byte of 80 or more would announce a third.
-pub fn read_head(s: &[u8]) -> Head
+pub fn read_head(s: &[u8]) -> Option<Head>
     ensures { result ≡ head_of s.now }
 {
     if byte_at(s, 0) % 32 != 31 {
         return read_length(s, 1);
     }
     if 0x80 <= byte_at(s, 1) {
-        return Head::Wrong;
+        return None;
     }
     read_length(s, 2)
 }

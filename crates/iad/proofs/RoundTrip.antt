@@ -15,11 +15,10 @@ use Rattle.refusal.specs.declared.Refusal.TheVariants.{OutOfRange, RoomTooSmall,
 use Rattle.wire.specs.Wire.{byte, number}
 use Rattle.wire.proofs.Pairs.{both, pair-value, pair_is}
 use Rattle.iad.specs.declared.Iad.{Iad}
-use Rattle.iad.specs.declared.ReadIad.TheVariants.{Fields, Refused as ReadRefused}
-use Rattle.iad.specs.declared.Written.TheVariants.{Done, Refused as WriteRefused}
 use Rattle.iad.specs.Iad.{iad_bytes, pairs_of, cvr_of, pairs_value, iad_of, are_zeros, has_fixed_bytes, is_cvr, are_pairs, is_profile, is_iad, read_iad}
 use Rattle.iad.specs.Iad.{is_writable, write_iad, written, read_number, written_number}
 use Rattle.iad.proofs.Runs.{run, run_take, zeros-run, pairs-run, pairs_below}
+use Rattle.std.specs.Prelude.{Err, Ok}
 
 -- what is written is read
 
@@ -50,7 +49,7 @@ module _ (iad : Iad) where
   unfolding is_writable
   writable = rw refusable (and_assoc (leb iad.accumulator.0 max) (is_cvr iad.cvr) (is_profile iad.profile))
 
-  pub there : is_writable iad ≡ true → read_iad (iad_bytes iad) ≡ Fields iad
+  pub there : is_writable iad ≡ true → read_iad (iad_bytes iad) ≡ Ok iad
   unfolding read_iad
   there e =
       let (small, readable) = both (leb iad.accumulator.0 max) (is_iad (iad_bytes iad)) (sym writable ∙ e) in
@@ -109,7 +108,7 @@ module _ (s : List ℕ) (e : is_iad s ≡ true) where
 pub read_number_lem : (s : List ℕ) → read_number (read_iad s) ≡ cond (is_iad s) 0 8
 unfolding read_iad
 read_number_lem s = by (is_iad s) where
-  by : (b : Bool) → read_number (cond b (Fields (iad_of s)) (ReadRefused NotAnIad)) ≡ cond b 0 8
+  by : (b : Bool) → read_number (cond b (Ok (iad_of s)) (Err NotAnIad)) ≡ cond b 0 8
   by true = refl
   by false = refl
 
@@ -119,11 +118,11 @@ accepted s e = by (is_iad s) 0 (sym (read_number_lem s) ∙ e) where
   by true n e = refl
   by false n e = let z : ⊥ = omega arith in absurd z
 
-pub back : (s : List ℕ) (iad : Iad) → read_iad s ≡ Fields iad → (iad_bytes iad ≡ s) × (is_writable iad ≡ true)
+pub back : (s : List ℕ) (iad : Iad) → read_iad s ≡ Ok iad → (iad_bytes iad ≡ s) × (is_writable iad ≡ true)
 unfolding read_iad
 back s iad e =
     let t = accepted s (ap read_number e) in
-    let f : read_iad s ≡ Fields (iad_of s) = rw t in
+    let f : read_iad s ≡ Ok (iad_of s) = rw t in
     let g : iad_of s ≡ iad = cc in
     rw (← g) (same_bytes s t, good-fields s t)
 
@@ -141,21 +140,21 @@ module _ (iad : Iad) (room : List ℕ) where
   unfolding write_iad
   write_number = by (is_writable iad) (ltb (length room) 32) where
     by : (good small : Bool)
-        → written_number (cond (not good) (WriteRefused OutOfRange) (cond small (WriteRefused RoomTooSmall) Done))
+        → written_number (cond (not good) (Err OutOfRange) (cond small (Err RoomTooSmall) (Ok tt)))
         ≡ cond (not good) 6 (cond small 7 0)
     by true true = refl
     by true false = refl
     by false small = refl
 
-  done : write_iad iad room ≡ Done → is_writable iad ≡ true
+  done : write_iad iad room ≡ Ok tt → is_writable iad ≡ true
   done e = by (is_writable iad) (cond (ltb (length room) 32) 7 0) (sym write_number ∙ ap written_number e) where
     by : (b : Bool) (n : ℕ) → cond (not b) 6 n ≡ 0 → b ≡ true
     by true n e = refl
     by false n e = let z : ⊥ = omega arith in absurd z
 
   -- a write that is done is read back from the first 32 bytes and changes no other; a refused one changes none
-  pub whole : (write_iad iad room ≡ Done → (read_iad (take 32 (written iad room)) ≡ Fields iad) × (drop 32 (written iad room) ≡ drop 32 room))
-      × ((refusal : Refusal) → write_iad iad room ≡ WriteRefused refusal → written iad room ≡ room)
+  pub whole : (write_iad iad room ≡ Ok tt → (read_iad (take 32 (written iad room)) ≡ Ok iad) × (drop 32 (written iad room) ≡ drop 32 room))
+      × ((refusal : Refusal) → write_iad iad room ≡ Err refusal → written iad room ≡ room)
   unfolding written
   whole =
       let rest = drop 32 room in (

@@ -1,15 +1,12 @@
 -- The Issuer Application Data, what it is read as, and what writing it answers and leaves (document 01, "CVR and IAD").
-use Rattle.std.specs.Prelude.{ℕ, zero, suc, ◌+◌, ◌*◌, ◌/◌, ◌%◌, Bool, true, not, cond, ◌&&◌, List, [], ◌∷◌, ◌++◌, length, drop, replicate, leb, ltb, eqb}
+use Rattle.std.specs.Prelude.{ℕ, zero, suc, ◌+◌, ◌*◌, ◌/◌, ◌%◌, Bool, true, not, cond, ◌&&◌, List, [], ◌∷◌, ◌++◌, length, drop, replicate, leb, ltb, eqb, Err, Ok, Result}
 use Rattle.money.specs.Money.{max}
 use Rattle.refusal.specs.Refusal.{refusal_number}
 use Rattle.refusal.specs.declared.Refusal.TheVariants.{OutOfRange, RoomTooSmall, NotAnIad}
 use Rattle.wire.specs.Wire.{byte, number, pair_of, is_pair, pair_value}
 use Rattle.iad.specs.declared.Cvr.{Cvr}
 use Rattle.iad.specs.declared.Iad.{Iad}
-use Rattle.iad.specs.declared.ReadIad.{ReadIad}
-use Rattle.iad.specs.declared.ReadIad.TheVariants.{Fields, Refused as ReadRefused}
-use Rattle.iad.specs.declared.Written.{Written}
-use Rattle.iad.specs.declared.Written.TheVariants.{Done, Refused as WriteRefused}
+use Rattle.refusal.specs.declared.Refusal.{Refusal}
 
 abbrev pub cvr_bytes : Cvr → List ℕ
 cvr_bytes cvr = cvr.byte1 ∷ cvr.byte2 ∷ cvr.byte3 ∷ cvr.byte4 ∷ cvr.byte5 ∷ []
@@ -68,31 +65,31 @@ is_profile profile = leb 1 profile && leb profile 124
 unfoldable pub is_iad : List ℕ → Bool
 is_iad s = eqb (length s) 32 && has_fixed_bytes s && is_cvr (cvr_of s) && are_pairs s 8 6 && is_profile (byte s 17)
 
-unfoldable pub read_iad : List ℕ → ReadIad
-read_iad s = cond (is_iad s) (Fields (iad_of s)) (ReadRefused NotAnIad)
+unfoldable pub read_iad : List ℕ → Result Iad Refusal
+read_iad s = cond (is_iad s) (Ok (iad_of s)) (Err NotAnIad)
 
 -- an accumulator of at most MAX, and no field whose bytes reading would refuse
 unfoldable pub is_writable : Iad → Bool
 is_writable iad = leb iad.accumulator.0 max && is_cvr iad.cvr && is_profile iad.profile
 
 -- 6 then 7
-unfoldable pub write_iad : Iad → List ℕ → Written
+unfoldable pub write_iad : Iad → List ℕ → Result Unit Refusal
 write_iad iad room =
-    cond (not (is_writable iad)) (WriteRefused OutOfRange) (cond (ltb (length room) 32) (WriteRefused RoomTooSmall) Done)
+    cond (not (is_writable iad)) (Err OutOfRange) (cond (ltb (length room) 32) (Err RoomTooSmall) (Ok tt))
 
 -- an accepted write sets the first 32 bytes and no other, a refusal changes none
-abbrev pub room_after : Written → Iad → List ℕ → List ℕ
-room_after Done iad room = iad_bytes iad ++ drop 32 room
-room_after (WriteRefused refusal) iad room = room
+abbrev pub room_after : Result Unit Refusal → Iad → List ℕ → List ℕ
+room_after (Ok done) iad room = iad_bytes iad ++ drop 32 room
+room_after (Err refusal) iad room = room
 
 unfoldable pub written : Iad → List ℕ → List ℕ
 written iad room = room_after (write_iad iad room) iad room
 
 -- the numbers of the answers (document 01, "Refusal numbers")
-abbrev pub read_number : ReadIad → ℕ
-read_number (Fields iad) = 0
-read_number (ReadRefused refusal) = refusal_number refusal
+abbrev pub read_number : Result Iad Refusal → ℕ
+read_number (Ok iad) = 0
+read_number (Err refusal) = refusal_number refusal
 
-abbrev pub written_number : Written → ℕ
-written_number Done = 0
-written_number (WriteRefused refusal) = refusal_number refusal
+abbrev pub written_number : Result Unit Refusal → ℕ
+written_number (Ok done) = 0
+written_number (Err refusal) = refusal_number refusal

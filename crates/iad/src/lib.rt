@@ -32,18 +32,6 @@ pub struct Iad {
     pub profile: u8,
 }
 
-#[derive(Drop)]
-pub enum ReadIad {
-    Fields(Iad),
-    Refused(Refusal),
-}
-
-#[derive(Drop)]
-pub enum Written {
-    Done,
-    Refused(Refusal),
-}
-
 // Neither type field is 11, and byte 5 is zero.
 fn is_cvr(cvr: Cvr) -> bool
     ensures { result ≡ is_cvr cvr }
@@ -102,18 +90,18 @@ fn encode(iad: Iad) -> [u8; LENGTH]
 }
 
 // Sets the first 32 bytes of the room, or refuses and sets none.
-pub fn write(iad: Iad, room: &mut [u8]) -> Written
+pub fn write(iad: Iad, room: &mut [u8]) -> Result<(), Refusal>
     ensures { (result ≡ write_iad iad room.old) × (room.new ≡ written iad room.old) }
 {
     if !is_writable(iad) {
-        return Written::Refused(Refusal::OutOfRange);
+        return Err(Refusal::OutOfRange);
     }
     if room.len() < LENGTH {
-        return Written::Refused(Refusal::RoomTooSmall);
+        return Err(Refusal::RoomTooSmall);
     }
     let bytes = encode(iad);
     room[..LENGTH].copy_from_slice(&bytes);
-    Written::Done
+    Ok(())
 }
 
 // The bytes that an IAD is written as; zeros for one that is out of range.
@@ -198,12 +186,12 @@ fn iad_of(s: &[u8]) -> Iad
 }
 
 // The fields of an IAD, or that the bytes are none.
-pub fn read(s: &[u8]) -> ReadIad
+pub fn read(s: &[u8]) -> Result<Iad, Refusal>
     ensures { result ≡ read_iad s.now }
 {
     if is_iad(s) {
-        ReadIad::Fields(iad_of(s))
+        Ok(iad_of(s))
     } else {
-        ReadIad::Refused(Refusal::NotAnIad)
+        Err(Refusal::NotAnIad)
     }
 }

@@ -9,8 +9,7 @@ ghost use Rattle.import.specs.Import.{old_record, are_currencies, with_mta, take
 ghost use Rattle.mta.specs.Mta.{mta_of};
 
 use money::{AccumulatorAmount, Rate};
-use mta::Mta;
-use rate::Pairing;
+use rate::Pair;
 use refusal::Refusal;
 
 const OLD_LENGTH: usize = 20;
@@ -31,18 +30,6 @@ pub struct OldRecord {
 pub struct NewRecord {
     pub mta: AccumulatorAmount,
     pub conversion: Rate,
-}
-
-#[derive(Drop)]
-pub enum TakenOver {
-    Record(NewRecord),
-    Refused(Refusal),
-}
-
-#[derive(Drop)]
-pub enum Imported {
-    Done,
-    Refused(Refusal),
 }
 
 // The float of eight bytes. Patterns above the infinities', their signs apart, are not-a-number.
@@ -76,29 +63,29 @@ fn are_currencies(from: u16, to: u16) -> bool
 }
 
 // The new record, if its MTA is taken.
-fn with_mta(conversion: Rate, mta: f64) -> TakenOver
+fn with_mta(conversion: Rate, mta: f64) -> Result<NewRecord, Refusal>
     ensures { result ≡ with_mta conversion (mta_of mta) }
 {
     let answer = mta::mta_of(mta);
     match answer {
-        Mta::Amount(mta) => {
+        Some(mta) => {
             let record = NewRecord { mta, conversion };
-            TakenOver::Record(record)
+            Ok(record)
         }
-        Mta::NotWhole => TakenOver::Refused(Refusal::BadMta),
+        None => Err(Refusal::BadMta),
     }
 }
 
 // The new record of an old one: the codes are tested first, then the rate, then the MTA.
-pub fn take_over(old: OldRecord) -> TakenOver
+pub fn take_over(old: OldRecord) -> Result<NewRecord, Refusal>
     ensures { result ≡ take_over old }
 {
     if !are_currencies(old.from, old.to) {
-        return TakenOver::Refused(Refusal::OutOfRange);
+        return Err(Refusal::OutOfRange);
     }
     let found = rate::rate_of(old.rate);
     match found {
-        Pairing::Pair { digits, shift } => {
+        Some(Pair { digits, shift }) => {
             let conversion = Rate {
                 from: old.from,
                 to: old.to,
@@ -107,7 +94,7 @@ pub fn take_over(old: OldRecord) -> TakenOver
             };
             with_mta(conversion, old.mta)
         }
-        Pairing::NoPair => TakenOver::Refused(Refusal::BadRate),
+        None => Err(Refusal::BadRate),
     }
 }
 
@@ -137,23 +124,23 @@ fn encode(new: NewRecord) -> [u8; NEW_LENGTH]
 }
 
 // Sets the first 15 bytes of the room to an old record's new bytes, or refuses and sets none.
-pub fn import_record(old: &[u8], room: &mut [u8]) -> Imported
+pub fn import_record(old: &[u8], room: &mut [u8]) -> Result<(), Refusal>
     ensures { (result ≡ import_record old.now room.old)
         × (room.new ≡ imported old.now room.old) }
 {
     if old.len() != OLD_LENGTH {
-        return Imported::Refused(Refusal::Unreadable);
+        return Err(Refusal::Unreadable);
     }
     let taken = take_over(old_record(old));
     match taken {
-        TakenOver::Refused(refusal) => Imported::Refused(refusal),
-        TakenOver::Record(new) => {
+        Err(refusal) => Err(refusal),
+        Ok(new) => {
             if room.len() < NEW_LENGTH {
-                return Imported::Refused(Refusal::RoomTooSmall);
+                return Err(Refusal::RoomTooSmall);
             }
             let bytes = encode(new);
             room[..NEW_LENGTH].copy_from_slice(&bytes);
-            Imported::Done
+            Ok(())
         }
     }
 }

@@ -11,12 +11,8 @@ use lib.ListN.{get_or}
 use lib.Ieee.{Float, binary64, fits}
 use Rattle.wire.specs.Wire.{is_currency}
 use Rattle.money.specs.declared.Rate.{Rate}
-use Rattle.mta.specs.declared.Mta.{Mta}
-use Rattle.mta.specs.declared.Mta.TheVariants.{Amount, NotWhole}
 use Rattle.mta.specs.Mta.{mta_of, mta_number}
 use Rattle.mta.proofs.Whole.{whole-taken, taken-whole}
-use Rattle.rate.specs.declared.Pairing.{Pairing}
-use Rattle.rate.specs.declared.Pairing.TheVariants.{Pair, NoPair}
 use Rattle.rate.specs.Rate.{rate_of, pairing_number}
 use Rattle.rate.specs.Taken.{Taken, divided, multiplied}
 use Rattle.rate.proofs.Request.{rate-taken, rate-refused}
@@ -25,29 +21,32 @@ use Rattle.refusal.specs.Refusal.{refusal_number}
 use Rattle.ranges.proofs.Accepted.{Currency, currency}
 use Rattle.ranges.proofs.Decides.{◌and◌, equal, denied}
 use Rattle.import.specs.declared.OldRecord.{OldRecord}
-use Rattle.import.specs.declared.TakenOver.{TakenOver}
-use Rattle.import.specs.declared.TakenOver.TheVariants.{Record, Refused}
 use Rattle.import.specs.Import.{are_currencies, with_mta, with_rate, take_over, taken_number}
 use Rattle.import_laws.specs.Causes.{Paired, Whole, FieldCause, from_not_digits, to_not_digits, same_codes, no_pair, not_whole, rank}
 use Rattle.import_laws.specs.Causes.{Numbered, done, refused, Judged, holds, fails}
+use Rattle.std.specs.Prelude.{Err, None, Ok, Option, Result, Some}
+use Rattle.import.specs.declared.NewRecord.{NewRecord}
+use Rattle.money.specs.declared.AccumulatorAmount.{AccumulatorAmount}
+use Rattle.rate.specs.declared.Pair.{Pair}
+use Rattle.refusal.specs.declared.Refusal.{Refusal}
 
 -- ---- the two floats
-pub unpaired : (rate : Float) → rate_of rate ≡ NoPair → (digits shift : ℕ) → Taken rate digits shift → ⊥
+pub unpaired : (rate : Float) → rate_of rate ≡ None → (digits shift : ℕ) → Taken rate digits shift → ⊥
 unpaired rate h digits shift (divided e is q least) = (rate-refused rate h).0 digits e q
 unpaired rate h digits shift (multiplied k is p none least) = (rate-refused rate h).1 digits k p
 
-judge_rate : (rate : Float) → T (fits binary64 rate) → (found : Pairing) → rate_of rate ≡ found → Judged (Paired rate) 10 (pairing_number found)
-judge_rate rate held (Pair digits shift) e = holds refl (record { digits = digits; shift = shift; taken = rate-taken rate held digits shift e })
-judge_rate rate held NoPair e = fails refl (λ p. unpaired rate e p.digits p.shift p.taken)
+judge_rate : (rate : Float) → T (fits binary64 rate) → (found : Option Pair) → rate_of rate ≡ found → Judged (Paired rate) 10 (pairing_number found)
+judge_rate rate held (Some pair) e = holds refl (record { digits = pair.digits; shift = pair.shift; taken = rate-taken rate held pair.digits pair.shift e })
+judge_rate rate held None e = fails refl (λ p. unpaired rate e p.digits p.shift p.taken)
 
-whole_is : (mta : Float) (w : Whole mta) → mta_of mta ≡ Amount (record { 0 = w.amount })
+whole_is : (mta : Float) (w : Whole mta) → mta_of mta ≡ Some (record { 0 = w.amount })
 whole_is mta w = rw w.same (whole-taken w.amount w.most)
 
-judge_mta : (mta : Float) → T (fits binary64 mta) → (answer : Mta) → mta_of mta ≡ answer → Judged (Whole mta) 11 (mta_number answer)
-judge_mta mta held (Amount amount) e =
+judge_mta : (mta : Float) → T (fits binary64 mta) → (answer : Option AccumulatorAmount) → mta_of mta ≡ answer → Judged (Whole mta) 11 (mta_number answer)
+judge_mta mta held (Some amount) e =
     let whole = taken-whole mta held amount.0 e in
     holds refl (record { amount = amount.0; most = whole.1; same = whole.0 })
-judge_mta mta held NotWhole e =
+judge_mta mta held None e =
     fails refl
     (λ w.
     let is = whole_is mta w in
@@ -117,28 +116,28 @@ FieldsOf old n = FieldCause old.from old.to old.rate old.mta n
 abbrev pub FirstOf : (ℕ → Type 0) → ℕ → Type 0
 FirstOf cause n = cause n × ((m : ℕ) → rank m < rank n → cause m → ⊥)
 
-abbrev pub Ruled : OldRecord → TakenOver → Type 0
-Ruled old (Record new) = (m : ℕ) → FieldsOf old m → ⊥
-Ruled old (Refused refusal) = FirstOf (FieldsOf old) (refusal_number refusal)
+abbrev pub Ruled : OldRecord → Result NewRecord Refusal → Type 0
+Ruled old (Ok new) = (m : ℕ) → FieldsOf old m → ⊥
+Ruled old (Err refusal) = FirstOf (FieldsOf old) (refusal_number refusal)
 
 pub never : false ≡ true → ⊥
 never e = let z : ◌≡◌ {A = ℕ} 0 1 = cc in omega arith
 
 module _ (old : OldRecord) (rate-held : T (fits binary64 old.rate)) (mta-held : T (fits binary64 old.mta)) where
   module _ (codes : Codes old.from old.to) where
-    by-mta : Paired old.rate → (conversion : Rate) (answer : Mta) → Judged (Whole old.mta) 11 (mta_number answer)
+    by-mta : Paired old.rate → (conversion : Rate) (answer : Option AccumulatorAmount) → Judged (Whole old.mta) 11 (mta_number answer)
         → Ruled old (with_mta conversion answer)
-    by-mta pair conversion (Amount amount) (holds e whole) =
+    by-mta pair conversion (Some amount) (holds e whole) =
         λ m. clear (suc (rank m)) (λ l. codes) (λ l. pair) (λ l. whole) m (omega arith)
-    by-mta pair conversion (Amount amount) (fails e none) = absurd (omega arith)
-    by-mta pair conversion NotWhole (holds e whole) = absurd (omega arith)
-    by-mta pair conversion NotWhole (fails e none) = (not_whole refl none, clear 3 (λ l. codes) (λ l. pair) (λ l. absurd (omega arith)))
+    by-mta pair conversion (Some amount) (fails e none) = absurd (omega arith)
+    by-mta pair conversion None (holds e whole) = absurd (omega arith)
+    by-mta pair conversion None (fails e none) = (not_whole refl none, clear 3 (λ l. codes) (λ l. pair) (λ l. absurd (omega arith)))
 
-    by-rate : (found : Pairing) → Judged (Paired old.rate) 10 (pairing_number found) → Ruled old (with_rate old found)
-    by-rate (Pair digits shift) (holds e pair) = by-mta pair _ (mta_of old.mta) (mta-number old.mta mta-held)
-    by-rate (Pair digits shift) (fails e none) = absurd (omega arith)
-    by-rate NoPair (holds e pair) = absurd (omega arith)
-    by-rate NoPair (fails e none) = (no_pair refl none, clear 2 (λ l. codes) (λ l. absurd (omega arith)) (λ l. absurd (omega arith)))
+    by-rate : (found : Option Pair) → Judged (Paired old.rate) 10 (pairing_number found) → Ruled old (with_rate old found)
+    by-rate (Some pair') (holds e pair) = by-mta pair _ (mta_of old.mta) (mta-number old.mta mta-held)
+    by-rate (Some pair) (fails e none) = absurd (omega arith)
+    by-rate None (holds e pair) = absurd (omega arith)
+    by-rate None (fails e none) = (no_pair refl none, clear 2 (λ l. codes) (λ l. absurd (omega arith)) (λ l. absurd (omega arith)))
 
   code_cause : are_currencies old.from old.to ≡ false → FieldsOf old 6
   code_cause h = by (is_currency old.from) refl (is_currency old.to) refl where
@@ -153,7 +152,7 @@ module _ (old : OldRecord) (rate-held : T (fits binary64 old.rate)) (mta-held : 
       (f, t, other)
 
   by_codes : (codes : Bool) → are_currencies old.from old.to ≡ codes
-      → Ruled old (cond codes (with_rate old (rate_of old.rate)) (Refused OutOfRange))
+      → Ruled old (cond codes (with_rate old (rate_of old.rate)) (Err OutOfRange))
   by_codes true e = by-rate (codes-told e) (rate_of old.rate) (rate-number old.rate rate-held)
   by_codes false e = (code_cause e, clear 1 (λ l. absurd (omega arith)) (λ l. absurd (omega arith)) (λ l. absurd (omega arith)))
 
@@ -161,9 +160,9 @@ module _ (old : OldRecord) (rate-held : T (fits binary64 old.rate)) (mta-held : 
   unfolding take_over
   ruled = by_codes (are_currencies old.from old.to) refl
 
-  numbered_by : (taken : TakenOver) → Ruled old taken → Numbered (FieldsOf old) (taken_number taken)
-  numbered_by (Record new) none = done refl none
-  numbered_by (Refused refusal) first = refused first.0 first.1
+  numbered_by : (taken : Result NewRecord Refusal) → Ruled old taken → Numbered (FieldsOf old) (taken_number taken)
+  numbered_by (Ok new) none = done refl none
+  numbered_by (Err refusal) first = refused first.0 first.1
 
   -- THE NUMBER OF A RECORD'S FIELDS IS THE FIRST OF 6, 10, 11 THAT APPLIES, 0 WHERE NONE DOES
   pub takes : Numbered (FieldCause old.from old.to old.rate old.mta) (taken_number (take_over old))

@@ -18,15 +18,14 @@ use Rattle.refusal.specs.declared.Refusal.TheVariants.{RoomTooSmall, Unreadable}
 use Rattle.refusal.specs.Refusal.{refusal_number}
 use Rattle.setup.specs.Setup.{rate_in}
 use Rattle.import.specs.declared.OldRecord.{OldRecord}
-use Rattle.import.specs.declared.TakenOver.{TakenOver}
-use Rattle.import.specs.declared.TakenOver.TheVariants.{Record, Refused as TakeRefused}
-use Rattle.import.specs.declared.Imported.{Imported}
-use Rattle.import.specs.declared.Imported.TheVariants.{Done, Refused as ImportRefused}
 use Rattle.import.specs.Import.{old_record, take_over, in_room, import_record, imported_number, imported}
 use Rattle.import_laws.specs.Moved.{Read}
 use Rattle.import_laws.specs.Causes.{two, eight, float, rank, Cause, not_twenty, in_fields, small_room, Numbered, done, refused, Becomes}
 use Rattle.import_laws.proofs.Written.{read_back, refusal_keeps}
 use Rattle.import_laws.proofs.Fields.{before_room, number_at, at_place, field-place, only, FieldsOf, FirstOf, Ruled, ruled}
+use Rattle.std.specs.Prelude.{Err, Ok, Result}
+use Rattle.import.specs.declared.NewRecord.{NewRecord}
+use Rattle.refusal.specs.declared.Refusal.{Refusal}
 
 -- ---- the bytes
 abbrev fields : List ℕ → OldRecord
@@ -44,28 +43,28 @@ unfolding old_record
 fields-are old = rw (eight_is old 4, eight_is old 12, two_is old 0, two_is old 2) refl
 
 module _ (old room : List ℕ) where
-  abbrev Answers : Imported → Type 0
-  Answers Done = (m : ℕ) → Cause old room m → ⊥
-  Answers (ImportRefused refusal) = FirstOf (Cause old room) (refusal_number refusal)
+  abbrev Answers : Result Unit Refusal → Type 0
+  Answers (Ok done) = (m : ℕ) → Cause old room m → ⊥
+  Answers (Err refusal) = FirstOf (Cause old room) (refusal_number refusal)
 
   module _ (right : length old ≡ 20) where
     by_room : ((m : ℕ) → FieldsOf (fields old) m → ⊥) → (small : Bool) → ltb (length room) 15 ≡ small
-        → Answers (cond small (ImportRefused RoomTooSmall) Done)
+        → Answers (cond small (Err RoomTooSmall) (Ok tt))
     by_room none true e =
         (small_room refl (ltb-true _ _ e), λ m l. elim [ not_twenty n h ↦ h right | in_fields c ↦ none m c | small_room n h ↦ omega (arith, ap rank n) ])
     by_room none false e =
         let large = ltb-false (length room) 15 e in
         λ m. elim [ not_twenty n h ↦ h right | in_fields c ↦ none m c | small_room n h ↦ omega arith ]
 
-    by-taken : (taken : TakenOver) → Ruled (fields old) taken → Answers (in_room taken room)
-    by-taken (Record new) none = by_room none (ltb (length room) 15) refl
-    by-taken (TakeRefused refusal) first =
+    by-taken : (taken : Result NewRecord Refusal) → Ruled (fields old) taken → Answers (in_room taken room)
+    by-taken (Ok new) none = by_room none (ltb (length room) 15) refl
+    by-taken (Err refusal) first =
         let last = before_room _ first.0 in (
           in_fields first.0,
           λ m l. elim [ not_twenty n h ↦ h right | in_fields c ↦ first.1 m l c | small_room n h ↦ omega (arith, ap rank n) ],
         )
 
-  by_length : (right : Bool) → eqb (length old) 20 ≡ right → Answers (cond right (in_room (take_over (fields old)) room) (ImportRefused Unreadable))
+  by_length : (right : Bool) → eqb (length old) 20 ≡ right → Answers (cond right (in_room (take_over (fields old)) room) (Err Unreadable))
   by_length true e =
       by-taken (eqb-true _ _ e) (take_over (fields old)) (ruled (fields old) (of_bits-fits binary64 (eight old 4)) (of_bits-fits binary64 (eight old 12)))
   by_length false e = (not_twenty refl (eqb-false _ _ e), λ m l. absurd (omega arith))
@@ -74,9 +73,9 @@ module _ (old room : List ℕ) where
   unfolding import_record
   answers = rw (fields-are old) (by_length (eqb (length old) 20) refl)
 
-  number_by : (answer : Imported) → Answers answer → Numbered (Cause old room) (imported_number answer)
-  number_by Done none = done refl none
-  number_by (ImportRefused refusal) first = refused first.0 first.1
+  number_by : (answer : Result Unit Refusal) → Answers answer → Numbered (Cause old room) (imported_number answer)
+  number_by (Ok done) none = done refl none
+  number_by (Err refusal) first = refused first.0 first.1
 
   -- THE NUMBER OF AN IMPORT IS THE FIRST THAT APPLIES, 0 WHERE NONE DOES
   pub imports : Numbered (Cause old room) (imported_number (import_record old room))
@@ -91,20 +90,20 @@ module _ (old room : List ℕ) where
   pub only-number : (n m : ℕ) → Numbered (Cause old room) n → Numbered (Cause old room) m → n ≡ m
   only-number = only its-place
 
-  taken-by : (answer : Imported) → Answers answer → (answer ≡ Done) ↔ ((m : ℕ) → Cause old room m → ⊥)
-  taken-by Done none = (λ e. none, λ f. refl)
-  taken-by (ImportRefused refusal) first = (
+  taken-by : (answer : Result Unit Refusal) → Answers answer → (answer ≡ Ok tt) ↔ ((m : ℕ) → Cause old room m → ⊥)
+  taken-by (Ok done) none = (λ e. none, λ f. refl)
+  taken-by (Err refusal) first = (
     (λ e. let z : ◌≡◌ {A = ℕ} 0 1 = cc in absurd (omega arith)),
     λ f. absurd (f (refusal_number refusal) first.0),
   )
 
   -- A RECORD IS TAKEN EXACTLY WHEN NO CAUSE APPLIES
-  pub taken : (import_record old room ≡ Done) ↔ ((m : ℕ) → Cause old room m → ⊥)
+  pub taken : (import_record old room ≡ Ok tt) ↔ ((m : ℕ) → Cause old room m → ⊥)
   taken = taken-by (import_record old room) answers
 
-  kept_by : (m : ℕ) → Cause old room m → (answer : Imported) → import_record old room ≡ answer → imported old room ≡ room
-  kept_by m c Done e = absurd (taken.0 e m c)
-  kept_by m c (ImportRefused refusal) e = refusal_keeps old room refusal e
+  kept_by : (m : ℕ) → Cause old room m → (answer : Result Unit Refusal) → import_record old room ≡ answer → imported old room ≡ room
+  kept_by m c (Ok done) e = absurd (taken.0 e m c)
+  kept_by m c (Err refusal) e = refusal_keeps old room refusal e
 
   -- A RECORD WITH A CAUSE LEAVES THE ROOM'S BYTES
   pub keeps : (m : ℕ) → Cause old room m → imported old room ≡ room

@@ -11,7 +11,6 @@ use lib.Ieee.{binary64, of_bits, whole, in_unsigned, to_unsigned}
 use lib.Ieee.Bits.{of_bits-fits}
 use Rattle.wire.specs.Wire.{number}
 use Rattle.mta.specs.Mta.{mta_of}
-use Rattle.rate.specs.declared.Pairing.TheVariants.{NoPair}
 use Rattle.rate.specs.Rate.{rate_of}
 use Rattle.rate.proofs.Request.{never}
 use Rattle.rate.proofs.Settled.{euro}
@@ -19,6 +18,7 @@ use Rattle.import.specs.Import.{old_record, take_over, bytes_of, new_bytes, impo
 use Rattle.import_laws.specs.Causes.{two, eight, float, Cause, not_twenty, in_fields, small_room, no_pair, rank, Numbered, refused}
 use Rattle.import_laws.proofs.Fields.{Codes, unpaired, clear}
 use Rattle.import_laws.proofs.Imports.{only-number, taken}
+use Rattle.std.specs.Prelude.{None}
 use Rattle.import_laws.proofs.Witness as witness
 
 -- ---- records: from 0978 or 0840 to 0840; the rate is not-a-number or 0.85, the MTA 0.5 or 12,345
@@ -43,7 +43,7 @@ half = 0x3F ∷ 0xE0 ∷ zeros 6
 abbrev amount : List ℕ
 amount = 0x40 ∷ 0xC8 ∷ 0x1C ∷ 0x80 ∷ zeros 4
 
-no_rate : rate_of (float no_number 0) ≡ NoPair
+no_rate : rate_of (float no_number 0) ≡ None
 unfolding of_bits
 no_rate = never (float no_number 0) (of_bits-fits binary64 0x7FF8_0000_0000_0000) (λ p. p)
 

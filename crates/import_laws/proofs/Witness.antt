@@ -9,11 +9,10 @@ use Rattle.wire.specs.Wire.{number}
 use Rattle.mta.proofs.Whole.{whole-taken}
 use Rattle.rate.proofs.Settled.{euro}
 use Rattle.import.specs.declared.NewRecord.{NewRecord}
-use Rattle.import.specs.declared.TakenOver.TheVariants.{Record}
-use Rattle.import.specs.declared.Imported.TheVariants.{Done}
 use Rattle.import.specs.Import.{old_record, take_over, bytes_of, new_bytes, import_record, imported}
 use Rattle.import_laws.specs.Moved.{Read}
 use Rattle.import_laws.proofs.Written.{room_is, read_back}
+use Rattle.std.specs.Prelude.{Ok}
 
 abbrev pub old : List ℕ
 old =
@@ -32,11 +31,11 @@ record_is = refl
 abbrev new : NewRecord
 new = record { mta = record { 0 = 12345 }; conversion = record { from = 0x0978; to = 0x0840; digits = 85; shift = 7 } }
 
-taken : take_over (old_record old) ≡ Record new
+taken : take_over (old_record old) ≡ Ok new
 unfolding take_over
 taken = rw record_is (rw (euro, whole-taken 12345 (omega arith)) refl)
 
-pub done : import_record old room ≡ Done
+pub done : import_record old room ≡ Ok tt
 unfolding import_record
 done = rw taken refl
 

@@ -19,12 +19,10 @@ use Rattle.ranges.specs.Ranges.{is_conversion}
 use Rattle.setup.specs.Setup.{rate_in}
 use Rattle.import.specs.declared.OldRecord.{OldRecord}
 use Rattle.import.specs.declared.NewRecord.{NewRecord}
-use Rattle.import.specs.declared.TakenOver.{TakenOver}
-use Rattle.import.specs.declared.TakenOver.TheVariants.{Record, Refused as TakeRefused}
-use Rattle.import.specs.declared.Imported.TheVariants.{Done, Refused as ImportRefused}
 use Rattle.import.specs.Import.{are_currencies, old_record, take_over, bytes_of, new_bytes, in_room, import_record, imported}
 use Rattle.import_laws.specs.Moved.{Moved, Read}
 use Rattle.import_laws.proofs.Kept.{kept}
+use Rattle.std.specs.Prelude.{Err, Ok, Result}
 
 -- ---- digits and shift of a rate that is taken are in a set-up's ranges
 pub record InRange (digits shift : ℕ) : Type 0 where
@@ -108,21 +106,21 @@ module _ (new : NewRecord) (rest : List ℕ) where
 -- ---- the theorems
 module _ (old room : List ℕ) where
   -- a refusal keeps the room's bytes
-  pub refusal_keeps : (refusal : Refusal) → import_record old room ≡ ImportRefused refusal → imported old room ≡ room
+  pub refusal_keeps : (refusal : Refusal) → import_record old room ≡ Err refusal → imported old room ≡ room
   unfolding imported
   refusal_keeps refusal h = rw h
 
-  pub room_is : (new : NewRecord) → import_record old room ≡ Done → take_over (old_record old) ≡ Record new
+  pub room_is : (new : NewRecord) → import_record old room ≡ Ok tt → take_over (old_record old) ≡ Ok new
       → imported old room ≡ new_bytes new ++ drop 15 room
   unfolding imported
   room_is new h t = rw (h, t)
 
-  differ : (refusal : Refusal) → ImportRefused refusal ≡ Done → ⊥
+  differ : (refusal : Refusal) → Err refusal ≡ Ok tt → ⊥
   differ refusal e = let z : ◌≡◌ {A = ℕ} 0 1 = cc in omega arith
 
-  module _ (done : import_record old room ≡ Done) where
-    by_room : (new : NewRecord) → take_over (old_record old) ≡ Record new → (small : Bool) → ltb (length room) 15 ≡ small
-        → cond small (ImportRefused RoomTooSmall) Done ≡ Done → Read old room
+  module _ (done : import_record old room ≡ Ok tt) where
+    by_room : (new : NewRecord) → take_over (old_record old) ≡ Ok new → (small : Bool) → ltb (length room) 15 ≡ small
+        → cond small (Err RoomTooSmall) (Ok tt) ≡ Ok tt → Read old room
     by_room new t true e h = absurd (differ RoomTooSmall h)
     by_room new t false e h =
         let rest = drop 15 room in
@@ -140,11 +138,11 @@ module _ (old room : List ℕ) where
           size = rw is (size_is new rest ∙ (rw length-drop (omega arith)));
         }
 
-    by-taken : (taken : TakenOver) → take_over (old_record old) ≡ taken → in_room taken room ≡ Done → Read old room
-    by-taken (TakeRefused refusal) t h = absurd (differ refusal h)
-    by-taken (Record new) t h = by_room new t (ltb (length room) 15) refl h
+    by-taken : (taken : Result NewRecord Refusal) → take_over (old_record old) ≡ taken → in_room taken room ≡ Ok tt → Read old room
+    by-taken (Err refusal) t h = absurd (differ refusal h)
+    by-taken (Ok new) t h = by_room new t (ltb (length room) 15) refl h
 
-    by_length : (right : Bool) → cond right (in_room (take_over (old_record old)) room) (ImportRefused Unreadable) ≡ Done → Read old room
+    by_length : (right : Bool) → cond right (in_room (take_over (old_record old)) room) (Err Unreadable) ≡ Ok tt → Read old room
     by_length true h = by-taken (take_over (old_record old)) refl h
     by_length false h = absurd (differ Unreadable h)
 

@@ -17,7 +17,7 @@ fn answer_all(rt: &(impl Input + Print), buffer: &mut [u8], room: &mut [u8]) -> 
             return Ending::NotRead;
         }
         let filled = read.filled;
-        let Answered::Whole { end, next } = imports::answer(&buffer[..filled], number, room) else {
+        let Some(Answered { end, next }) = imports::answer(&buffer[..filled], number, room) else {
             return Ending::NotWritten;
         };
         if !streams::write_out(rt, room, end) {

@@ -11,10 +11,9 @@ use Rattle.refusal.specs.declared.Refusal.{Refusal}
 use Rattle.refusal.specs.Refusal.{refusal_number}
 use Rattle.hex_digits.specs.Hex.{hex}
 use Rattle.text.specs.Stored.{Stored}
-use Rattle.import.specs.declared.Imported.TheVariants.{Done, Refused}
 use Rattle.import.specs.Import.{import_record, imported}
-use Rattle.imports.specs.declared.Answered.TheVariants.{Whole, NoRoom}
 use Rattle.imports.specs.Imports.{numeral, import_line, record_line, records_in, lines_in, imports_from, fits, answered, room_after}
+use Rattle.std.specs.Prelude.{Err, None, Ok, Some}
 
 pub told : {room after s t : List ℕ} {at end m most : ℕ} → Stored room at s m end after → s ≡ t → m ≤ most → Stored room at t most end after
 told {room} {after} {s} {t} {at} {end} {m} {most} p e h =
@@ -27,7 +26,7 @@ told {room} {after} {s} {t} {at} {end} {m} {most} p e h =
 -- ---- a line
 
 module _ (number : ℕ) (old : List ℕ) where
-  pub done : (text : List ℕ) → import_record old (replicate 15 0) ≡ Done → text ≡ hex (imported old (replicate 15 0))
+  pub done : (text : List ℕ) → import_record old (replicate 15 0) ≡ Ok tt → text ≡ hex (imported old (replicate 15 0))
       → numeral number ++ ((32 ∷ 48 ∷ 32 ∷ []) ++ (text ++ (10 ∷ []))) ≡ record_line number old
   unfolding record_line
   done text e is =
@@ -35,7 +34,7 @@ module _ (number : ℕ) (old : List ℕ) where
       ∙ sym (append_assoc (numeral number) (32 ∷ []) (48 ∷ 32 ∷ (hex (imported old (replicate 15 0)) ++ (10 ∷ []))))
       ∙ sym (ap (λ a. import_line number a (imported old (replicate 15 0))) e)
 
-  pub refused : (refusal : Refusal) (n : ℕ) → import_record old (replicate 15 0) ≡ Refused refusal → n ≡ refusal_number refusal
+  pub refused : (refusal : Refusal) (n : ℕ) → import_record old (replicate 15 0) ≡ Err refusal → n ≡ refusal_number refusal
       → numeral number ++ ((32 ∷ []) ++ (numeral n ++ (10 ∷ []))) ≡ record_line number old
   unfolding record_line
   refused refusal n e is =
@@ -53,23 +52,23 @@ shorter input from h =
 
 module _ (number : ℕ) (input room : List ℕ) where
   none : fits number (length room) (length input) ≡ false
-      → (NoRoom ≡ answered number input (length room)) × (room ≡ room_after number input room)
+      → (None ≡ answered number input (length room)) × (room ≡ room_after number input room)
   unfolding answered room_after
   none e = (rw e, rw e)
 
   pub no_room : length room < 54 * records_in (length input)
-      → (NoRoom ≡ answered number input (length room)) × (room ≡ room_after number input room)
+      → (None ≡ answered number input (length room)) × (room ≡ room_after number input room)
   no_room h = none (rw (lt-leb (54 * records_in (length input)) (length room) h))
 
   module _ (room_for : 54 * records_in (length input) ≤ length room) where
     pub no_number : 18446744073709551615 < number + records_in (length input)
-        → (NoRoom ≡ answered number input (length room)) × (room ≡ room_after number input room)
+        → (None ≡ answered number input (length room)) × (room ≡ room_after number input room)
     no_number h =
         none (rw (le-leb (54 * records_in (length input)) (length room) room_for, lt-leb (number + records_in (length input)) 18446744073709551615 h))
 
     pub whole : {after : List ℕ} {end most records : ℕ} → number + records_in (length input) ≤ 18446744073709551615
         → records ≡ records_in (length input) → Stored room 0 (lines_in records number input) most end after
-        → (Whole end (number + records) ≡ answered number input (length room)) × (after ≡ room_after number input room)
+        → ((Some (record { end = end; next = number + records })) ≡ answered number input (length room)) × (after ≡ room_after number input room)
     unfolding answered room_after imports_from
     whole {after} {end} {most} {records} h e p =
         let some = le-leb (54 * records_in (length input)) (length room) room_for in

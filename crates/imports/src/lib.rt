@@ -7,7 +7,6 @@ ghost use Rattle.hex_digits.specs.Hex.{hex};
 ghost use Rattle.text.specs.Stored.{Stored};
 ghost use Rattle.imports.specs.Imports.{numeral, record_line, records_in, lines_in, answered, room_after};
 
-use import::Imported;
 
 const OLD_LENGTH: usize = 20;
 
@@ -15,10 +14,10 @@ const OLD_LENGTH: usize = 20;
 const LONGEST: usize = 54;
 
 // Where the lines end, and the number of the record behind.
-#[derive(Drop)]
-pub enum Answered {
-    Whole { end: usize, next: u64 },
-    NoRoom,
+#[derive(Clone, Copy)]
+pub struct Answered {
+    pub end: usize,
+    pub next: u64,
 }
 
 // A text from a place of the room on.
@@ -62,12 +61,12 @@ fn put_line(room: &mut [u8], at: usize, number: u64, old: &[u8]) -> usize
     let answer = import::import_record(old, &mut new);
     let at = put_number(room, at, number);
     match answer {
-        Imported::Done => {
+        Ok(()) => {
             let at = put_text(room, at, b" 0 ");
             let at = put_text(room, at, &hex_of(&new));
             put_text(room, at, b"\n")
         }
-        Imported::Refused(refusal) => {
+        Err(refusal) => {
             let at = put_text(room, at, b" ");
             let at = put_number(room, at, refusal.number() as u64);
             put_text(room, at, b"\n")
@@ -106,19 +105,19 @@ fn put_records(room: &mut [u8], number: u64, input: &[u8], records: usize) -> us
 }
 
 // The lines of all records, from the start of the room on, the first by the number given.
-pub fn answer(input: &[u8], number: u64, room: &mut [u8]) -> Answered
+pub fn answer(input: &[u8], number: u64, room: &mut [u8]) -> Option<Answered>
     ensures { (result ≡ answered number input.now (length room.old))
         × (room.new ≡ room_after number input.now room.old) }
 {
     let records = records_in(input.len());
     if room.len() / LONGEST < records {
-        return Answered::NoRoom;
+        return None;
     }
     if 18_446_744_073_709_551_615 - number < records as u64 {
-        return Answered::NoRoom;
+        return None;
     }
-    Answered::Whole {
+    Some(Answered {
         end: put_records(room, number, input, records),
         next: number + records as u64,
-    }
+    })
 }

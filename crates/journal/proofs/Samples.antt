@@ -10,14 +10,14 @@ use Rattle.state.specs.declared.Kind.{Kind}
 use Rattle.state.specs.declared.Kind.TheVariants.{Aac, Tc, Arqc}
 use Rattle.state.specs.declared.Answer.{Answer}
 use Rattle.state.specs.declared.Answer.TheVariants.{Refused, Started, Given, Done}
-use Rattle.ring.specs.declared.Found.{Found}
-use Rattle.ring.specs.declared.Found.TheVariants.{Record as Kept, Nothing}
 use Rattle.ring.specs.Ring.{no_records, record_in, record_put, added_in, added, count_in, found}
 use Rattle.journal.specs.declared.Logging.{Logging}
 use Rattle.journal.specs.declared.Heard.{Heard}
 use Rattle.journal.specs.declared.Heard.TheVariants.{First, Second, Other}
 use Rattle.journal.specs.Journal.{is_logging, closed_by, noted, watched}
 use Rattle.journal.specs.Logged.{Seen, cvr_number, cryptogram, ring_through}
+use Rattle.std.specs.Prelude.{None, Option, Some}
+use Rattle.ring.specs.declared.Record.{Record}
 
 -- profiles 1 and 2, of which the first logs
 abbrev set_up_lem : (size switches : ℕ) → Logging
@@ -53,9 +53,9 @@ abbrev refused : Heard → (at : ℕ) → Seen
 refused said at = record { said = said; at = at; answer = Refused OutOfTurn }
 
 -- each record, the newest first: First's place, Second's, the CVR, ATC, CID
-abbrev cells : Found → List ℕ
-cells Nothing = []
-cells (Kept r) = r.first ∷ r.second ∷ r.cvr ∷ r.atc ∷ r.cid ∷ []
+abbrev cells : Option Record → List ℕ
+cells None = []
+cells (Some r) = r.first ∷ r.second ∷ r.cvr ∷ r.atc ∷ r.cid ∷ []
 
 abbrev shown_from : (ring : List ℕ) (size k n : ℕ) → List (List ℕ)
 shown_from ring size k zero = []

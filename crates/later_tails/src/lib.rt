@@ -4,7 +4,7 @@
 ghost use Rattle.std.specs.Prelude.{◌≡◌};
 ghost use Rattle.shape.specs.Shape.{dates, dating_tail, families, family_tail, scripting_tail};
 
-use shape::{Dating, Family, Shape, Tails};
+use shape::{Family, Shape, Span, Tails};
 
 // The first mask bit without a name: 25 from version 04 on, and 26 from version 05 on.
 const UNNAMED_DATED: u32 = 33_554_432;
@@ -12,7 +12,7 @@ const UNNAMED_DATED: u32 = 33_554_432;
 const UNNAMED_FAMILY: u32 = 67_108_864;
 
 // A shape with its dates: whether they are on or off, the masks then have names for three bits more.
-fn with_dates(shape: Shape, dating: Dating) -> Shape
+fn with_dates(shape: Shape, dating: Option<Span>) -> Shape
     ensures { result ≡ dates shape dating }
 {
     let selecting = shape.selecting;
@@ -31,30 +31,30 @@ fn with_dates(shape: Shape, dating: Dating) -> Shape
 }
 
 // Version 04's tail at a place: dated, 0 or 1; where it is on, 28 + 18p bytes in all.
-pub fn read_dating(body: &[u8], shape: Shape, at: usize) -> Tails
+pub fn read_dating(body: &[u8], shape: Shape, at: usize) -> Option<Tails>
     ensures { result ≡ dating_tail body.now shape at }
 {
     if body.len() <= at {
-        return Tails::Wrong;
+        return None;
     }
     let dated = wire::byte_at(body, at);
     if dated == 0 {
-        return Tails::Ended {
-            shape: with_dates(shape, Dating::Off),
+        return Some(Tails {
+            shape: with_dates(shape, None),
             at: at + 1,
-        };
+        });
     }
     if 1 < dated {
-        return Tails::Wrong;
+        return None;
     }
     let end = at + layout::cycles_length(body);
     if body.len() < end {
-        return Tails::Wrong;
+        return None;
     }
-    Tails::Ended {
-        shape: with_dates(shape, Dating::On { start: at, end }),
+    Some(Tails {
+        shape: with_dates(shape, Some(Span { start: at, end })),
         at: end,
-    }
+    })
 }
 
 // A shape with its family: whichever it is, the masks then have a name for one bit more.
@@ -77,48 +77,48 @@ fn with_family(shape: Shape, family: Family) -> Shape
 }
 
 // Version 05's tail at a place: the family, 0 CPA or 1 CPACE; for CPACE 9 + p bytes in all.
-pub fn read_family(body: &[u8], shape: Shape, at: usize) -> Tails
+pub fn read_family(body: &[u8], shape: Shape, at: usize) -> Option<Tails>
     ensures { result ≡ family_tail body.now shape at }
 {
     if body.len() <= at {
-        return Tails::Wrong;
+        return None;
     }
     let family = wire::byte_at(body, at);
     if family == 0 {
-        return Tails::Ended {
+        return Some(Tails {
             shape: with_family(shape, Family::Cpa),
             at: at + 1,
-        };
+        });
     }
     if 1 < family {
-        return Tails::Wrong;
+        return None;
     }
     let end = at + layout::family_length(body);
     if body.len() < end {
-        return Tails::Wrong;
+        return None;
     }
-    Tails::Ended {
+    Some(Tails {
         shape: with_family(shape, Family::Cpace { start: at, end }),
         at: end,
-    }
+    })
 }
 
 // Version 06's tail at a place: scripts, 0 off or 1 on.
-pub fn read_scripting(body: &[u8], shape: Shape, at: usize) -> Tails
+pub fn read_scripting(body: &[u8], shape: Shape, at: usize) -> Option<Tails>
     ensures { result ≡ scripting_tail body.now shape at }
 {
     if body.len() <= at {
-        return Tails::Wrong;
+        return None;
     }
     let scripts = wire::byte_at(body, at);
     if 1 < scripts {
-        return Tails::Wrong;
+        return None;
     }
     let selecting = shape.selecting;
     let dating = shape.dating;
     let family = shape.family;
     let logging = shape.logging;
-    Tails::Ended {
+    Some(Tails {
         shape: Shape {
             base: shape.base,
             selecting,
@@ -130,5 +130,5 @@ pub fn read_scripting(body: &[u8], shape: Shape, at: usize) -> Tails
             unnamed: shape.unnamed,
         },
         at: at + 1,
-    }
+    })
 }

@@ -2,8 +2,7 @@
 // written and read, and a record of version one imported.
 #![tactic(auto)]
 
-use iad::{Cvr, Iad, ReadIad, Written};
-use import::Imported;
+use iad::{Cvr, Iad};
 use money::{AccumulatorAmount, Converted, Rate, Rates, TransactionAmount};
 
 // What standard output does not take is left out.
@@ -116,21 +115,21 @@ fn printed(profile: u8) -> Iad {
     }
 }
 
-fn show_written(rt: &impl Print, name: &[u8], written: Written) {
+fn show_written(rt: &impl Print, name: &[u8], written: Result<(), Refusal>) {
     match written {
-        Written::Done => line(rt, name, 0),
-        Written::Refused(refusal) => line(rt, name, refusal.number() as u64),
+        Ok(()) => line(rt, name, 0),
+        Err(refusal) => line(rt, name, refusal.number() as u64),
     }
 }
 
 fn show_read(rt: &impl Print, s: &[u8]) {
     match iad::read(s) {
-        ReadIad::Fields(iad) => {
+        Ok(iad) => {
             line(rt, b"read: ", 0);
             line(rt, b"accumulator: ", iad.accumulator.0);
             line(rt, b"profile: ", iad.profile as u64);
         }
-        ReadIad::Refused(refusal) => line(rt, b"read: ", refusal.number() as u64),
+        Err(refusal) => line(rt, b"read: ", refusal.number() as u64),
     }
 }
 
@@ -166,10 +165,10 @@ fn show_iad(rt: &impl Print, room: &mut [u8]) {
     show_read(rt, room);
 }
 
-fn show_imported(rt: &impl Print, name: &[u8], imported: Imported) {
+fn show_imported(rt: &impl Print, name: &[u8], imported: Result<(), Refusal>) {
     match imported {
-        Imported::Done => line(rt, name, 0),
-        Imported::Refused(refusal) => line(rt, name, refusal.number() as u64),
+        Ok(()) => line(rt, name, 0),
+        Err(refusal) => line(rt, name, refusal.number() as u64),
     }
 }
 

@@ -11,11 +11,10 @@ use Rattle.words.specs.Words.{same, is_empty, is_in, up_to, name_of, place_in}
 use Rattle.words.proofs.Tests.{both}
 use Rattle.lexing.specs.Places.{word_at, words_at, ends_line, word_end, next_word, after_word}
 use Rattle.lexing.specs.Names.{names_at, is_name, names_on, name_at, names_end, place_of}
-use Rattle.lexing.specs.declared.Place.{Place}
-use Rattle.lexing.specs.declared.Place.TheVariants.{Is, Not}
 use Rattle.lexing.proofs.Rests.{few_words}
 use Rattle.lexing.proofs.Steps.{in_line_lem}
 use Rattle.lexing.proofs.Laws.{words-first, words-next, word_next, word-passed, next-behind, ended}
+use Rattle.std.specs.Prelude.{None, Option, Some}
 
 -- a word begins at this place, or the line ends
 abbrev pub Stands : List ℕ → ℕ → Type 0
@@ -72,11 +71,11 @@ stands-next table at = word_next table at
 
 -- ---- the place of a word among names
 
-abbrev pub found : ℕ → List (List ℕ) → List ℕ → Place
-found n names w = cond (is_in w names) (Is (n + place_in names w)) Not
+abbrev pub found : ℕ → List (List ℕ) → List ℕ → Option ℕ
+found n names w = cond (is_in w names) (Some (n + place_in names w)) None
 
 module _ (n : ℕ) (v : List ℕ) (vs : List (List ℕ)) (w : List ℕ) where
-  pub found_here : same w v ≡ true → found n (v ∷ vs) w ≡ Is n
+  pub found_here : same w v ≡ true → found n (v ∷ vs) w ≡ Some n
   unfolding is_in place_in
   found_here h = rw (h, add-zero n)
 
@@ -84,7 +83,7 @@ module _ (n : ℕ) (v : List ℕ) (vs : List (List ℕ)) (w : List ℕ) where
   unfolding is_in place_in
   found-on h = let next : n + suc (place_in vs w) ≡ n + 1 + place_in vs w = omega arith in rw (h, next)
 
-pub found_not : (n : ℕ) (w : List ℕ) → found n [] w ≡ Not
+pub found_not : (n : ℕ) (w : List ℕ) → found n [] w ≡ None
 unfolding is_in
 found_not n w = refl
 

@@ -6,7 +6,7 @@ use Rattle.words.specs.Words.{word, is_in, up_to, place_in}
 use Rattle.words.specs.Lex.{lex, step, lines_of}
 use Rattle.lexing.specs.Places.{word_at, words_at, ends_line, word_end, line_rest, line_end, gap, next_word, after_word, below_line, line_from, next_line}
 use Rattle.lexing.specs.Names.{names_at, is_name, names_on, name_at, names_end, place_of}
-use Rattle.lexing.specs.declared.Place.TheVariants.{Is, Not}
+use Rattle.std.specs.Prelude.{None, Some}
 
 -- the words of the first line stand at 2 and 7, it ends at 15, and the next that has a word begins at 24
 abbrev text : List ℕ
@@ -21,6 +21,6 @@ abbrev table : List ℕ
 table = word "kind [ AAC TC ARQC ] N8"
 
 in_table : (name_at (word "]") 1 table 6 ≡ 11) × (names_end (word "]") table 6 ≡ 19)
-    × (place_of (word "]") table 6 (word "ARQC") ≡ Is 2) × (place_of (word "]") table 6 (word "N8") ≡ Not)
+    × (place_of (word "]") table 6 (word "ARQC") ≡ Some 2) × (place_of (word "]") table 6 (word "N8") ≡ None)
 unfolding name_at names_end names_on is_name place_of names_at is_in up_to place_in words_at next_word gap line_rest word_end word_at lex step lines_of ends_line
 in_table = (refl, refl, refl, refl)

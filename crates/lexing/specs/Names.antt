@@ -1,9 +1,7 @@
 -- Names: the words of a table's line from a place on, up to a closing word.
-use Rattle.std.specs.Prelude.{Bool, cond, not, ◌&&◌, List, ℕ, zero, suc, length}
+use Rattle.std.specs.Prelude.{Bool, cond, not, ◌&&◌, List, ℕ, zero, suc, length, None, Option, Some}
 use Rattle.words.specs.Words.{same, is_in, up_to, place_in}
 use Rattle.lexing.specs.Places.{word_at, words_at, ends_line, next_word, after_word}
-use Rattle.lexing.specs.declared.Place.{Place}
-use Rattle.lexing.specs.declared.Place.TheVariants.{Is, Not}
 
 unfoldable pub names_at : (close table : List ℕ) (at : ℕ) → List (List ℕ)
 names_at close table at = up_to close (words_at table at)
@@ -26,5 +24,5 @@ unfoldable pub names_end : (close table : List ℕ) (at : ℕ) → ℕ
 names_end close table at = name_at close (length table) table at
 
 -- the number that a word stands for
-unfoldable pub place_of : (close table : List ℕ) (at : ℕ) (word : List ℕ) → Place
-place_of close table at word = cond (is_in word (names_at close table at)) (Is (place_in (names_at close table at) word)) Not
+unfoldable pub place_of : (close table : List ℕ) (at : ℕ) (word : List ℕ) → Option ℕ
+place_of close table at word = cond (is_in word (names_at close table at)) (Some (place_in (names_at close table at) word)) None

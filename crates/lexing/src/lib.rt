@@ -163,24 +163,17 @@ pub fn names_end(table: &[u8], at: usize, close: &[u8]) -> usize
     name_at(table, at, close, table.len())
 }
 
-// The number that a word stands for among names.
-#[derive(Drop)]
-pub enum Place {
-    Is(usize),
-    Not,
-}
-
-pub fn place_of(table: &[u8], at: usize, close: &[u8], word: &[u8]) -> Place
+pub fn place_of(table: &[u8], at: usize, close: &[u8], word: &[u8]) -> Option<usize>
     ensures { result ≡ place_of close.now table.now at word.now }
 {
     let mut name = next_word(table, at);
     let mut n = 0;
     while is_name(table, name, close) {
         if same_word(word, word_at(table, name)) {
-            return Place::Is(n);
+            return Some(n);
         }
         name = after_word(table, name);
         n += 1;
     }
-    Place::Not
+    None
 }

@@ -6,8 +6,6 @@ use Prim.Native.Nat.{ℕ, ◌<◌}
 use native.Mathlib.Omega.{arith}
 use lib.ListN.{length, take, replicate, length-append}
 use Rattle.iad.specs.declared.Iad.{Iad}
-use Rattle.iad.specs.declared.ReadIad.TheVariants.{Fields}
-use Rattle.iad.specs.declared.Written.TheVariants.{Done}
 use Rattle.iad.specs.Iad.{is_writable, read_iad, write_iad, written}
 use Rattle.iad.proofs.RoundTrip.{written-size, whole}
 use Rattle.hex_digits.specs.Hex.{hex_byte, hex}
@@ -18,6 +16,7 @@ use Rattle.hex_digits.proofs.Bytes as Hex
 use Rattle.text.proofs.Fields.{Plain, same-fields}
 use Rattle.hex_digits.proofs.Bytes.{hex-plain}
 use Rattle.lines.proofs.Fields.{decimal-plain, OneLine, one_line}
+use Rattle.std.specs.Prelude.{Ok}
 
 abbrev zeros : List ℕ
 zeros = replicate 32 0
@@ -81,8 +80,8 @@ same_bytes s t e = sym (Hex.reads_back s) ∙ ap Hex.bytes e ∙ Hex.reads_back 
 same_byte : (b c : ℕ) → hex_byte b ≡ hex_byte c → b ≡ c
 same_byte b c e = let bytes : b ∷ [] ≡ c ∷ [] = same_bytes (b ∷ []) (c ∷ []) (unfold hex in e) in cc
 
-reads : (iad : Iad) → is_writable iad ≡ true → read_iad (take 32 (written iad zeros)) ≡ Fields iad
-reads iad good = let done : write_iad iad zeros ≡ Done = (unfold write_iad in rw good) in ((whole iad zeros).0 done).0
+reads : (iad : Iad) → is_writable iad ≡ true → read_iad (take 32 (written iad zeros)) ≡ Ok iad
+reads iad good = let done : write_iad iad zeros ≡ (Ok tt) = (unfold write_iad in rw good) in ((whole iad zeros).0 done).0
 
 same_iad : (iad iad' : Iad) → is_writable iad ≡ true → is_writable iad' ≡ true → written iad zeros ≡ written iad' zeros → iad ≡ iad'
 same_iad iad iad' good good' e = cc (reads iad good, reads iad' good')

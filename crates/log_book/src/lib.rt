@@ -12,7 +12,6 @@ ghost use Rattle.ring.specs.Ring.{no_records};
 
 use journal::Logging;
 use paper::Next;
-use replies::Reply;
 use ring::Ring;
 use rules::Words;
 use shape::Shape;
@@ -24,7 +23,7 @@ fn watch_line(ring: &mut Ring, logging: Logging, paper: &[u8], at: usize, line: 
     requires { at ≤ length paper.now }
     ensures { ring.new ≡ watched_line logging paper.now at line.now ring.old }
 {
-    let Reply::Given(given) = replies::reply_in(line) else {
+    let Some(given) = replies::reply_in(line) else {
         return;
     };
     watching::watch(ring, logging, paper_log::heard(&paper[at..]), at + 3, given);

@@ -16,12 +16,7 @@ use Rattle.rules.specs.Word.{word_count}
 use Rattle.rules.specs.Rules.{Rules, rules_of, blank_words}
 use Rattle.shape.specs.declared.Shape.{Shape}
 use Rattle.records.specs.declared.Event.TheVariants.{SetUp, Refused}
-use Rattle.shape.specs.declared.ReadShape.{ReadShape}
-use Rattle.shape.specs.declared.ReadShape.TheVariants.{Taken as ShapeTaken, Refused as ShapeRefused}
 use Rattle.shape.specs.Shape.{shape_of}
-use Rattle.log_tail.specs.declared.Judged.{Judged}
-use Rattle.log_tail.specs.declared.Judged.TheVariants.{Sound, Wrong, PastData as TableFault}
-use Rattle.paper.specs.declared.Opened.TheVariants.{Setup}
 use Rattle.paper.specs.Paper.{open_paper}
 use Rattle.paper.specs.Walk.{part}
 use Rattle.begun.specs.declared.Begun.{Begun}
@@ -31,7 +26,6 @@ use Rattle.conversation.specs.Events.{events_of}
 use Rattle.lines.specs.Sitting.{lines_of, sitting_lines}
 use Rattle.lines.proofs.Laws.{refusal_line_lem}
 use Rattle.ring.specs.declared.Record.{Record}
-use Rattle.ring.specs.declared.Found.TheVariants.{Record as Kept}
 use Rattle.ring.specs.Ring.{slots_of, no_records, found}
 use Rattle.ring.proofs.Newest.{blank, none_held, Newest, read}
 use Rattle.journal.specs.Logged.{logged_in, ring_through, turned}
@@ -55,6 +49,10 @@ use Rattle.log_laws.specs.Spoken.{is_whole}
 use Rattle.log_laws.specs.Owed.{log_in, seen_in, logged_of, lines_from, newest_lines, whole_lines}
 use Rattle.log_laws.proofs.Answers.{records_of, events-are, paper-told}
 use Rattle.log_laws.proofs.Rings.{ring_as_spoken}
+use Rattle.std.specs.Prelude.{Err, Ok, Result, Some}
+use Rattle.log_tail.specs.declared.Fault.{Fault}
+use Rattle.log_tail.specs.declared.Fault.TheVariants.{PastData as TableFault}
+use Rattle.log_tail.specs.declared.Fault.TheVariants.{Wrong}
 
 -- ---- the lines of a ring that has the newest of some records
 
@@ -78,8 +76,8 @@ module _ (paper tail : List ℕ) (form : Form) where
     unfolding lines_up_to
     up_to_lem zero h = (unfold lines_from in refl)
     up_to_lem (suc n) h =
-        let there : found ring size (n + 1) ≡ Kept (get_or records n blank) =
-        newest.is (n + 1) (omega arith) (omega arith) ∙ ap (λ (k : ℕ). Kept (get_or records k blank)) (omega arith) in
+        let there : found ring size (n + 1) ≡ Some (get_or records n blank) =
+        newest.is (n + 1) (omega arith) (omega arith) ∙ ap (λ (k : ℕ). Some (get_or records k blank)) (omega arith) in
         rw (up_to_lem n (omega arith), there)
         (ap (λ (k : ℕ). lines_from paper tail form 1 (take n records) ++ log_line k paper tail form (get_or records n blank) ∷ []) (omega arith)
         ∙ sym (one_more_lem n 1 records (omega arith)))
@@ -146,17 +144,17 @@ module _ (log : Log) (paper : List ℕ) (logged : List Record) where
 
 -- ---- where the records of a paper begin
 
-begun-at : (paper : List ℕ) (version start end : ℕ) → open_paper paper ≡ Setup version start end → (begun_of paper).at ≡ end
+begun-at : (paper : List ℕ) (version start end : ℕ) → open_paper paper ≡ Ok (record { version = version; start = start; end = end }) → (begun_of paper).at ≡ end
 unfolding begun_of setup_begun
 begun-at paper version start end e = rw e (by_shape (shape_of version (part paper start end))) where
-  by-log : (judged : Judged) (accepted : Bool) (begun : Begun) → begun.at ≡ end → (logged_begun judged accepted end begun).at ≡ end
-  by-log Sound accepted begun is = is
-  by-log Wrong accepted begun is = refl
-  by-log TableFault accepted begun is = (unfold past_begun in refl)
+  by-log : (judged : Result Unit Fault) (accepted : Bool) (begun : Begun) → begun.at ≡ end → (logged_begun judged accepted end begun).at ≡ end
+  by-log (Ok done) accepted begun is = is
+  by-log (Err Wrong) accepted begun is = refl
+  by-log (Err TableFault) accepted begun is = (unfold past_begun in refl)
 
-  by_shape : (read : ReadShape) → (shaped_begun (part paper start end) start end read).at ≡ end
-  by_shape (ShapeRefused refusal) = refl
-  by_shape (ShapeTaken shape) = by-log (log_judged shape (part paper start end)) _ _ (unfold base_begun in refl)
+  by_shape : (read : Result Shape Refusal) → (shaped_begun (part paper start end) start end read).at ≡ end
+  by_shape (Err refusal) = refl
+  by_shape (Ok shape) = by-log (log_judged shape (part paper start end)) _ _ (unfold base_begun in refl)
 
 begun-within : (paper : List ℕ) → Accepted paper → (begun_of paper).at ≤ length paper
 begun-within paper a =

@@ -13,15 +13,10 @@ use Rattle.rules.specs.declared.Values.{Values}
 use Rattle.rules.specs.Rules.{Rules}
 use Rattle.paper.specs.Paper.{end_at, is_fault_at, next_at, place_after}
 use Rattle.paper.specs.Walk.{part}
-use Rattle.shape.specs.declared.Selecting.{Selecting}
-use Rattle.shape.specs.declared.Selecting.TheVariants.{Off, On}
-use Rattle.shape.specs.declared.Dating.{Dating}
 use Rattle.shape.specs.declared.Family.{Family}
 use Rattle.shape.specs.declared.Shape.{Shape}
 use Rattle.state.specs.declared.Answer.{Answer}
 use Rattle.state.specs.declared.State.{State}
-use Rattle.command.specs.declared.ReadCommand.{ReadCommand}
-use Rattle.command.specs.declared.ReadCommand.TheVariants.{Taken as CommandTaken, Refused as CommandRefused}
 use Rattle.command.specs.Command.{is_cpace, start_length, first_length, slots_of, second_of, command_of, start_selected, selecting_of, read_by, command_in}
 use Rattle.records.specs.declared.Said.{Said}
 use Rattle.records.specs.declared.Said.TheVariants.{Command as SaidCommand, Script}
@@ -32,6 +27,11 @@ use Rattle.conversation.specs.Conversation.{taken_of}
 use Rattle.journal.specs.declared.Heard.TheVariants.{First, Second, Other}
 use Rattle.paper_log.specs.Log.{heard_in}
 use Rattle.log_laws.specs.Spoken.{heard_of}
+use Rattle.std.specs.Prelude.{Err, None, Ok, Option, Result, Some}
+use Rattle.command.specs.declared.Command.{Command}
+use Rattle.refusal.specs.declared.Refusal.{Refusal}
+use Rattle.shape.specs.declared.SelectionFile.{SelectionFile}
+use Rattle.shape.specs.declared.Span.{Span}
 
 pub both : (m n i j : ℕ) → (eqb m n && eqb i j) ≡ true → (m ≡ n) × (i ≡ j)
 both m n i j = by (eqb m n) refl where
@@ -80,9 +80,9 @@ module _ (paper : List ℕ) (at : ℕ) where
 
   -- ---- what its command says
 
-  abbrev AsSaid : ReadCommand → Type 0
-  AsSaid (CommandTaken command) = heard_in (drop at paper) ≡ heard_of (SaidCommand command)
-  AsSaid (CommandRefused refusal) = Unit
+  abbrev AsSaid : Result Command Refusal → Type 0
+  AsSaid (Ok command) = heard_in (drop at paper) ≡ heard_of (SaidCommand command)
+  AsSaid (Err refusal) = Unit
 
   start-said : kind ≡ 2 → heard_in (drop at paper) ≡ Other
   start-said is = heard-other (λ q. omega arith) (λ q. omega arith)
@@ -94,7 +94,7 @@ module _ (paper : List ℕ) (at : ℕ) where
   of : (n long : ℕ) → is_of n long ≡ true → (kind ≡ n) × (length body ≡ long)
   of n long = both kind n (length body) long
 
-  named-said : (dating : Dating) (family : Family) → AsSaid (command_of dating family kind body)
+  named-said : (dating : Option Span) (family : Family) → AsSaid (command_of dating family kind body)
   unfolding command_of second_of
   named-said dating family =
       fork AsSaid (is_of 2 (start_length family)) (λ e. start-said (of 2 (start_length family) e).0) (λ not_start.
@@ -104,10 +104,10 @@ module _ (paper : List ℕ) (at : ℕ) where
   command-said : (shape : Shape) (values : Values) → AsSaid (command_in shape values paper kind body)
   unfolding command_in
   command-said shape values = by shape.selecting where
-    by : (selecting : Selecting)
+    by : (selecting : Option SelectionFile)
         → AsSaid (read_by selecting shape.dating shape.family (slots_of shape.family values) paper kind body)
-    by Off = named-said shape.dating shape.family
-    by (On start end entries) = (unfold selecting_of start_selected in
+    by None = named-said shape.dating shape.family
+    by (Some part) = (unfold selecting_of start_selected in
         fork AsSaid (eqb kind 2)
         (λ e. fork AsSaid (is_cpace shape.family && eqb (length body) 0) (λ none. tt) (λ some. start-said (eqb-true kind 2 e)))
         (λ not_start. named-said shape.dating shape.family))
@@ -126,10 +126,10 @@ module _ (paper : List ℕ) (at : ℕ) where
       let same : Script ≡ said = cc in
       (heard-other (λ q. omega arith) (λ q. omega arith) ∙ ap heard_of same, refl)
 
-  command_heeded : (rules : Rules) (state : State) (end : ℕ) (read : ReadCommand) → AsSaid read → Heeded end (answered_by rules state end read)
+  command_heeded : (rules : Rules) (state : State) (end : ℕ) (read : Result Command Refusal) → AsSaid read → Heeded end (answered_by rules state end read)
   unfolding answered_by
-  command_heeded rules state end (CommandRefused refusal) h said answer e = let z : ◌≡◌ {A = ℕ} 0 1 = cc in absurd (omega arith)
-  command_heeded rules state end (CommandTaken command) h said answer e = let same : SaidCommand command ≡ said = cc in (h ∙ ap heard_of same, refl)
+  command_heeded rules state end (Err refusal) h said answer e = let z : ◌≡◌ {A = ℕ} 0 1 = cc in absurd (omega arith)
+  command_heeded rules state end (Ok command) h said answer e = let same : SaidCommand command ≡ said = cc in (h ∙ ap heard_of same, refl)
 
   module _ (rules : Rules) (shape : Shape) (state : State) where
     abbrev end : ℕ

@@ -15,8 +15,6 @@ use Rattle.state.specs.declared.Answer.{Answer}
 use Rattle.state.specs.declared.Answer.TheVariants.{Done}
 use Rattle.state.specs.declared.State.{State}
 use Rattle.script.specs.Script.{rules_after}
-use Rattle.command.specs.declared.ReadCommand.{ReadCommand}
-use Rattle.command.specs.declared.ReadCommand.TheVariants.{Taken as CommandTaken, Refused as CommandRefused}
 use Rattle.command.specs.Command.{command_in}
 use Rattle.records.specs.declared.Said.{Said}
 use Rattle.records.specs.declared.Event.{Event}
@@ -29,6 +27,9 @@ use Rattle.journal.specs.declared.Heard.TheVariants.{Other}
 use Rattle.journal.specs.Logged.{Seen}
 use Rattle.log_laws.specs.Spoken.{heard_of, seen_then, seen_from}
 use Rattle.log_laws.proofs.Said.{place-behind}
+use Rattle.std.specs.Prelude.{Err, Ok, Result}
+use Rattle.command.specs.declared.Command.{Command}
+use Rattle.refusal.specs.declared.Refusal.{Refusal}
 
 -- what was said and answered: among events, and among records
 abbrev pub exchanged : List Event → List (Heard × Answer)
@@ -72,9 +73,9 @@ module _ (shape : Shape) (paper : List ℕ) where
     scripted [] end e = (unfold scripted_by in let z : ◌≡◌ {A = ℕ} 0 1 = cc in omega arith)
     scripted (result ∷ template) end e = (unfold scripted_by in let z : ◌≡◌ {A = ℕ} 0 1 = cc in omega arith)
 
-    commanded : (read : ReadCommand) (end : ℕ) → (answered_by rules state end read).event ≡ SetUp → ⊥
-    commanded (CommandTaken command) end e = (unfold answered_by in let z : ◌≡◌ {A = ℕ} 0 1 = cc in omega arith)
-    commanded (CommandRefused refusal) end e = (unfold answered_by in let z : ◌≡◌ {A = ℕ} 0 1 = cc in omega arith)
+    commanded : (read : Result Command Refusal) (end : ℕ) → (answered_by rules state end read).event ≡ SetUp → ⊥
+    commanded (Ok command) end e = (unfold answered_by in let z : ◌≡◌ {A = ℕ} 0 1 = cc in omega arith)
+    commanded (Err refusal) end e = (unfold answered_by in let z : ◌≡◌ {A = ℕ} 0 1 = cc in omega arith)
 
     either : (script : Bool) (kind : ℕ) (body : List ℕ) (end : ℕ)
         → (cond script (scripted_by state body end) (answered_by rules state end (command_in shape state.values paper kind body))).event ≡ SetUp → ⊥

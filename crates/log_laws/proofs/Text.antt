@@ -11,7 +11,6 @@ use Rattle.text.specs.Text.{joined}
 use Rattle.refusal.specs.declared.Refusal.{Refusal}
 use Rattle.rules.specs.Word.{word_count}
 use Rattle.rules.specs.Rules.{rules_of, blank_words}
-use Rattle.shape.specs.declared.Logging.TheVariants.{Off}
 use Rattle.records.specs.declared.Event.TheVariants.{Refused}
 use Rattle.opening.specs.Opening.{begun_of, words_begun}
 use Rattle.conversation.specs.Events.{events_of}
@@ -24,6 +23,7 @@ use Rattle.paper_text.specs.PaperText.{log_behind, text_of}
 use Rattle.log_laws.specs.Spoken.{is_whole}
 use Rattle.log_laws.specs.Owed.{log_in, logged_of, lines_from, newest_lines, whole_lines, log_owed}
 use Rattle.log_laws.proofs.Log.{shaped_log}
+use Rattle.std.specs.Prelude.{None}
 
 -- below version 07 there is no log, whatever the lines are
 pub no_log_below : (paper text : List ℕ) → byte paper 0 < 7 → log_behind paper text ≡ []
@@ -83,5 +83,5 @@ module _ (words paper : List ℕ) (lent : length words ≡ word_count) (bytes : 
     by false true = refl
     by false false = refl
 
-  pub no_log_off : (begun_of paper).shape.logging ≡ Off → log_text ≡ []
+  pub no_log_off : (begun_of paper).shape.logging ≡ None → log_text ≡ []
   no_log_off off = no_log_of_0 (unfold log_in log_of in rw off)

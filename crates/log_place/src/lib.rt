@@ -4,7 +4,7 @@
 ghost use Rattle.std.specs.Prelude.{◌≡◌, ◌+◌, ◌^◌, ◌<◌};
 ghost use Rattle.shape.specs.Shape.{table_end, log_end, logging_tail};
 
-use shape::{Logging, Shape, Tails};
+use shape::{Shape, Span, Tails};
 
 // Where a table of the log at a place ends: the number of its entries, and 3 bytes for each.
 fn table_end(body: &[u8], at: usize) -> usize
@@ -25,27 +25,27 @@ fn log_end(body: &[u8], at: usize) -> usize
 }
 
 // Version 07's tail at a place: the log, 0 off or 1 on; where it is on, its settings and two tables.
-pub fn read_logging(body: &[u8], shape: Shape, at: usize) -> Tails
+pub fn read_logging(body: &[u8], shape: Shape, at: usize) -> Option<Tails>
     ensures { result ≡ logging_tail body.now shape at }
 {
     if body.len() <= at {
-        return Tails::Wrong;
+        return None;
     }
     let log = wire::byte_at(body, at);
     if log == 0 {
-        return Tails::Ended { shape, at: at + 1 };
+        return Some(Tails { shape, at: at + 1 });
     }
     if 1 < log {
-        return Tails::Wrong;
+        return None;
     }
     let end = log_end(body, at);
     if body.len() < end {
-        return Tails::Wrong;
+        return None;
     }
     let selecting = shape.selecting;
     let dating = shape.dating;
     let family = shape.family;
-    Tails::Ended {
+    Some(Tails {
         shape: Shape {
             base: shape.base,
             selecting,
@@ -53,9 +53,9 @@ pub fn read_logging(body: &[u8], shape: Shape, at: usize) -> Tails
             dating,
             family,
             scripting: shape.scripting,
-            logging: Logging::On { start: at, end },
+            logging: Some(Span { start: at, end }),
             unnamed: shape.unnamed,
         },
         at: end,
-    }
+    })
 }

@@ -11,8 +11,6 @@ use lib.Seq.{drop-append-le, take-append-le}
 use Rattle.wire.specs.Wire.{byte}
 use Rattle.rules.specs.Word.{word_count}
 use Rattle.rules.specs.Rules.{Rules, rules_of}
-use Rattle.shape.specs.declared.Logging.{Logging as LogTail}
-use Rattle.shape.specs.declared.Logging.TheVariants.{Off as Unlogged, On as Logged}
 use Rattle.shape.specs.declared.Shape.{Shape}
 use Rattle.shape.specs.Shape.{dating_at, family_at, log_part, logging_at, shape_at}
 use Rattle.bodies.specs.Bodies.{is_cpace}
@@ -39,6 +37,8 @@ use Rattle.papers.specs.Papers.{Accepted}
 use Rattle.papers.proofs.Setups.{set_up_lem}
 use Rattle.log_spelled.specs.Spelled.{has_dates, has_controls, FormSaid, On, Off, LogsSaid, LogSaid}
 use Rattle.log_spelled.proofs.Numbers.{number_at, number-there, apart}
+use Rattle.std.specs.Prelude.{None, Option, Some}
+use Rattle.shape.specs.declared.Span.{Span}
 
 -- ---- what goes in, of four profiles
 
@@ -162,10 +162,10 @@ module _ (words paper : List ℕ) (lent : length words ≡ word_count) (a : Acce
       ∙ (in_place x i.fits).p
 
   -- what is read of it
-  abbrev read : LogTail → Log
+  abbrev read : Option Span → Log
   read logging = tailed rules (shape_at 4 form) paper logging
 
-  form-said : (logging : LogTail) → FormSaid x (dates_of tail) (families_of tail) (read logging)
+  form-said : (logging : Option Span) → FormSaid x (dates_of tail) (families_of tail) (read logging)
   form-said logging = by logging where
     said : (log : Log) → log.form ≡ form_of (shape_at 4 form) paper → FormSaid x (dates_of tail) (families_of tail) log
     said log e =
@@ -175,9 +175,9 @@ module _ (words paper : List ℕ) (lent : length words ≡ word_count) (a : Acce
           cpace-is = rw e (cpace-read (families_of tail) (families_at (spelled_base x) (choosing_of tail) (dates_of tail)));
         }
 
-    by : (logging : LogTail) → FormSaid x (dates_of tail) (families_of tail) (read logging)
-    by Unlogged = said (read Unlogged) refl
-    by (Logged start end) = said (read (Logged start end)) refl
+    by : (logging : Option Span) → FormSaid x (dates_of tail) (families_of tail) (read logging)
+    by None = said (read None) refl
+    by (Some part) = said (read (Some part)) refl
 
   logs-said : (logs : Logs) → log_part (logging_from logs at) a.body ≡ log_said logs → LogsSaid x logs paper (read (logging_at 4 (logging_from logs at)))
   logs-said unlogged said = record { no_slot = refl; no_profile_lem = none-logs }

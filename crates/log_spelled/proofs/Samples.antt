@@ -5,12 +5,13 @@ use Prim.Native.Nat.{ℕ}
 use lib.Dec.{T, eqb}
 use lib.ListN.{replicate}
 use Rattle.setup.specs.Setup.{rules_in, profile_in}
-use Rattle.shape.specs.declared.Logging.TheVariants.{On}
 use Rattle.shape.specs.Shape.{based, logs}
 use Rattle.journal.specs.Journal.{is_logging}
 use Rattle.paper_log.specs.declared.Log.{Log}
 use Rattle.paper_log.specs.Log.{tail_at, log_of}
 use Rattle.spelling.specs.Printed.{printed, body}
+use Rattle.std.specs.Prelude.{Some}
+use Rattle.shape.specs.Shape.{span}
 
 -- two slots, all switches but "offline only"; profile 1 logs; a table of one entry and one of three
 abbrev tail : List ℕ
@@ -22,7 +23,7 @@ other = 1 ∷ 2 ∷ 0xDC ∷ 0 ∷ 1 ∷ 0 ∷ 12 ∷ 1 ∷ 0 ∷ []
 
 -- read at 10 of a paper, by the rules of the printed set-up, whose one profile is 1
 abbrev read : (bytes : List ℕ) (end : ℕ) → Log
-read bytes end = log_of (rules_in body [] [] 0) (logs (based 159) (On 10 end)) (replicate 7 0 ++ 1 ∷ 0 ∷ 0 ∷ bytes ++ 0xAA ∷ [])
+read bytes end = log_of (rules_in body [] [] 0) (logs (based 159) (Some (span 10 end))) (replicate 7 0 ++ 1 ∷ 0 ∷ 0 ∷ bytes ++ 0xAA ∷ [])
 
 pub record Samples : Type 0 where
   pub size : T (eqb (read tail 28).logging.size 2)

@@ -6,9 +6,11 @@ use mathlib.Core.List.{List}
 use mathlib.Core.Logic.{◌⊎◌, inl, inr}
 use Prim.Native.Nat.{ℕ, zero, suc, ◌<◌}
 use native.Mathlib.Omega.{arith}
-use Rattle.log_tail.specs.declared.Judged.TheVariants.{Sound, Wrong, PastData}
 use Rattle.log_tail.specs.LogTail.{all, entry_count, entry_at, reaches_past, are_within, is_in_range, is_within, judged, judged_number}
 use Rattle.log_tail.proofs.All.{not_all}
+use Rattle.std.specs.Prelude.{Err, Ok}
+use Rattle.log_tail.specs.declared.Fault.TheVariants.{PastData}
+use Rattle.log_tail.specs.declared.Fault.TheVariants.{Wrong}
 
 -- one of so many is not so
 record One (n : ℕ) (test : ℕ → Bool) : Type 0 where
@@ -54,7 +56,7 @@ module _ (tail : List ℕ) (profiles first : ℕ) where
   unfolding judged is_within are_within
   fourteen_by_cause = by (is_in_range tail profiles) (within false) (within true) refl refl where
     by : (range f s : Bool) → within false ≡ f → within true ≡ s
-        → judged_number (cond range (cond (f && s) Sound PastData) Wrong) ≡ 14 → (range ≡ true) × (Past false ⊎ Past true)
+        → judged_number (cond range (cond (f && s) (Ok tt) (Err PastData)) (Err Wrong)) ≡ 14 → (range ≡ true) × (Past false ⊎ Past true)
     by true false s p q e = (refl, inl (past false p))
     by true true false p q e = (refl, inr (past true q))
     by true true true p q e = (refl, absurd (omega arith))
@@ -63,13 +65,13 @@ module _ (tail : List ℕ) (profiles first : ℕ) where
   pub fourteen_if : is_in_range tail profiles ≡ true → Past false ⊎ Past true → judged_number (judged tail profiles first) ≡ 14
   unfolding judged is_within are_within
   fourteen_if range (inl p) = rw (range, not_within false p)
-  fourteen_if range (inr p) = rw (range, not_within true p) (ap (λ b. judged_number (cond b Sound PastData)) (and-false (within false)))
+  fourteen_if range (inr p) = rw (range, not_within true p) (ap (λ b. judged_number (cond b (Ok tt) (Err PastData))) (and-false (within false)))
 
   pub one-exactly : (judged_number (judged tail profiles first) ≡ 1 → is_in_range tail profiles ≡ false)
       × (is_in_range tail profiles ≡ false → judged_number (judged tail profiles first) ≡ 1)
   unfolding judged
   one-exactly = (by (is_in_range tail profiles) (is_within tail profiles first), λ e. rw e) where
-    by : (range w : Bool) → judged_number (cond range (cond w Sound PastData) Wrong) ≡ 1 → range ≡ false
+    by : (range w : Bool) → judged_number (cond range (cond w (Ok tt) (Err PastData)) (Err Wrong)) ≡ 1 → range ≡ false
     by true true e = absurd (omega arith)
     by true false e = absurd (omega arith)
     by false w e = refl

@@ -1,9 +1,10 @@
 -- What a set-up says of its log: the tail of version 07, where it is on (document 02, Eight; Table L-10 for the switches).
-use Rattle.std.specs.Prelude.{ℕ, zero, suc, ◌+◌, ◌-◌, ◌*◌, ◌%◌, Bool, true, cond, not, ◌&&◌, List, leb, ltb, eqb}
+use Rattle.std.specs.Prelude.{ℕ, zero, suc, ◌+◌, ◌-◌, ◌*◌, ◌%◌, Bool, true, cond, not, ◌&&◌, List, leb, ltb, eqb, Err, Ok, Result}
 use Rattle.wire.specs.Wire.{byte}
 use Rattle.log_tail.specs.declared.Entry.{Entry}
-use Rattle.log_tail.specs.declared.Judged.{Judged}
-use Rattle.log_tail.specs.declared.Judged.TheVariants.{Sound, Wrong, PastData}
+use Rattle.log_tail.specs.declared.Fault.{Fault}
+use Rattle.log_tail.specs.declared.Fault.TheVariants.{PastData}
+use Rattle.log_tail.specs.declared.Fault.TheVariants.{Wrong}
 
 -- behind the switch that is on (1): the ring's size, the switches, a byte for each profile, First's table, Second's; a table is the number of its
 -- entries, and then the entries, each source (1), position (1), length (1)
@@ -75,10 +76,10 @@ unfoldable pub is_within : (tail : List ℕ) (profiles first : ℕ) → Bool
 is_within tail profiles first = are_within tail (first_table profiles) first && are_within tail (second_table tail profiles) first
 
 -- THE JUDGEMENT: out of range before past its data
-unfoldable pub judged : (tail : List ℕ) (profiles first : ℕ) → Judged
-judged tail profiles first = cond (is_in_range tail profiles) (cond (is_within tail profiles first) Sound PastData) Wrong
+unfoldable pub judged : (tail : List ℕ) (profiles first : ℕ) → Result Unit Fault
+judged tail profiles first = cond (is_in_range tail profiles) (cond (is_within tail profiles first) (Ok tt) (Err PastData)) (Err Wrong)
 
-abbrev pub judged_number : Judged → ℕ
-judged_number Sound = 0
-judged_number Wrong = 1
-judged_number PastData = 14
+abbrev pub judged_number : Result Unit Fault → ℕ
+judged_number (Ok done) = 0
+judged_number (Err Wrong) = 1
+judged_number (Err PastData) = 14

@@ -31,12 +31,9 @@ pub struct Entry {
     pub length: u8,
 }
 
-#[derive(Drop)]
-pub enum Judged {
-    Sound,
-    // A field is out of range.
+#[derive(Clone, Copy)]
+pub enum Fault {
     Wrong,
-    // An entry reaches past its source.
     PastData,
 }
 
@@ -195,14 +192,14 @@ fn is_within(tail: &[u8], profiles: u8, first: usize) -> bool
 }
 
 // A tail of so many profiles, First's data having so many bytes.
-pub fn judge(tail: &[u8], profiles: u8, first: usize) -> Judged
+pub fn judge(tail: &[u8], profiles: u8, first: usize) -> Result<(), Fault>
     ensures { result ≡ judged tail.now profiles first }
 {
     if !is_in_range(tail, profiles) {
-        return Judged::Wrong;
+        return Err(Fault::Wrong);
     }
     if is_within(tail, profiles, first) {
-        return Judged::Sound;
+        return Ok(());
     }
-    Judged::PastData
+    Err(Fault::PastData)
 }

@@ -12,8 +12,6 @@ use Rattle.wire.specs.Wire.{byte}
 use Rattle.text.specs.Text.{joined}
 use Rattle.text.proofs.Each.{Each, none, more, append}
 use Rattle.text.proofs.Fields.{Fed}
-use Rattle.ring.specs.declared.Found.{Found}
-use Rattle.ring.specs.declared.Found.TheVariants.{Record as Kept, Nothing}
 use Rattle.ring.specs.Ring.{slots_of, count_kept, count_in, found}
 use Rattle.log_fields.specs.declared.Form.{Form}
 use Rattle.log_lines.proofs.Longest.{line-short}
@@ -22,6 +20,8 @@ use Rattle.paper_log.specs.declared.Log.{Log}
 use Rattle.paper_log.specs.Log.{tail_at}
 use Rattle.log_text.specs.LogText.{found_line, lines_up_to, log_lines, log_text, longest}
 use Rattle.log_text.proofs.Stores.{line-behind}
+use Rattle.std.specs.Prelude.{None, Option, Some}
+use Rattle.ring.specs.declared.Record.{Record}
 
 module _ (paper tail : List ℕ) (form : Form) (ring : List ℕ) (size : ℕ) where
   -- a record that is counted is found
@@ -70,9 +70,9 @@ small-part paper start end small i = by (leb start end && leb end (length paper)
   by false = omega arith
 
 module _ (paper tail : List ℕ) (form : Form) (ring : List ℕ) (size : ℕ) (small : Small tail) where
-  found-short : (k : ℕ) → k < 256 → (it : Found) → length (found_line paper tail form k it) ≤ 12287
-  found-short k h (Kept kept) = line-short paper tail form kept k h (small _)
-  found-short k h Nothing = omega arith
+  found-short : (k : ℕ) → k < 256 → (it : Option Record) → length (found_line paper tail form k it) ≤ 12287
+  found-short k h (Some kept) = line-short paper tail form kept k h (small _)
+  found-short k h None = omega arith
 
   short_up_to : (n : ℕ) → n ≤ 20 → length (joined (lines_up_to paper tail form ring size n)) ≤ 12287 * n
   unfolding lines_up_to joined

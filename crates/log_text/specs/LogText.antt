@@ -1,19 +1,18 @@
 -- The text of a log (document 02, Eight): the lines of its records behind the lines of a paper, record 1, the newest, first.
-use Rattle.std.specs.Prelude.{ℕ, zero, suc, ◌+◌, cond, List, [], ◌∷◌, ◌++◌, length}
+use Rattle.std.specs.Prelude.{ℕ, zero, suc, ◌+◌, cond, List, [], ◌∷◌, ◌++◌, length, None, Option, Some}
 use Rattle.std.proofs.lemmas.List.Edits.{sets}
 use Rattle.text.specs.Text.{fits, joined}
-use Rattle.ring.specs.declared.Found.{Found}
-use Rattle.ring.specs.declared.Found.TheVariants.{Record as Kept, Nothing}
 use Rattle.ring.specs.Ring.{count_in, found}
 use Rattle.log_fields.specs.declared.Form.{Form}
 use Rattle.log_lines.specs.LogLines.{log_line}
 use Rattle.paper_log.specs.declared.Log.{Log}
 use Rattle.paper_log.specs.Log.{tail_at}
+use Rattle.ring.specs.declared.Record.{Record}
 
 -- record k's line
-abbrev pub found_line : (paper tail : List ℕ) → Form → (k : ℕ) → Found → List ℕ
-found_line paper tail form k (Kept kept) = log_line k paper tail form kept
-found_line paper tail form k Nothing = []
+abbrev pub found_line : (paper tail : List ℕ) → Form → (k : ℕ) → Option Record → List ℕ
+found_line paper tail form k (Some kept) = log_line k paper tail form kept
+found_line paper tail form k None = []
 
 -- the lines of records 1 to n
 unfoldable pub lines_up_to : (paper tail : List ℕ) → Form → (ring : List ℕ) (size n : ℕ) → List (List ℕ)

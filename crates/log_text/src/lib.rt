@@ -10,7 +10,7 @@ ghost use Rattle.ring.specs.Ring.{count_in};
 
 use log_fields::Form;
 use paper_log::Log;
-use ring::{Found, Ring};
+use ring::Ring;
 
 // The most bytes that it has: 20 of the longest lines.
 pub const LONGEST: usize = 245_740;
@@ -23,14 +23,14 @@ fn put_found(
     tail: &[u8],
     form: Form,
     k: u8,
-    found: Found,
+    found: Option<Record>,
 ) -> usize
     requires { at + 12287 ≤ length room.old }
     ensures { Stored room.old at (found_line paper.now tail.now form k found) 12287 result room.new }
 {
     match found {
-        Found::Record(kept) => log_lines::put_line(room, at, k, paper, tail, form, kept),
-        Found::Nothing => at,
+        Some(kept) => log_lines::put_line(room, at, k, paper, tail, form, kept),
+        None => at,
     }
 }
 

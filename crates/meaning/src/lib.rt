@@ -4,7 +4,7 @@
 ghost use Rattle.std.specs.Prelude.{◌≡◌, ◌<◌};
 ghost use Rattle.element.specs.Element.{as_meaning, is_one_of, meaning_of, element_meaning};
 
-use element::{ACCUMULATORS, COUNTERS, Meaning};
+use element::{ACCUMULATORS, COUNTERS};
 use wire::{byte_at, u16_at};
 
 // Whether a tag is one of the four from the first on.
@@ -16,7 +16,7 @@ fn is_one_of(first: u16, tag: u16) -> bool
 }
 
 // What an element writes, by P1 P2 and its tag.
-fn meaning_of(object: u16, tag: u16, value: &[u8]) -> Meaning
+fn meaning_of(object: u16, tag: u16, value: &[u8]) -> Option<Write>
     ensures { result ≡ as_meaning (meaning_of object tag value.now) }
 {
     if (object == ACCUMULATORS) & is_one_of(0xDF01, tag) {
@@ -28,11 +28,11 @@ fn meaning_of(object: u16, tag: u16, value: &[u8]) -> Meaning
     if (object == COUNTERS) & is_one_of(0xDF11, tag) {
         return element::counts_written((tag - 0xDF11) as usize, value);
     }
-    Meaning::Fails
+    None
 }
 
 // What the element writes with which a list begins. It must end within the list.
-pub fn element_meaning(object: u16, list: &[u8]) -> Meaning
+pub fn element_meaning(object: u16, list: &[u8]) -> Option<Write>
     ensures { result ≡ as_meaning (element_meaning object list.now) }
 {
     let size = element::element_size(list);
@@ -40,5 +40,5 @@ pub fn element_meaning(object: u16, list: &[u8]) -> Meaning
         let head = element::head_size(list);
         return meaning_of(object, u16_at(list, 0), &list[head..size]);
     }
-    Meaning::Fails
+    None
 }

@@ -4,29 +4,29 @@ use lib.Ieee.{Float, nan, inf, fin, binary64, fits, of_int, in_unsigned, to_unsi
 use lib.Ieee.Bits.{is_true}
 use lib.Ieee.Back.{unsigned_back, Float-back_unsigned}
 use Rattle.money.specs.Money.{max}
-use Rattle.mta.specs.declared.Mta.{Mta}
-use Rattle.mta.specs.declared.Mta.TheVariants.{Amount, NotWhole}
 use Rattle.mta.specs.Mta.{mta_of}
 use Rattle.mta.proofs.Tests.{in_float_lem, and_false}
+use Rattle.std.specs.Prelude.{None, Option, Some}
+use Rattle.money.specs.declared.AccumulatorAmount.{AccumulatorAmount}
 
-pub whole-taken : (n : ℕ) → n ≤ max → mta_of (of_int binary64 (pos n)) ≡ Amount (record { 0 = n })
+pub whole-taken : (n : ℕ) → n ≤ max → mta_of (of_int binary64 (pos n)) ≡ Some (record { 0 = n })
 unfolding mta_of
 whole-taken n h =
     let b = unsigned_back binary64 64 n (in_float_lem n h) (omega arith) in
     simp (is_true (in_unsigned binary64 64 (of_int binary64 (pos n))) b.0, b.1, le-leb n max h)
 
 -- the number of an amount
-abbrev inside : Mta → ℕ
-inside (Amount amount) = amount.0
-inside NotWhole = 0
+abbrev inside : Option AccumulatorAmount → ℕ
+inside (Some amount) = amount.0
+inside None = 0
 
-pick : (a b : Bool) (k n : ℕ) → cond (a && b) (Amount (record { 0 = k })) NotWhole ≡ Amount (record { 0 = n })
+pick : (a b : Bool) (k n : ℕ) → cond (a && b) (Some (record { 0 = k })) None ≡ Some (record { 0 = n })
     → (a ≡ true) × (b ≡ true) × (k ≡ n)
 pick true true k n e = (refl, refl, ap inside e)
 pick true false k n e = let z : ◌≡◌ {A = ℕ} 0 1 = cc in absurd (omega arith)
 pick false b k n e = let z : ◌≡◌ {A = ℕ} 0 1 = cc in absurd (omega arith)
 
-pub taken-whole : (mta : Float) → T (fits binary64 mta) → (n : ℕ) → mta_of mta ≡ Amount (record { 0 = n })
+pub taken-whole : (mta : Float) → T (fits binary64 mta) → (n : ℕ) → mta_of mta ≡ Some (record { 0 = n })
     → (mta ≡ of_int binary64 (pos n)) × (n ≤ max)
 unfolding mta_of
 taken-whole mta f n h =
@@ -36,14 +36,14 @@ taken-whole mta f n h =
     )
 
 -- not-a-number, infinities, and anything negative, -0 among it, never get through
-pub never_nan : mta_of nan ≡ NotWhole
+pub never_nan : mta_of nan ≡ None
 unfolding mta_of in_unsigned
 never_nan = refl
 
-pub never_infinite : (sign : Bool) → mta_of (inf sign) ≡ NotWhole
+pub never_infinite : (sign : Bool) → mta_of (inf sign) ≡ None
 unfolding mta_of in_unsigned
 never_infinite sign = refl
 
-pub never_negative : (m : ℕ) (e : ℤ) → mta_of (fin true m e) ≡ NotWhole
+pub never_negative : (m : ℕ) (e : ℤ) → mta_of (fin true m e) ≡ None
 unfolding mta_of in_unsigned
 never_negative m e = simp and_false

@@ -9,13 +9,6 @@ ghost use Rattle.mta.specs.Mta.{is_within, mta_of};
 
 use money::{AccumulatorAmount, MAX};
 
-// The amount that a float is, or that it is no whole number from 0 to MAX.
-#[derive(Drop)]
-pub enum Mta {
-    Amount(AccumulatorAmount),
-    NotWhole,
-}
-
 // Above -1 and below 2^64 a fraction can be cut off. Not-a-number is not within.
 fn is_within(mta: f64) -> bool
     ensures { result ≡ is_within mta }
@@ -33,19 +26,19 @@ fn is_whole(mta: f64, amount: u64) -> bool
 }
 
 // A whole number from 0 to MAX.
-pub fn mta_of(mta: f64) -> Mta
+pub fn mta_of(mta: f64) -> Option<AccumulatorAmount>
     ensures { result ≡ mta_of mta }
 {
     if !is_within(mta) {
-        return Mta::NotWhole;
+        return None;
     }
     let amount = std::num::truncating_f64_to_u64(mta);
     if MAX < amount {
-        return Mta::NotWhole;
+        return None;
     }
     if is_whole(mta, amount) {
-        Mta::Amount(AccumulatorAmount(amount))
+        Some(AccumulatorAmount(amount))
     } else {
-        Mta::NotWhole
+        None
     }
 }

@@ -8,31 +8,33 @@ use lib.ListN.{length, drop, drop_of_length-le}
 use lib.Seq.{drop-drop}
 use borrow.Author.Tests.{eq-eqb, ne_eqb}
 use Rattle.wire.specs.Wire.{byte}
-use Rattle.object.specs.declared.Reading.{Reading}
-use Rattle.object.specs.declared.Reading.TheVariants.{Sound, Malformed, TooDeep}
 use Rattle.head.specs.Head.{head_right, is_constructed, object_size}
 use Rattle.object.specs.Object.{value_of, first_fault, read_object, read_behind, read_list, reading_number}
 use Rattle.head.proofs.Heads.{first_byte, rest_some, head-some}
+use Rattle.std.specs.Prelude.{Err, Ok, Result}
+use Rattle.object.specs.declared.Fault.{Fault}
+use Rattle.object.specs.declared.Fault.TheVariants.{Malformed}
+use Rattle.object.specs.declared.Fault.TheVariants.{TooDeep}
 
 -- ---- one object
-pub object-constructed : (f : List ℕ → Reading) (s : List ℕ) → head_right s ≡ true → is_constructed (byte s 0) ≡ true → read_object f s ≡ f (value_of s)
+pub object-constructed : (f : List ℕ → Result Unit Fault) (s : List ℕ) → head_right s ≡ true → is_constructed (byte s 0) ≡ true → read_object f s ≡ f (value_of s)
 unfolding read_object
 object-constructed f s e g = simp (e, g)
 
-pub object-primitive : (f : List ℕ → Reading) (s : List ℕ) → head_right s ≡ true → is_constructed (byte s 0) ≡ false → read_object f s ≡ Sound
+pub object-primitive : (f : List ℕ → Result Unit Fault) (s : List ℕ) → head_right s ≡ true → is_constructed (byte s 0) ≡ false → read_object f s ≡ Ok tt
 unfolding read_object
 object-primitive f s e g = simp (e, g)
 
-pub object-malformed : (f : List ℕ → Reading) (s : List ℕ) → head_right s ≡ false → read_object f s ≡ Malformed
+pub object-malformed : (f : List ℕ → Result Unit Fault) (s : List ℕ) → head_right s ≡ false → read_object f s ≡ Err Malformed
 unfolding read_object
 object-malformed f s e = simp (e)
 
-pub object_deep : (k : ℕ) (s : List ℕ) → head_right s ≡ true → is_constructed (byte s 0) ≡ true → k ≡ 0 → read_object (read_list k) s ≡ TooDeep
+pub object_deep : (k : ℕ) (s : List ℕ) → head_right s ≡ true → is_constructed (byte s 0) ≡ true → k ≡ 0 → read_object (read_list k) s ≡ Err TooDeep
 unfolding read_list
 object_deep k s e g z = object-constructed (read_list k) s e g ∙ ap (λ n. read_list n (value_of s)) z
 
 -- ---- a list
-skip : (f : List ℕ → Reading) (m : ℕ) (s : List ℕ) → read_behind f m s ≡ read_behind f 0 (drop m s)
+skip : (f : List ℕ → Result Unit Fault) (m : ℕ) (s : List ℕ) → read_behind f m s ≡ read_behind f 0 (drop m s)
 unfolding read_behind
 skip f zero s = refl
 skip f (suc m) [] = refl
@@ -58,21 +60,21 @@ list-object (suc k) (b ∷ s) h l e =
     (ap (first_fault (read_object (read_list k) (b ∷ s))) (skip (read_list k) (n - 1) s ∙ ap (λ m. read_behind (read_list k) 0 (drop m (b ∷ s))) (sym r)))
 
 -- ---- the list reader's ways, at a place
-pub list-end : (k at : ℕ) (s : List ℕ) → 1 ≤ k → length s ≤ at → read_list k (drop at s) ≡ Sound
+pub list-end : (k at : ℕ) (s : List ℕ) → 1 ≤ k → length s ≤ at → read_list k (drop at s) ≡ Ok tt
 unfolding read_list read_behind
 list-end zero at s h e = absurd (omega arith)
 list-end (suc k) at s h e = ap (read_behind (read_list k) 0) (drop_of_length-le s e)
 
-pub not_malformed : Malformed ≡ Sound → ⊥
+pub not_malformed : (Err Malformed) ≡ Ok tt → ⊥
 not_malformed e = let z : ◌≡◌ {A = ℕ} 18 0 = ap reading_number e in omega arith
 
-pub not_deep : TooDeep ≡ Sound → ⊥
+pub not_deep : (Err TooDeep) ≡ Ok tt → ⊥
 not_deep e = let z : ◌≡◌ {A = ℕ} 19 0 = ap reading_number e in omega arith
 
-pub first-fault : (a b : Reading) → (a ≡ Sound → ⊥) → first_fault a b ≡ a
-first-fault Sound b h = absurd (h refl)
-first-fault Malformed b h = refl
-first-fault TooDeep b h = refl
+pub first-fault : (a b : Result Unit Fault) → (a ≡ Ok tt → ⊥) → first_fault a b ≡ a
+first-fault (Ok done) b h = absurd (h refl)
+first-fault (Err Malformed) b h = refl
+first-fault (Err TooDeep) b h = refl
 
 module _ (k at : ℕ) (s : List ℕ) (h : 1 ≤ k) (l : at < length s) where
   pub list_pass : byte s at ≡ 0 → read_list k (drop at s) ≡ read_list k (drop (at + 1) s)
@@ -84,9 +86,9 @@ module _ (k at : ℕ) (s : List ℕ) (h : 1 ≤ k) (l : at < length s) where
         list-object k (drop at s) h (rest_some s at l) (λ z. e (sym (first_byte s at) ∙ z))
         ∙ ap (λ x. first_fault (read_object (read_list (k - 1)) (drop at s)) (read_list k x)) (drop-drop (object_size (drop at s)) at s)
 
-    pub list-fault : (r : Reading) → r ≡ read_object (read_list (k - 1)) (drop at s) → (r ≡ Sound → ⊥) → r ≡ read_list k (drop at s)
+    pub list-fault : (r : Result Unit Fault) → r ≡ read_object (read_list (k - 1)) (drop at s) → (r ≡ Ok tt → ⊥) → r ≡ read_list k (drop at s)
     list-fault r o g =
         sym (list_at ∙ ap (λ x. first_fault x (read_list k (drop (at + object_size (drop at s)) s))) (sym o) ∙ first-fault r (read_list k (drop (at + object_size (drop at s)) s)) g)
 
-    pub list-more : (r : Reading) → r ≡ read_object (read_list (k - 1)) (drop at s) → r ≡ Sound → read_list k (drop at s) ≡ read_list k (drop (at + object_size (drop at s)) s)
+    pub list-more : (r : Result Unit Fault) → r ≡ read_object (read_list (k - 1)) (drop at s) → r ≡ Ok tt → read_list k (drop at s) ≡ read_list k (drop (at + object_size (drop at s)) s)
     list-more r o g = list_at ∙ ap (λ x. first_fault x (read_list k (drop (at + object_size (drop at s)) s))) (sym o ∙ g)

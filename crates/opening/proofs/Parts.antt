@@ -11,11 +11,12 @@ use Rattle.wire.specs.Wire.{byte}
 use Rattle.refusal.specs.declared.Refusal.TheVariants.{Unreadable}
 use Rattle.paper.specs.declared.Next.{Next}
 use Rattle.paper.specs.declared.Next.TheVariants.{Record, Fault, End}
-use Rattle.paper.specs.declared.Opened.{Opened}
-use Rattle.paper.specs.declared.Opened.TheVariants.{Setup, Refused}
 use Rattle.paper.specs.Paper.{is_unreadable, next_at, setup_in, open_paper}
 use Rattle.paper.specs.Walk.{part}
 use Rattle.paper.proofs.Walk.{inside}
+use Rattle.std.specs.Prelude.{Err, Ok, Result}
+use Rattle.paper.specs.declared.Opened.{Opened}
+use Rattle.refusal.specs.declared.Refusal.{Refusal}
 
 pub part_length : (s : List ℕ) (start end : ℕ) → start ≤ end → end ≤ length s → length (part s start end) ≡ end - start
 part_length s start end h l = length-take-le (end - start) (drop start s) (rw (length-drop start s) (omega arith))
@@ -27,23 +28,23 @@ record_inside s at kind start end e =
     let h = i.holds in
     (omega arith, i.fits)
 
-start_of : Opened → ℕ
-start_of (Setup version start end) = start
-start_of (Refused refusal) = 0
+start_of : Result Opened Refusal → ℕ
+start_of (Ok opened) = opened.start
+start_of (Err refusal) = 0
 
-end_of : Opened → ℕ
-end_of (Setup version start end) = end
-end_of (Refused refusal) = 0
+end_of : Result Opened Refusal → ℕ
+end_of (Ok opened) = opened.end
+end_of (Err refusal) = 0
 
 by_next : (s : List ℕ) (version start end : ℕ) (b : Bool) (n : Next) → next_at s 1 ≡ n
-    → cond b (Refused Unreadable) (setup_in (byte s 0) n) ≡ Setup version start end
+    → cond b (Err Unreadable) (setup_in (byte s 0) n) ≡ Ok (record { version = version; start = start; end = end })
     → (start ≤ end) × (end ≤ length s)
 unfolding start_of end_of
 by_next s version start end true n e o = let z : ◌≡◌ {A = ℕ} 0 1 = cc in (omega arith, omega arith)
 by_next s version start end false Fault e o = let z : ◌≡◌ {A = ℕ} 0 1 = cc in (omega arith, omega arith)
 by_next s version start end false End e o = let z : ◌≡◌ {A = ℕ} 0 1 = cc in (omega arith, omega arith)
 by_next s version start end false (Record kind first last) e o = by_kind (eqb kind 1) o where
-  by_kind : (b : Bool) → cond b (Setup (byte s 0) first last) (Refused Unreadable) ≡ Setup version start end → (start ≤ end) × (end ≤ length s)
+  by_kind : (b : Bool) → cond b (Ok (record { version = byte s 0; start = first; end = last })) (Err Unreadable) ≡ Ok (record { version = version; start = start; end = end }) → (start ≤ end) × (end ≤ length s)
   by_kind true p =
       let i = record_inside s 1 kind first last e in
       let f : first ≡ start = ap start_of p in
@@ -51,6 +52,6 @@ by_next s version start end false (Record kind first last) e o = by_kind (eqb ki
       (omega arith, omega arith)
   by_kind false p = let z : ◌≡◌ {A = ℕ} 0 1 = cc in (omega arith, omega arith)
 
-pub setup-inside : (s : List ℕ) (version start end : ℕ) → open_paper s ≡ Setup version start end → (start ≤ end) × (end ≤ length s)
+pub setup-inside : (s : List ℕ) (version start end : ℕ) → open_paper s ≡ Ok (record { version = version; start = start; end = end }) → (start ≤ end) × (end ≤ length s)
 unfolding open_paper
 setup-inside s version start end e = by_next s version start end (is_unreadable s) (next_at s 1) refl e

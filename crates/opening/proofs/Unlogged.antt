@@ -2,18 +2,16 @@
 use mathlib.Core.Path.{◌≡◌, refl, subst, sym}
 use mathlib.Core.List.{List}
 use Prim.Native.Nat.{ℕ, ◌<◌}
-use Rattle.log_tail.specs.declared.Judged.TheVariants.{Sound}
-use Rattle.shape.specs.declared.Logging.{Logging}
-use Rattle.shape.specs.declared.Logging.TheVariants.{Off}
 use Rattle.shape.specs.declared.Shape.{Shape}
-use Rattle.shape.specs.declared.ReadShape.TheVariants.{Taken}
 use Rattle.shape.specs.Shape.{shape_of}
 use Rattle.shape.proofs.Scripting.{unlogged-below}
 use Rattle.opening.specs.Opening.{log_found, log_judged}
+use Rattle.std.specs.Prelude.{None, Ok, Option}
+use Rattle.shape.specs.declared.Span.{Span}
 
-pub sound_off : (shape : Shape) (body : List ℕ) → shape.logging ≡ Off → log_judged shape body ≡ Sound
+pub sound_off : (shape : Shape) (body : List ℕ) → shape.logging ≡ None → log_judged shape body ≡ Ok tt
 unfolding log_judged
-sound_off shape body off = subst (λ (logging : Logging). log_found logging shape body ≡ Sound) (sym off) refl
+sound_off shape body off = subst (λ (logging : Option Span). log_found logging shape body ≡ Ok tt) (sym off) refl
 
-pub sound_below : (version : ℕ) → version < 7 → (body : List ℕ) (shape : Shape) → shape_of version body ≡ Taken shape → log_judged shape body ≡ Sound
+pub sound_below : (version : ℕ) → version < 7 → (body : List ℕ) (shape : Shape) → shape_of version body ≡ Ok shape → log_judged shape body ≡ Ok tt
 sound_below version below body shape e = sound_off shape body (unlogged-below body version below shape e)

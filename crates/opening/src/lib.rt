@@ -1,49 +1,48 @@
 // The set-up of a paper, read into lent words: a fresh card, or a refusal.
 #![tactic(auto)]
 
-ghost use Rattle.std.specs.Prelude.{◌≡◌, ◌+◌, ◌<◌, ◌^◌, length};
+ghost use Rattle.std.specs.Prelude.{◌≡◌, ◌+◌, ◌<◌, ◌^◌, length, Ok};
 ghost use Rattle.shape.specs.Shape.{cycles_part, family_part, Lies, Spans, Holds, Keeps, selecting_at, dating_at, family_at, logging_at, shape_at};
-ghost use Rattle.shape.specs.declared.ReadShape.TheVariants.{Taken as ShapeTaken};
 ghost use Rattle.shape.proofs.Inside.{Inside};
 ghost use Rattle.opening.specs.Opening.{log_judged, shaped_begun, shaped_words, setup_begun, setup_words, begun_of, words_begun};
 
 use begun::Begun;
-use log_tail::Judged;
+use log_tail::Fault;
 use paper::Opened;
 use refusal::Refusal;
 use rules::Words;
-use shape::{Dating, Family, Logging, ReadShape, Selecting, Shape};
+use shape::{Family, SelectionFile, Shape, Span};
 
 // The file's places in the paper, where its body of so many bytes stands at a place of it.
-fn select_in(selecting: Selecting, place: usize, bytes: usize) -> Selecting
+fn select_in(selecting: Option<SelectionFile>, place: usize, bytes: usize) -> Option<SelectionFile>
     requires { Lies selecting bytes × (place + bytes < 2 ^ 63) }
     ensures { result ≡ selecting_at place selecting }
 {
     match selecting {
-        Selecting::Off => Selecting::Off,
-        Selecting::On {
+        None => None,
+        Some(SelectionFile {
             start,
             end,
             entries,
-        } => Selecting::On {
+        }) => Some(SelectionFile {
             start: place + start,
             end: place + end,
             entries,
-        },
+        }),
     }
 }
 
 // The places of the tail with dates likewise.
-fn date_in(dating: Dating, place: usize, bytes: usize) -> Dating
+fn date_in(dating: Option<Span>, place: usize, bytes: usize) -> Option<Span>
     requires { Spans dating bytes × (place + bytes < 2 ^ 63) }
     ensures { result ≡ dating_at place dating }
 {
     match dating {
-        Dating::Off => Dating::Off,
-        Dating::On { start, end } => Dating::On {
+        None => None,
+        Some(Span { start, end }) => Some(Span {
             start: place + start,
             end: place + end,
-        },
+        }),
     }
 }
 
@@ -62,16 +61,16 @@ fn family_in(family: Family, place: usize, bytes: usize) -> Family
 }
 
 // And those of the log's tail.
-fn log_at(logging: Logging, place: usize, bytes: usize) -> Logging
+fn log_at(logging: Option<Span>, place: usize, bytes: usize) -> Option<Span>
     requires { Keeps logging bytes × (place + bytes < 2 ^ 63) }
     ensures { result ≡ logging_at place logging }
 {
     match logging {
-        Logging::Off => Logging::Off,
-        Logging::On { start, end } => Logging::On {
+        None => None,
+        Some(Span { start, end }) => Some(Span {
             start: place + start,
             end: place + end,
-        },
+        }),
     }
 }
 
@@ -101,13 +100,13 @@ fn place_in(shape: Shape, place: usize, bytes: usize) -> Shape
 }
 
 // The tail with dates, no byte where they are off.
-fn cycles_in(dating: Dating, body: &[u8]) -> &[u8]
+fn cycles_in(dating: Option<Span>, body: &[u8]) -> &[u8]
     requires { Spans dating (length body.now) }
     ensures { result.now ≡ cycles_part dating body.now }
 {
     match dating {
-        Dating::Off => &body[..0],
-        Dating::On { start, end } => &body[start..end],
+        None => &body[..0],
+        Some(Span { start, end }) => &body[start..end],
     }
 }
 
@@ -123,13 +122,13 @@ fn controls_in(family: Family, body: &[u8]) -> &[u8]
 }
 
 // The log's settings and tables, where it is on; First's data is as long as the shape says.
-fn judge_log(shape: Shape, body: &[u8]) -> Judged
+fn judge_log(shape: Shape, body: &[u8]) -> Result<(), Fault>
     requires { Keeps shape.logging (length body.now) }
     ensures { result ≡ log_judged shape body.now }
 {
     let logging = shape.logging;
-    let Logging::On { start, end } = logging else {
-        return Judged::Sound;
+    let Some(Span { start, end }) = logging else {
+        return Ok(());
     };
     let dating = shape.dating;
     let family = shape.family;
@@ -145,8 +144,8 @@ fn judge_log(shape: Shape, body: &[u8]) -> Judged
 // log's.
 fn take_shaped(shape: Shape, body: &[u8], place: usize, end: usize, words: &mut Words) -> Begun
     requires { Inside shape (length body.now) × (place + length body.now < 2 ^ 63) }
-    ensures { (result ≡ shaped_begun body.now place end (ShapeTaken shape))
-        × (words.new ≡ shaped_words words.old body.now (ShapeTaken shape)) }
+    ensures { (result ≡ shaped_begun body.now place end (Ok shape))
+        × (words.new ≡ shaped_words words.old body.now (Ok shape)) }
 {
     let placed = place_in(shape, place, body.len());
     let base = shape.base;
@@ -155,9 +154,9 @@ fn take_shaped(shape: Shape, body: &[u8], place: usize, end: usize, words: &mut 
     let family = shape.family;
     let controls = controls_in(family, body);
     match judge_log(shape, body) {
-        Judged::Sound => begun::take_base(placed, &body[..base], cycles, controls, end, words),
-        Judged::Wrong => begun::refuse(Refusal::BadSetup, end),
-        Judged::PastData => begun::refuse_log(&body[..base], cycles, controls, shape.unnamed, end),
+        Ok(()) => begun::take_base(placed, &body[..base], cycles, controls, end, words),
+        Err(Fault::Wrong) => begun::refuse(Refusal::BadSetup, end),
+        Err(Fault::PastData) => begun::refuse_log(&body[..base], cycles, controls, shape.unnamed, end),
     }
 }
 
@@ -168,8 +167,8 @@ fn take_setup(version: u8, body: &[u8], place: usize, end: usize, words: &mut Wo
         × (words.new ≡ setup_words words.old version body.now) }
 {
     match additions::read_shape(version, body) {
-        ReadShape::Refused(refusal) => begun::refuse(refusal, end),
-        ReadShape::Taken(shape) => take_shaped(shape, body, place, end, words),
+        Err(refusal) => begun::refuse(refusal, end),
+        Ok(shape) => take_shaped(shape, body, place, end, words),
     }
 }
 
@@ -178,11 +177,11 @@ pub fn begin(paper: &[u8], words: &mut Words) -> Begun
     ensures { (result ≡ begun_of paper.now) × (words.new ≡ words_begun words.old paper.now) }
 {
     match paper::open_paper(paper) {
-        Opened::Refused(refusal) => begun::refuse(refusal, 0),
-        Opened::Setup {
+        Err(refusal) => begun::refuse(refusal, 0),
+        Ok(Opened {
             version,
             start,
             end,
-        } => take_setup(version, &paper[start..end], start, end, words),
+        }) => take_setup(version, &paper[start..end], start, end, words),
     }
 }

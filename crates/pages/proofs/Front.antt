@@ -9,7 +9,6 @@ use lib.Dec.{ltb}
 use lib.ListN.{length, take, drop, length-drop}
 use lib.Seq.{length-take-le}
 use Rattle.conversation.specs.Events.{words_left}
-use Rattle.paper_room.specs.declared.Transcript.{Transcript}
 use Rattle.paper_text.specs.PaperText.{room_for_text, words_put}
 use Rattle.blocks.specs.declared.Front.TheVariants.{Done, Paper}
 use Rattle.blocks.specs.declared.Turned.{Turned}
@@ -18,6 +17,7 @@ use Rattle.blocks.specs.Blocks.{waiting, front_of, front_room}
 use Rattle.pages.specs.Stack.{page_of, size_of, paper_of}
 use Rattle.pages.specs.Turn.{longest_paper, hold, page, passing, deal_of, page_put, page_room, turned_over, said_by, room_by, words_by}
 use Rattle.pages.proofs.Told.{page-said, passing-said, passing_room, passing-words}
+use Rattle.std.specs.Prelude.{Option}
 
 module _ (words room input : List ℕ) (to skip : ℕ) where
   -- no paper is to be answered: the turn is done
@@ -85,7 +85,7 @@ by_length words paper room to taken n e =
     rw (← e) (page-said (length room) to 0 taken words paper (words_left words paper), refl, refl)
 
 -- its page is what the turn says, and what it leaves
-pub paged : (words input room : List ℕ) (to skip : ℕ) {end : ℕ} {room' after kept : List ℕ} {put : Transcript} {said : Turned}
+pub paged : (words input room : List ℕ) (to skip : ℕ) {end : ℕ} {room' after kept : List ℕ} {put : Option ℕ} {said : Turned}
     → front_of (length room) to skip input ≡ Paper end → room' ≡ front_room room to skip input
     → put ≡ page_put words (take (end - 4) (drop 4 input)) (length room') to
     → after ≡ page_room words (take (end - 4) (drop 4 input)) room' to

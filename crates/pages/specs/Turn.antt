@@ -1,9 +1,7 @@
 -- A stack's bytes come in pieces: what a turn makes of those at hand.
-use Rattle.std.specs.Prelude.{cond, List, ◌++◌, ℕ, ◌+◌, ◌-◌, eqb, ltb, leb, length, drop}
+use Rattle.std.specs.Prelude.{cond, List, ◌++◌, ℕ, ◌+◌, ◌-◌, eqb, ltb, leb, length, drop, None, Option, Some}
 use Rattle.std.proofs.lemmas.List.Edits.{sets}
 use Rattle.conversation.specs.Events.{words_left}
-use Rattle.paper_room.specs.declared.Transcript.{Transcript}
-use Rattle.paper_room.specs.declared.Transcript.TheVariants.{Whole, NoRoom}
 use Rattle.paper_text.specs.PaperText.{room_for_text, has_text_room}
 use Rattle.blocks.specs.declared.Wants.TheVariants.{Turn, Input}
 pub use Rattle.blocks.specs.Blocks.{too_long, longest_paper, placed_text, text_room, Deal, hold, page, passing, turned_over, said_by, room_by, last_text}
@@ -15,8 +13,8 @@ owed skip words stack =
     cond (eqb skip 0) (stack_of words stack) (cond (ltb (length stack) skip) cut_short (too_long ++ stack_of words (drop skip stack)))
 
 -- a page in the room, and where it ends, where its paper has the room that it is asked
-abbrev pub page_put : (words paper : List ℕ) (room to : ℕ) → Transcript
-page_put words paper room to = cond (has_text_room room to (length paper)) (Whole (to + length (page_of words paper))) NoRoom
+abbrev pub page_put : (words paper : List ℕ) (room to : ℕ) → Option ℕ
+page_put words paper room to = cond (has_text_room room to (length paper)) (Some (to + length (page_of words paper))) None
 
 abbrev pub page_room : (words paper room : List ℕ) (to : ℕ) → List ℕ
 page_room words paper room to = cond (has_text_room (length room) to (length paper)) (sets room to (page_of words paper)) room

@@ -7,18 +7,17 @@ ghost use Rattle.paper_text.specs.PaperText.{words_put};
 ghost use Rattle.pages.specs.Turn.{page_put, page_room, deal_of, said_by, room_by, words_by};
 
 use blocks::{Front, Turned};
-use paper_room::Transcript;
 use rules::Words;
 
 // The page of a paper.
-fn put_page(paper: &[u8], words: &mut Words, room: &mut [u8], at: usize) -> Transcript
+fn put_page(paper: &[u8], words: &mut Words, room: &mut [u8], at: usize) -> Option<usize>
     ensures { (result ≡ page_put words.old paper.now (length room.old) at) × (room.new ≡ page_room words.old paper.now room.old at) × (words.new ≡ words_put words.old paper.now room.old at) }
 {
-    let Transcript::Whole { end } = paper_text::put_text(paper, words, room, at) else {
-        return Transcript::NoRoom;
+    let Some(end) = paper_text::put_text(paper, words, room, at) else {
+        return None;
     };
     room[end] = b'\n';
-    Transcript::Whole { end: end + 1 }
+    Some(end + 1)
 }
 
 // The block at the front of the bytes at hand.

@@ -1,13 +1,9 @@
 -- The log of a paper (document 02, Eight): what its set-up says of it, and what a record is to it.
-use Rattle.std.specs.Prelude.{ℕ, ◌+◌, ◌-◌, Bool, true, false, cond, ◌&&◌, List, [], ◌∷◌, eqb, leb, length, take, drop, replicate}
+use Rattle.std.specs.Prelude.{ℕ, ◌+◌, ◌-◌, Bool, true, false, cond, ◌&&◌, List, [], ◌∷◌, eqb, leb, length, take, drop, replicate, None, Option, Some}
 use Rattle.std.specs.Borrow.{Bor}
 use Rattle.wire.specs.Wire.{byte, number}
 use Rattle.rules.specs.declared.Place.TheVariants.{One, Two, Three, Four}
 use Rattle.rules.specs.Rules.{Rules, profile_at}
-use Rattle.shape.specs.declared.Dating.{Dating}
-use Rattle.shape.specs.declared.Dating.TheVariants.{Off as Undated, On as Dated}
-use Rattle.shape.specs.declared.Logging.{Logging as LogTail}
-use Rattle.shape.specs.declared.Logging.TheVariants.{Off, On}
 use Rattle.shape.specs.declared.Shape.{Shape}
 use Rattle.bodies.specs.Bodies.{is_cpace}
 use Rattle.log_tail.specs.LogTail.{size_in, switches_in, logs_in}
@@ -16,6 +12,7 @@ use Rattle.journal.specs.declared.Logging.{Logging}
 use Rattle.journal.specs.declared.Heard.{Heard}
 use Rattle.journal.specs.declared.Heard.TheVariants.{First, Second, Other}
 use Rattle.paper_log.specs.declared.Log.{Log}
+use Rattle.shape.specs.declared.Span.{Span}
 
 -- the tail lies in the paper; what does not is empty
 abbrev pub tail_at : (paper : List ℕ) (start end : ℕ) → List ℕ
@@ -42,18 +39,18 @@ no_logging = record { size = 0; switches = 0; numbers = replicate 4 0; logs = re
 
 -- WHAT ITS LINES MUST KNOW: the number of profiles, the fourth byte of the set-up's body, which begins at 4; whether Firsts have a date; whether
 -- the card is a CPACE one
-abbrev pub is_dated : Dating → Bool
-is_dated Undated = false
-is_dated (Dated start end) = true
+abbrev pub is_dated : Option Span → Bool
+is_dated None = false
+is_dated (Some part) = true
 
 abbrev pub form_of : Shape → (paper : List ℕ) → Form
 form_of shape paper = record { profiles = byte paper 7; dated = is_dated shape.dating; cpace = is_cpace shape.family }
 
 -- THE LOG of a paper of a shape, by the rules that its set-up gives
-abbrev pub tailed : Rules → Shape → (paper : List ℕ) → LogTail → Log
-tailed rules shape paper Off = record { logging = no_logging; form = form_of shape paper; start = 0; end = 0 }
-tailed rules shape paper (On start end) =
-    record { logging = logging_in rules (tail_at paper start end); form = form_of shape paper; start = start; end = end }
+abbrev pub tailed : Rules → Shape → (paper : List ℕ) → Option Span → Log
+tailed rules shape paper None = record { logging = no_logging; form = form_of shape paper; start = 0; end = 0 }
+tailed rules shape paper (Some part) =
+    record { logging = logging_in rules (tail_at paper part.start part.end); form = form_of shape paper; start = part.start; end = part.end }
 
 unfoldable pub log_of : Rules → Shape → (paper : List ℕ) → Log
 log_of rules shape paper = tailed rules shape paper shape.logging

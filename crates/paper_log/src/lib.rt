@@ -8,7 +8,7 @@ ghost use Rattle.paper_log.specs.Log.{tail_at, tail_place, logging_in, is_dated,
 use journal::Heard;
 use log_fields::Form;
 use rules::{Place, Words};
-use shape::{Dating, Logging, Shape};
+use shape::{Shape, Span};
 
 // The number of profiles: the set-up's body begins at 4, behind the version, its length and its kind.
 const PROFILES: usize = 7;
@@ -62,12 +62,12 @@ fn logging_in(words: &Words, tail: &[u8]) -> journal::Logging
     }
 }
 
-fn is_dated(dating: Dating) -> bool
+fn is_dated(dating: Option<Span>) -> bool
     ensures { result ≡ is_dated dating }
 {
     match dating {
-        Dating::Off => false,
-        Dating::On { .. } => true,
+        None => false,
+        Some(Span { .. }) => true,
     }
 }
 
@@ -101,13 +101,13 @@ pub fn log_of(words: &Words, shape: Shape, paper: &[u8]) -> Log
 {
     let logging = shape.logging;
     match logging {
-        Logging::Off => Log {
+        None => Log {
             logging: no_logging(),
             form: form_of(shape, paper),
             start: 0,
             end: 0,
         },
-        Logging::On { start, end } => Log {
+        Some(Span { start, end }) => Log {
             logging: logging_in(words, tail_at(paper, start, end)),
             form: form_of(shape, paper),
             start,

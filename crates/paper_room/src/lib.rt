@@ -7,13 +7,6 @@ ghost use Rattle.paper_room.specs.PaperRoom.{has_room};
 // The bytes of one line more.
 const LINE: usize = 82;
 
-// The lines end at a place of the room, or it is too small and nothing was written.
-#[derive(Drop)]
-pub enum Transcript {
-    Whole { end: usize },
-    NoRoom,
-}
-
 // Whether from a place on there is room for 8 bytes of each byte of a paper and for one line more.
 pub fn has_room(room: usize, at: usize, paper: usize) -> bool
     ensures { result ≡ has_room room at paper }

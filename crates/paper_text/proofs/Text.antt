@@ -11,16 +11,14 @@ use lib.Seq.{sets, length-sets, sets-eq, length-take-le, take_at, drop_at}
 use Rattle.wire.specs.Wire.{byte}
 use Rattle.rules.specs.Rules.{blank_words}
 use Rattle.paper_log.specs.Log.{tail_at}
-use Rattle.paper_room.specs.declared.Transcript.{Transcript}
-use Rattle.paper_room.specs.declared.Transcript.TheVariants.{Whole, NoRoom}
 use Rattle.transcript.specs.Transcript.{transcript_of, room_for, has_room, transcribed, room_after, words_after}
 use Rattle.text.proofs.Laws.{sets_on}
 use Rattle.transcript.proofs.Long.{long}
 use Rattle.conversation.specs.Events.{words_left}
 use Rattle.log_text.specs.LogText.{longest, placed, place_behind}
-use Rattle.paper_text.specs.declared.Parts.{Parts}
-use Rattle.paper_text.specs.declared.Parts.TheVariants.{Put, NoRoom as NoParts}
 use Rattle.paper_text.specs.PaperText.{log_behind, text_of, room_for_text, has_text_room, parts_put, text_put, room_put, PartsIn, log_put, room_logged, Stands}
+use Rattle.std.specs.Prelude.{None, Option, Some}
+use Rattle.paper_text.specs.declared.Parts.{Parts}
 
 -- a text that was put is found again
 found_again : (room text : List ℕ) (at : ℕ) → at + length text ≤ length room → tail_at (sets room at text) at (at + length text) ≡ text
@@ -49,7 +47,7 @@ module _ (words paper room : List ℕ) (at : ℕ) (fits : has_text_room (length 
   room_for_lem = le-leb (at + room_for (length paper)) (length room) (omega (arith, leb-true (at + room_for_text (length paper)) (length room) fits))
 
   -- the lines are put
-  pub lines-put : (transcribed words paper room at ≡ Whole (at + length lines)) × (room_after words paper room at ≡ sets room at lines)
+  pub lines-put : (transcribed words paper room at ≡ Some (at + length lines)) × (room_after words paper room at ≡ sets room at lines)
       × (words_after words paper room at ≡ words_left words paper)
   unfolding transcribed room_after words_after
   lines-put = (rw room_for_lem, rw room_for_lem, rw room_for_lem)
@@ -74,9 +72,9 @@ module _ (words paper room : List ℕ) (at : ℕ) (fits : has_text_room (length 
 
 -- ---- the text is its two parts
 
-abbrev pub whole : Parts → Transcript
-whole (Put lines end) = Whole end
-whole NoParts = NoRoom
+abbrev pub whole : Option Parts → Option ℕ
+whole (Some parts) = Some parts.end
+whole None = None
 
 pub text_of_parts : (words paper room : List ℕ) (at : ℕ) → text_put words paper room at ≡ whole (parts_put words paper (length room) at)
 unfolding text_put parts_put
@@ -87,7 +85,7 @@ text_of_parts words paper room at = by (has_text_room (length room) at (length p
   end : ℕ
   end = at + length (text_of words paper)
 
-  by : (b : Bool) → cond b (Whole end) NoRoom ≡ whole (cond b (Put lines end) NoParts)
+  by : (b : Bool) → cond b (Some end) None ≡ whole (cond b (Some (record { lines = lines; end = end })) None)
   by true = refl
   by false = refl
 
@@ -103,8 +101,8 @@ stands words paper room = by (has_text_room (length room) 0 (length paper)) refl
   log = log_behind paper lines
 
   by : (b : Bool) → has_text_room (length room) 0 (length paper) ≡ b
-      → PartsIn 0 (length paper) (cond b (Put (0 + length lines) (0 + length (lines ++ log))) NoParts)
-      → Stands (cond b (sets room 0 (lines ++ log)) room) log (cond b (Put (0 + length lines) (0 + length (lines ++ log))) NoParts)
+      → PartsIn 0 (length paper) (cond b (Some (record { lines = 0 + length lines; end = 0 + length (lines ++ log) })) None)
+      → Stands (cond b (sets room 0 (lines ++ log)) room) log (cond b (Some (record { lines = 0 + length lines; end = 0 + length (lines ++ log) })) None)
   by true e in-it =
       let asked = leb-true (0 + room_for_text (length paper)) (length room) e in
       let size = length-append lines log in
@@ -120,13 +118,13 @@ stands words paper room = by (has_text_room (length room) 0 (length paper)) refl
 
 -- below version 07 there is none
 pub none-stands : (paper room text : List ℕ) → ltb (byte paper 0) 7 ≡ true
-    → (Put 0 0 ≡ log_put paper (length room)) × (room ≡ room_logged paper room) × Stands room (log_behind paper text) (Put 0 0)
+    → ((Some (record { lines = 0; end = 0 })) ≡ log_put paper (length room)) × (room ≡ room_logged paper room) × Stands room (log_behind paper text) (Some (record { lines = 0; end = 0 }))
 unfolding Stands log_put room_logged log_behind
 none-stands paper room text low =
     let inside = le-leb 0 (length room) (omega arith) in
     (rw low, rw low, (rw (low, inside), omega arith, omega arith))
 
-pub some-stands : (paper room : List ℕ) {words after : List ℕ} {parts : Parts} → ltb (byte paper 0) 7 ≡ false → words ≡ blank_words
+pub some-stands : (paper room : List ℕ) {words after : List ℕ} {parts : Option Parts} → ltb (byte paper 0) 7 ≡ false → words ≡ blank_words
     → parts ≡ parts_put words paper (length room) 0 → after ≡ room_put words paper room 0 → PartsIn 0 (length paper) parts
     → (parts ≡ log_put paper (length room)) × (after ≡ room_logged paper room) × Stands after (log_behind paper (transcript_of blank_words paper)) parts
 unfolding log_put room_logged
@@ -136,6 +134,6 @@ some-stands paper room high blank put there in-it =
     (rw high parts_are, rw high room_is, rw (parts_are, room_is) (stands blank_words paper room (subst (PartsIn 0 (length paper)) parts_are in-it)))
 
 -- what stands in the room is a part of it
-pub within : (room text : List ℕ) (parts : Parts) (lines end : ℕ) → Stands room text parts → parts ≡ Put lines end → (lines ≤ end) × (end ≤ length room)
+pub within : (room text : List ℕ) (parts : Option Parts) (lines end : ℕ) → Stands room text parts → parts ≡ Some (record { lines = lines; end = end }) → (lines ≤ end) × (end ≤ length room)
 unfolding Stands
 within room text parts lines end there e = let put = subst (Stands room text) e there in (put.1, put.2)

@@ -10,7 +10,6 @@ use Rattle.refusal.specs.declared.Refusal.{Refusal}
 use Rattle.refusal.specs.declared.Refusal.TheVariants.{Unreadable, PastData}
 use Rattle.rules.specs.Word.{word_count}
 use Rattle.setup.specs.Setup.{setup_number}
-use Rattle.log_tail.specs.declared.Judged.TheVariants.{Sound, PastData as TableFault}
 use Rattle.shape.specs.declared.Shape.{Shape}
 use Rattle.begun.specs.declared.Begun.{Begun}
 use Rattle.records.specs.declared.Event.{Event}
@@ -35,6 +34,8 @@ use Rattle.papers.specs.Lines.{answer_lines, ending_lines, lines_by}
 use Rattle.papers.proofs.Setups.{opened-bytes, log-judged, shape, set_up_lem, past, begins}
 use Rattle.papers.proofs.Walk.{walk-events}
 use Rattle.papers.proofs.Talk.{fresh, talk-is, talk_length, plain-said}
+use Rattle.std.specs.Prelude.{Err, Ok}
+use Rattle.log_tail.specs.declared.Fault.TheVariants.{PastData as TableFault}
 
 module _ (words paper : List ℕ) (lent : length words ≡ word_count) (bytes : Bytes paper) (a : Accepted paper) where
   -- THE EVENTS OF AN ACCEPTED PAPER ARE THOSE OF ITS COMMANDS OVER ITS SET-UP
@@ -84,7 +85,7 @@ pub accepted_if_taken : (paper : List ℕ) → Bytes paper → (version : ℕ) (
 accepted_if_taken paper bytes version body rest o shape t =
     let small : Bytes body = opened-bytes paper version body rest o bytes in
     let log = sym (log-judged shape body) ∙ t.log in
-    let taken : IsTaken Sound version body = record { shape = shape; shape_is = t.shape_is; base = ap setup_number t.base; log = log } in
+    let taken : IsTaken (Ok tt) version body = record { shape = shape; shape_is = t.shape_is; base = ap setup_number t.base; log = log } in
     let spelled = (taken_if_spelled version body (record { below = byte_small body small }) o.least o.most).0 taken in
     record { version = version; body = body; rest = rest; opens = o; set_up_lem = spelled }
 
@@ -94,7 +95,7 @@ past_if_taken : (paper : List ℕ) → Bytes paper → (version : ℕ) (body res
 past_if_taken paper bytes version body rest o p =
     let small : Bytes body = opened-bytes paper version body rest o bytes in
     let log = sym (log-judged p.shape body) ∙ p.log in
-    let taken : IsTaken TableFault version body = record { shape = p.shape; shape_is = p.shape_is; base = ap setup_number p.base; log = log } in
+    let taken : IsTaken (Err TableFault) version body = record { shape = p.shape; shape_is = p.shape_is; base = ap setup_number p.base; log = log } in
     (past_if_spelled version body (record { below = byte_small body small }) o.least o.most).0 taken
 
 -- what is refused as a set-up has a field out of its range

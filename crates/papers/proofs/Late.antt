@@ -9,7 +9,6 @@ use Rattle.wire.specs.Wire.{number}
 use Rattle.calendar.specs.declared.Date.{Date}
 use Rattle.purchase.specs.declared.Timing.TheVariants.{InOrder, DateError}
 use Rattle.purchase.specs.Meter.{cyclic}
-use Rattle.shape.specs.declared.Dating.TheVariants.{On as DatesOn}
 use Rattle.shape.specs.declared.Shape.{Shape}
 use Rattle.shape.specs.Shape.{based, dates}
 use Rattle.demands.specs.Conversation.{Exchange}
@@ -24,6 +23,8 @@ use Rattle.papers.specs.Talk.{talk, newest}
 use Rattle.papers.specs.Late.{late, late_body, late_rest}
 use Rattle.papers.proofs.Events.{accepted_if_taken}
 use Rattle.papers.proofs.Witness.{said_in, are_bytes, bytes_of}
+use Rattle.std.specs.Prelude.{Some}
+use Rattle.shape.specs.Shape.{span}
 
 bytes : Bytes late
 unfolding late are_bytes
@@ -34,7 +35,7 @@ unfolding late record_of big
 opens = record { is = refl; least = lit≤ tt; most = lit≤ tt; short = lit≤ tt }
 
 abbrev shaped : Shape
-shaped = dates (based 159) (DatesOn 161 207)
+shaped = dates (based 159) (Some (span 161 207))
 
 set_up_lem : SetUp 4 late_body shaped
 unfolding late begun

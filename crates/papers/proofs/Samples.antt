@@ -9,20 +9,13 @@ use Rattle.calendar.specs.Calendar.{date_at}
 use Rattle.cpace.specs.declared.Cvm.{Cvm}
 use Rattle.cpace.specs.declared.Cvm.TheVariants.{OnlinePin, Signature, NoCvm}
 use Rattle.cpace.specs.Cpace.{cvm_at, cashback_at}
-use Rattle.selection.specs.declared.Selection.{Selection}
-use Rattle.selection.specs.declared.Selection.TheVariants.{Selected, NotSelected}
 use Rattle.slot.specs.declared.Slots.{Slots}
 use Rattle.setup.specs.Setup.{rules_in, fresh_in}
 use Rattle.shape.specs.declared.Shape.{Shape}
-use Rattle.shape.specs.declared.ReadShape.{ReadShape}
-use Rattle.shape.specs.declared.ReadShape.TheVariants.{Taken, Refused as ShapeRefused}
-use Rattle.shape.specs.declared.Dating.TheVariants.{Off as DatesOff, On as DatesOn}
 use Rattle.shape.specs.declared.Family.TheVariants.{Cpa, Cpace}
 use Rattle.shape.specs.Shape.{based, scripts, base_tail, selection_tail, syllabus_tail, dating_tail, family_tail, scripting_tail, tails_of, shape_of}
 use Rattle.shape.specs.Shape.{cycles_part, family_part}
 use Rattle.paper.specs.Paper.{next_at, open_paper}
-use Rattle.command.specs.declared.When.{When}
-use Rattle.command.specs.declared.When.TheVariants.{Undated, On}
 use Rattle.command.specs.declared.Command.TheVariants.{Start, First, Second}
 use Rattle.command.specs.Command.{start_of, first_of, command_of, command_in}
 use Rattle.state.specs.declared.Answer.TheVariants.{Refused as AnswerRefused, Started, Given, Done}
@@ -45,6 +38,11 @@ use Rattle.spelling.specs.Sitting.{Read, sends, refuses, command_read, record_re
 use Rattle.spelling.proofs.Commands.{of}
 use Rattle.spelling.specs.Printed.{printed, body}
 use Rattle.papers.specs.Papers.{tails_in, entries_long, syllabus_in, cycles_in, family_in, scripts_in, front_of, Meaning, none, means, meant, walk}
+use Rattle.std.specs.Prelude.{Err, None, Ok, Option, Result, Some}
+use Rattle.calendar.specs.declared.Date.{Date}
+use Rattle.refusal.specs.declared.Refusal.{Refusal}
+use Rattle.selection.specs.declared.Selected.{Selected}
+use Rattle.shape.specs.Shape.{span}
 
 -- `events-are`: the events of two Starts, over the printed set-up, and the ATC that the last of them says
 abbrev two_starts : List ℕ
@@ -56,9 +54,9 @@ card = record { rules = rules_in body [] [] 0; state = fresh_state (fresh_in bod
 abbrev events : List Event
 events = events_from 9 card.rules (based 159) card.state two_starts 0
 
-abbrev chosen_in : Selection → ℕ
-chosen_in (Selected profile visits) = profile
-chosen_in NotSelected = 0
+abbrev chosen_in : Option Selected → ℕ
+chosen_in (Some chosen) = chosen.profile
+chosen_in None = 0
 
 abbrev atc_in : Event → ℕ
 atc_in SetUp = 0
@@ -83,9 +81,9 @@ profile_in (Answered Script answer) = 0
 abbrev latest : List ℕ
 latest = replicate 52 0 ++ 0 ∷ 1 ∷ []
 
-abbrev syllabus_read : ReadShape → ℕ
-syllabus_read (Taken shape) = shape.syllabus
-syllabus_read (ShapeRefused refusal) = 9
+abbrev syllabus_read : Result Shape Refusal → ℕ
+syllabus_read (Ok shape) = shape.syllabus
+syllabus_read (Err refusal) = 9
 
 -- `setup-is`: the day of the last date, read of a version 04 set-up without a profile, selection off, syllabus 0, dates on
 abbrev dating : List ℕ
@@ -94,17 +92,17 @@ dating = replicate 52 0 ++ 0 ∷ 0 ∷ 1 ∷ 5 ∷ 7 ∷ 21 ∷ replicate 24 0
 abbrev last_day : (cycles : List ℕ) → ℕ
 last_day cycles = byte cycles 3
 
-abbrev last_read : ReadShape → ℕ
-last_read (Taken shape) = last_day (cycles_part shape.dating dating)
-last_read (ShapeRefused refusal) = 9
+abbrev last_read : Result Shape Refusal → ℕ
+last_read (Ok shape) = last_day (cycles_part shape.dating dating)
+last_read (Err refusal) = 9
 
 -- `events-are`: the day of a First's date
 abbrev first : List ℕ
 first = 1 ∷ replicate 11 0 ++ 5 ∷ 7 ∷ 21 ∷ []
 
-abbrev day_on : When → ℕ
-day_on Undated = 0
-day_on (On date) = date.day
+abbrev day_on : Option Date → ℕ
+day_on None = 0
+day_on (Some date) = date.day
 
 abbrev on_days : Manner
 on_days = of by_name dated cpa unscripted
@@ -133,16 +131,16 @@ controlling = replicate 52 0 ++ 0 ∷ 0 ∷ 0 ∷ 1 ∷ 5 ∷ replicate 7 0
 abbrev first_control : (family : List ℕ) → ℕ
 first_control family = byte family 1
 
-abbrev control_read : ReadShape → ℕ
-control_read (Taken shape) = first_control (family_part shape.family controlling)
-control_read (ShapeRefused refusal) = 98
+abbrev control_read : Result Shape Refusal → ℕ
+control_read (Ok shape) = first_control (family_part shape.family controlling)
+control_read (Err refusal) = 98
 
 -- `events-are`: whether a CPACE First has cashback, and its CVM by the bit in a control
 abbrev presenting : List ℕ
 presenting = 1 ∷ replicate 11 0 ++ 0x1E ∷ 3 ∷ 0 ∷ 1 ∷ replicate 5 0
 
 abbrev shown_read : Read
-shown_read = command_read (command_of DatesOff (Cpace 0 0) 3 presenting)
+shown_read = command_read (command_of None (Cpace 0 0) 3 presenting)
 
 abbrev shown_meant : Meaning
 shown_meant = meant (of by_name undated cpace unscripted) none-tested 3 presenting
@@ -168,9 +166,9 @@ cashback_in (ScriptCommand result template) = 0
 abbrev issuing : List ℕ
 issuing = replicate 52 0 ++ 0 ∷ 0 ∷ 0 ∷ 0 ∷ 1 ∷ []
 
-abbrev scripts_read : ReadShape → ℕ
-scripts_read (Taken shape) = cond shape.scripting 1 0
-scripts_read (ShapeRefused refusal) = 98
+abbrev scripts_read : Result Shape Refusal → ℕ
+scripts_read (Ok shape) = cond shape.scripting 1 0
+scripts_read (Err refusal) = 98
 
 abbrev scripts_meant : Scripting → ℕ
 scripts_meant unscripted = 0
@@ -216,7 +214,7 @@ pub record Samples : Type 0 where
   pub rising_by_1 : T (eqb (number_of (lines_of 0 (SetUp ∷ SetUp ∷ [])) 1) 0x31)
   pub syllabus_1 : T (eqb (syllabus_read (shape_of 3 latest)) (syllabus_in (tails_in latest)))
   pub last-day : T (eqb (last_read (shape_of 4 dating)) (last_day (cycles_in 0 (tails_in dating))))
-  pub first-day : T (eqb (field_read day_of (command_read (command_of (DatesOn 0 0) Cpa 3 first))) (field_meant day_of (meant on_days none-tested 3 first)))
+  pub first-day : T (eqb (field_read day_of (command_read (command_of (Some (span 0 0)) Cpa 3 first))) (field_meant day_of (meant on_days none-tested 3 first)))
   pub first_control_lem : T (eqb (control_read (shape_of 5 controlling)) (first_control (family_in 0 (tails_in controlling))))
   pub first_cvm : T (eqb (field_read cvm_in shown_read) (field_meant cvm_in shown_meant))
   pub first_cashback : T (eqb (field_read cashback_in shown_read) (field_meant cashback_in shown_meant))

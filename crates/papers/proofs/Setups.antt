@@ -9,16 +9,12 @@ use lib.Seq.{take_at, drop-append_seam}
 use Rattle.wire.specs.Wire.{byte, number}
 use Rattle.rules.specs.Word.{word_count}
 use Rattle.rules.specs.Rules.{rules_of}
-use Rattle.setup.specs.declared.SetupAnswer.TheVariants.{Done}
 use Rattle.setup.specs.Setup.{is_accepted, rules_in}
 use Rattle.setup.proofs.Faithful.{started}
 use Rattle.auditor.specs.Template.{InRange}
 use Rattle.log_tail.specs.LogTail.{judged}
 use Rattle.bodies.specs.Bodies.{first_length}
-use Rattle.shape.specs.declared.Logging.{Logging}
-use Rattle.shape.specs.declared.Logging.TheVariants.{Off, On}
 use Rattle.shape.specs.declared.Shape.{Shape}
-use Rattle.shape.specs.declared.ReadShape.TheVariants.{Taken}
 use Rattle.shape.specs.Shape.{base_part, cycles_part, family_part, log_part, shape_of, shape_at}
 use Rattle.records.specs.declared.Event.TheVariants.{SetUp}
 use Rattle.begun.specs.Begun.{base_begun}
@@ -49,6 +45,8 @@ use Rattle.papers.specs.Papers.{version_in, body_in, rest_in, base_in, tails_in,
 use Rattle.papers.specs.Papers as P
 use Rattle.papers.proofs.Tails.{choice_said, dates_said, card_said, manner_said, ReadsAs, reads_as, unnamed-is}
 use Rattle.papers.proofs.Talk.{fresh}
+use Rattle.std.specs.Prelude.{None, Ok, Option, Some}
+use Rattle.shape.specs.declared.Span.{Span}
 
 -- ---- a paper that opens
 
@@ -105,9 +103,9 @@ setup_said base tail =
 pub log-judged : (shape : Shape) (body : List ℕ) → log_judged shape body ≡ log_whole shape body
 unfolding log_judged
 log-judged shape body = by shape.logging where
-  by : (logging : Logging) → log_found logging shape body ≡ judged (log_part logging body) (byte body 3) (first_length shape.dating shape.family)
-  by Off = sym ((sound_exactly (byte body 3) T.unlogged tt (first_length shape.dating shape.family)).1 (tt, tt))
-  by (On start end) = refl
+  by : (logging : Option Span) → log_found logging shape body ≡ judged (log_part logging body) (byte body 3) (first_length shape.dating shape.family)
+  by None = sym ((sound_exactly (byte body 3) T.unlogged tt (first_length shape.dating shape.family)).1 (tt, tt))
+  by (Some part) = refl
 
 module _ (version : ℕ) (body : List ℕ) (i : IsInRange version body) where
   abbrev base : List ℕ
@@ -137,10 +135,10 @@ module _ (version : ℕ) (body : List ℕ) (i : IsInRange version body) where
   good : is_accepted base cycles controls shape.unnamed ≡ true
   good = (all_in_range i.setup i.tail i.fits i.fine).1 (i.in_range_lem, i.dates_in_range, i.families_in_range)
 
-  shape-read : shape_of version body ≡ Taken shape
+  shape-read : shape_of version body ≡ Ok shape
   shape-read = rw (← i.version-is, ← i.spelled) says.read
 
-  base_done : (Sp.setup_from shape body).answer ≡ Done
+  base_done : (Sp.setup_from shape body).answer ≡ Ok tt
   base_done = rw (base-is, cycles-are, controls-are, started base cycles controls shape.unnamed good)
 
   log_is : log_judged shape body ≡ log_whole shape (base ++ tail_bytes i.tail)

@@ -15,15 +15,12 @@ use Rattle.cpace.specs.Cpace.{cvm_at, cashback_at}
 use Rattle.refusal.specs.declared.Refusal.TheVariants.{Unreadable}
 use Rattle.rules.specs.Rules.{Rules}
 use Rattle.slot.specs.declared.Slots.{Slots}
-use Rattle.shape.specs.declared.Dating.{Dating}
 use Rattle.shape.specs.declared.Family.{Family}
 use Rattle.shape.specs.declared.Shape.{Shape}
 use Rattle.paper.specs.declared.Next.{Next}
 use Rattle.paper.specs.declared.Next.TheVariants.{Record, Fault, End as PaperEnd}
 use Rattle.paper.specs.Paper.{next_at}
 use Rattle.paper.specs.Walk.{part}
-use Rattle.command.specs.declared.ReadCommand.{ReadCommand}
-use Rattle.command.specs.declared.ReadCommand.TheVariants.{Refused as CommandRefused}
 use Rattle.command.specs.Command.{command_of, selecting_of, start_selected, start_of, first_of, second_of}
 use Rattle.script.specs.Script.{rules_after}
 use Rattle.card.specs.Message.{Message}
@@ -44,6 +41,10 @@ use Rattle.spelling.proofs.Lines.{taken_as, taken_as_lem}
 use Rattle.papers.specs.Papers.{Front, nothing, broken, one, front_by, front_of, Meaning, none, means, start_meant, shown_at, first_meant, second_meant}
 use Rattle.papers.specs.Papers.{script_meant, meant, Walked, stopped, met, going_on, slots_at, walk_by, walk}
 use Rattle.papers.specs.Talk.{ending, turns}
+use Rattle.std.specs.Prelude.{Err, Option, Result}
+use Rattle.command.specs.declared.Command.{Command}
+use Rattle.refusal.specs.declared.Refusal.{Refusal}
+use Rattle.shape.specs.declared.Span.{Span}
 
 -- ---- the record at the front
 
@@ -106,13 +107,13 @@ abbrev as_read : Meaning → Read
 as_read none = refuses Unreadable
 as_read (means m) = sends m
 
-if_so : (b : Bool) (read : ReadCommand) (m : Meaning) → command_read read ≡ as_read m
-    → command_read (cond b read (CommandRefused Unreadable)) ≡ as_read (cond b m none)
+if_so : (b : Bool) (read : Result Command Refusal) (m : Meaning) → command_read read ≡ as_read m
+    → command_read (cond b read (Err Unreadable)) ≡ as_read (cond b m none)
 if_so true read m e = e
 if_so false read m e = refl
 
-unless : (b : Bool) (read : ReadCommand) (m : Meaning) → command_read read ≡ as_read m
-    → command_read (cond b (CommandRefused Unreadable) read) ≡ as_read (cond b none m)
+unless : (b : Bool) (read : Result Command Refusal) (m : Meaning) → command_read read ≡ as_read m
+    → command_read (cond b (Err Unreadable) read) ≡ as_read (cond b none m)
 unless true read m e = refl
 unless false read m e = e
 
@@ -139,7 +140,7 @@ module _ (body : List ℕ) where
   first-meant undated cpace = let (cvm, cashback) = shown-meant 12 in rw (cvm, cashback) (if_so (eqb (length body) 21) _ _ refl)
   first-meant dated cpace = let (cvm, cashback) = shown-meant 15 in rw (cvm, cashback) (if_so (eqb (length body) 24) _ _ refl)
 
-  second-meant : (dating : Dating) (family : Family) → command_read (command_of dating family 4 body) ≡ as_read (second_meant body)
+  second-meant : (dating : Option Span) (family : Family) → command_read (command_of dating family 4 body) ≡ as_read (second_meant body)
   unfolding command_of second_of
   second-meant dating family = if_so (eqb (length body) 8) _ _ refl
 

@@ -13,10 +13,8 @@ use Rattle.refusal.specs.declared.Refusal.TheVariants.{OutOfTurn}
 use Rattle.rules.specs.Word.{word_count}
 use Rattle.cpace.specs.declared.Cvm.TheVariants.{NoCvm}
 use Rattle.purchase.specs.Meter.{Meter, accumulator, cyclic}
-use Rattle.shape.specs.declared.Dating.TheVariants.{On as DatesOn}
 use Rattle.shape.specs.declared.Family.TheVariants.{Cpace}
 use Rattle.shape.specs.Shape.{based, selects, dates, families}
-use Rattle.command.specs.declared.When.TheVariants.{On}
 use Rattle.state.specs.declared.Answer.{Answer}
 use Rattle.state.specs.declared.Answer.TheVariants.{Refused}
 use Rattle.card.specs.Message.{Message, FirstCommand}
@@ -47,6 +45,8 @@ use Rattle.papers.specs.Talk.{all_answered, talk, commands_in, CutBehind, CutBeh
 use Rattle.papers.specs.Lines.{text}
 use Rattle.papers.proofs.Talk.{answered_both, said_both, talk-said}
 use Rattle.papers.proofs.Events.{accepted_if_taken, events-are}
+use Rattle.std.specs.Prelude.{Some}
+use Rattle.shape.specs.Shape.{span}
 
 -- ---- the printed sitting
 
@@ -202,7 +202,7 @@ latest-setup = refl
 
 pub dated-accepted : Accepted calendar
 dated-accepted =
-    accepted_if_taken calendar W.dated-bytes 4 calendar_body (spell_all dated_sent) W.dated-opens (dates (based 159) (DatesOn 161 207)) W.dated_set_up
+    accepted_if_taken calendar W.dated-bytes 4 calendar_body (spell_all dated_sent) W.dated-opens (dates (based 159) (Some (span 161 207))) W.dated_set_up
 
 -- its base has 159 bytes, and its tail of version 04, behind one byte for selection and one for the syllabus, 46
 pub dated-setup : setup_of calendar
@@ -233,7 +233,7 @@ bought-on month day amount =
       amount = record { 0 = amount };
       currency = 0x0978;
       terminal = 0x22;
-      when = On (record { year = 0x05; month = month; day = day });
+      when = Some (record { year = 0x05; month = month; day = day });
       cvm = NoCvm;
       cashback = false;
     })

@@ -1,12 +1,9 @@
 -- A paper by its bytes (document 01, "The paper"; docs/PAPERS.md): its set-up, its commands, and how it ends. It uses nothing of the readers.
-use Rattle.std.specs.Prelude.{◌≡◌, Bool, true, false, cond, List, [], ◌∷◌, ℕ, zero, suc, ◌+◌, ◌-◌, ◌*◌, ◌^◌, eqb, ltb, length, take, drop}
+use Rattle.std.specs.Prelude.{◌≡◌, Bool, true, false, cond, List, [], ◌∷◌, ℕ, zero, suc, ◌+◌, ◌-◌, ◌*◌, ◌^◌, eqb, ltb, length, take, drop, None, Option, Some}
 use Rattle.wire.specs.Wire.{byte, number}
 use Rattle.calendar.specs.declared.Date.{Date}
 use Rattle.slot.specs.declared.Slots.{Slots}
-use Rattle.selection.specs.declared.Selection.TheVariants.{Selected}
 use Rattle.selection.specs.Selection.{selection_of}
-use Rattle.command.specs.declared.When.{When}
-use Rattle.command.specs.declared.When.TheVariants.{Undated, On}
 use Rattle.command.specs.declared.Start.{Start}
 use Rattle.command.specs.declared.First.{First}
 use Rattle.card.specs.Message.{Message, SecondCommand, ScriptCommand}
@@ -165,17 +162,17 @@ pub data Meaning : Type 0 where
 -- Start: profile (1), or where profiles are selected the terminal's data; to a CPACE card interface (1) before it, which the file reads too, and
 -- besides what its entries may test
 abbrev pub start_meant : Choice → CardFamily → Slots → (body : List ℕ) → Meaning
-start_meant by_name cpa slots body = cond (eqb (length body) 1) (means (start_sent unsaid (Selected (byte body 0) 0))) none
-start_meant by_name cpace slots body = cond (eqb (length body) 2) (means (start_sent (on (byte body 0)) (Selected (byte body 1) 0))) none
+start_meant by_name cpa slots body = cond (eqb (length body) 1) (means (start_sent unsaid (Some (record { profile = byte body 0; visits = 0 })))) none
+start_meant by_name cpace slots body = cond (eqb (length body) 2) (means (start_sent (on (byte body 0)) (Some (record { profile = byte body 1; visits = 0 })))) none
 start_meant (by_file file entries) cpa slots body = means (start_sent unsaid (selects (by_file file entries) slots body))
 start_meant (by_file file entries) cpace slots body =
     cond (eqb (length body) 0) none (means (start_sent (on (byte body 0)) (selects (by_file file entries) slots body)))
 
 -- First: type (1), amount (8), currency (2), terminal type (1), in a dated paper the date, YY, MM and DD (1 each), and to a CPACE card CVM results
 -- (3) and cashback (6)
-abbrev pub when_meant : Dates → (body : List ℕ) → When
-when_meant undated body = Undated
-when_meant dated body = On (record { year = byte body 12; month = byte body 13; day = byte body 14 })
+abbrev pub when_meant : Dates → (body : List ℕ) → Option Date
+when_meant undated body = None
+when_meant dated body = Some (record { year = byte body 12; month = byte body 13; day = byte body 14 })
 
 abbrev pub shown_at : (at : ℕ) (body : List ℕ) → Presented
 shown_at at body = shown (byte body at) (byte body (at + 1)) (byte body (at + 2)) (number body (at + 3) 6)
@@ -254,11 +251,11 @@ faulty paper = (walked paper).fault
 -- how a Start came to its profile: it names it, with no entry visited, or the file gives it for the terminal's data, behind the interface to a
 -- CPACE card, and for what its entries may test
 abbrev pub Chosen : Choice → CardFamily → Slots → Start → Type 0
-Chosen by_name family slots start = (profile : ℕ) × (start.chosen ≡ Selected profile 0)
+Chosen by_name family slots start = (profile : ℕ) × (start.chosen ≡ Some (record { profile = profile; visits = 0 }))
 Chosen (by_file file entries) cpa slots start = (terminal : List ℕ) × (start.chosen ≡ selection_of file entries terminal slots)
 Chosen (by_file file entries) cpace slots start = (terminal : List ℕ) × (start.chosen ≡ selection_of file entries (start.interface ∷ terminal) slots)
 
 -- and whether a First has its date
 abbrev pub Timed : Dates → First → Type 0
-Timed undated first = first.when ≡ Undated
-Timed dated first = (date : Date) × (first.when ≡ On date)
+Timed undated first = first.when ≡ None
+Timed dated first = (date : Date) × (first.when ≡ Some date)

@@ -29,7 +29,6 @@ use Rattle.text.proofs.Each.{Each, none, more, weaken}
 use Rattle.text.proofs.Fields.{Fed}
 use Rattle.lines.proofs.Fields.{OneLine}
 use Rattle.lines.proofs.Laws.{refusal_line_lem, start-line, selected_line_lem, cryptogram-line}
-use Rattle.paper_room.specs.declared.Transcript.TheVariants.{Whole, NoRoom}
 use Rattle.transcript.specs.Transcript.{transcript_of}
 use Rattle.transcript.proofs.Long.{long}
 use Rattle.replies.specs.Replies.{behind}
@@ -53,6 +52,7 @@ use Rattle.papers.proofs.Demands.{paper-line}
 use Rattle.spelling.proofs.Numbers.{byte_small}
 use Rattle.printout.specs.Text.{lines_read, logged, Printed, unread, not_set_up, past_data, heard, Holds}
 use Rattle.printout.proofs.Text.{lines-first, only-lines, held}
+use Rattle.std.specs.Prelude.{None, Some}
 
 -- ---- each of its lines is one line
 
@@ -137,11 +137,11 @@ module _ (words paper : List ℕ) where
       omega (arith, length-append lines (log_behind paper lines), long words paper, log-long paper lines (byte_small paper bytes))
 
   -- THE ROOM HOLDS THEM, AND ALL ELSE STAYS
-  pub room_holds : Bytes paper → (room : List ℕ) (at end : ℕ) → text_put words paper room at ≡ Whole end
+  pub room_holds : Bytes paper → (room : List ℕ) (at end : ℕ) → text_put words paper room at ≡ Some end
       → Holds room at end (sitting_lines words paper ++ logged words paper) (room_put words paper room at)
   unfolding text_put room_put
   room_holds bytes room at end = by (has_text_room (length room) at (length paper)) refl where
-    by : (b : Bool) → has_text_room (length room) at (length paper) ≡ b → cond b (Whole (at + length (text_of words paper))) NoRoom ≡ Whole end
+    by : (b : Bool) → has_text_room (length room) at (length paper) ≡ b → cond b (Some (at + length (text_of words paper))) None ≡ Some end
         → Holds room at end (sitting_lines words paper ++ logged words paper) (cond b (sets room at (text_of words paper)) room)
     by false e w = absurd (let z : ◌≡◌ {A = ℕ} 0 1 = cc in omega arith)
     by true e w =
@@ -153,15 +153,15 @@ module _ (words paper : List ℕ) where
 
   -- IT IS ANSWERED WHERE THE ROOM HAS 8 BYTES FOR EACH OF ITS BYTES, 82 MORE, AND 245,740 FOR A LOG, AND ELSE NOTHING IS TOUCHED
   pub room_asked : (room : List ℕ) (at : ℕ) → at + (8 * length paper + 82 + 245_740) ≤ length room
-      → text_put words paper room at ≡ Whole (at + length (text_of words paper))
+      → text_put words paper room at ≡ Some (at + length (text_of words paper))
   unfolding text_put
   room_asked room at fits = rw (le-leb (at + (8 * length paper + 82 + 245_740)) (length room) fits)
 
-  pub room_kept : (room : List ℕ) (at : ℕ) → text_put words paper room at ≡ NoRoom
+  pub room_kept : (room : List ℕ) (at : ℕ) → text_put words paper room at ≡ None
       → (length room < at + (8 * length paper + 82 + 245_740)) × (room_put words paper room at ≡ room) × (words_put words paper room at ≡ words)
   unfolding text_put room_put words_put
   room_kept room at = by (has_text_room (length room) at (length paper)) refl where
-    by : (b : Bool) → has_text_room (length room) at (length paper) ≡ b → cond b (Whole (at + length (text_of words paper))) NoRoom ≡ NoRoom
+    by : (b : Bool) → has_text_room (length room) at (length paper) ≡ b → cond b (Some (at + length (text_of words paper))) None ≡ None
         → (length room < at + (8 * length paper + 82 + 245_740)) × (cond b (sets room at (text_of words paper)) room ≡ room)
         × (cond b (words_left words paper) words ≡ words)
     by true e w = absurd (let z : ◌≡◌ {A = ℕ} 0 1 = cc in omega arith)

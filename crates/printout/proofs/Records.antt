@@ -14,11 +14,7 @@ use lib.Ieee.Bits.{of_bits-fits}
 use Rattle.wire.specs.Wire.{number}
 use Rattle.wire.proofs.Pairs.{both}
 use Rattle.refusal.specs.Refusal.{refusal_number}
-use Rattle.import.specs.declared.Imported.{Imported}
-use Rattle.import.specs.declared.Imported.TheVariants.{Done, Refused}
 use Rattle.import.specs.declared.NewRecord.{NewRecord}
-use Rattle.import.specs.declared.TakenOver.{TakenOver}
-use Rattle.import.specs.declared.TakenOver.TheVariants.{Record, Refused as TakeRefused}
 use Rattle.import.specs.Import.{old_record, take_over, bytes_of, new_bytes, import_record, imported}
 use Rattle.import_laws.specs.Moved.{Moved}
 use Rattle.import_laws.proofs.Kept.{kept}
@@ -40,6 +36,8 @@ use Rattle.imports.proofs.Lines.{in_pieces}
 use Rattle.printout.specs.Text.{lines_read, Holds}
 use Rattle.printout.specs.Records.{Whole, records_with, last_of, Told, is_zero, told_in, all_told, tells, tells_of, all_tell, Recorded}
 use Rattle.printout.proofs.Text.{line_first, held}
+use Rattle.std.specs.Prelude.{Err, Ok, Result}
+use Rattle.refusal.specs.declared.Refusal.{Refusal}
 
 -- ---- a number
 
@@ -139,7 +137,7 @@ zero_octets (suc n) = more {a = 0} (omega arith) (zero_octets n)
 abbrev zeros : List ℕ
 zeros = replicate 15 0
 
-module _ (old : List ℕ) (done : import_record old zeros ≡ Done) where
+module _ (old : List ℕ) (done : import_record old zeros ≡ Ok tt) where
   abbrev new : List ℕ
   new = imported old zeros
 
@@ -148,9 +146,9 @@ module _ (old : List ℕ) (done : import_record old zeros ≡ Done) where
 
   each-octet : Each Octet new
   each-octet = by (take_over (old_record old)) refl where
-    by : (taken : TakenOver) → take_over (old_record old) ≡ taken → Each Octet new
-    by (TakeRefused refusal) t = unfold imported in rw (done, t) (zero_octets 15)
-    by (Record record-new) t =
+    by : (taken : Result NewRecord Refusal) → take_over (old_record old) ≡ taken → Each Octet new
+    by (Err refusal) t = unfold imported in rw (done, t) (zero_octets 15)
+    by (Ok record-new) t =
         let m : Moved (old_record old) record-new =
         (unfold old_record in kept (old_record old) record-new (of_bits-fits binary64 (number old 4 8)) (of_bits-fits binary64 (number old 12 8)) t) in
         let range = in_range_lem m.taken in
@@ -175,9 +173,9 @@ module _ (number : ℕ) (old : List ℕ) where
   refused-plain : (n : ℕ) → Each Plain (numeral number ∷ numeral n ∷ [])
   refused-plain n = more (numeral-plain number) (more (numeral-plain n) none)
 
-  line-short : (answer : Imported) → import_record old zeros ≡ answer → length (import_line number answer its) ≤ 54
-  line-short Done e = simp length-append (omega (arith, numeral-size 20 number, Hex.size its, new-size old e))
-  line-short (Refused refusal) e = simp length-append (omega (arith, numeral-size 20 number, numeral-size 20 (refusal_number refusal)))
+  line-short : (answer : Result Unit Refusal) → import_record old zeros ≡ answer → length (import_line number answer its) ≤ 54
+  line-short (Ok done) e = simp length-append (omega (arith, numeral-size 20 number, Hex.size its, new-size old e))
+  line-short (Err refusal) e = simp length-append (omega (arith, numeral-size 20 number, numeral-size 20 (refusal_number refusal)))
 
   record_short : length (record_line number old) ≤ 54
   unfolding record_line
@@ -186,20 +184,20 @@ module _ (number : ℕ) (old : List ℕ) where
   record_line_lem : OneLine (record_line number old)
   unfolding record_line
   record_line_lem = by (import_record old zeros) refl where
-    by : (answer : Imported) → import_record old zeros ≡ answer → OneLine (import_line number answer its)
-    by Done e = one_line _ _ taken-plain (omega (arith, line-short Done e))
-    by (Refused refusal) e = one_line _ _ (refused-plain (refusal_number refusal)) (omega (arith, line-short (Refused refusal) e))
+    by : (answer : Result Unit Refusal) → import_record old zeros ≡ answer → OneLine (import_line number answer its)
+    by (Ok done) e = one_line _ _ taken-plain (omega (arith, line-short (Ok tt) e))
+    by (Err refusal) e = one_line _ _ (refused-plain (refusal_number refusal)) (omega (arith, line-short (Err refusal) e))
 
   -- A RECORD'S LINE TELLS ITS NUMBER, AND 0 AND THE NEW RECORD'S BYTES OR THE REFUSAL
   pub record_told : number < 10 ^ 20 → told_in (record_line number old) ≡ tells_of number old
   unfolding record_line told_in
   record_told few = by (import_record old zeros) refl where
-    by : (answer : Imported) → import_record old zeros ≡ answer → told_in (import_line number answer its) ≡ tells number answer its
-    by Done e =
+    by : (answer : Result Unit Refusal) → import_record old zeros ≡ answer → told_in (import_line number answer its) ≡ tells number answer its
+    by (Ok done) e =
         let n = says number few in
         let h = spells its (octets old e) in
         rw (reads_words (numeral number) ((48 ∷ []) ∷ hex its ∷ []) taken-plain, n.good, zero_word, h.good, n.value, h.bytes)
-    by (Refused refusal) e =
+    by (Err refusal) e =
         let n = says number few in
         let r = says (refusal_number refusal) (omega (arith, small refusal)) in
         let words = reads_words (numeral number) (numeral (refusal_number refusal) ∷ []) (refused-plain (refusal_number refusal)) in

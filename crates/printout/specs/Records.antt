@@ -1,12 +1,11 @@
 -- Old records, one after the other, and what is printed of them (document 02, request Two), read from the text: a line for each, numbered from
 -- 1; behind the number 0 and the new record's bytes in hex, or the refusal.
-use Rattle.std.specs.Prelude.{◌≡◌, Bool, cond, ◌&&◌, List, [], ◌∷◌, ◌++◌, ℕ, ◌+◌, ◌<◌, eqb, length, replicate}
+use Rattle.std.specs.Prelude.{◌≡◌, Bool, cond, ◌&&◌, List, [], ◌∷◌, ◌++◌, ℕ, ◌+◌, ◌<◌, eqb, length, replicate, Err, Ok, Result}
 use Rattle.refusal.specs.Refusal.{refusal_number}
-use Rattle.import.specs.declared.Imported.{Imported}
-use Rattle.import.specs.declared.Imported.TheVariants.{Done, Refused}
 use Rattle.import.specs.Import.{import_record, imported}
 use Rattle.text.proofs.Each.{Each}
 use Rattle.readback.specs.Fields.{Line, Words, NoLine, words_in, is_decimal, value_in, is_hex, bytes_in}
+use Rattle.refusal.specs.declared.Refusal.{Refusal}
 
 -- a record has 20 bytes; the last may be cut short
 abbrev pub Whole : (old : List ℕ) → Type 0
@@ -52,9 +51,9 @@ all_told [] = []
 all_told (line ∷ more) = told_in line ∷ all_told more
 
 -- ---- what is to be told of a record, into 15 zeros, and of all
-abbrev pub tells : (number : ℕ) → Imported → (new : List ℕ) → Told
-tells number Done new = taken number new
-tells number (Refused refusal) new = refused number (refusal_number refusal)
+abbrev pub tells : (number : ℕ) → Result Unit Refusal → (new : List ℕ) → Told
+tells number (Ok done) new = taken number new
+tells number (Err refusal) new = refused number (refusal_number refusal)
 
 abbrev pub tells_of : (number : ℕ) (old : List ℕ) → Told
 tells_of number old = tells number (import_record old (replicate 15 0)) (imported old (replicate 15 0))

@@ -6,7 +6,7 @@ ghost use Rattle.element.specs.Element.{element_size, element_meaning};
 ghost use Rattle.put_data.specs.PutData.{writes_in, told, next_in, is_some};
 ghost use Rattle.put_data.specs.PutData.{elements_of, is_valid, next_write};
 
-use element::{Meaning, Write, element_size};
+use element::{Write, element_size};
 use frame::{is_put_data, is_secured, list_place, mac_place};
 use meaning::element_meaning;
 use wire::u16_at;
@@ -27,11 +27,11 @@ fn element_at(object: u16, list: &[u8], at: usize) -> Next
 {
     let rest = &list[at..];
     match element_meaning(object, rest) {
-        Meaning::Writes(write) => Next::Element {
+        Some(write) => Next::Element {
             write,
             end: at + element_size(rest),
         },
-        Meaning::Fails => Next::Fault,
+        None => Next::Fault,
     }
 }
 

@@ -6,10 +6,10 @@ use native.Mathlib.Omega.{arith}
 use lib.Dec.{T, leb, ltb}
 use lib.Ieee.{Float, binary64, fits}
 use borrow.Author.Tests.{ltb-true, ltb-false, leb-true, leb-false, le-leb}
-use Rattle.rate.specs.declared.Pairing.TheVariants.{Pair, NoPair}
 use Rattle.rate.specs.Rate.{rounds_to, digits_of, digits_at, shift_at, has_digits, place, pair_at, rate_of}
 use Rattle.rate.proofs.Search.{First, is-first}
 use Rattle.rate.proofs.Names.{InRange, Names, passes, rounds}
+use Rattle.std.specs.Prelude.{None, Some}
 
 -- the place of a shift in the order of trial; shift_at leads there and back
 pub record Placed (shift : ℕ) : Type 0 where
@@ -47,7 +47,7 @@ not_passed rate digits shift n h =
     no_pair rate digits shift (leb-false (digits_at rate shift) 9999 none) n
 
 -- ---- what the answer tells of the place
-differ : (digits shift : ℕ) → Pair digits shift ≡ NoPair → ⊥
+differ : (digits shift : ℕ) → (Some (record { digits = digits; shift = shift })) ≡ None → ⊥
 differ digits shift e = let z : ◌≡◌ {A = ℕ} 0 1 = cc in omega arith
 
 record Told (rate : Float) (digits shift : ℕ) : Type 0 where
@@ -55,32 +55,32 @@ record Told (rate : Float) (digits shift : ℕ) : Type 0 where
   first-digits : digits ≡ digits_at rate shift
   first-place : shift ≡ shift_at (place rate)
 
-told : (rate : Float) (digits shift : ℕ) → rate_of rate ≡ Pair digits shift → Told rate digits shift
+told : (rate : Float) (digits shift : ℕ) → rate_of rate ≡ Some (record { digits = digits; shift = shift }) → Told rate digits shift
 unfolding rate_of
 told rate digits shift = by (ltb (place rate) 13) refl where
-  by : (b : Bool) → ltb (place rate) 13 ≡ b → pair_at rate (place rate) ≡ Pair digits shift → Told rate digits shift
+  by : (b : Bool) → ltb (place rate) 13 ≡ b → pair_at rate (place rate) ≡ Some (record { digits = digits; shift = shift }) → Told rate digits shift
   by true e h =
-      let is : Pair digits shift ≡ Pair (digits_at rate (shift_at (place rate))) (shift_at (place rate)) = sym h ∙ simp e in
+      let is : (Some (record { digits = digits; shift = shift })) ≡ (Some (record { digits = digits_at rate (shift_at (place rate)); shift = shift_at (place rate) })) = sym h ∙ simp e in
       let s : shift ≡ shift_at (place rate) = cc in
       let d : digits ≡ digits_at rate (shift_at (place rate)) = cc in
       record { early = ltb-true (place rate) 13 e; first-digits = d ∙ ap (λ (t : ℕ). digits_at rate t) (sym s); first-place = s }
   by false e h = absurd (differ digits shift (sym h ∙ simp e))
 
-none_told : (rate : Float) → rate_of rate ≡ NoPair → 13 ≤ place rate
+none_told : (rate : Float) → rate_of rate ≡ None → 13 ≤ place rate
 unfolding rate_of
 none_told rate = by (ltb (place rate) 13) refl where
-  by : (b : Bool) → ltb (place rate) 13 ≡ b → pair_at rate (place rate) ≡ NoPair → 13 ≤ place rate
+  by : (b : Bool) → ltb (place rate) 13 ≡ b → pair_at rate (place rate) ≡ None → 13 ≤ place rate
   by true e h = absurd (differ (digits_at rate (shift_at (place rate))) (shift_at (place rate)) (sym (simp e) ∙ h))
   by false e h = ltb-false (place rate) 13 e
 
 -- ---- the theorems, over the shift's byte
-pub refused : (rate : Float) → rate_of rate ≡ NoPair → (digits shift : ℕ) → Names rate digits shift → ⊥
+pub refused : (rate : Float) → rate_of rate ≡ None → (digits shift : ℕ) → Names rate digits shift → ⊥
 refused rate h digits shift n =
     let late = none_told rate h in
     let there = (placed shift n.range.bound).bound in
     not_passed rate digits shift n (omega arith)
 
-pub taken : (rate : Float) → T (fits binary64 rate) → (digits shift : ℕ) → rate_of rate ≡ Pair digits shift → Names rate digits shift
+pub taken : (rate : Float) → T (fits binary64 rate) → (digits shift : ℕ) → rate_of rate ≡ Some (record { digits = digits; shift = shift }) → Names rate digits shift
 taken rate f digits shift h =
     let t = told rate digits shift h in
     let early = t.early in
@@ -97,7 +97,7 @@ unless : (a b : ℕ) → (b < a → ⊥) → (t : Bool) → ltb b a ≡ t → a 
 unless a b h true e = absurd (h (ltb-true b a e))
 unless a b h false e = ltb-false b a e
 
-pub earliest : (rate : Float) (digits shift : ℕ) → rate_of rate ≡ Pair digits shift → (digits' shift' : ℕ) → Names rate digits' shift'
+pub earliest : (rate : Float) (digits shift : ℕ) → rate_of rate ≡ Some (record { digits = digits; shift = shift }) → (digits' shift' : ℕ) → Names rate digits' shift'
     → shift_at shift ≤ shift_at shift'
 earliest rate digits shift h digits' shift' n =
     let t = told rate digits shift h in

@@ -8,12 +8,12 @@ use lib.Dec.{T, leb}
 use lib.Ieee.{Float, binary64, round, fits}
 use lib.Ieee.Positive.{positive}
 use borrow.Author.Tests.{leb-true, leb-false, le-leb, lt-leb}
-use Rattle.rate.specs.declared.Pairing.{Pairing}
-use Rattle.rate.specs.declared.Pairing.TheVariants.{Pair, NoPair}
 use Rattle.rate.specs.Rate.{shift_at, rate_of}
 use Rattle.rate.specs.Taken.{Quotient, Product, Taken, divided, multiplied}
 use Rattle.rate.proofs.Names.{Names, nearest, names-positive}
 use Rattle.rate.proofs.Exactly.{refused, taken, earliest}
+use Rattle.std.specs.Prelude.{None, Option, Some}
+use Rattle.rate.specs.declared.Pair.{Pair}
 
 -- ---- a quotient is digits at a shift up to 9, a product digits at a shift above
 quotient_nearest : (digits e shift : ℕ) → shift + e ≡ 9 → nearest digits shift ≡ round binary64 false digits (10 ^ e)
@@ -63,12 +63,12 @@ module _ (rate : Float) where
       record { least = n.range.least; most = n.range.most; some = h; bound = omega arith; rounded = sym (product_nearest digits k) ∙ n.rounded }
 
   -- a rate is refused exactly when no such pair exists
-  pub rate-refused : rate_of rate ≡ NoPair → ((digits e : ℕ) → Quotient rate digits e → ⊥) × ((digits k : ℕ) → Product rate digits k → ⊥)
+  pub rate-refused : rate_of rate ≡ None → ((digits e : ℕ) → Quotient rate digits e → ⊥) × ((digits k : ℕ) → Product rate digits k → ⊥)
   rate-refused h =
       ((λ digits e q. refused rate h digits (9 - e) (quotient-names digits e q)), λ digits k p. refused rate h digits (9 + k) (product_names digits k p))
 
   module _ (held : T (fits binary64 rate)) where
-    pub rate-taken : (digits shift : ℕ) → rate_of rate ≡ Pair digits shift → Taken rate digits shift
+    pub rate-taken : (digits shift : ℕ) → rate_of rate ≡ Some (record { digits = digits; shift = shift }) → Taken rate digits shift
     rate-taken digits shift h = by (leb shift 9) refl where
       named : Names rate digits shift
       named = taken rate held digits shift h
@@ -103,18 +103,18 @@ module _ (rate : Float) where
           let there = place_product k' some in
           omega arith)
 
-    pub only-refused : ((digits e : ℕ) → Quotient rate digits e → ⊥) → ((digits k : ℕ) → Product rate digits k → ⊥) → rate_of rate ≡ NoPair
+    pub only-refused : ((digits e : ℕ) → Quotient rate digits e → ⊥) → ((digits k : ℕ) → Product rate digits k → ⊥) → rate_of rate ≡ None
     only-refused no-quotient no-product = by (rate_of rate) refl where
-      by : (found : Pairing) → rate_of rate ≡ found → rate_of rate ≡ NoPair
-      by NoPair h = h
-      by (Pair digits shift) h = absurd (contradicts (rate-taken digits shift h)) where
-        contradicts : Taken rate digits shift → ⊥
-        contradicts (divided e s q f) = no-quotient digits e q
-        contradicts (multiplied k s p g f) = no-product digits k p
+      by : (found : Option Pair) → rate_of rate ≡ found → rate_of rate ≡ None
+      by None h = h
+      by (Some pair) h = absurd (contradicts (rate-taken pair.digits pair.shift h)) where
+        contradicts : Taken rate pair.digits pair.shift → ⊥
+        contradicts (divided e s q f) = no-quotient pair.digits e q
+        contradicts (multiplied k s p g f) = no-product pair.digits k p
 
     -- not-a-number, infinities, zeros of either sign and anything negative never get through
-    pub never : (T (positive rate) → ⊥) → rate_of rate ≡ NoPair
+    pub never : (T (positive rate) → ⊥) → rate_of rate ≡ None
     never low = by (rate_of rate) refl where
-      by : (found : Pairing) → rate_of rate ≡ found → rate_of rate ≡ NoPair
-      by NoPair h = h
-      by (Pair digits shift) h = absurd (low (names-positive rate digits shift (taken rate held digits shift h)))
+      by : (found : Option Pair) → rate_of rate ≡ found → rate_of rate ≡ None
+      by None h = h
+      by (Some pair) h = absurd (low (names-positive rate pair.digits pair.shift (taken rate held pair.digits pair.shift h)))

@@ -1,9 +1,8 @@
 -- Digits and a shift for a rate of version one (document 02, request Two), as they are searched for.
-use Rattle.std.specs.Prelude.{ℕ, zero, suc, ◌-◌, ◌*◌, ◌^◌, Bool, cond, pos, leb, ltb, Float}
+use Rattle.std.specs.Prelude.{ℕ, zero, suc, ◌-◌, ◌*◌, ◌^◌, Bool, cond, pos, leb, ltb, Float, None, Option, Some}
 use Rattle.std.specs.Float.{binary64}
 use Rattle.std.specs.Float.Ieee.{div, eq, of_int}
-use Rattle.rate.specs.declared.Pairing.{Pairing}
-use Rattle.rate.specs.declared.Pairing.TheVariants.{Pair, NoPair}
+use Rattle.rate.specs.declared.Pair.{Pair}
 
 -- two whole numbers, each a float exactly, and their quotient, rounded once
 abbrev pub quotient : ℕ → ℕ → Float
@@ -37,13 +36,13 @@ has_digits rate place = leb (digits_at rate (shift_at place)) 9999
 unfoldable pub place : Float → ℕ
 place rate = first (has_digits rate) 13 0
 
-abbrev pub pair_at : Float → ℕ → Pairing
-pair_at rate place = cond (ltb place 13) (Pair (digits_at rate (shift_at place)) (shift_at place)) NoPair
+abbrev pub pair_at : Float → ℕ → Option Pair
+pair_at rate place = cond (ltb place 13) (Some (record { digits = digits_at rate (shift_at place); shift = shift_at place })) None
 
-unfoldable pub rate_of : Float → Pairing
+unfoldable pub rate_of : Float → Option Pair
 rate_of rate = pair_at rate (place rate)
 
 -- the number of the answer: taken, or refused for its rate
-abbrev pub pairing_number : Pairing → ℕ
-pairing_number (Pair digits shift) = 0
-pairing_number NoPair = 10
+abbrev pub pairing_number : Option Pair → ℕ
+pairing_number (Some pair) = 0
+pairing_number None = 10

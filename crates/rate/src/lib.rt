@@ -8,10 +8,10 @@ ghost use Rattle.rate.specs.Rate.{shift_at, digits_of, digits_at, rate_of};
 const LAST: u16 = 9_999;
 
 // Digits and a shift, the paper's s + 9, or that no pair rounds to the rate.
-#[derive(Drop)]
-pub enum Pairing {
-    Pair { digits: u16, shift: u8 },
-    NoPair,
+#[derive(Clone, Copy)]
+pub struct Pair {
+    pub digits: u16,
+    pub shift: u8,
 }
 
 // The power worked out by repeated multiplication.
@@ -62,15 +62,15 @@ fn shift_at(place: u8) -> u8
 }
 
 // The first pair that rounds to the rate.
-pub fn rate_of(rate: f64) -> Pairing
+pub fn rate_of(rate: f64) -> Option<Pair>
     ensures { result ≡ rate_of rate }
 {
     for place in 0..13 {
         let shift = shift_at(place);
         let digits = digits_at(rate, shift);
         if digits <= LAST {
-            return Pairing::Pair { digits, shift };
+            return Some(Pair { digits, shift });
         }
     }
-    Pairing::NoPair
+    None
 }

@@ -6,7 +6,6 @@ use borrow.Author.Tests.{not-true}
 use Rattle.words.specs.Words.{word, same, is_in, is_number, value, place_in, begins, tail, double, read_flags}
 use Rattle.words.specs.Lex.{lex, step, are_words}
 use Rattle.words.specs.Number.{number_in}
-use Rattle.words.specs.declared.Number.TheVariants.{Is, Not as None}
 use Rattle.words.specs.Put.{Put}
 use Rattle.words.specs.Words.{distinct}
 use Rattle.words.proofs.Tests.{both, same_true}
@@ -17,14 +16,13 @@ use Rattle.walk.specs.declared.Mark.{Mark as Kind}
 use Rattle.walk.specs.declared.Mark.TheVariants.{End, Rest, MayEnd, Opens, Silent, Names, Flags as Bits, Number, Bytes, Date, Code, Word}
 use Rattle.walk.proofs.Keys.{is_among, tag, never}
 use Rattle.read_words.specs.Told.{Told, Says, is_count}
-use Rattle.read_words.specs.declared.Said.{Said}
-use Rattle.read_words.specs.declared.Said.TheVariants.{To, Not}
 use Rattle.read_words.proofs.Laws.{number_is, no_number}
 use Rattle.read_forms.specs.Places.{behind_word}
 use Rattle.read_forms.specs.Reads.{Passed, Stopped, Piece, part_by, flags_then, Gathered}
 use Rattle.read_forms.specs.declared.Reading.{Reading}
 use Rattle.read_forms.specs.declared.Reading.TheVariants.{On, Wrong as Amiss}
 use Rattle.read_forms.proofs.Laws.{none_left, first-left, one_on, along, begun-word}
+use Rattle.std.specs.Prelude.{None, Option, Some}
 
 -- ---- what a word says
 
@@ -39,7 +37,7 @@ count-says n w h = by (is_number w) (ltb (value w) (256 ^ n)) refl where
     none true = refl
     none false = refl
 
-pub said_same : (is : Bool) (room : List ℕ) (to : ℕ) → Told is [] room to (cond is (To to) Not) room
+pub said_same : (is : Bool) (room : List ℕ) (to : ℕ) → Told is [] room to (cond is (Some to) None) room
 unfolding Told
 said_same true room to = (refl, nothing room to)
 said_same false room to = (refl, refl)
@@ -92,10 +90,10 @@ not_named w (v ∷ vs) h n =
           cc
       by false e other rest = rest
 
-told_none : (is : Bool) (a b room : List ℕ) (to : ℕ) (r : Said) (after : List ℕ) → is ≡ false → Told is a room to r after → Told is b room to r after
+told_none : (is : Bool) (a b room : List ℕ) (to : ℕ) (r : Option ℕ) (after : List ℕ) → is ≡ false → Told is a room to r after → Told is b room to r after
 unfolding Told
-told_none is a b room to (To end) after h t = let z : true ≡ false = sym t.0 ∙ h in never (sym z)
-told_none is a b room to Not after h t = t
+told_none is a b room to (Some end) after h t = let z : true ≡ false = sym t.0 ∙ h in never (sym z)
+told_none is a b room to None after h t = t
 
 module _ (vs : List (List ℕ)) (fine : fine_part (named vs) ≡ true) where
   parts : ((are_words vs && distinct vs && no_numbers vs) ≡ true) × (leb (length vs) 256 ≡ true)
@@ -109,21 +107,21 @@ module _ (vs : List (List ℕ)) (fine : fine_part (named vs) ≡ true) where
   plain = (both (are_words vs && distinct vs) (no_numbers vs) parts.0).1
 
   module _ (w : List ℕ) where
-    pub named-is : (n : ℕ) → number_in w ≡ Is n → n < 256 → (says (named vs) w ≡ true) × (bytes_in (named vs) w ≡ n ∷ [])
+    pub named-is : (n : ℕ) → number_in w ≡ Some n → n < 256 → (says (named vs) w ≡ true) × (bytes_in (named vs) w ≡ n ∷ [])
     unfolding says bytes_in
     named-is n e h =
         let (fits, is) = number_is w n e in
         let (number, _) = both (is_number w) (ltb (value w) (2 ^ 64)) fits in
         (rw (number, is, lt-ltb n 256 h), rw (number, is))
 
-    pub named-over : (n : ℕ) → number_in w ≡ Is n → 256 ≤ n → says (named vs) w ≡ false
+    pub named-over : (n : ℕ) → number_in w ≡ Some n → 256 ≤ n → says (named vs) w ≡ false
     unfolding says
     named-over n e h =
         let (fits, is) = number_is w n e in
         let (number, _) = both (is_number w) (ltb (value w) (2 ^ 64)) fits in
         rw (number, is, le-ltb n 256 h) (not_named w vs plain number)
 
-    pub named_by : (room : List ℕ) (to : ℕ) (r : Said) (after : List ℕ) → number_in w ≡ None → Told (is_in w vs) (place_in vs w ∷ []) room to r after → Says (named vs) w room to r after
+    pub named_by : (room : List ℕ) (to : ℕ) (r : Option ℕ) (after : List ℕ) → number_in w ≡ None → Told (is_in w vs) (place_in vs w ∷ []) room to r after → Says (named vs) w room to r after
     unfolding says bytes_in
     named_by room to r after e t = by (is_number w) refl where
       by : (b : Bool) → is_number w ≡ b → Told ((b && ltb (value w) 256) || is_in w vs) (cond b (value w) (place_in vs w) ∷ []) room to r after

@@ -11,9 +11,7 @@ ghost use Rattle.read_forms.specs.Places.{behind_word};
 ghost use Rattle.read_forms.specs.Reads.{is_row, form_at, want_at, Heard, Piece, names_at, flags_at, part_at, flags_then, Begins, Gathered, Met};
 
 use lexing::{after_word, ends_line, next_line, next_word, word_end};
-use read_words::Said;
 use walk::{Grammar, Mark, is_mark, mark_at, part_behind};
-use words::Number;
 
 // How far a text is read: the place behind its last word, and the end of what it says. Or where it is
 // wrong, and the place in the grammar of what was expected there.
@@ -52,7 +50,7 @@ fn goes_on(text: &[u8], at: usize, other: &[u8], place: usize) -> bool
 }
 
 // A byte by its name among those from a place of the grammar on.
-fn read_name(word: &[u8], grammar: &Grammar, names: usize, room: &mut [u8], to: usize) -> Said
+fn read_name(word: &[u8], grammar: &Grammar, names: usize, room: &mut [u8], to: usize) -> Option<usize>
     requires { Begins grammar.now names }
     ensures { length (names_at grammar.now names) ≤ 256 → Told (is_in word.now (names_at grammar.now names)) (place_in (names_at grammar.now names) word.now ∷ []) room.old to result room.new }
 {
@@ -60,26 +58,26 @@ fn read_name(word: &[u8], grammar: &Grammar, names: usize, room: &mut [u8], to: 
     let mut byte: u8 = 0;
     while !(is_mark(grammar, name, b']') | ends_line(grammar, name)) {
         if words::same_word(word, word_at(grammar, name)) {
-            return Said::To(words::put_byte(room, to, byte));
+            return Some(words::put_byte(room, to, byte));
         }
         byte = std::num::wrapping_add_u8(byte, 1);
         name = after_word(grammar, name);
     }
-    Said::Not
+    None
 }
 
 // A byte by its name or in decimal.
-fn read_named(word: &[u8], grammar: &Grammar, names: usize, room: &mut [u8], to: usize) -> Said
+fn read_named(word: &[u8], grammar: &Grammar, names: usize, room: &mut [u8], to: usize) -> Option<usize>
     requires { Begins grammar.now names }
     ensures { fine_part (named (names_at grammar.now names)) ≡ true → Says (named (names_at grammar.now names)) word.now room.old to result room.new }
 {
-    let Number::Is(n) = words::number_in(word) else {
+    let Some(n) = words::number_in(word) else {
         return read_name(word, grammar, names, room, to);
     };
     if n < 256 {
-        return Said::To(words::put_byte(room, to, n as u8));
+        return Some(words::put_byte(room, to, n as u8));
     }
-    Said::Not
+    None
 }
 
 // What one word says.
@@ -90,7 +88,7 @@ fn read_part(
     mark: Mark,
     room: &mut [u8],
     to: usize,
-) -> Said
+) -> Option<usize>
     ensures { fine_part (part_at grammar.now t mark) ≡ true → Says (part_at grammar.now t mark) word.now room.old to result room.new }
 {
     match mark {
@@ -119,7 +117,7 @@ fn read_word(
     if ends_line(text, word) {
         return Reading::Wrong { at, want: t };
     }
-    let Said::To(end) = read_part(word_at(text, word), grammar, t, mark, room, to) else {
+    let Some(end) = read_part(word_at(text, word), grammar, t, mark, room, to) else {
         return Reading::Wrong { at: word, want: t };
     };
     Reading::On {

@@ -12,10 +12,10 @@ use lib.ListN.{length, drop, get_or, replicate, replicate-append-replicate}
 use lib.Seq.{drop-cons}
 use Rattle.words.specs.Words.{all, is_digit, is_number, value, is_hex_digit, is_hex, hex_bytes, hex_said}
 use Rattle.words.specs.Number.{number_in}
-use Rattle.words.specs.declared.Number.TheVariants.{Is, Not}
 use Rattle.words.proofs.Tests.{both}
 use Rattle.forms.specs.Form.{big_endian, is_letter, is_date, date_digits}
 use Rattle.read_words.specs.Told.{is_count}
+use Rattle.std.specs.Prelude.{None, Some}
 
 pub neither : (t : Bool) → (t && false) ≡ false
 neither true = refl
@@ -61,29 +61,29 @@ fits-none v n i h =
 
 -- ---- numbers
 
-number_by : (a b : Bool) (v n : ℕ) → cond (a && b) (Is v) Not ≡ Is n → ((a && b) ≡ true) × (v ≡ n)
+number_by : (a b : Bool) (v n : ℕ) → cond (a && b) (Some v) None ≡ Some n → ((a && b) ≡ true) × (v ≡ n)
 number_by true true v n e = (refl, cc)
 number_by true false v n e = let z : ◌≡◌ {A = ℕ} 0 1 = cc in absurd (omega arith)
 number_by false b v n e = let z : ◌≡◌ {A = ℕ} 0 1 = cc in absurd (omega arith)
 
-number_not : (t : Bool) (v : ℕ) → cond t (Is v) Not ≡ Not → t ≡ false
+number_not : (t : Bool) (v : ℕ) → cond t (Some v) None ≡ None → t ≡ false
 number_not true v e = let z : ◌≡◌ {A = ℕ} 0 1 = cc in absurd (omega arith)
 number_not false v e = refl
 
 module _ (w : List ℕ) where
-  pub number_is : (n : ℕ) → number_in w ≡ Is n → ((is_number w && ltb (value w) (2 ^ 64)) ≡ true) × (value w ≡ n)
+  pub number_is : (n : ℕ) → number_in w ≡ Some n → ((is_number w && ltb (value w) (2 ^ 64)) ≡ true) × (value w ≡ n)
   unfolding number_in
   number_is n e = number_by (is_number w) (ltb (value w) (2 ^ 64)) (value w) n e
 
-  pub no_number : number_in w ≡ Not → (is_number w && ltb (value w) (2 ^ 64)) ≡ false
+  pub no_number : number_in w ≡ None → (is_number w && ltb (value w) (2 ^ 64)) ≡ false
   unfolding number_in
   no_number e = number_not (is_number w && ltb (value w) (2 ^ 64)) (value w) e
 
-  pub no_count : (n : ℕ) → number_in w ≡ Not → is_count n w ≡ false
+  pub no_count : (n : ℕ) → number_in w ≡ None → is_count n w ≡ false
   unfolding is_count
   no_count n e = rw (no_number e)
 
-  pub count-is : (n m : ℕ) → number_in w ≡ Is m → is_count n w ≡ ltb m (256 ^ n)
+  pub count-is : (n m : ℕ) → number_in w ≡ Some m → is_count n w ≡ ltb m (256 ^ n)
   unfolding is_count
   count-is n m e = let (p, q) = number_is m e in rw (p, q)
 

@@ -7,14 +7,6 @@ ghost use Rattle.words.specs.Put.{Put};
 ghost use Rattle.forms.specs.Form.{bytes, date, code, big_endian, is_letter, is_date, date_digits};
 ghost use Rattle.read_words.specs.Told.{Told, Says, is_count};
 
-use words::Number;
-
-// What a word says is put up to a place of the room; or it says nothing of the kind.
-#[derive(Drop)]
-pub enum Said {
-    To(usize),
-    Not,
-}
 
 pub fn put_zeros(room: &mut [u8], at: usize, count: usize) -> usize
     ensures { Put room.old at (replicate count 0) result room.new }
@@ -48,26 +40,26 @@ fn fits_bytes(n: u64, count: usize) -> bool
 }
 
 // A number that fits so many bytes, and 64 bits.
-pub fn read_number(word: &[u8], count: usize, room: &mut [u8], to: usize) -> Said
+pub fn read_number(word: &[u8], count: usize, room: &mut [u8], to: usize) -> Option<usize>
     ensures { Told (is_count count word.now) (big_endian count (value word.now)) room.old to result room.new }
 {
-    let Number::Is(n) = words::number_in(word) else {
-        return Said::Not;
+    let Some(n) = words::number_in(word) else {
+        return None;
     };
     if fits_bytes(n, count) {
-        return Said::To(put_number(room, to, n, count));
+        return Some(put_number(room, to, n, count));
     }
-    Said::Not
+    None
 }
 
 // So many bytes, in hex.
-pub fn read_bytes(word: &[u8], count: usize, room: &mut [u8], to: usize) -> Said
+pub fn read_bytes(word: &[u8], count: usize, room: &mut [u8], to: usize) -> Option<usize>
     ensures { Says (bytes count) word.now room.old to result room.new }
 {
     if words::is_hex(word) & (word.len() / 2 == count) {
-        return Said::To(words::put_hex_said(room, to, word));
+        return Some(words::put_hex_said(room, to, word));
     }
-    Said::Not
+    None
 }
 
 // A digit or a letter.
@@ -78,16 +70,16 @@ fn is_letter(c: u8) -> bool
 }
 
 // A response code: two letters or digits, or its bytes.
-pub fn read_code(word: &[u8], room: &mut [u8], to: usize) -> Said
+pub fn read_code(word: &[u8], room: &mut [u8], to: usize) -> Option<usize>
     ensures { Says code word.now room.old to result room.new }
 {
     if word.len() != 2 {
         return read_bytes(word, 2, room, to);
     }
     if is_letter(word[0]) & is_letter(word[1]) {
-        return Said::To(words::put_word(room, to, word));
+        return Some(words::put_word(room, to, word));
     }
-    Said::Not
+    None
 }
 
 // YYMMDD of 20_yy-MM-DD.
@@ -134,22 +126,22 @@ fn is_date(word: &[u8]) -> bool
 }
 
 // A date, or its bytes.
-pub fn read_date(word: &[u8], room: &mut [u8], to: usize) -> Said
+pub fn read_date(word: &[u8], room: &mut [u8], to: usize) -> Option<usize>
     ensures { Says date word.now room.old to result room.new }
 {
     if is_date(word) {
         let digits = date_digits(word);
-        return Said::To(words::put_hex_said(room, to, &digits));
+        return Some(words::put_hex_said(room, to, &digits));
     }
     read_bytes(word, 3, room, to)
 }
 
 // The word itself, which says no byte.
-pub fn read_same(word: &[u8], said: &[u8], to: usize) -> Said
-    ensures { result ≡ cond (same word.now said.now) (Said.To to) Said.Not }
+pub fn read_same(word: &[u8], said: &[u8], to: usize) -> Option<usize>
+    ensures { result ≡ cond (same word.now said.now) (Option<usize>.To to) Option<usize>.Not }
 {
     if words::same_word(word, said) {
-        return Said::To(to);
+        return Some(to);
     }
-    Said::Not
+    None
 }

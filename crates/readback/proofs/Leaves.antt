@@ -9,8 +9,6 @@ use borrow.Author.Tests.{lt-ltb, le-ltb}
 use lib.Dec.{ltb}
 use lib.ListN.{length, take, drop, replicate}
 use Rattle.iad.specs.declared.Iad.{Iad}
-use Rattle.iad.specs.declared.ReadIad.TheVariants.{Fields}
-use Rattle.iad.specs.declared.Written.TheVariants.{Done, Refused}
 use Rattle.iad.specs.Iad.{is_writable, iad_bytes, iad_of, read_iad, write_iad, written, written_number}
 use Rattle.iad.proofs.RoundTrip.{write_number, whole, back}
 use Rattle.readback.specs.WellFormed.{Types, Profile, WellFormed, Writable, Unwritable, LaidOut, Left}
@@ -18,6 +16,7 @@ use Rattle.readback.specs.WellFormed.{above, second_type, first_type, fifth-byte
 use Rattle.readback.proofs.Places.{sides, on}
 use Rattle.readback.proofs.Writes.{writable}
 use Rattle.readback.proofs.Readable.{fields, spoken, exactly-read}
+use Rattle.std.specs.Prelude.{Ok}
 
 -- ---- fields that are not writable have one of the causes
 
@@ -106,7 +105,7 @@ module _ (iad : Iad) (room : List ℕ) where
 
   -- ---- what writing leaves
 
-  answered : Writable iad → 32 ≤ length room → write_iad iad room ≡ Done
+  answered : Writable iad → 32 ≤ length room → write_iad iad room ≡ Ok tt
   unfolding write_iad
   answered w h = rw ((writable iad).1 w, le-ltb (length room) 32 h)
 

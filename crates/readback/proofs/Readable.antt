@@ -11,13 +11,12 @@ use lib.ListN.{length}
 use Rattle.wire.specs.Wire.{byte, number}
 use Rattle.wire.proofs.Pairs.{both}
 use Rattle.iad.specs.declared.Iad.{Iad}
-use Rattle.iad.specs.declared.ReadIad.{ReadIad}
-use Rattle.iad.specs.declared.ReadIad.TheVariants.{Fields}
 use Rattle.iad.specs.Iad.{cvr_of, pairs_value, iad_of, are_zeros, has_fixed_bytes, is_cvr, are_pairs, is_profile, is_iad, read_iad, iad_bytes, is_writable, read_number}
 use Rattle.iad.proofs.RoundTrip.{read_number_lem, there, back}
 use Rattle.readback.specs.WellFormed.{WellFormed, Writable, LaidOut, amount_in}
 use Rattle.readback.proofs.Places.{pairs-each, each-pairs, zeros-each, each-zeros}
 use Rattle.readback.proofs.Writes.{profile-is, cvr_is, writable}
+use Rattle.std.specs.Prelude.{Ok}
 
 -- the number is 0 or 8
 
@@ -105,7 +104,7 @@ spoken s iad w l =
       zeros = l.zeros;
     }
 
-pub fields : (s : List ℕ) → WellFormed s → read_iad s ≡ Fields (iad_of s)
+pub fields : (s : List ℕ) → WellFormed s → read_iad s ≡ Ok (iad_of s)
 unfolding read_iad
 fields s w = rw (tested s w)
 
@@ -140,18 +139,18 @@ module _ (s : List ℕ) (iad : Iad) where
       }
 
   -- the fields that are read are those that the bytes hold
-  pub exactly-read : (read_iad s ≡ Fields iad) ↔ (Writable iad × LaidOut iad s)
+  pub exactly-read : (read_iad s ≡ Ok iad) ↔ (Writable iad × LaidOut iad s)
   exactly-read = (
     λ e.
         let w = (exactly_readable s).0 (ap read_number e) in
         let f = fields s w in
         ((writable iad).0 (back s iad e).1, held w (cc)),
-    λ (w, l). fields s (spoken s iad w l) ∙ ap Fields (holds l),
+    λ (w, l). fields s (spoken s iad w l) ∙ ap Ok (holds l),
   )
 
   -- fields are taken for writing just where their bytes are well formed
   pub exactly_spoken : LaidOut iad s → Writable iad ↔ WellFormed s
   exactly_spoken l = (
     λ w. spoken s iad w l,
-    λ w. let read = fields s w ∙ ap Fields (holds l) in (exactly-read.0 read).0,
+    λ w. let read = fields s w ∙ ap Ok (holds l) in (exactly-read.0 read).0,
   )

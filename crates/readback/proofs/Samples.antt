@@ -7,7 +7,6 @@ use Prim.Native.Nat.{ℕ}
 use native.Mathlib.Omega.{arith}
 use lib.ListN.{replicate}
 use Rattle.iad.specs.declared.Iad.{Iad}
-use Rattle.iad.specs.declared.ReadIad.TheVariants.{Fields as ReadFields}
 use Rattle.iad.specs.Iad.{cvr_of, pairs_value, iad_of, has_fixed_bytes, is_cvr, are_pairs, is_iad, read_iad, read_number}
 use Rattle.iad.specs.Iad.{pairs_of, iad_bytes, is_writable, write_iad, written, written_number}
 use Rattle.wire.specs.Wire.{number}
@@ -17,6 +16,7 @@ use Rattle.readback.specs.WellFormed.{WellFormed, Writable, OfBytes, LaidOut}
 use Rattle.readback.specs.Fields.{words_in, are_digits, value_in, is_hex, bytes_in, Fields, Two, Three, Four, Five, Other, fields_in}
 use Rattle.readback.proofs.Readable.{exactly_readable, exactly-read}
 use Rattle.readback.proofs.Told.{cryptogram-told}
+use Rattle.std.specs.Prelude.{Ok}
 
 -- the bytes of line 2, with byte 1 and byte 5 of the CVR, the pair of digits 50 and the profile left open
 abbrev like : ℕ → ℕ → ℕ → ℕ → List ℕ
@@ -39,7 +39,7 @@ fields byte1 =
       profile = 1;
     }
 
-pub sample_read : read_iad bytes ≡ ReadFields (fields 0x90)
+pub sample_read : read_iad bytes ≡ Ok (fields 0x90)
 unfolding read_iad is_iad has_fixed_bytes number is_cvr cvr_of are_pairs iad_of pairs_value
 sample_read = refl
 

@@ -5,7 +5,6 @@ use Prim.Native.Nat.{ℕ, zero, suc, ◌≤◌, ◌<◌}
 use native.Mathlib.Omega.{arith}
 use lib.ListN.{length, take, drop, replicate}
 use Rattle.iad.specs.declared.Iad.{Iad}
-use Rattle.iad.specs.declared.Written.TheVariants.{Done}
 use Rattle.iad.specs.Iad.{iad_bytes, write_iad, written}
 use Rattle.hex_digits.specs.Hex.{hex_byte, hex}
 use Rattle.lines.specs.Lines.{decimal, refusal_line, start_line, selected_line, cryptogram_line}

@@ -10,7 +10,6 @@ use lib.ListN.{length}
 use Rattle.refusal.specs.declared.Refusal.TheVariants.{Unreadable}
 use Rattle.rules.specs.Rules.{Rules}
 use Rattle.shape.specs.declared.Shape.{Shape}
-use Rattle.command.specs.declared.ReadCommand.{ReadCommand}
 use Rattle.command.specs.Command.{command_in, is_command}
 use Rattle.command.proofs.Readable.{Reads, read_or_not}
 use Rattle.state.specs.declared.State.{State}
@@ -19,6 +18,9 @@ use Rattle.records.specs.declared.Said.{Said}
 use Rattle.records.specs.declared.Event.TheVariants.{Refused, Answered}
 use Rattle.records.specs.declared.Taken.{Taken}
 use Rattle.records.specs.Records.{answered_by, scripted_by, is_script, record_taken, can_be_read}
+use Rattle.std.specs.Prelude.{Result}
+use Rattle.command.specs.declared.Command.{Command}
+use Rattle.refusal.specs.declared.Refusal.{Refusal}
 
 pub record IsAnswered (end : ℕ) (taken : Taken) : Type 0 where
   pub said : Said
@@ -38,7 +40,7 @@ module _ (rules : Rules) (state : State) (end : ℕ) where
       let some : ltb 0 (length (result ∷ template)) ≡ true = lt-ltb 0 (length (result ∷ template)) (omega arith) in
       rw some (record { said = _; answer = _; event_is = refl; ends = refl })
 
-  command : (b : Bool) (read : ReadCommand) → Reads b read → Answers b state end (answered_by rules state end read)
+  command : (b : Bool) (read : Result Command Refusal) → Reads b read → Answers b state end (answered_by rules state end read)
   unfolding answered_by
   command true read taken = rw taken.is (record { said = _; answer = _; event_is = refl; ends = refl })
   command false read refused = rw refused

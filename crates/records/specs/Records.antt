@@ -1,10 +1,8 @@
 -- A record answered (document 01, "The paper"; request Twelve).
-use Rattle.std.specs.Prelude.{ℕ, Bool, cond, ◌&&◌, List, [], ◌∷◌, eqb, ltb}
+use Rattle.std.specs.Prelude.{ℕ, Bool, cond, ◌&&◌, List, [], ◌∷◌, eqb, ltb, Err, Ok, Result}
 use Rattle.refusal.specs.declared.Refusal.TheVariants.{Unreadable}
 use Rattle.rules.specs.Rules.{Rules}
 use Rattle.shape.specs.declared.Shape.{Shape}
-use Rattle.command.specs.declared.ReadCommand.{ReadCommand}
-use Rattle.command.specs.declared.ReadCommand.TheVariants.{Taken as CommandTaken, Refused as CommandRefused}
 use Rattle.command.specs.Command.{command_in, is_command}
 use Rattle.state.specs.declared.State.{State}
 use Rattle.element.specs.declared.Write.{Write}
@@ -13,11 +11,13 @@ use Rattle.scripting.specs.Scripting.{script_step, script_writes}
 use Rattle.records.specs.declared.Event.TheVariants.{Refused, Answered}
 use Rattle.records.specs.declared.Said.TheVariants.{Command as SaidCommand, Script}
 use Rattle.records.specs.declared.Taken.{Taken}
+use Rattle.command.specs.declared.Command.{Command}
+use Rattle.refusal.specs.declared.Refusal.{Refusal}
 
 -- a command is answered; refusal 9 ends the paper
-unfoldable pub answered_by : Rules → State → (end : ℕ) → ReadCommand → Taken
-answered_by rules state end (CommandRefused refusal) = record { state = state; at = end; event = Refused refusal }
-answered_by rules state end (CommandTaken command) =
+unfoldable pub answered_by : Rules → State → (end : ℕ) → Result Command Refusal → Taken
+answered_by rules state end (Err refusal) = record { state = state; at = end; event = Refused refusal }
+answered_by rules state end (Ok command) =
     record { state = (step_of rules state command).state; at = end; event = Answered (SaidCommand command) (step_of rules state command).answer }
 
 -- a script's body is the secure messaging result, and the template to its end; refusal 9 for one without a byte

@@ -6,7 +6,7 @@ ghost use Rattle.rules.specs.Rules.{rules_of};
 ghost use Rattle.script.specs.Script.{rules_after, words_after};
 ghost use Rattle.records.specs.Records.{answered_by, scripted_by, body_writes, record_taken, record_writes, can_be_read};
 
-use command::{Command, ReadCommand};
+use command::Command;
 use refusal::Refusal;
 use rules::Words;
 use shape::Shape;
@@ -41,16 +41,16 @@ pub struct Taken {
 }
 
 // A record's command is answered, or refusal 9 ends the paper.
-fn answer(words: &Words, state: State, read: ReadCommand, end: usize) -> Taken
+fn answer(words: &Words, state: State, read: Result<Command, Refusal>, end: usize) -> Taken
     ensures { result ≡ answered_by (rules_of words.now) state end read }
 {
     match read {
-        ReadCommand::Refused(refusal) => Taken {
+        Err(refusal) => Taken {
             state,
             at: end,
             event: Event::Refused(refusal),
         },
-        ReadCommand::Taken(command) => {
+        Ok(command) => {
             let outcome = card::step(words, state, command);
             let after = outcome.state;
             let answer = outcome.answer;

@@ -1,10 +1,9 @@
 -- What a printed line of a sitting says, read back from its bytes (document 01, "A sitting in full"): words with one space (32) between them.
-use Rattle.std.specs.Prelude.{ℕ, ◌+◌, ◌*◌, ◌%◌, Bool, cond, List, [], ◌∷◌, eqb, leb, ltb, length}
+use Rattle.std.specs.Prelude.{ℕ, ◌+◌, ◌*◌, ◌%◌, Bool, cond, List, [], ◌∷◌, eqb, leb, ltb, length, None, Option, Some}
 use Rattle.wire.specs.Wire.{byte}
 use Rattle.state.specs.declared.Kind.{Kind}
 use Rattle.state.specs.declared.Kind.TheVariants.{Aac, Tc, Arqc}
-use Rattle.replies.specs.declared.Reply.{Reply}
-use Rattle.replies.specs.declared.Reply.TheVariants.{Given, Other}
+use Rattle.journal.specs.declared.Cryptogram.{Cryptogram}
 unfoldable pub use Rattle.pieces.specs.Pieces.{place_of, before, behind, behind_place}
 
 -- A BYTE by its two hex digits: "0" (48) to "9" (57), "A" (65) to "F" (70)
@@ -30,12 +29,12 @@ kind_in cid = cond (eqb (byte cid 0) 48) Aac (cond (eqb (byte cid 0) 52) Tc Arqc
 unfoldable pub cvr_in : (iad : List ℕ) → ℕ
 cvr_in iad = (((pair_at iad 6 * 256 + pair_at iad 8) * 256 + pair_at iad 10) * 256 + pair_at iad 12) * 256 + pair_at iad 14
 
-abbrev pub given_in : (cid atc iad : List ℕ) → Reply
+abbrev pub given_in : (cid atc iad : List ℕ) → Option Cryptogram
 given_in cid atc iad =
-    cond (ltb (length iad) 64) Other
-    (Given (record { kind = kind_in cid; atc = decimal_in (before 32 atc); profile = pair_at iad 34 % 256; cvr = cvr_in iad }))
+    cond (ltb (length iad) 64) None
+    (Some (record { kind = kind_in cid; atc = decimal_in (before 32 atc); profile = pair_at iad 34 % 256; cvr = cvr_in iad }))
 
-unfoldable pub reply_in : (line : List ℕ) → Reply
+unfoldable pub reply_in : (line : List ℕ) → Option Cryptogram
 reply_in line =
     let cid = behind 32 (behind 32 line) in
     let atc = behind 32 cid in

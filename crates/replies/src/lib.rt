@@ -16,13 +16,6 @@ const CVR: usize = 6;
 
 const PROFILE: usize = 34;
 
-// A cryptogram, or that the line tells of none.
-#[derive(Drop)]
-pub enum Reply {
-    Given(Cryptogram),
-    Other,
-}
-
 // The value of a hex digit: "0" is 30 and "A" 41.
 fn digit_value(digit: u8) -> u64
     ensures { (result ≡ digit_value digit) × (result < 25) }
@@ -75,16 +68,16 @@ fn cvr_in(iad: &[u8]) -> u64
 }
 
 // What a line says of a cryptogram. The line of one has five words: number, 0, CID, ATC and IAD.
-pub fn reply_in(line: &[u8]) -> Reply
+pub fn reply_in(line: &[u8]) -> Option<Cryptogram>
     ensures { result ≡ reply_in line.now }
 {
     let cid = pieces::behind(pieces::behind(line, SPACE), SPACE);
     let atc = pieces::behind(cid, SPACE);
     let iad = pieces::behind(atc, SPACE);
     if iad.len() < IAD {
-        return Reply::Other;
+        return None;
     }
-    Reply::Given(Cryptogram {
+    Some(Cryptogram {
         kind: kind_in(cid),
         atc: decimal_in(pieces::before(atc, SPACE)),
         profile: (pair_at(iad, PROFILE) % 256) as u8,

@@ -7,9 +7,9 @@ use Prim.Native.Char.{code}
 use Prim.Native.String.{String, [] as ε, ◌∷◌ as ◌⊳◌}
 use lib.Dec.{T, eqb}
 use Rattle.state.specs.State.{cid_of}
-use Rattle.replies.specs.declared.Reply.{Reply}
-use Rattle.replies.specs.declared.Reply.TheVariants.{Given, Other}
 use Rattle.replies.specs.Replies.{place_of, before, behind, pair_at, decimal_from, cvr_in, reply_in, is_ending}
+use Rattle.std.specs.Prelude.{None, Option, Some}
+use Rattle.journal.specs.declared.Cryptogram.{Cryptogram}
 
 -- a text's bytes
 abbrev text : String → List ℕ
@@ -17,17 +17,17 @@ text ε = []
 text (c ⊳ s) = code c ∷ text s
 
 -- a reply gives a cryptogram of this CID, ATC, profile and CVR
-abbrev gives : Reply → (cid atc profile cvr : ℕ) → Bool
-gives Other cid atc profile cvr = false
-gives (Given given) cid atc profile cvr =
+abbrev gives : Option Cryptogram → (cid atc profile cvr : ℕ) → Bool
+gives None cid atc profile cvr = false
+gives (Some given) cid atc profile cvr =
     eqb (cid_of given.kind) cid && eqb given.atc atc && eqb given.profile profile && eqb given.cvr cvr
 
-abbrev gives_none : Reply → Bool
-gives_none Other = true
-gives_none (Given given) = false
+abbrev gives_none : Option Cryptogram → Bool
+gives_none None = true
+gives_none (Some given) = false
 
 -- the first line of a text
-abbrev heard : String → Reply
+abbrev heard : String → Option Cryptogram
 heard s = reply_in (before 10 (text s))
 
 abbrev ending : String → Bool

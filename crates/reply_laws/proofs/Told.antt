@@ -25,11 +25,11 @@ use Rattle.hex_digits.proofs.Bytes as Hex
 use Rattle.readback.specs.WellFormed.{Writable, OfBytes, LaidOut}
 use Rattle.readback.proofs.Leaves.{zeros, laid_out, filled}
 use Rattle.readback.proofs.Octets.{octets}
-use Rattle.replies.specs.declared.Reply.TheVariants.{Given as Heard, Other}
 use Rattle.replies.specs.Replies.{place_of, before, behind, pair_at, decimal_in, kind_in, cvr_in, given_in, reply_in}
 use Rattle.reply_laws.specs.Heard.{heard_reply, Legible}
 use Rattle.reply_laws.proofs.Words.{said, last-said, last_word, more-said, first_word, other-words}
 use Rattle.reply_laws.proofs.Numbers.{decimal-read, pair_read, cvr_read}
+use Rattle.std.specs.Prelude.{None, Some}
 
 -- ---- a line of fewer than five words tells of no cryptogram
 
@@ -48,20 +48,20 @@ few zero rest f fs p h = absurd (omega arith)
 few (suc n) rest f [] (more p r) h = ap (past n) (last_word rest p) ∙ nothing n
 few (suc n) rest f (g ∷ fs) (more p r) h = ap (past n) (other-words rest p g fs) ∙ few n rest g fs r (omega arith)
 
-pub told_none : (rest f : List ℕ) (fs : List (List ℕ)) → Each Plain (f ∷ fs) → length fs < 4 → reply_in (said rest f fs) ≡ Other
+pub told_none : (rest f : List ℕ) (fs : List (List ℕ)) → Each Plain (f ∷ fs) → length fs < 4 → reply_in (said rest f fs) ≡ None
 unfolding reply_in
 told_none rest f fs p h = rw (few 4 rest f fs p h)
 
 module _ (number : ℕ) (rest : List ℕ) where
-  pub refusal_none : (refusal : ℕ) → reply_in (before 10 (refusal_line number refusal ++ rest)) ≡ Other
+  pub refusal_none : (refusal : ℕ) → reply_in (before 10 (refusal_line number refusal ++ rest)) ≡ None
   unfolding refusal_line
   refusal_none refusal = told_none rest _ _ (more (decimal-plain number) (more (decimal-plain refusal) none)) (omega arith)
 
-  pub start_none : (atc : ℕ) → reply_in (before 10 (start_line number atc ++ rest)) ≡ Other
+  pub start_none : (atc : ℕ) → reply_in (before 10 (start_line number atc ++ rest)) ≡ None
   unfolding start_line
   start_none atc = told_none rest _ _ (more (decimal-plain number) (more (decimal-plain 0) (more (decimal-plain atc) none))) (omega arith)
 
-  pub selected_none : (atc visits : ℕ) → reply_in (before 10 (selected_line number atc visits ++ rest)) ≡ Other
+  pub selected_none : (atc visits : ℕ) → reply_in (before 10 (selected_line number atc visits ++ rest)) ≡ None
   unfolding selected_line
   selected_none atc visits =
       told_none rest _ _ (more (decimal-plain number) (more (decimal-plain 0) (more (decimal-plain atc) (more (decimal-plain visits) none)))) (omega arith)
@@ -75,7 +75,7 @@ reply_in_lem line e f g = rw (e, f, g)
 
 given_in_lem : (cid at iad : List ℕ) {kind : Kind} {atc profile cvr : ℕ} → kind_in cid ≡ kind → decimal_in (before 32 at) ≡ atc
     → 64 ≤ length iad → pair_at iad 34 % 256 ≡ profile → cvr_in iad ≡ cvr
-    → given_in cid at iad ≡ Heard (record { kind = kind; atc = atc; profile = profile; cvr = cvr })
+    → given_in cid at iad ≡ Some (record { kind = kind; atc = atc; profile = profile; cvr = cvr })
 given_in_lem cid at iad k a long p c = rw (le-ltb (length iad) 64 long, k, a, p, c)
 
 kind-read : (kind : Kind) (s : List ℕ) → kind_in (hex_byte (cid_of kind) ++ s) ≡ kind
@@ -91,7 +91,7 @@ pub lies : (iad : Iad) → Writable iad → LaidOut iad (written iad zeros)
 lies iad w = let front = (laid_out iad zeros w (omega arith)).front in subst (LaidOut iad) (sym (filled iad _ w front)) front
 
 pub told-given : (number : ℕ) (kind : Kind) (atc : ℕ) (iad : Iad) → atc < 100_000 → Writable iad → OfBytes iad → (rest : List ℕ)
-    → reply_in (before 10 (cryptogram_line number (cid_of kind) atc iad ++ rest)) ≡ Heard (cryptogram kind atc iad)
+    → reply_in (before 10 (cryptogram_line number (cid_of kind) atc iad ++ rest)) ≡ Some (cryptogram kind atc iad)
 unfolding cryptogram_line cryptogram
 told-given number kind atc iad small w o rest =
     let cid = hex_byte (cid_of kind) in

@@ -10,10 +10,10 @@ use lib.Dec.{ltb, eqb}
 use lib.ListN.{length, get_or, set, length-set}
 use lib.Seq.{get_or-set_same, get_or-set_other}
 use Rattle.ring.specs.declared.Record.{Record}
-use Rattle.ring.specs.declared.Found.TheVariants.{Record as Kept, Nothing}
 use Rattle.ring.specs.Ring.{most, slots_of, cell_count, no_records, first_place, first_opened, slot_named, count_kept, cells_of, record_in, record_put}
 use Rattle.ring.specs.Ring.{added_in, added, count_in, slot_back, found, added_all}
 use Rattle.ring.proofs.Cells.{put-size, other_cell, same_record, alike}
+use Rattle.std.specs.Prelude.{None, Some}
 
 -- ---- numbers
 
@@ -201,9 +201,9 @@ added-kept size records ring new held = by (eqb (slots_of size) 0) refl where
 -- the newest of these records: so many, record 1 the newest, and no further one
 pub record Newest (size : ℕ) (records : List Record) (ring : List ℕ) : Type 0 where
   pub count : count_in ring size ≡ min (slots_of size) (length records)
-  pub is : (k : ℕ) → 1 ≤ k → k ≤ min (slots_of size) (length records) → found ring size k ≡ Kept (get_or records (k - 1) blank)
-  pub none : found ring size 0 ≡ Nothing
-  pub no_more : (k : ℕ) → min (slots_of size) (length records) < k → found ring size k ≡ Nothing
+  pub is : (k : ℕ) → 1 ≤ k → k ≤ min (slots_of size) (length records) → found ring size k ≡ Some (get_or records (k - 1) blank)
+  pub none : found ring size 0 ≡ None
+  pub no_more : (k : ℕ) → min (slots_of size) (length records) < k → found ring size k ≡ None
 
 pub read : (size : ℕ) (records : List Record) (ring : List ℕ) → Holds (slots_of size) records ring → Newest size records ring
 unfolding count_in found
@@ -212,7 +212,7 @@ read size records ring held =
       count = held.count;
       is = λ k low high.
           rw (ne_eqb k 0 (λ e. omega arith), held.count, le-ltb (min (slots_of size) (length records)) k high)
-          (ap Kept (held.kept (k - 1) (omega arith) (omega arith)));
+          (ap Some (held.kept (k - 1) (omega arith) (omega arith)));
       none = refl;
       no_more = λ k high. rw (ne_eqb k 0 (λ e. omega arith), held.count, lt-ltb (min (slots_of size) (length records)) k high);
     }

@@ -3,21 +3,20 @@ use mathlib.Core.Path.{◌≡◌, refl}
 use mathlib.Core.List.{List, [], ◌∷◌}
 use Prim.Native.Nat.{ℕ, zero, suc, ◌+◌}
 use Rattle.ring.specs.declared.Record.{Record}
-use Rattle.ring.specs.declared.Found.{Found}
-use Rattle.ring.specs.declared.Found.TheVariants.{Record as Kept, Nothing}
 use Rattle.ring.specs.Ring.{record_in, record_put, added_in, added, count_in, found, added_all}
+use Rattle.std.specs.Prelude.{None, Option, Some}
 
 -- a record of a Second, its cells all different
 abbrev one : ℕ → Record
 one n = record { first = n; second = n + 1; cvr = n + 2; atc = n + 3; cid = n + 4 }
 
-abbrev cells_shown : Found → List ℕ
-cells_shown Nothing = []
-cells_shown (Kept r) = r.first ∷ r.second ∷ r.cvr ∷ r.atc ∷ r.cid ∷ []
+abbrev cells_shown : Option Record → List ℕ
+cells_shown None = []
+cells_shown (Some r) = r.first ∷ r.second ∷ r.cvr ∷ r.atc ∷ r.cid ∷ []
 
-abbrev place_shown : Found → ℕ
-place_shown Nothing = 0
-place_shown (Kept r) = r.first
+abbrev place_shown : Option Record → ℕ
+place_shown None = 0
+place_shown (Some r) = r.first
 
 abbrev many_of : List ℕ → List Record
 many_of [] = []

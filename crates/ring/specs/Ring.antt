@@ -1,8 +1,6 @@
 -- The ring of a transaction log (document 02, Eight): up to 20 records, of which the oldest goes when it is full. Record 1 is the newest.
-use Rattle.std.specs.Prelude.{ℕ, ◌+◌, ◌-◌, ◌*◌, cond, List, [], ◌∷◌, eqb, ltb, get_or, set, replicate}
+use Rattle.std.specs.Prelude.{ℕ, ◌+◌, ◌-◌, ◌*◌, cond, List, [], ◌∷◌, eqb, ltb, get_or, set, replicate, None, Option, Some}
 use Rattle.ring.specs.declared.Record.{Record}
-use Rattle.ring.specs.declared.Found.{Found}
-use Rattle.ring.specs.declared.Found.TheVariants.{Record as Kept, Nothing}
 
 -- a set-up's size is 0 to 20; a larger one counts as 20
 abbrev pub most : ℕ
@@ -68,11 +66,11 @@ count_in ring size = count_kept (get_or ring 2 0) (slots_of size)
 abbrev pub slot_back : (next slots back : ℕ) → ℕ
 slot_back next slots back = cond (ltb back next) (next - 1 - back) (next + slots - 1 - back)
 
-unfoldable pub found : (ring : List ℕ) (size k : ℕ) → Found
+unfoldable pub found : (ring : List ℕ) (size k : ℕ) → Option Record
 found ring size k =
-    cond (eqb k 0) Nothing
-    (cond (ltb (count_in ring size) k) Nothing
-    (Kept (record_in ring (slot_back (slot_named (get_or ring 1 0) (slots_of size)) (slots_of size) (k - 1)))))
+    cond (eqb k 0) None
+    (cond (ltb (count_in ring size) k) None
+    (Some (record_in ring (slot_back (slot_named (get_or ring 1 0) (slots_of size)) (slots_of size) (k - 1)))))
 
 -- RECORDS that were added one after the other, the newest first
 unfoldable pub added_all : (size : ℕ) → List Record → List ℕ

@@ -35,12 +35,6 @@ pub struct Record {
     pub cid: u64,
 }
 
-#[derive(Drop)]
-pub enum Found {
-    Record(Record),
-    Nothing,
-}
-
 // Cells to lend, before anything is logged.
 pub fn none() -> Ring
     ensures { result ≡ no_records }
@@ -142,18 +136,18 @@ pub fn count(ring: &Ring, size: u8) -> u64
 }
 
 // Record k, 1 being the newest.
-pub fn find(ring: &Ring, size: u8, k: u64) -> Found
+pub fn find(ring: &Ring, size: u8, k: u64) -> Option<Record>
     ensures { result ≡ found ring.now size k }
 {
     if k == 0 {
-        return Found::Nothing;
+        return None;
     }
     let slots = slots_of(size);
     if count_kept(ring[COUNT], slots) < k {
-        return Found::Nothing;
+        return None;
     }
     let next = slot_named(ring[NEXT], slots);
-    Found::Record(record_in(ring, slot_back(next, slots, k - 1)))
+    Some(record_in(ring, slot_back(next, slots, k - 1)))
 }
 
 // The First at a place is the one that a Second may close.

@@ -12,11 +12,8 @@ use lib.ListN.{length, get_or}
 use Rattle.refusal.specs.declared.Refusal.{Refusal}
 use Rattle.rules.specs.declared.Place.{Place}
 use Rattle.rules.specs.declared.Place.TheVariants.{One, Two, Three, Four}
-use Rattle.rules.specs.declared.Found.{Found}
-use Rattle.rules.specs.declared.Found.TheVariants.{At, Nothing}
 use Rattle.rules.specs.Rules.{Rules, index_of, profile_at, blank_profile, find_profile}
 use Rattle.purchase.specs.Meter.{MeterRule, accumulator, amount_at}
-use Rattle.rooms.specs.declared.RoomLeft.TheVariants.{Left}
 use Rattle.rooms.specs.Rooms.{cell_count, cell_of, left_of, left_in, rooms_of, filled, renewed, room_left, room_number}
 use Rattle.room_laws.proofs.Rooms.{left_is, absent, present, stored, filled_is, renewed-is, rooms-size, unmoved, unknown, out_of_range}
 use Rattle.script.specs.Script.{rules_after}
@@ -37,6 +34,7 @@ use Rattle.demands.proofs.Refusal.{refusal_keeps}
 use Rattle.demands.proofs.Run.{always_ruled}
 use Rattle.demands.proofs.Total.{total}
 use Rattle.room_laws.specs.Kept.{rooms_told, rooms_over, rooms_sat}
+use Rattle.std.specs.Prelude.{None, Ok, Option, Some}
 
 -- only a script that was carried out writes
 no_writes : (rules : Rules) (state : State) (command : Message) → is_done (message_step rules state command).answer ≡ false
@@ -154,9 +152,9 @@ module _ (setup : Setup) (good : AcceptedSetup setup) (commands : List Message) 
       ap (λ rules. room_number (room_left rules rooms number asked)) ruled.rules-are
       ∙ unknown (rules_by now) rooms number asked (by (find_profile (rules_by now) number) (known (rules_by now) number))
     where
-      by : (result : Found) → Known (rules_by now) number result → result ≡ Nothing
-      by Nothing holds = refl
-      by (At place) holds =
+      by : (result : Option Place) → Known (rules_by now) number result → result ≡ None
+      by None holds = refl
+      by (Some place) holds =
           let there = number_in now (always_ruled setup good commands spoken).good (index_of place) number (below-four place) holds.some holds.its in
           let same = same_bytes setup sitting.log in
           absurd (none (index_of place) (subst (λ s. index_of place < byte s 3) same there.0)
@@ -210,18 +208,18 @@ module _ (setup : Setup) (good : AcceptedSetup setup) (commands : List Message) 
     room_kept cells size = rw (room_is cells size) (left_is upper value)
 
     -- its profile is found by its number
-    found : find_profile (rules_by now) (byte_at now at) ≡ At (place_at p)
+    found : find_profile (rules_by now) (byte_at now at) ≡ Some (place_at p)
     found = by (find_profile (rules_by now) (byte_at now at)) (known (rules_by now) (byte_at now at)) where
       accepted : AcceptedSetup now
       accepted = (always_ruled setup good commands spoken).good
 
-      by : (result : Found) → Known (rules_by now) (byte_at now at) result → result ≡ At (place_at p)
-      by Nothing none =
+      by : (result : Option Place) → Known (rules_by now) (byte_at now at) result → result ≡ Some (place_at p)
+      by None none =
           let least = ((fits accepted).profiles p still_there).number-least in
           absurd (none least p below (number_out now accepted p (byte_at now at) below still_there refl))
-      by (At place) holds =
+      by (Some place) holds =
           let there = number_in now accepted (index_of place) (byte_at now at) (below-four place) holds.some holds.its in
-          ap At (sym (placed_back place) ∙ ap place_at (only (index_of place) there.0 there.1))
+          ap Some (sym (placed_back place) ∙ ap place_at (only (index_of place) there.0 there.1))
         where
           only : (j : ℕ) → j < byte_at now 3 → byte_at now (52 + 107 * j) ≡ byte_at now at → j ≡ p
           only j h same = by_order (ltb j p) (ltb p j) refl refl where
@@ -233,7 +231,7 @@ module _ (setup : Setup) (good : AcceptedSetup setup) (commands : List Message) 
     -- ASKED by the profile's number and the accumulator's, the card says what is stored
     pub room_asked : (cells : List ℕ) → length cells ≡ cell_count
         → room_left sitting.rules (rooms_sat setup commands cells) (byte_at setup at) (i + 1)
-        ≡ Left (record { 0 = get_or (rooms_sat setup commands cells) (4 * p + i) 0 })
+        ≡ Ok (record { 0 = get_or (rooms_sat setup commands cells) (4 * p + i) 0 })
     unfolding room_left
     room_asked cells size =
         let ruled = always_ruled setup good commands spoken in

@@ -13,12 +13,11 @@ use Rattle.money.specs.declared.AccumulatorAmount.{AccumulatorAmount}
 use Rattle.rules.specs.declared.Place.{Place}
 use Rattle.rules.specs.declared.Place.TheVariants.{One, Two, Three, Four}
 use Rattle.rules.specs.declared.Values.{Values}
-use Rattle.rules.specs.declared.Found.TheVariants.{At, Nothing}
 use Rattle.rules.specs.Rules.{Rules, profile_at, accumulator_rule, find_profile}
 use Rattle.rules.proofs.Places.{each}
 use Rattle.purchase.specs.Meter.{amount_at}
-use Rattle.rooms.specs.declared.RoomLeft.TheVariants.{Left}
 use Rattle.rooms.specs.Rooms.{left_of, left_in, rooms_at, rooms_of, stored_at, room_left, room_number, cell_count, cell_of, cell_set, column_set, column_renewed, filled, renewed}
+use Rattle.std.specs.Prelude.{None, Ok, Some}
 
 -- n cells, by their places
 abbrev listed : ℕ → (ℕ → ℕ) → List ℕ
@@ -65,20 +64,20 @@ module _ (rules : Rules) where
   stored-four values Four = refl
 
   -- and so what is answered for accumulator i + 1 of a profile
-  pub asked : (values : Values) (profile : ℕ) (place : Place) (i : ℕ) → find_profile rules profile ≡ At place → i < 4
-      → room_left rules (rooms_of rules values) profile (i + 1) ≡ Left (record { 0 = left_in rules place i (amount_at values i) })
+  pub asked : (values : Values) (profile : ℕ) (place : Place) (i : ℕ) → find_profile rules profile ≡ Some place → i < 4
+      → room_left rules (rooms_of rules values) profile (i + 1) ≡ Ok (record { 0 = left_in rules place i (amount_at values i) })
   unfolding room_left
   asked values profile place i found h =
       let last : i + 1 - 1 ≡ i = omega arith in
       rw (found, ne_eqb (i + 1) 0 (λ z. omega arith), le-ltb 4 (i + 1) (omega arith), last, stored values place i h)
 
   -- refusals: 3, then 6
-  pub unknown : (rooms : List ℕ) (profile accumulator : ℕ) → find_profile rules profile ≡ Nothing
+  pub unknown : (rooms : List ℕ) (profile accumulator : ℕ) → find_profile rules profile ≡ None
       → room_number (room_left rules rooms profile accumulator) ≡ 3
   unfolding room_left
   unknown rooms profile accumulator e = rw e
 
-  pub out_of_range : (rooms : List ℕ) (profile accumulator : ℕ) (place : Place) → find_profile rules profile ≡ At place
+  pub out_of_range : (rooms : List ℕ) (profile accumulator : ℕ) (place : Place) → find_profile rules profile ≡ Some place
       → (accumulator ≡ 0) ⊎ (4 < accumulator)
       → room_number (room_left rules rooms profile accumulator) ≡ 6
   unfolding room_left

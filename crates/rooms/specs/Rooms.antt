@@ -1,19 +1,16 @@
 -- The rooms left (request Seven): one for each accumulator of each profile, active or not.
-use Rattle.std.specs.Prelude.{ℕ, ◌+◌, ◌*◌, ◌-◌, cond, ◌||◌, List, ◌++◌, eqb, ltb, get_or, set, replicate}
+use Rattle.std.specs.Prelude.{ℕ, ◌+◌, ◌*◌, ◌-◌, cond, ◌||◌, List, ◌++◌, eqb, ltb, get_or, set, replicate, Err, None, Ok, Option, Result, Some}
 use Rattle.refusal.specs.declared.Refusal.TheVariants.{UnknownProfile, OutOfRange}
 use Rattle.refusal.specs.Refusal.{refusal_number}
 use Rattle.money.specs.declared.AccumulatorAmount.{AccumulatorAmount}
 use Rattle.rules.specs.declared.Place.{Place}
 use Rattle.rules.specs.declared.Place.TheVariants.{One, Two, Three, Four}
-use Rattle.rules.specs.declared.Found.{Found}
-use Rattle.rules.specs.declared.Found.TheVariants.{At, Nothing}
 use Rattle.rules.specs.declared.Values.{Values}
 use Rattle.rules.specs.Rules.{Rules, four, index_of, find_profile}
 use Rattle.purchase.specs.Meter.{amount_at}
 pub use Rattle.room.specs.Room.{left_of}
+use Rattle.refusal.specs.declared.Refusal.{Refusal}
 unfoldable pub use Rattle.room.specs.Room.{left_in}
-use Rattle.rooms.specs.declared.RoomLeft.{RoomLeft}
-use Rattle.rooms.specs.declared.RoomLeft.TheVariants.{Left, Refused}
 
 -- ALL OF THEM by the rules and the values, the four of the first place and so on
 unfoldable pub rooms_at : Rules → Values → Place → List ℕ
@@ -61,14 +58,14 @@ stored_at rooms place = four (λ i. get_or rooms (cell_of place i) 0)
 
 -- ASKED for an accumulator of a profile, by their numbers: what is stored; refusal 3 for a profile that the set-up lacks, then 6 for an
 -- accumulator that is not 1 to 4
-abbrev pub room_in : List ℕ → (accumulator : ℕ) → Found → RoomLeft
-room_in rooms accumulator Nothing = Refused UnknownProfile
-room_in rooms accumulator (At place) =
-    cond (eqb accumulator 0 || ltb 4 accumulator) (Refused OutOfRange) (Left (record { 0 = get_or rooms (cell_of place (accumulator - 1)) 0 }))
+abbrev pub room_in : List ℕ → (accumulator : ℕ) → Option Place → Result AccumulatorAmount Refusal
+room_in rooms accumulator None = Err UnknownProfile
+room_in rooms accumulator (Some place) =
+    cond (eqb accumulator 0 || ltb 4 accumulator) (Err OutOfRange) (Ok (record { 0 = get_or rooms (cell_of place (accumulator - 1)) 0 }))
 
-unfoldable pub room_left : Rules → List ℕ → (profile accumulator : ℕ) → RoomLeft
+unfoldable pub room_left : Rules → List ℕ → (profile accumulator : ℕ) → Result AccumulatorAmount Refusal
 room_left rules rooms profile accumulator = room_in rooms accumulator (find_profile rules profile)
 
-abbrev pub room_number : RoomLeft → ℕ
-room_number (Left room) = 0
-room_number (Refused refusal) = refusal_number refusal
+abbrev pub room_number : Result AccumulatorAmount Refusal → ℕ
+room_number (Ok room) = 0
+room_number (Err refusal) = refusal_number refusal

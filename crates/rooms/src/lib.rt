@@ -8,17 +8,11 @@ ghost use Rattle.rooms.specs.Rooms.{no_rooms, cell_of, stored_at, room_left};
 
 use money::AccumulatorAmount;
 use refusal::Refusal;
-use rules::{Found, Place, Words};
+use rules::{Place, Words};
 
 // One cell for each accumulator of each profile: 4 x place + accumulator, both from 0 on. A place
 // without a profile has 0.
 pub type Rooms = [u64; 16];
-
-#[derive(Drop)]
-pub enum RoomLeft {
-    Left(AccumulatorAmount),
-    Refused(Refusal),
-}
 
 // Cells to lend, before a set-up is read.
 pub fn none() -> Rooms
@@ -49,15 +43,15 @@ pub fn stored(rooms: &Rooms, place: Place) -> [u64; 4]
 }
 
 // The room that is stored for an accumulator, 1 to 4, of a profile, by its number.
-pub fn room_left(words: &Words, rooms: &Rooms, profile: u8, accumulator: u8) -> RoomLeft
+pub fn room_left(words: &Words, rooms: &Rooms, profile: u8, accumulator: u8) -> Result<AccumulatorAmount, Refusal>
     ensures { result ≡ room_left (rules_of words.now) rooms.now profile accumulator }
 {
-    let Found::At(place) = rules::find_profile(words, profile) else {
-        return RoomLeft::Refused(Refusal::UnknownProfile);
+    let Some(place) = rules::find_profile(words, profile) else {
+        return Err(Refusal::UnknownProfile);
     };
     if (accumulator == 0) | (4 < accumulator) {
-        return RoomLeft::Refused(Refusal::OutOfRange);
+        return Err(Refusal::OutOfRange);
     }
     let at = cell(place, accumulator - 1);
-    RoomLeft::Left(AccumulatorAmount(rooms[at]))
+    Ok(AccumulatorAmount(rooms[at]))
 }

@@ -11,13 +11,8 @@ use lib.ListN.{length, take, drop, length-append, get_or-append}
 use lib.Seq.{length-take-le, get_or-take, get_or-drop, take_at, drop_at, get_or_at, get_or-append_seam, get_or-append-add, drop-append-add, drop-drop, take_all}
 use Rattle.wire.specs.Wire.{byte}
 use Rattle.selection.specs.Selection.{is_file}
-use Rattle.shape.specs.declared.Dating.TheVariants.{Off as DatesOff}
 use Rattle.shape.specs.declared.Family.TheVariants.{Cpa}
-use Rattle.shape.specs.declared.Logging.TheVariants.{Off as LogOff}
 use Rattle.shape.specs.declared.Shape.{Shape}
-use Rattle.shape.specs.declared.Tails.{Tails}
-use Rattle.shape.specs.declared.Tails.TheVariants.{Ended, Wrong}
-use Rattle.shape.specs.declared.ReadShape.TheVariants.{Taken}
 use Rattle.shape.specs.Shape.{based, base_tail, entries_end, selection_tail, follows, syllabus_tail, dates, dating_tail, cycles_part, families, family_tail}
 use Rattle.shape.specs.Shape.{family_part, scripts, scripting_tail, logs, log_end, logging_tail, log_part, behind, tails_of, whole, shape_of}
 use Rattle.shape.proofs.Files.{file-ends}
@@ -31,6 +26,9 @@ use Rattle.rows.proofs.Dated.{cycles-size, cycles_in_place}
 use Rattle.rows.proofs.Family.{controls-size, controls_in_place}
 use Rattle.rows.proofs.Entries.{file-read}
 use Rattle.rows.proofs.Logged.{log-says}
+use Rattle.std.specs.Prelude.{None, Ok, Option}
+use Rattle.shape.specs.Shape.{ended_at}
+use Rattle.shape.specs.declared.Tails.{Tails}
 
 file-there : (base : List ℕ) (c : Choosing) (rest : List ℕ) → file_in (selecting c (length base)) (base ++ (choosing_bytes c ++ rest)) ≡ file_of c
 file-there base off rest = refl
@@ -47,7 +45,7 @@ module _ (base : List ℕ) (sized : length base ≡ base_length base) (tail : Li
   pub length_kept : base_length (base ++ tail) ≡ length base
   length_kept = rw (byte-kept 3 (omega arith), byte-kept 4 (omega arith)) (sym sized)
 
-  pub base_read : base_tail (base ++ tail) ≡ Ended (based (length base)) (length base)
+  pub base_read : base_tail (base ++ tail) ≡ ended_at (based (length base)) (length base)
   unfolding base_tail
   base_read = rw (length_kept, le-ltb (length (base ++ tail)) (length base) (omega (arith, length-append base tail)))
 
@@ -77,15 +75,15 @@ chosen base c =
       base = length base;
       selecting = selecting c (length base);
       syllabus = 0;
-      dating = DatesOff;
+      dating = None;
       family = Cpa;
       scripting = false;
-      logging = LogOff;
+      logging = None;
       unnamed = 2 ^ 22;
     }
 
 pub choosing-read : (base : List ℕ) (c : Choosing) (rest : List ℕ)
-    → selection_tail (base ++ (choosing_bytes c ++ rest)) (based (length base)) (length base) ≡ Ended (chosen base c) (choosing_end base c)
+    → selection_tail (base ++ (choosing_bytes c ++ rest)) (based (length base)) (length base) ≡ ended_at (chosen base c) (choosing_end base c)
 unfolding selection_tail
 choosing-read base off rest =
     let body = base ++ (0 ∷ rest) in
@@ -103,13 +101,13 @@ choosing-read base (on es) rest =
     (sym (file-ends body end (omega arith) (length es) (length base + 2) (omega arith))
     ∙ ap (λ (f : List ℕ). is_file f (length es)) (file-there base (on es) rest) ∙ file-read es) in
     let same : end ≡ choosing_end base (on es) = omega arith in
-    rw (switch, count, ends, lt-leb (length body) (length base) (omega arith), le-ltb (length body) end (omega arith)) (ap (Ended (chosen base (on es))) same)
+    rw (switch, count, ends, lt-leb (length body) (length base) (omega arith), le-ltb (length body) end (omega arith)) (ap ((λ at. ended_at (chosen base (on es)) at)) same)
 
 -- behind the base
 pub selection-read : (base : List ℕ) → length base ≡ base_length base → (c : Choosing) (rest : List ℕ)
-    → behind (base_tail (base ++ (choosing_bytes c ++ rest))) (selection_tail (base ++ (choosing_bytes c ++ rest))) ≡ Ended (chosen base c) (choosing_end base c)
+    → behind (base_tail (base ++ (choosing_bytes c ++ rest))) (selection_tail (base ++ (choosing_bytes c ++ rest))) ≡ ended_at (chosen base c) (choosing_end base c)
 selection-read base sized c rest =
-    ap (λ (t : Tails). behind t (selection_tail (base ++ (choosing_bytes c ++ rest)))) (base_read base sized (choosing_bytes c ++ rest))
+    ap (λ (t : Option Tails). behind t (selection_tail (base ++ (choosing_bytes c ++ rest)))) (base_read base sized (choosing_bytes c ++ rest))
     ∙ choosing-read base c rest
 
 first_says : (base : List ℕ) → length base ≡ base_length base → TailSays base first base
@@ -156,7 +154,7 @@ module _ (base : List ℕ) (c : Choosing) (y : ℕ) (rest : List ℕ) where
   pub rest-size : length with_rest ≡ choosing_end base c + 1 + length rest
   rest-size = omega (arith, length-append base (choosing_bytes c ++ y ∷ rest), length-append (choosing_bytes c) (y ∷ rest))
 
-  pub syllabus-read : y ≤ 1 → (shape : Shape) → syllabus_tail with_rest shape (choosing_end base c) ≡ Ended (follows shape y) (choosing_end base c + 1)
+  pub syllabus-read : y ≤ 1 → (shape : Shape) → syllabus_tail with_rest shape (choosing_end base c) ≡ ended_at (follows shape y) (choosing_end base c + 1)
   unfolding syllabus_tail
   syllabus-read low shape =
       rw (syllabus-byte, lt-leb (length with_rest) (choosing_end base c) (omega (arith, rest-size)), le-ltb 1 y low)
@@ -212,7 +210,7 @@ module _ (base : List ℕ) (c : Choosing) (y : ℕ) (rest : List ℕ) where
   with_dates_lem d = with_rest base c y (dates_bytes d ++ rest)
 
   pub dates-read : (d : Dates) → length base ≡ base_length base → FineDates (byte base 3) d → (shape : Shape)
-      → dating_tail (with_dates_lem d) shape (dates_at base c) ≡ Ended (dates shape (dating d (dates_at base c))) (families_at base c d)
+      → dating_tail (with_dates_lem d) shape (dates_at base c) ≡ ended_at (dates shape (dating d (dates_at base c))) (families_at base c d)
   unfolding dating_tail
   dates-read undated sized fine shape =
       let body = with_dates_lem undated in
@@ -258,24 +256,24 @@ module _ (base : List ℕ) (c : Choosing) (y : ℕ) (rest : List ℕ) where
 
     module _ (sized : length base ≡ base_length base) (low : y ≤ 1) (fine : FineDates (byte base 3) d) where
       syllabus_4 : behind (behind (base_tail (with_dates_lem d)) (selection_tail (with_dates_lem d))) (syllabus_tail (with_dates_lem d))
-          ≡ Ended (follows (chosen base c) y) (dates_at base c)
+          ≡ ended_at (follows (chosen base c) y) (dates_at base c)
       syllabus_4 =
-          ap (λ (t : Tails). behind t (syllabus_tail (with_dates_lem d))) (selection-read base sized c (y ∷ dates_bytes d ++ rest))
+          ap (λ (t : Option Tails). behind t (syllabus_tail (with_dates_lem d))) (selection-read base sized c (y ∷ dates_bytes d ++ rest))
           ∙ syllabus-read base c y (dates_bytes d ++ rest) low (chosen base c)
 
       abbrev shape_4 : Shape
       shape_4 = dates (follows (chosen base c) y) (dating d (dates_at base c))
 
-      tails_4 : tails_of 4 (with_dates_lem d) ≡ Ended shape_4 (families_at base c d)
+      tails_4 : tails_of 4 (with_dates_lem d) ≡ ended_at shape_4 (families_at base c d)
       unfolding tails_of
-      tails_4 = ap (λ (t : Tails). behind t (dating_tail (with_dates_lem d))) syllabus_4 ∙ dates-read d sized fine (follows (chosen base c) y)
+      tails_4 = ap (λ (t : Option Tails). behind t (dating_tail (with_dates_lem d))) syllabus_4 ∙ dates-read d sized fine (follows (chosen base c) y)
 
 -- nothing follows them
 module _ (base : List ℕ) (c : Choosing) (y : ℕ) (d : Dates) (sized : length base ≡ base_length base) (low : y ≤ 1) (fine : FineDates (byte base 3) d) where
   abbrev dated-body : List ℕ
   dated-body = with_dates_lem base c y [] d
 
-  shape_read_4 : shape_of 4 dated-body ≡ Taken (shape_4 base c y [] d sized low fine)
+  shape_read_4 : shape_of 4 dated-body ≡ Ok (shape_4 base c y [] d sized low fine)
   unfolding shape_of
   shape_read_4 =
       let size : families_at base c d ≡ length dated-body = omega (arith, end-size base c y [] d) in
@@ -310,7 +308,7 @@ module _ (base : List ℕ) (c : Choosing) (y : ℕ) (d : Dates) (rest : List ℕ
   family-size f = omega (arith, end-size base c y (families_bytes f ++ rest) d, length-append (families_bytes f) rest)
 
   family-read : (f : Families) → FineFamilies (byte base 3) f → (shape : Shape)
-      → family_tail (with_family f) shape at ≡ Ended (families shape (family_from f at)) (family_end f)
+      → family_tail (with_family f) shape at ≡ ended_at (families shape (family_from f at)) (family_end f)
   unfolding family_tail
   family-read cpa fine shape =
       rw (end-byte base c y (0 ∷ rest) d, lt-leb (length (with_family cpa)) at (omega (arith, family-size cpa)))
@@ -357,15 +355,15 @@ module _ (base : List ℕ) (c : Choosing) (y : ℕ) (d : Dates) (rest : List ℕ
     abbrev shape_5 : Shape
     shape_5 = families (shape_4 base c y (families_bytes f ++ rest) d sized low fine-dates) (family_from f at)
 
-    tails_5 : tails_of 5 (with_family f) ≡ Ended shape_5 (family_end f)
+    tails_5 : tails_of 5 (with_family f) ≡ ended_at shape_5 (family_end f)
     tails_5 =
-        behind_4 ∙ ap (λ (t : Tails). behind t (family_tail (with_family f))) (tails_4 base c y (families_bytes f ++ rest) d sized low fine-dates)
+        behind_4 ∙ ap (λ (t : Option Tails). behind t (family_tail (with_family f))) (tails_4 base c y (families_bytes f ++ rest) d sized low fine-dates)
         ∙ family-read f fine _
 
 module _ (base : List ℕ) (c : Choosing) (y : ℕ) (d : Dates) (f : Families) (sized : length base ≡ base_length base)
     (low : y ≤ 1) (fine-dates : FineDates (byte base 3) d) (fine : FineFamilies (byte base 3) f) where
   -- nothing follows it
-  shape_read_5 : shape_of 5 (with_family base c y d [] sized f) ≡ Taken (shape_5 base c y d [] sized f low fine-dates fine)
+  shape_read_5 : shape_of 5 (with_family base c y d [] sized f) ≡ Ok (shape_5 base c y d [] sized f low fine-dates fine)
   unfolding shape_of
   shape_read_5 =
       let body = with_family base c y d [] sized f in
@@ -397,14 +395,14 @@ module _ (base : List ℕ) (c : Choosing) (y : ℕ) (d : Dates) (f : Families) (
     abbrev scripts_at : ℕ
     scripts_at = family_end base c y d end-bytes sized f
 
-    scripts-read : (shape : Shape) → scripting_tail scripts-body shape scripts_at ≡ Ended (scripts shape scripting) (scripts_at + 1)
+    scripts-read : (shape : Shape) → scripting_tail scripts-body shape scripts_at ≡ ended_at (scripts shape scripting) (scripts_at + 1)
     unfolding scripting_tail
     scripts-read shape =
         rw (last_byte base c y d end-bytes sized f, lt-leb (length scripts-body) scripts_at (omega (arith, family-size base c y d end-bytes sized f)))
         (by scripting)
       where
-        by : (b : Bool) → cond (ltb 1 (scripts_byte b)) Wrong (Ended (scripts shape (eqb (scripts_byte b) 1)) (scripts_at + 1))
-            ≡ Ended (scripts shape b) (scripts_at + 1)
+        by : (b : Bool) → cond (ltb 1 (scripts_byte b)) None (ended_at (scripts shape (eqb (scripts_byte b) 1)) (scripts_at + 1))
+            ≡ ended_at (scripts shape b) (scripts_at + 1)
         by true = refl
         by false = refl
 
@@ -415,12 +413,12 @@ module _ (base : List ℕ) (c : Choosing) (y : ℕ) (d : Dates) (f : Families) (
     abbrev shape_6 : Shape
     shape_6 = scripts (shape_5 base c y d end-bytes sized f low fine-dates fine) scripting
 
-    tails_6 : tails_of 6 scripts-body ≡ Ended shape_6 (scripts_at + 1)
-    tails_6 = behind_5 ∙ ap (λ (t : Tails). behind t (scripting_tail scripts-body)) (tails_5 base c y d end-bytes sized f low fine-dates fine) ∙ scripts-read _
+    tails_6 : tails_of 6 scripts-body ≡ ended_at shape_6 (scripts_at + 1)
+    tails_6 = behind_5 ∙ ap (λ (t : Option Tails). behind t (scripting_tail scripts-body)) (tails_5 base c y d end-bytes sized f low fine-dates fine) ∙ scripts-read _
 
   -- nothing follows it
   module _ (scripting : Bool) where
-    shape_read_6 : shape_of 6 (scripts-body scripting []) ≡ Taken (shape_6 scripting [])
+    shape_read_6 : shape_of 6 (scripts-body scripting []) ≡ Ok (shape_6 scripting [])
     unfolding shape_of
     shape_read_6 =
         ap (whole (scripts-body scripting [])) (tails_6 scripting [])
@@ -467,7 +465,7 @@ module _ (base : List ℕ) (c : Choosing) (y : ℕ) (d : Dates) (f : Families) (
   module _ (scripting : Bool) where
     log-read : (l : Logs) (fine-log : FineLogs (byte base 3) l) (shape : Shape)
         → logging_tail (log-body scripting l fine-log) shape (log-at scripting l fine-log)
-        ≡ Ended (shape_of_lem shape l (log-at scripting l fine-log)) (log-at scripting l fine-log + length (logs_bytes l))
+        ≡ ended_at (shape_of_lem shape l (log-at scripting l fine-log)) (log-at scripting l fine-log + length (logs_bytes l))
     unfolding logging_tail
     log-read unlogged fine-log shape =
         let at = log-at scripting unlogged fine-log in
@@ -501,12 +499,12 @@ module _ (base : List ℕ) (c : Choosing) (y : ℕ) (d : Dates) (f : Families) (
     behind_6 body = refl
 
     shape_read_7 : (l : Logs) (fine-log : FineLogs (byte base 3) l) → shape_of 7 (log-body scripting l fine-log)
-        ≡ Taken (shape_of_lem (shape_6 scripting (logs_bytes l)) l (log-at scripting l fine-log))
+        ≡ Ok (shape_of_lem (shape_6 scripting (logs_bytes l)) l (log-at scripting l fine-log))
     unfolding shape_of
     shape_read_7 l fine-log =
         let body = log-body scripting l fine-log in
         ap (whole body)
-        (behind_6 body ∙ ap (λ (t : Tails). behind t (logging_tail body)) (tails_6 scripting (logs_bytes l)) ∙ log-read l fine-log _)
+        (behind_6 body ∙ ap (λ (t : Option Tails). behind t (logging_tail body)) (tails_6 scripting (logs_bytes l)) ∙ log-read l fine-log _)
         ∙ rw (eq-eqb (log-at scripting l fine-log + length (logs_bytes l)) (length body) (omega (arith, log_length_is scripting l fine-log)))
 
     log-there : (l : Logs) (fine-log : FineLogs (byte base 3) l)
@@ -528,7 +526,7 @@ module _ (base : List ℕ) (c : Choosing) (y : ℕ) (d : Dates) (f : Families) (
     seventh-says : (l : Logs) (fine-log : FineLogs (byte base 3) l) → TailSays base (seventh c y d f scripting l) (log-body scripting l fine-log)
     seventh-says l fine-log =
         record {
-          read = shape_read_7 l fine-log ∙ ap (λ (s : Shape). Taken s) (shape-said l fine-log);
+          read = shape_read_7 l fine-log ∙ ap (λ (s : Shape). Ok s) (shape-said l fine-log);
           base-is = base_there base sized (tail_bytes (seventh c y d f scripting l));
           file = file-there base c (y ∷ dates_bytes d ++ (families_bytes f ++ end-bytes scripting (logs_bytes l)));
           cycles = cycles-there base c y (families_bytes f ++ end-bytes scripting (logs_bytes l)) d;

@@ -15,10 +15,6 @@ use Rattle.refusal.specs.declared.Refusal.TheVariants.{BadSetup}
 use Rattle.selection.specs.Selection.{is_file}
 use Rattle.setup.proofs.Faithful.{Bytes}
 use Rattle.shape.specs.declared.Shape.{Shape}
-use Rattle.shape.specs.declared.Tails.{Tails}
-use Rattle.shape.specs.declared.Tails.TheVariants.{Ended, Wrong}
-use Rattle.shape.specs.declared.ReadShape.{ReadShape}
-use Rattle.shape.specs.declared.ReadShape.TheVariants.{Taken, Refused}
 use Rattle.shape.specs.Shape.{based, base_tail, file_end, selects, selection_tail, follows, syllabus_tail, tails_of, whole, shape_of, shape_number}
 use Rattle.shape.specs.Shape as Sh
 use Rattle.shape.proofs.Files.{file-ends}
@@ -30,6 +26,10 @@ use Rattle.rows.proofs.Entries.{file-read, Small, small_drop, small-take, more_t
 use Rattle.rows.proofs.Later.{Late, four, five, six, seven, late-settled}
 use Rattle.rows.proofs.LaterRefused.{late-refused}
 use Rattle.rows.proofs.Behind.{base-sized, some_bytes, length_kept, third-size, third_last, reads_tails}
+use Rattle.std.specs.Prelude.{Err, None, Ok, Option, Result}
+use Rattle.refusal.specs.declared.Refusal.{Refusal}
+use Rattle.shape.specs.Shape.{ended_at}
+use Rattle.shape.specs.declared.Tails.{Tails}
 
 never : {P : Type 0} → ◌≡◌ {A = ℕ} 0 1 → P
 never z = absurd (omega arith)
@@ -81,9 +81,9 @@ no_cause (on es) (entries h l b) =
 -- ---- what a tail's reader has passed is spelled
 
 -- where tails end, and what they come to
-end_of : Tails → ℕ
-end_of Wrong = 0
-end_of (Ended shape at) = at
+end_of : Option Tails → ℕ
+end_of None = 0
+end_of (Some tails) = tails.at
 
 module _ (body : List ℕ) (small : Small body) where
   -- from a place to another a choosing is spelled
@@ -124,15 +124,15 @@ module _ (body : List ℕ) (small : Small body) where
             ∙ ap₂ (λ (x : ℕ) (t : List ℕ). take at body ++ 1 ∷ x ∷ t) (sym es.count) (sym es.joined);
       }
 
-  selection-passed : (shape shape' : Shape) (at end : ℕ) → selection_tail body shape at ≡ Ended shape' end → Passed at end
+  selection-passed : (shape shape' : Shape) (at end : ℕ) → selection_tail body shape at ≡ ended_at shape' end → Passed at end
   unfolding selection_tail end_of
   selection-passed shape shape' at end e =
       by (leb (length body) at) refl (eqb (byte body at) 0) refl (ltb 1 (byte body at)) refl (ltb (length body) (file_end body at)) refl e
     where
       by : (short : Bool) → leb (length body) at ≡ short → (none : Bool) → eqb (byte body at) 0 ≡ none → (high : Bool) → ltb 1 (byte body at) ≡ high
           → (cut : Bool) → ltb (length body) (file_end body at) ≡ cut
-          → cond short Wrong (cond none (Ended shape (at + 1)) (cond high Wrong (cond cut Wrong
-          (Ended (selects shape (at + 2) (file_end body at) (byte body (at + 1))) (file_end body at))))) ≡ Ended shape' end
+          → cond short None (cond none (ended_at shape (at + 1)) (cond high None (cond cut None
+          (ended_at (selects shape (at + 2) (file_end body at) (byte body (at + 1))) (file_end body at))))) ≡ ended_at shape' end
           → Passed at end
       by true a none b high c cut d e = never cc
       by false a true b high c cut d e =
@@ -151,11 +151,11 @@ module _ (body : List ℕ) (small : Small body) where
     low : syllabus ≤ 1
     joined : take end body ≡ take at body ++ syllabus ∷ []
 
-  syllabus-passed : (shape shape' : Shape) (at end : ℕ) → syllabus_tail body shape at ≡ Ended shape' end → Followed at end
+  syllabus-passed : (shape shape' : Shape) (at end : ℕ) → syllabus_tail body shape at ≡ ended_at shape' end → Followed at end
   unfolding syllabus_tail end_of
   syllabus-passed shape shape' at end e = by (leb (length body) at) refl (ltb 1 (byte body at)) refl e where
     by : (short : Bool) → leb (length body) at ≡ short → (high : Bool) → ltb 1 (byte body at) ≡ high
-        → cond short Wrong (cond high Wrong (Ended (follows shape (byte body at)) (at + 1))) ≡ Ended shape' end → Followed at end
+        → cond short None (cond high None (ended_at (follows shape (byte body at)) (at + 1))) ≡ ended_at shape' end → Followed at end
     by true a high b e = never cc
     by false a true b e = never cc
     by false a false b e =
@@ -177,40 +177,40 @@ module _ (body : List ℕ) (small : Small body) where
   all : take (length body) body ≡ body
   all = take-length body
 
-  ended : (t : Tails) (shape : Shape) → whole body t ≡ Taken shape → t ≡ Ended shape (length body)
-  ended Wrong shape e = never cc
-  ended (Ended sh at) shape e = by (eqb at (length body)) refl e where
-    by : (b : Bool) → eqb at (length body) ≡ b → cond b (Taken sh) (Refused BadSetup) ≡ Taken shape → Ended sh at ≡ Ended shape (length body)
-    by true a e = let same : sh ≡ shape = cc in rw (same, eqb-true at (length body) a)
+  ended : (t : Option Tails) (shape : Shape) → whole body t ≡ Ok shape → t ≡ ended_at shape (length body)
+  ended None shape e = never cc
+  ended (Some tails) shape e = by (eqb tails.at (length body)) refl e where
+    by : (b : Bool) → eqb tails.at (length body) ≡ b → cond b (Ok tails.shape) (Err BadSetup) ≡ Ok shape → (Some tails) ≡ ended_at shape (length body)
+    by true a e = let same : tails.shape ≡ shape = cc in rw (same, eqb-true tails.at (length body) a)
     by false a e = never cc
 
   -- the base is whole wherever the shape is taken
-  based_on : (tail : Shape → ℕ → Tails) (shape : Shape) → Sh.behind (base_tail body) tail ≡ Ended shape (length body)
-      → (base_length body ≤ length body) × (tail (based (base_length body)) (base_length body) ≡ Ended shape (length body))
+  based_on : (tail : Shape → ℕ → Option Tails) (shape : Shape) → Sh.behind (base_tail body) tail ≡ ended_at shape (length body)
+      → (base_length body ≤ length body) × (tail (based (base_length body)) (base_length body) ≡ ended_at shape (length body))
   unfolding base_tail
   based_on tail shape e = by (ltb (length body) (base_length body)) refl e where
     by : (b : Bool) → ltb (length body) (base_length body) ≡ b
-        → Sh.behind (cond b Wrong (Ended (based (base_length body)) (base_length body))) tail ≡ Ended shape (length body)
-        → (base_length body ≤ length body) × (tail (based (base_length body)) (base_length body) ≡ Ended shape (length body))
+        → Sh.behind (cond b None (ended_at (based (base_length body)) (base_length body))) tail ≡ ended_at shape (length body)
+        → (base_length body ≤ length body) × (tail (based (base_length body)) (base_length body) ≡ ended_at shape (length body))
     by true a e = never cc
     by false a e = (ltb-false (length body) (base_length body) a, e)
 
-  first-spelled : (shape : Shape) → shape_of 1 body ≡ Taken shape → IsSpelled 1 body
+  first-spelled : (shape : Shape) → shape_of 1 body ≡ Ok shape → IsSpelled 1 body
   unfolding shape_of tails_of base_tail end_of
   first-spelled shape e = by (ltb (length body) (base_length body)) refl (ended (base_tail body) shape e) where
     by : (b : Bool) → ltb (length body) (base_length body) ≡ b
-        → cond b Wrong (Ended (based (base_length body)) (base_length body)) ≡ Ended shape (length body) → IsSpelled 1 body
+        → cond b None (ended_at (based (base_length body)) (base_length body)) ≡ ended_at shape (length body) → IsSpelled 1 body
     by true a e = never cc
     by false a e = record { base = body; tail = first; version-is = refl; sized = sym (ap end_of e); fine = tt; joined = append-nil body }
 
-  second-spelled : (shape : Shape) → shape_of 2 body ≡ Taken shape → IsSpelled 2 body
+  second-spelled : (shape : Shape) → shape_of 2 body ≡ Ok shape → IsSpelled 2 body
   unfolding shape_of tails_of
   second-spelled shape e =
       let (more, t) = based_on (selection_tail body) shape (ended (Sh.behind (base_tail body) (selection_tail body)) shape e) in
       let p = selection-passed (based (base_length body)) shape (base_length body) (length body) t in
       record { base = base; tail = second p.choice; version-is = refl; sized = base-sized body more; fine = p.fine; joined = sym p.joined ∙ all }
 
-  third-spelled : (shape : Shape) → shape_of 3 body ≡ Taken shape → IsSpelled 3 body
+  third-spelled : (shape : Shape) → shape_of 3 body ≡ Ok shape → IsSpelled 3 body
   unfolding shape_of tails_of base_tail
   third-spelled shape e =
       by (ltb (length body) (base_length body)) refl
@@ -229,27 +229,27 @@ module _ (body : List ℕ) (small : Small body) where
                 ∙ sym f.joined ∙ all;
           }
 
-      by-selection : base_length body ≤ length body → (t : Tails) → selection_tail body (based (base_length body)) (base_length body) ≡ t
-          → Sh.behind t (syllabus_tail body) ≡ Ended shape (length body) → IsSpelled 3 body
-      by-selection more Wrong s e = never cc
-      by-selection more (Ended sh at) s e =
-          spelled more at (selection-passed (based (base_length body)) sh (base_length body) at s) (syllabus-passed sh shape at (length body) e)
+      by-selection : base_length body ≤ length body → (t : Option Tails) → selection_tail body (based (base_length body)) (base_length body) ≡ t
+          → Sh.behind t (syllabus_tail body) ≡ ended_at shape (length body) → IsSpelled 3 body
+      by-selection more None s e = never cc
+      by-selection more (Some tails) s e =
+          spelled more tails.at (selection-passed (based (base_length body)) tails.shape (base_length body) tails.at s) (syllabus-passed tails.shape shape tails.at (length body) e)
 
       by : (c : Bool) → ltb (length body) (base_length body) ≡ c
-          → Sh.behind (Sh.behind (cond c Wrong (Ended (based (base_length body)) (base_length body))) (selection_tail body)) (syllabus_tail body)
-          ≡ Ended shape (length body)
+          → Sh.behind (Sh.behind (cond c None (ended_at (based (base_length body)) (base_length body))) (selection_tail body)) (syllabus_tail body)
+          ≡ ended_at shape (length body)
           → IsSpelled 3 body
       by true a e = never cc
       by false a e =
           by-selection (ltb-false (length body) (base_length body) a) (selection_tail body (based (base_length body)) (base_length body)) refl e
 
-  late-spelled : (version : ℕ) → Late version → (shape : Shape) → shape_of version body ≡ Taken shape → IsSpelled version body
+  late-spelled : (version : ℕ) → Late version → (shape : Shape) → shape_of version body ≡ Ok shape → IsSpelled version body
   late-spelled version late shape e = by (late-settled version late body small) where
     by : IsSpelled version body ⊎ BadTail version body → IsSpelled version body
     by (inl s) = s
     by (inr b) = let n = ap shape_number e in absurd (omega (arith, late-refused late body b))
 
-  spelled_if_taken : (version : ℕ) → 1 ≤ version → version ≤ 7 → (shape : Shape) → shape_of version body ≡ Taken shape → IsSpelled version body
+  spelled_if_taken : (version : ℕ) → 1 ≤ version → version ≤ 7 → (shape : Shape) → shape_of version body ≡ Ok shape → IsSpelled version body
   spelled_if_taken zero l m = absurd (omega arith)
   spelled_if_taken (suc zero) l m = first-spelled
   spelled_if_taken (suc (suc zero)) l m = second-spelled
@@ -372,20 +372,20 @@ excluded base (sixth c y d f s) sized fine b = late_excluded base (sixth c y d f
 excluded base (seventh c y d f s l) sized fine b = late_excluded base (seventh c y d f s l) seven sized fine b
 
 -- a shape is taken, or its number is 1
-data Ways (read : ReadShape) : Type 0 where
-  taken : (shape : Shape) → read ≡ Taken shape → Ways read
+data Ways (read : Result Shape Refusal) : Type 0 where
+  taken : (shape : Shape) → read ≡ Ok shape → Ways read
   one : shape_number read ≡ 1 → Ways read
 
 ways : (version : ℕ) (body : List ℕ) → Ways (shape_of version body)
 unfolding shape_of
 ways version body = by (tails_of version body) where
-  by_end : (shape : Shape) (b : Bool) → Ways (cond b (Taken shape) (Refused BadSetup))
+  by_end : (shape : Shape) (b : Bool) → Ways (cond b (Ok shape) (Err BadSetup))
   by_end shape true = taken shape refl
   by_end shape false = one refl
 
-  by : (tails : Tails) → Ways (whole body tails)
-  by Wrong = one refl
-  by (Ended shape at) = by_end shape (eqb at (length body))
+  by : (tails : Option Tails) → Ways (whole body tails)
+  by None = one refl
+  by (Some tails) = by_end tails.shape (eqb tails.at (length body))
 
 -- THE STATEMENTS: a tail is taken exactly if the body is spelled, and refusal 1 exactly if it has one of the causes
 module _ (version : ℕ) (body : List ℕ) (bytes : Bytes body) (least : 1 ≤ version) (most : version ≤ 7) where

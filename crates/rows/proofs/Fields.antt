@@ -14,7 +14,6 @@ use Rattle.calendar.specs.Calendar.{date_at}
 use Rattle.rules.specs.declared.CyclicRule.{CyclicRule}
 use Rattle.rules.specs.Rules.{two, eight, blank_profile, blank_cyclic, period_of}
 use Rattle.setup.specs.declared.Fresh.{Fresh}
-use Rattle.setup.specs.declared.SetupAnswer.TheVariants.{Done}
 use Rattle.setup.specs.Setup.{rate_in, accumulator_in, counter_in, profile_in, cycle_in, cyclic_in, amount_in, rules_in, fresh_in}
 use Rattle.setup.proofs.Faithful.{Bytes, faithful, started}
 use Rattle.rows.specs.Rows.{Fits, Limits, Profile, Conversion, Setup, setup_row, body}
@@ -31,6 +30,7 @@ use Rattle.rows.proofs.Places.{said-there, said_or_blank}
 use Rattle.rows.proofs.Placed.{body-size, in_place}
 use Rattle.rows.proofs.Dated.{cycles-size, cycles_in_place}
 use Rattle.rows.proofs.Family.{controls-size, controls_in_place}
+use Rattle.std.specs.Prelude.{Ok}
 
 -- ---- the tail of version 04
 
@@ -285,7 +285,7 @@ reads_fields x d f fits fine-dates fine-family =
       size = body-size x;
       rules = rules;
       fresh = fresh;
-      read = λ unnamed good. started s t u unnamed good ∙ ap (λ (fresh : Fresh). record { fresh = fresh; answer = Done }) fresh;
+      read = λ unnamed good. started s t u unnamed good ∙ ap (λ (fresh : Fresh). record { fresh = fresh; answer = Ok tt }) fresh;
       loaded =
           λ syllabus unnamed words size good.
           faithful s t u (spelled-bytes (setup_row x)) (tail-bytes d) (family-bytes f) syllabus unnamed words size good ∙ rules syllabus;

@@ -10,13 +10,8 @@ use lib.Dec.{leb, ltb, eqb}
 use lib.ListN.{length, take, drop, length-append, length-drop, take-append-drop, get_or-eq_default}
 use lib.Seq.{get_or-take, get_or-drop, drop-drop}
 use Rattle.wire.specs.Wire.{byte}
-use Rattle.shape.specs.declared.Dating.TheVariants.{Off as DatesOff, On as DatesOn}
 use Rattle.shape.specs.declared.Family.TheVariants.{Cpa, Cpace}
-use Rattle.shape.specs.declared.Logging.TheVariants.{On as LogOn}
 use Rattle.shape.specs.declared.Shape.{Shape}
-use Rattle.shape.specs.declared.Tails.{Tails}
-use Rattle.shape.specs.declared.Tails.TheVariants.{Ended, Wrong}
-use Rattle.shape.specs.declared.ReadShape.{ReadShape}
 use Rattle.shape.specs.Shape.{based, base_tail, entries_end, file_end, selection_tail, follows, syllabus_tail, dates, dates_end, dating_tail}
 use Rattle.shape.specs.Shape.{families, family_end, family_tail, scripts, scripting_tail, logs, log_end, logging_tail, behind, tails_of, whole, shape_of, shape_number}
 use Rattle.shape.proofs.Files.{first_entry_lem}
@@ -31,6 +26,11 @@ use Rattle.rows.proofs.Entries.{only_one}
 use Rattle.rows.proofs.Behind.{byte-kept, base-sized, some_bytes, choosing_end, chosen, selection-read}
 use Rattle.rows.proofs.Behind.{syllabus-byte, rest-size, syllabus-read, rest-there, rest-byte}
 use Rattle.rows.proofs.Later.{Late, four, five, six, seven, from-four}
+use Rattle.std.specs.Prelude.{None, Option, Result}
+use Rattle.refusal.specs.declared.Refusal.{Refusal}
+use Rattle.shape.specs.Shape.{ended_at}
+use Rattle.shape.specs.Shape.{span}
+use Rattle.shape.specs.declared.Tails.{Tails}
 
 module _ (body : List ℕ) where
   -- entries that are cut short end past the body
@@ -62,7 +62,7 @@ module _ (body : List ℕ) where
     switch : byte (drop at body) 0 ≡ byte body at
     switch = behind-byte 0 ∙ ap (byte body) (add-zero at)
 
-    not_chosen : NoChoosing (drop at body) → selection_tail body shape at ≡ Wrong
+    not_chosen : NoChoosing (drop at body) → selection_tail body shape at ≡ None
     unfolding selection_tail
     not_chosen (no_choice h) = rw (le-leb (length body) at (omega (arith, length-drop at body)))
     not_chosen (choice-above h) =
@@ -89,13 +89,13 @@ module _ (body : List ℕ) where
 
 -- ---- what reads the tails behind the dates, and the end
 
-abbrev closing : {version : ℕ} → Late version → (body : List ℕ) → Tails → ReadShape
+abbrev closing : {version : ℕ} → Late version → (body : List ℕ) → Option Tails → Result Shape Refusal
 closing four body t = whole body t
 closing five body t = whole body (behind t (family_tail body))
 closing six body t = whole body (behind (behind t (family_tail body)) (scripting_tail body))
 closing seven body t = whole body (behind (behind (behind t (family_tail body)) (scripting_tail body)) (logging_tail body))
 
-abbrev number : {version : ℕ} → Late version → (body : List ℕ) → Tails → ℕ
+abbrev number : {version : ℕ} → Late version → (body : List ℕ) → Option Tails → ℕ
 number late body t = shape_number (closing late body t)
 
 closed : {version : ℕ} (late : Late version) (body : List ℕ)
@@ -106,29 +106,29 @@ closed five body = refl
 closed six body = refl
 closed seven body = refl
 
-wrong : {version : ℕ} (late : Late version) (body : List ℕ) → number late body Wrong ≡ 1
+wrong : {version : ℕ} (late : Late version) (body : List ℕ) → number late body None ≡ 1
 wrong four body = refl
 wrong five body = refl
 wrong six body = refl
 wrong seven body = refl
 
 module _ (body : List ℕ) where
-  not_ended : (shape : Shape) (at : ℕ) → (at ≡ length body → ⊥) → shape_number (whole body (Ended shape at)) ≡ 1
+  not_ended : (shape : Shape) (at : ℕ) → (at ≡ length body → ⊥) → shape_number (whole body (ended_at shape at)) ≡ 1
   not_ended shape at n = rw (ne_eqb at (length body) n)
 
   -- a tail with a switch is refused if it is where it is off, and where it is on and whole
-  switched_refused : (refused : Tails → ℕ) → refused Wrong ≡ 1 → (at : ℕ) (off on : Shape) (end : ℕ)
-      → (at < length body → byte body at ≡ 0 → refused (Ended off (at + 1)) ≡ 1)
-      → (at < length body → byte body at ≡ 1 → end ≤ length body → refused (Ended on end) ≡ 1)
-      → refused (cond (leb (length body) at) Wrong (cond (eqb (byte body at) 0) (Ended off (at + 1))
-      (cond (ltb 1 (byte body at)) Wrong (cond (ltb (length body) end) Wrong (Ended on end)))))
+  switched_refused : (refused : Option Tails → ℕ) → refused None ≡ 1 → (at : ℕ) (off on : Shape) (end : ℕ)
+      → (at < length body → byte body at ≡ 0 → refused (ended_at off (at + 1)) ≡ 1)
+      → (at < length body → byte body at ≡ 1 → end ≤ length body → refused (ended_at on end) ≡ 1)
+      → refused (cond (leb (length body) at) None (cond (eqb (byte body at) 0) (ended_at off (at + 1))
+      (cond (ltb 1 (byte body at)) None (cond (ltb (length body) end) None (ended_at on end)))))
       ≡ 1
   switched_refused refused w at off on end none some =
       by (leb (length body) at) refl (eqb (byte body at) 0) refl (ltb 1 (byte body at)) refl (ltb (length body) end) refl
     where
       by : (short : Bool) → leb (length body) at ≡ short → (clear : Bool) → eqb (byte body at) 0 ≡ clear → (high : Bool) → ltb 1 (byte body at) ≡ high
           → (cut : Bool) → ltb (length body) end ≡ cut
-          → refused (cond short Wrong (cond clear (Ended off (at + 1)) (cond high Wrong (cond cut Wrong (Ended on end))))) ≡ 1
+          → refused (cond short None (cond clear (ended_at off (at + 1)) (cond high None (cond cut None (ended_at on end))))) ≡ 1
       by true e clear f high g cut h = w
       by false e true f high g cut h = none (leb-false (length body) at e) (eqb-true (byte body at) 0 f)
       by false e false f true g cut h = w
@@ -150,7 +150,7 @@ module _ (body : List ℕ) where
       → shape_number (whole body (logging_tail body shape at)) ≡ 1
   unfolding logging_tail
   log-refused at rest there within shape bad =
-      switched_refused (λ t. shape_number (whole body t)) refl at shape (logs shape (LogOn at (log_end body at))) (log_end body at)
+      switched_refused (λ t. shape_number (whole body t)) refl at shape (logs shape (Some (span at (log_end body at)))) (log_end body at)
       (λ l z. not_ended shape (at + 1) (off bad l z)) (λ l o h. not_ended _ (log_end body at) (on bad l o))
     where
       off : BadLog (byte body 3) rest → at < length body → byte body at ≡ 0 → at + 1 ≡ length body → ⊥
@@ -179,14 +179,14 @@ module _ (body : List ℕ) where
       on (log_length z h) l o e = h (omega (arith, ends, long at rest there within))
 
   -- what stands behind the family, where the byte of scripts is followed by what is refused
-  byte-refused : (version : ℕ) → 6 ≤ version → (refused : Tails → ℕ) → refused Wrong ≡ 1 → (at : ℕ) (rest : List ℕ) → drop at body ≡ rest
+  byte-refused : (version : ℕ) → 6 ≤ version → (refused : Option Tails → ℕ) → refused None ≡ 1 → (at : ℕ) (rest : List ℕ) → drop at body ≡ rest
       → at ≤ length body → (shape : Shape) → BadScripts version (byte body 3) rest
-      → ((shape : Shape) → at < length body → BadScripts version (byte body 3) rest → byte body at ≤ 1 → refused (Ended shape (at + 1)) ≡ 1)
+      → ((shape : Shape) → at < length body → BadScripts version (byte body 3) rest → byte body at ≤ 1 → refused (ended_at shape (at + 1)) ≡ 1)
       → refused (scripting_tail body shape at) ≡ 1
   unfolding scripting_tail
   byte-refused version later refused w at rest there within shape bad end = by (leb (length body) at) refl (ltb 1 (byte body at)) refl where
     by : (short : Bool) → leb (length body) at ≡ short → (high : Bool) → ltb 1 (byte body at) ≡ high
-        → refused (cond short Wrong (cond high Wrong (Ended (scripts shape (eqb (byte body at) 1)) (at + 1)))) ≡ 1
+        → refused (cond short None (cond high None (ended_at (scripts shape (eqb (byte body at) 1)) (at + 1)))) ≡ 1
     by true e high f = w
     by false e true f = w
     by false e false f = end _ (leb-false (length body) at e) bad (ltb-false 1 (byte body at) f)
@@ -220,7 +220,7 @@ module _ (body : List ℕ) where
           log-refused (at + 1) (drop 1 rest) one (omega arith) s h
 
   nothing-refused : (at : ℕ) (rest : List ℕ) → drop at body ≡ rest → at ≤ length body → (shape : Shape) → BadScripts 5 (byte body 3) rest
-      → shape_number (whole body (Ended shape at)) ≡ 1
+      → shape_number (whole body (ended_at shape at)) ≡ 1
   nothing-refused at rest there within shape (behind-family v h) = not_ended shape at (λ e. omega (arith, long at rest there within))
   nothing-refused at rest there within shape (no_scripts v h) = absurd (omega arith)
   nothing-refused at rest there within shape (scripts-above v h) = absurd (omega arith)
@@ -230,13 +230,13 @@ module _ (body : List ℕ) where
   -- what stands behind the dates
   module _ (at : ℕ) (rest : List ℕ) (there : drop at body ≡ rest) (within : at ≤ length body) where
     -- the family is refused where what stands behind it is
-    module _ (version : ℕ) (later : 5 ≤ version) (refused : Tails → ℕ) (w : refused Wrong ≡ 1)
+    module _ (version : ℕ) (later : 5 ≤ version) (refused : Option Tails → ℕ) (w : refused None ≡ 1)
         (end : (at : ℕ) (rest : List ℕ) → drop at body ≡ rest → at ≤ length body → (shape : Shape) → BadScripts version (byte body 3) rest
-        → refused (Ended shape at) ≡ 1) where
-      rest-refused : (n : ℕ) → at + n ≤ length body → (shape : Shape) → BadScripts version (byte body 3) (drop n rest) → refused (Ended shape (at + n)) ≡ 1
+        → refused (ended_at shape at) ≡ 1) where
+      rest-refused : (n : ℕ) → at + n ≤ length body → (shape : Shape) → BadScripts version (byte body 3) (drop n rest) → refused (ended_at shape (at + n)) ≡ 1
       rest-refused n h shape bad = end (at + n) (drop n rest) (sym (drop-drop n at body) ∙ ap (drop n) there) h shape bad
 
-      when_cpa : (shape : Shape) → BadEnd version (byte body 3) rest → at < length body → byte body at ≡ 0 → refused (Ended shape (at + 1)) ≡ 1
+      when_cpa : (shape : Shape) → BadEnd version (byte body 3) rest → at < length body → byte body at ≡ 0 → refused (ended_at shape (at + 1)) ≡ 1
       when_cpa shape (behind-dates v h) l z = absurd (omega arith)
       when_cpa shape (no_family v h) l z = absurd (omega (arith, long at rest there within))
       when_cpa shape (family-above v h) l z = absurd (omega (arith, first_byte at rest there within))
@@ -245,7 +245,7 @@ module _ (body : List ℕ) where
       when_cpa shape (behind-cpace v o bad) l z = absurd (omega (arith, first_byte at rest there within))
 
       when_cpace : (shape : Shape) → BadEnd version (byte body 3) rest → at < length body → byte body at ≡ 1 → family_end body at ≤ length body
-          → refused (Ended shape (family_end body at)) ≡ 1
+          → refused (ended_at shape (family_end body at)) ≡ 1
       when_cpace shape (behind-dates v h) l o e = absurd (omega arith)
       when_cpace shape (no_family v h) l o e = absurd (omega (arith, long at rest there within))
       when_cpace shape (family-above v h) l o e = absurd (omega (arith, first_byte at rest there within))
@@ -259,7 +259,7 @@ module _ (body : List ℕ) where
           let cpace = families shape (Cpace at (family_end body at)) in
           switched_refused refused w at (families shape Cpa) cpace (family_end body at) (when_cpa (families shape Cpa) bad) (when_cpace cpace bad)
 
-    end_refused : {version : ℕ} (late : Late version) (shape : Shape) → BadEnd version (byte body 3) rest → number late body (Ended shape at) ≡ 1
+    end_refused : {version : ℕ} (late : Late version) (shape : Shape) → BadEnd version (byte body 3) rest → number late body (ended_at shape at) ≡ 1
     end_refused four shape (behind-dates v h) = not_ended shape at (λ e. omega (arith, long at rest there within))
     end_refused four shape (no_family v h) = absurd (omega arith)
     end_refused four shape (family-above v h) = absurd (omega arith)
@@ -276,11 +276,11 @@ module _ (body : List ℕ) where
   unfolding base_tail
   no_selection late bad =
       ap shape_number (closed late body)
-      ∙ ap (λ (t : Tails). number late body (behind (behind t (syllabus_tail body)) (dating_tail body))) (by (ltb (length body) (base_length body)) refl)
+      ∙ ap (λ (t : Option Tails). number late body (behind (behind t (syllabus_tail body)) (dating_tail body))) (by (ltb (length body) (base_length body)) refl)
       ∙ wrong late body
     where
       by : (b : Bool) → ltb (length body) (base_length body) ≡ b
-          → behind (cond b Wrong (Ended (based (base_length body)) (base_length body))) (selection_tail body) ≡ Wrong
+          → behind (cond b None (ended_at (based (base_length body)) (base_length body))) (selection_tail body) ≡ None
       by true e = refl
       by false e = not_chosen body (base_length body) (based (base_length body)) (ltb-false (length body) (base_length body) e) bad
 
@@ -307,20 +307,20 @@ module _ {version : ℕ} (late : Late version) (base : List ℕ) (sized : Base b
     rest_from : (n : ℕ) → drop (at + n) body ≡ drop n rest
     rest_from n = sym (drop-drop n at body) ∙ ap (drop n) (rest-there base c y rest)
 
-    end-there : (n : ℕ) → at + n ≤ length body → (sh : Shape) → BadEnd version (byte base 3) (drop n rest) → number late body (Ended sh (at + n)) ≡ 1
+    end-there : (n : ℕ) → at + n ≤ length body → (sh : Shape) → BadEnd version (byte base 3) (drop n rest) → number late body (ended_at sh (at + n)) ≡ 1
     end-there n h sh bad = end_refused body (at + n) (drop n rest) (rest_from n) h late sh (subst (λ p. BadEnd version p (drop n rest)) (sym profiles) bad)
 
-    when_off : BadDates version (byte base 3) (y ∷ rest) → at < length body → byte body at ≡ 0 → number late body (Ended (dates shape DatesOff) (at + 1)) ≡ 1
+    when_off : BadDates version (byte base 3) (y ∷ rest) → at < length body → byte body at ≡ 0 → number late body (ended_at (dates shape None) (at + 1)) ≡ 1
     when_off (nothing-behind h) l z = absurd (omega arith)
     when_off (follows-above h) l z = absurd (omega arith)
     when_off (no_dated h) l z = absurd (omega (arith, size))
     when_off (dated-above h) l z = absurd (omega (arith, dated-byte))
-    when_off (behind-undated o bad) l z = end-there 1 (omega arith) (dates shape DatesOff) bad
+    when_off (behind-undated o bad) l z = end-there 1 (omega arith) (dates shape None) bad
     when_off (dated-short o h) l z = absurd (omega (arith, dated-byte))
     when_off (behind-dated o bad) l z = absurd (omega (arith, dated-byte))
 
     when_on : BadDates version (byte base 3) (y ∷ rest) → at < length body → byte body at ≡ 1 → dates_end body at ≤ length body → (sh : Shape)
-        → number late body (Ended sh (dates_end body at)) ≡ 1
+        → number late body (ended_at sh (dates_end body at)) ≡ 1
     when_on (nothing-behind h) l z e sh = absurd (omega arith)
     when_on (follows-above h) l z e sh = absurd (omega arith)
     when_on (no_dated h) l z e sh = absurd (omega (arith, size))
@@ -334,18 +334,18 @@ module _ {version : ℕ} (late : Late version) (base : List ℕ) (sized : Base b
     dates-refused : BadDates version (byte base 3) (y ∷ rest) → number late body (dating_tail body shape at) ≡ 1
     unfolding dating_tail
     dates-refused bad =
-        switched_refused body (number late body) (wrong late body) at (dates shape DatesOff) (dates shape (DatesOn at (dates_end body at))) (dates_end body at)
+        switched_refused body (number late body) (wrong late body) at (dates shape None) (dates shape (Some (span at (dates_end body at)))) (dates_end body at)
         (when_off bad)
-        (λ l o e. when_on bad l o e (dates shape (DatesOn at (dates_end body at))))
+        (λ l o e. when_on bad l o e (dates shape (Some (span at (dates_end body at)))))
 
-  by-syllabus : (rest : List ℕ) (t : Tails) → syllabus_tail (base ++ (choosing_bytes c ++ rest)) (chosen base c) (choosing_end base c) ≡ t
+  by-syllabus : (rest : List ℕ) (t : Option Tails) → syllabus_tail (base ++ (choosing_bytes c ++ rest)) (chosen base c) (choosing_end base c) ≡ t
       → number late (base ++ (choosing_bytes c ++ rest)) (behind t (dating_tail (base ++ (choosing_bytes c ++ rest)))) ≡ 1
       → shape_number (shape_of version (base ++ (choosing_bytes c ++ rest))) ≡ 1
   by-syllabus rest t e f =
       let body = base ++ (choosing_bytes c ++ rest) in
       ap shape_number (closed late body)
-      ∙ ap (λ (u : Tails). number late body (behind (behind u (syllabus_tail body)) (dating_tail body))) (selection-read base sized c rest)
-      ∙ ap (λ (u : Tails). number late body (behind u (dating_tail body))) e
+      ∙ ap (λ (u : Option Tails). number late body (behind (behind u (syllabus_tail body)) (dating_tail body))) (selection-read base sized c rest)
+      ∙ ap (λ (u : Option Tails). number late body (behind u (dating_tail body))) e
       ∙ f
 
   behind-refused : (rest : List ℕ) → BadDates version (byte base 3) rest → shape_number (shape_of version (base ++ (choosing_bytes c ++ rest))) ≡ 1
@@ -353,16 +353,16 @@ module _ {version : ℕ} (late : Late version) (base : List ℕ) (sized : Base b
   behind-refused [] bad =
       let body = base ++ (choosing_bytes c ++ []) in
       let size : length body ≤ choosing_end base c = omega (arith, length-append base (choosing_bytes c ++ []), length-append (choosing_bytes c) []) in
-      by-syllabus [] Wrong (rw (le-leb (length body) (choosing_end base c) size)) (wrong late body)
+      by-syllabus [] None (rw (le-leb (length body) (choosing_end base c) size)) (wrong late body)
   behind-refused (y ∷ rest) bad = by (ltb 1 y) refl where
     by : (high : Bool) → ltb 1 y ≡ high → shape_number (shape_of version (base ++ (choosing_bytes c ++ y ∷ rest))) ≡ 1
     by true e =
         let body = base ++ (choosing_bytes c ++ y ∷ rest) in
-        by-syllabus (y ∷ rest) Wrong
+        by-syllabus (y ∷ rest) None
         (rw (lt-leb (length body) (choosing_end base c) (omega (arith, rest-size base c y rest)), syllabus-byte base c y rest, e)) (wrong late body)
     by false e =
         let low = ltb-false 1 y e in
-        by-syllabus (y ∷ rest) (Ended (follows (chosen base c) y) (dates_at base c)) (syllabus-read base c y rest low (chosen base c))
+        by-syllabus (y ∷ rest) (ended_at (follows (chosen base c) y) (dates_at base c)) (syllabus-read base c y rest low (chosen base c))
         (dates-refused y low rest (follows (chosen base c) y) bad)
 
 -- THE STATEMENT

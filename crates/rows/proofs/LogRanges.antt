@@ -12,7 +12,6 @@ use lib.ListN.{length, get_or}
 use Rattle.wire.specs.Wire.{byte}
 use Rattle.wire.proofs.Pairs.{both}
 use Rattle.log_tail.specs.declared.Entry.{Entry}
-use Rattle.log_tail.specs.declared.Judged.TheVariants.{Sound, Wrong, PastData}
 use Rattle.log_tail.specs.LogTail.{flag_in, first_table, second_table, entry_in, data_of, reaches_past, all, are_flags, are_sources, are_within, is_in_range, is_within, judged}
 use Rattle.log_tail.proofs.All.{not_all}
 use Rattle.rows.specs.Tails.{LogEntry, Log, Logs, unlogged, logged, log_bytes, log_said, FineLogs}
@@ -20,6 +19,9 @@ use Rattle.rows.specs.InRange.{Each, LogsProfile, SourceUpTo, LogRange, LogsRang
 use Rattle.rows.specs.Offsets.{LogEntryOffsets, TableOffsets, LogOffsets}
 use Rattle.rows.proofs.Places.{at_each, each_at}
 use Rattle.rows.proofs.Logged.{log_in_place}
+use Rattle.std.specs.Prelude.{Err, Ok}
+use Rattle.log_tail.specs.declared.Fault.TheVariants.{PastData}
+use Rattle.log_tail.specs.declared.Fault.TheVariants.{Wrong}
 
 -- ---- so many are all so
 
@@ -184,18 +186,18 @@ module _ (p : ℕ) (l : Logs) (fine : FineLogs p l) (first : ℕ) where
     by false e = inr (λ i. let z : ◌≡◌ {A = ℕ} 0 1 = cc (e, (within p l fine first).1 i) in omega arith)
 
   -- THE STATEMENTS
-  pub sound_exactly : (judged (log_said l) p first ≡ Sound) ↔ (LogsRange l × LogsWithin first l)
+  pub sound_exactly : (judged (log_said l) p first ≡ Ok tt) ↔ (LogsRange l × LogsWithin first l)
   unfolding judged
   sound_exactly = (
     λ e. let (r, w) = by (is_in_range (log_said l) p) (is_within (log_said l) p first) e in ((in_range_lem p l fine).0 r, (within p l fine first).0 w),
     λ (r, w). rw ((in_range_lem p l fine).1 r, (within p l fine first).1 w),
   ) where
-    by : (r w : Bool) → cond r (cond w Sound PastData) Wrong ≡ Sound → (r ≡ true) × (w ≡ true)
+    by : (r w : Bool) → cond r (cond w (Ok tt) (Err PastData)) (Err Wrong) ≡ Ok tt → (r ≡ true) × (w ≡ true)
     by true true e = (refl, refl)
     by true false e = absurd (let z : ◌≡◌ {A = ℕ} 0 1 = cc in omega arith)
     by false w e = absurd (let z : ◌≡◌ {A = ℕ} 0 1 = cc in omega arith)
 
-  pub past-exactly : (judged (log_said l) p first ≡ PastData) ↔ (LogsRange l × (LogsWithin first l → ⊥))
+  pub past-exactly : (judged (log_said l) p first ≡ Err PastData) ↔ (LogsRange l × (LogsWithin first l → ⊥))
   unfolding judged
   past-exactly = (
     λ e.
@@ -203,11 +205,11 @@ module _ (p : ℕ) (l : Logs) (fine : FineLogs p l) (first : ℕ) where
         ((in_range_lem p l fine).0 r, λ i. let z : ◌≡◌ {A = ℕ} 0 1 = cc (w, (within p l fine first).1 i) in omega arith),
     λ (r, none_is). rw ((in_range_lem p l fine).1 r) (back (is_within (log_said l) p first) refl none_is),
   ) where
-    by : (r w : Bool) → cond r (cond w Sound PastData) Wrong ≡ PastData → (r ≡ true) × (w ≡ false)
+    by : (r w : Bool) → cond r (cond w (Ok tt) (Err PastData)) (Err Wrong) ≡ Err PastData → (r ≡ true) × (w ≡ false)
     by true true e = absurd (let z : ◌≡◌ {A = ℕ} 0 1 = cc in omega arith)
     by true false e = (refl, refl)
     by false w e = absurd (let z : ◌≡◌ {A = ℕ} 0 1 = cc in omega arith)
 
-    back : (w : Bool) → is_within (log_said l) p first ≡ w → (LogsWithin first l → ⊥) → cond w Sound PastData ≡ PastData
+    back : (w : Bool) → is_within (log_said l) p first ≡ w → (LogsWithin first l → ⊥) → cond w (Ok tt) (Err PastData) ≡ Err PastData
     back true e none_is = absurd (none_is ((within p l fine first).0 e))
     back false e none_is = refl

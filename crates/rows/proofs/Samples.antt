@@ -14,8 +14,6 @@ use Rattle.ranges.specs.Ranges.{are_numbers_apart, profile_number, are_conversio
 use Rattle.tails.specs.Tails.{are_cycles, is_cycle, are_cyclic_rules, is_cyclic_rule, is_family}
 use Rattle.setup.specs.Setup.{rate_in, accumulator_in, counter_in, profile_in, cycle_in, cyclic_in, rules_in, fresh_in, read_setup, setup_number}
 use Rattle.log_tail.specs.LogTail.{entry_in, reaches_past, are_flags, are_sources, are_within, is_in_range, is_within, judged, judged_number}
-use Rattle.shape.specs.declared.ReadShape.{ReadShape}
-use Rattle.shape.specs.declared.ReadShape.TheVariants.{Taken, Refused}
 use Rattle.shape.specs.Shape.{base_tail, entries_end, selection_tail, syllabus_tail, dating_tail, family_tail, scripting_tail, logging_tail, tails_of, shape_of, shape_number}
 use Rattle.rows.specs.Rows.{Four, Accumulator, Limits, Profile, Conversion, Setup, written, spelled, head_row, profile_row, conversion_row, setup_row, body}
 use Rattle.rows.specs.Rows.{Two, Cyclic, CyclicLimit, Dates, undated, dated, cyclic_limits_row, cycles_row, cycles_bytes}
@@ -24,6 +22,9 @@ use Rattle.rows.specs.Said.{profile_said, conversion_said, rules_said, fresh_sai
 use Rattle.rows.specs.Tails.{off, LogEntry, unlogged, logged, Tail, first, third, seventh, tail_bytes}
 use Rattle.rows.specs.Whole.{read_whole, log_whole}
 use Rattle.rows.proofs.Witness.{profile as printed_profile, printed, printed_bytes, spending, daily, guarding, dual, scripted, entry, ring, logging, of_two, past}
+use Rattle.std.specs.Prelude.{Err, Ok, Result}
+use Rattle.refusal.specs.declared.Refusal.{Refusal}
+use Rattle.shape.specs.declared.Shape.{Shape}
 
 -- ---- a set-up in which each field has a value of its own
 
@@ -184,9 +185,9 @@ abbrev number_with : Families → ℕ
 number_with f = setup_number (read_setup (body printed) [] (controls_bytes f) (2 ^ 26)).answer
 
 -- of a set-up and its tail in a version, 9 where it has no shape
-abbrev number_by : ReadShape → (body : List ℕ) → ℕ
-number_by (Taken shape) s = setup_number (read_whole shape s).answer
-number_by (Refused refusal) s = 9
+abbrev number_by : Result Shape Refusal → (body : List ℕ) → ℕ
+number_by (Ok shape) s = setup_number (read_whole shape s).answer
+number_by (Err refusal) s = 9
 
 abbrev number_in : (version : ℕ) → Setup → (tail : List ℕ) → ℕ
 number_in version x tail = number_by (shape_of version (body x ++ tail)) (body x ++ tail)
@@ -209,26 +210,26 @@ abbrev cashback_read : (profile : ℕ) → Bool
 cashback_read j = get_or (rules_in [] [] (controls_bytes (controlling 1 5 0 1)) 0).cashbacks j false
 
 -- the syllabus that was read, 9 where none was
-abbrev followed : ReadShape → ℕ
-followed (Taken shape) = shape.syllabus
-followed (Refused refusal) = 9
+abbrev followed : Result Shape Refusal → ℕ
+followed (Ok shape) = shape.syllabus
+followed (Err refusal) = 9
 
 -- whether scripts are on, as it was read
-abbrev is_on : ReadShape → Bool
-is_on (Taken shape) = shape.scripting
-is_on (Refused refusal) = false
+abbrev is_on : Result Shape Refusal → Bool
+is_on (Ok shape) = shape.scripting
+is_on (Err refusal) = false
 
-abbrev is_off : ReadShape → Bool
-is_off (Taken shape) = not shape.scripting
-is_off (Refused refusal) = false
+abbrev is_off : Result Shape Refusal → Bool
+is_off (Ok shape) = not shape.scripting
+is_off (Err refusal) = false
 
 abbrev is_refused : ℕ → List ℕ → Bool
 is_refused version tail = eqb (shape_number (shape_of version (printed_bytes ++ tail))) 1
 
 -- what is judged of a log, 9 where it has no shape
-abbrev judged-by : ReadShape → (body : List ℕ) → ℕ
-judged-by (Taken shape) s = judged_number (log_whole shape s)
-judged-by (Refused refusal) s = 9
+abbrev judged-by : Result Shape Refusal → (body : List ℕ) → ℕ
+judged-by (Ok shape) s = judged_number (log_whole shape s)
+judged-by (Err refusal) s = 9
 
 abbrev judged_as : Tail → ℕ
 judged_as tail = judged-by (shape_of 7 (printed_bytes ++ tail_bytes tail)) (printed_bytes ++ tail_bytes tail)

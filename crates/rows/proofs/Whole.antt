@@ -9,16 +9,12 @@ use lib.ListN.{length}
 use Rattle.wire.specs.Wire.{byte}
 use Rattle.tails.specs.Tails.{are_cycles, is_family}
 use Rattle.rules.specs.Rules.{rules_of}
-use Rattle.setup.specs.declared.SetupAnswer.TheVariants.{Done}
 use Rattle.setup.specs.declared.ReadSetup.{ReadSetup}
 use Rattle.setup.specs.Setup.{is_accepted, read_setup, words_after, setup_number}
 use Rattle.setup.proofs.Faithful.{Bytes}
-use Rattle.log_tail.specs.declared.Judged.{Judged}
-use Rattle.log_tail.specs.declared.Judged.TheVariants.{Sound, PastData}
 use Rattle.log_tail.specs.LogTail.{judged}
 use Rattle.bodies.specs.Bodies.{first_length}
 use Rattle.shape.specs.declared.Shape.{Shape}
-use Rattle.shape.specs.declared.ReadShape.TheVariants.{Taken as ShapeTaken}
 use Rattle.shape.specs.Shape.{base_part, cycles_part, family_part, shape_of, shape_number}
 use Rattle.rows.specs.Rows.{Setup, Fits, setup_row, body, Dates, undated, dated, cycles_bytes, Families, cpa, cpace, controls_bytes}
 use Rattle.rows.specs.Said.{fresh_said, Says}
@@ -37,6 +33,9 @@ use Rattle.rows.proofs.LogRanges.{within_or_not, sound_exactly, past-exactly}
 use Rattle.rows.proofs.Entries.{small-take}
 use Rattle.rows.proofs.Behind.{byte-kept, reads_tails}
 use Rattle.rows.proofs.Causes.{tails_if_read}
+use Rattle.std.specs.Prelude.{Err, Ok, Result}
+use Rattle.log_tail.specs.declared.Fault.{Fault}
+use Rattle.log_tail.specs.declared.Fault.TheVariants.{PastData}
 
 -- a spelled set-up is a base
 pub is_base : (x : Setup) → Fits (setup_row x) → Base (body x)
@@ -111,10 +110,10 @@ module _ (x : Setup) (tail : Tail) (fits : Fits (setup_row x)) (fine : Fine (len
       first-long (dates_of tail) (families_of tail) (dates_at (body x) (choosing_of tail)) (families_at (body x) (choosing_of tail) (dates_of tail)) in
       λ i. judged (reads_whole.log i) (profiles i) (first i)
 
-  pub log_sound : (log_whole shape (whole_body x tail) ≡ Sound) ↔ (LogsRange (logs_of tail) × Within tail)
+  pub log_sound : (log_whole shape (whole_body x tail) ≡ Ok tt) ↔ (LogsRange (logs_of tail) × Within tail)
   log_sound = let j = sound_exactly p (logs_of tail) (fine-logs p tail fine) long in (λ e. j.0 (sym log-read ∙ e), λ r. log-read ∙ j.1 r)
 
-  pub log-past : (log_whole shape (whole_body x tail) ≡ PastData) ↔ (LogsRange (logs_of tail) × (Within tail → ⊥))
+  pub log-past : (log_whole shape (whole_body x tail) ≡ Err PastData) ↔ (LogsRange (logs_of tail) × (Within tail → ⊥))
   log-past = let j = past-exactly p (logs_of tail) (fine-logs p tail fine) long in (λ e. j.0 (sym log-read ∙ e), λ r. log-read ∙ j.1 r)
 
   -- base and tails are accepted exactly if their fields are in their ranges
@@ -139,7 +138,7 @@ module _ (x : Setup) (tail : Tail) (fits : Fits (setup_row x)) (fine : Fine (len
     says : Says x (dates_of tail) (families_of tail) (body x) cycles controls
     says = reads_fields x (dates_of tail) (families_of tail) fits (fine-dates p tail fine) (fine-families p tail fine)
 
-    answers : read_whole shape (whole_body x tail) ≡ record { fresh = fresh_said x (dates_of tail); answer = Done }
+    answers : read_whole shape (whole_body x tail) ≡ record { fresh = fresh_said x (dates_of tail); answer = Ok tt }
     answers =
         same_read (λ b t u. read_setup b t u unnamed) reads_whole.base-is reads_whole.cycles reads_whole.family ∙ says.read unnamed good
 
@@ -165,10 +164,10 @@ module _ (version : ℕ) (s : List ℕ) (bytes : Bytes s) (least : 1 ≤ version
     cycles-is : cycles_part shape.dating s ≡ cycles_bytes (dates_of t.tail)
     family-is : family_part shape.family s ≡ controls_bytes (families_of t.tail)
 
-  kept : (t : IsSpelled version s) (shape : Shape) → shape_of version s ≡ ShapeTaken shape → Kept t shape
+  kept : (t : IsSpelled version s) (shape : Shape) → shape_of version s ≡ Ok shape → Kept t shape
   kept t shape e =
       let says = reads_tails t.base t.tail t.sized t.fine in
-      let read : shape_of version s ≡ ShapeTaken (shape_said t.base t.tail) = rw (← t.version-is, ← t.joined) says.read in
+      let read : shape_of version s ≡ Ok (shape_said t.base t.tail) = rw (← t.version-is, ← t.joined) says.read in
       let same : shape_said t.base t.tail ≡ shape = cc in
       record {
         shape_is = same;
@@ -178,7 +177,7 @@ module _ (version : ℕ) (s : List ℕ) (bytes : Bytes s) (least : 1 ≤ version
       }
 
   -- what is taken is spelled so, and by what is found of its log
-  there : (found : Judged) (Q : Tail → Type 0)
+  there : (found : Result Unit Fault) (Q : Tail → Type 0)
       → ((x : Setup) (tail : Tail) → Fits (setup_row x) → Fine (length x.profiles) tail
       → log_whole (shape_said (body x) tail) (whole_body x tail) ≡ found → LogsRange (logs_of tail) × Q tail)
       → IsTaken found version s → (i : IsInRange version s) × Q i.tail
@@ -217,7 +216,7 @@ module _ (version : ℕ) (s : List ℕ) (bytes : Bytes s) (least : 1 ≤ version
         q,
       )
 
-  back : (found : Judged) (i : IsInRange version s) → log_whole (shape_said (body i.setup) i.tail) (whole_body i.setup i.tail) ≡ found
+  back : (found : Result Unit Fault) (i : IsInRange version s) → log_whole (shape_said (body i.setup) i.tail) (whole_body i.setup i.tail) ≡ found
       → IsTaken found version s
   back verdict i log =
       let shape = shape_said (body i.setup) i.tail in
@@ -230,19 +229,19 @@ module _ (version : ℕ) (s : List ℕ) (bytes : Bytes s) (least : 1 ≤ version
       }
 
   -- THE STATEMENT
-  pub taken_if_spelled : IsTaken Sound version s ↔ IsSetup version s
+  pub taken_if_spelled : IsTaken (Ok tt) version s ↔ IsSetup version s
   taken_if_spelled = (
-    λ taken. let (i, within) = there Sound Within (λ x tail fits fine. (log_sound x tail fits fine).0) taken in record { fields = i; within = within },
-    λ i. let f = i.fields in back Sound f ((log_sound f.setup f.tail f.fits f.fine).1 (f.logs_in_range, i.within)),
+    λ taken. let (i, within) = there (Ok tt) Within (λ x tail fits fine. (log_sound x tail fits fine).0) taken in record { fields = i; within = within },
+    λ i. let f = i.fields in back (Ok tt) f ((log_sound f.setup f.tail f.fits f.fine).1 (f.logs_in_range, i.within)),
   )
 
   -- AND WHAT IS TAKEN BUT FOR A LOG THAT REACHES PAST ITS DATA
-  pub past_if_spelled : IsTaken PastData version s ↔ IsPast version s
+  pub past_if_spelled : IsTaken (Err PastData) version s ↔ IsPast version s
   past_if_spelled = (
     λ taken.
-        let (i, past) = there PastData (λ tail. Within tail → ⊥) (λ x tail fits fine. (log-past x tail fits fine).0) taken in
+        let (i, past) = there (Err PastData) (λ tail. Within tail → ⊥) (λ x tail fits fine. (log-past x tail fits fine).0) taken in
         record { fields = i; past = past },
-    λ i. let f = i.fields in back PastData f ((log-past f.setup f.tail f.fits f.fine).1 (f.logs_in_range, i.past)),
+    λ i. let f = i.fields in back (Err PastData) f ((log-past f.setup f.tail f.fits f.fine).1 (f.logs_in_range, i.past)),
   )
 
 -- fields in their ranges are a set-up's, or 14

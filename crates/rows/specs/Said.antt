@@ -1,6 +1,6 @@
 -- What the fields of a set-up come to: the rules that they are, and what a fresh card starts from (document 01, "The paper"; document 02, Five and
 -- Thirteen).
-use Rattle.std.specs.Prelude.{ℕ, zero, suc, ◌+◌, ◌*◌, ◌/◌, ◌%◌, ◌≡◌, Bool, true, false, List, [], ◌∷◌, ◌++◌, eqb, length}
+use Rattle.std.specs.Prelude.{ℕ, zero, suc, ◌+◌, ◌*◌, ◌/◌, ◌%◌, ◌≡◌, Bool, true, false, List, [], ◌∷◌, ◌++◌, eqb, length, Ok}
 use Rattle.money.specs.declared.AccumulatorAmount.{AccumulatorAmount}
 use Rattle.money.specs.declared.Rate.{Rate}
 use Rattle.money.specs.Money.{blank}
@@ -14,7 +14,6 @@ use Rattle.rules.specs.declared.CyclicRule.{CyclicRule}
 use Rattle.rules.specs.Rules.{Rules, Profile as ProfileRules, blank_profile, blank_cycle, blank_cyclic, rules_of}
 use Rattle.rules.specs.Word.{word_count}
 use Rattle.setup.specs.declared.Fresh.{Fresh}
-use Rattle.setup.specs.declared.SetupAnswer.TheVariants.{Done}
 use Rattle.setup.specs.Setup.{rules_in, fresh_in, is_accepted, read_setup, words_after}
 use Rattle.rows.specs.Rows.{Limits, Profile, Conversion, Setup, Two, Cyclic, CyclicLimit, Dates, undated, dated}
 use Rattle.rows.specs.Rows.{Families, cpa, cpace, listed}
@@ -174,6 +173,6 @@ pub record Says (x : Setup) (d : Dates) (f : Families) (s t u : List ℕ) : Type
   pub size : length s ≡ 52 + 107 * length x.profiles + 7 * length x.conversions
   pub rules : (syllabus : ℕ) → rules_in s t u syllabus ≡ rules_said x d f syllabus
   pub fresh : fresh_in s t ≡ fresh_said x d
-  pub read : (unnamed : ℕ) → is_accepted s t u unnamed ≡ true → read_setup s t u unnamed ≡ record { fresh = fresh_said x d; answer = Done }
+  pub read : (unnamed : ℕ) → is_accepted s t u unnamed ≡ true → read_setup s t u unnamed ≡ record { fresh = fresh_said x d; answer = Ok tt }
   pub loaded : (syllabus unnamed : ℕ) (words : List ℕ) → length words ≡ word_count → is_accepted s t u unnamed ≡ true
       → rules_of (words_after words s t u syllabus unnamed) ≡ rules_said x d f syllabus

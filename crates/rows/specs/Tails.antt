@@ -1,19 +1,16 @@
 -- What follows the base of a set-up's body, spelled (docs/PAPERS.md, "Tail of version 02" to "Tail of version 07"; document 02, Three, Nine, Five,
 -- Thirteen, Twelve and Eight).
-use Rattle.std.specs.Prelude.{ℕ, suc, ◌+◌, ◌-◌, ◌*◌, ◌^◌, ◌≤◌, ◌<◌, ◌≡◌, Bool, true, false, List, [], ◌∷◌, ◌++◌, length, take, drop}
+use Rattle.std.specs.Prelude.{ℕ, suc, ◌+◌, ◌-◌, ◌*◌, ◌^◌, ◌≤◌, ◌<◌, ◌≡◌, Bool, true, false, List, [], ◌∷◌, ◌++◌, length, take, drop, None, Ok, Option, Some}
 use Rattle.wire.specs.Wire.{byte}
-use Rattle.shape.specs.declared.Selecting.{Selecting}
-use Rattle.shape.specs.declared.Selecting.TheVariants.{Off, On}
-use Rattle.shape.specs.declared.Dating.{Dating}
-use Rattle.shape.specs.declared.Dating.TheVariants.{Off as DatesOff, On as DatesOn}
 use Rattle.shape.specs.declared.Family.{Family}
 use Rattle.shape.specs.declared.Family.TheVariants.{Cpa, Cpace}
-use Rattle.shape.specs.declared.Logging.{Logging}
-use Rattle.shape.specs.declared.Logging.TheVariants.{Off as LogOff, On as LogOn}
 use Rattle.shape.specs.declared.Shape.{Shape}
-use Rattle.shape.specs.declared.ReadShape.TheVariants.{Taken}
 use Rattle.shape.specs.Shape.{base_part, cycles_part, family_part, log_part, shape_of}
 use Rattle.rows.specs.Rows.{Fits, Dates, undated, dated, cycles_row, cycles_bytes, Families, cpa, cpace, controls_row, controls_bytes}
+use Rattle.shape.specs.Shape.{file}
+use Rattle.shape.specs.Shape.{span}
+use Rattle.shape.specs.declared.SelectionFile.{SelectionFile}
+use Rattle.shape.specs.declared.Span.{Span}
 
 -- selection off, or on with the bytes of each entry
 pub data Choosing : Type 0 where
@@ -218,22 +215,22 @@ Base base = length base ≡ base_length base
 -- ---- what is read of a body that is a base and its tail
 
 -- where the file stands, and the number of its entries
-abbrev pub selecting : Choosing → ℕ → Selecting
-selecting off at = Off
-selecting (on es) at = On (at + 2) (at + 2 + length (file_bytes es)) (length es)
+abbrev pub selecting : Choosing → ℕ → Option SelectionFile
+selecting off at = None
+selecting (on es) at = Some (file (at + 2) (at + 2 + length (file_bytes es)) (length es))
 
-abbrev pub file_in : Selecting → List ℕ → List ℕ
-file_in Off body = []
-file_in (On start end entries) body = take (end - start) (drop start body)
+abbrev pub file_in : Option SelectionFile → List ℕ → List ℕ
+file_in None body = []
+file_in (Some part) body = take (part.end - part.start) (drop part.start body)
 
 abbrev pub file_of : Choosing → List ℕ
 file_of off = []
 file_of (on es) = file_bytes es
 
 -- where the dates' tail stands: behind the selection's and the syllabus
-abbrev pub dating : Dates → ℕ → Dating
-dating undated at = DatesOff
-dating (dated d) at = DatesOn at (at + length (cycles_bytes (dated d)))
+abbrev pub dating : Dates → ℕ → Option Span
+dating undated at = None
+dating (dated d) at = Some (span at (at + length (cycles_bytes (dated d))))
 
 abbrev pub dates_at : (base : List ℕ) → Choosing → ℕ
 dates_at base choosing = length base + length (choosing_bytes choosing) + 1
@@ -247,9 +244,9 @@ abbrev pub families_at : (base : List ℕ) → Choosing → Dates → ℕ
 families_at base choosing dates = dates_at base choosing + length (dates_bytes dates)
 
 -- where the log's tail stands: behind the byte of scripts
-abbrev pub logging_from : Logs → ℕ → Logging
-logging_from unlogged at = LogOff
-logging_from (logged l) at = LogOn at (at + length (log_bytes l))
+abbrev pub logging_from : Logs → ℕ → Option Span
+logging_from unlogged at = None
+logging_from (logged l) at = Some (span at (at + length (log_bytes l)))
 
 abbrev pub logs_at : (base : List ℕ) → Choosing → Dates → Families → ℕ
 logs_at base choosing dates families = families_at base choosing dates + length (families_bytes families) + 1
@@ -275,7 +272,7 @@ shape_said base tail =
     }
 
 pub record TailSays (base : List ℕ) (tail : Tail) (body : List ℕ) : Type 0 where
-  pub read : shape_of (version_of tail) body ≡ Taken (shape_said base tail)
+  pub read : shape_of (version_of tail) body ≡ Ok (shape_said base tail)
   pub base-is : base_part (shape_said base tail) body ≡ base
   pub file : file_in (selecting (choosing_of tail) (length base)) body ≡ file_of (choosing_of tail)
   pub cycles : cycles_part (shape_said base tail).dating body ≡ cycles_bytes (dates_of tail)

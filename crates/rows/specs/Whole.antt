@@ -1,22 +1,19 @@
 -- A set-up's whole body, of any version: the base spelled from fields in their ranges, and the version's tail.
-use Rattle.std.specs.Prelude.{◌≡◌, List, ◌++◌, ℕ, length}
+use Rattle.std.specs.Prelude.{◌≡◌, List, ◌++◌, ℕ, length, Ok, Result}
 use Rattle.wire.specs.Wire.{byte}
 use Rattle.rules.specs.Rules.{rules_of}
 use Rattle.rules.specs.Word.{word_count}
-use Rattle.setup.specs.declared.SetupAnswer.TheVariants.{Done}
 use Rattle.setup.specs.declared.ReadSetup.{ReadSetup}
 use Rattle.setup.specs.Setup.{read_setup, words_after, setup_number}
-use Rattle.log_tail.specs.declared.Judged.{Judged}
-use Rattle.log_tail.specs.declared.Judged.TheVariants.{Sound}
 use Rattle.log_tail.specs.LogTail.{judged}
 use Rattle.bodies.specs.Bodies.{first_length}
 use Rattle.shape.specs.declared.Shape.{Shape}
-use Rattle.shape.specs.declared.ReadShape.TheVariants.{Taken}
 use Rattle.shape.specs.Shape.{base_part, cycles_part, family_part, log_part, shape_of}
 use Rattle.rows.specs.Rows.{Setup, Fits, setup_row, body}
 use Rattle.rows.specs.InRange.{InRange, DatesRange, FamiliesRange, LogsRange, first_long, LogsWithin}
 use Rattle.rows.specs.Said.{rules_said, fresh_said}
 use Rattle.rows.specs.Tails.{Tail, version_of, tail_bytes, syllabus_of, dates_of, families_of, logs_of, unnamed_of, Fine, shape_said}
+use Rattle.log_tail.specs.declared.Fault.{Fault}
 
 abbrev pub whole_body : Setup → Tail → List ℕ
 whole_body x tail = body x ++ tail_bytes tail
@@ -57,20 +54,20 @@ words_whole words shape s =
     words_after words (base_part shape s) (cycles_part shape.dating s) (family_part shape.family s) shape.syllabus shape.unnamed
 
 -- and of its log: where it is off it has no byte
-abbrev pub log_whole : Shape → (s : List ℕ) → Judged
+abbrev pub log_whole : Shape → (s : List ℕ) → Result Unit Fault
 log_whole shape s = judged (log_part shape.logging s) (byte s 3) (first_length shape.dating shape.family)
 
 -- its base and its tails are taken, where its shape is this, and its log is found to be so
-pub record IsTaken (found : Judged) (version : ℕ) (s : List ℕ) : Type 0 where
+pub record IsTaken (found : Result Unit Fault) (version : ℕ) (s : List ℕ) : Type 0 where
   pub shape : Shape
-  pub shape_is : shape_of version s ≡ Taken shape
+  pub shape_is : shape_of version s ≡ Ok shape
   pub base : setup_number (read_whole shape s).answer ≡ 0
   pub log : log_whole shape s ≡ found
 
 -- what the conversation asks of it: the rules in the words that it was loaded into, the fresh card, and where selection's file stands
 pub record WholeSays (x : Setup) (tail : Tail) (version : ℕ) (s : List ℕ) : Type 0 where
-  pub shape_is : shape_of version s ≡ Taken (shape_said (body x) tail)
-  pub answered : read_whole (shape_said (body x) tail) s ≡ record { fresh = fresh_said x (dates_of tail); answer = Done }
+  pub shape_is : shape_of version s ≡ Ok (shape_said (body x) tail)
+  pub answered : read_whole (shape_said (body x) tail) s ≡ record { fresh = fresh_said x (dates_of tail); answer = Ok tt }
   pub loaded : (words : List ℕ) → length words ≡ word_count
       → rules_of (words_whole words (shape_said (body x) tail) s) ≡ rules_said x (dates_of tail) (families_of tail) (syllabus_of tail)
-  pub log : log_whole (shape_said (body x) tail) s ≡ Sound
+  pub log : log_whole (shape_said (body x) tail) s ≡ Ok tt

@@ -1,13 +1,11 @@
 -- What a set-up says (document 01, "The paper"), and the words that it is lent in: one word to a field.
-use Rattle.std.specs.Prelude.{ℕ, ◌+◌, ◌*◌, ◌/◌, ◌%◌, Bool, false, cond, List, [], ◌∷◌, get_or, replicate, eqb}
+use Rattle.std.specs.Prelude.{ℕ, ◌+◌, ◌*◌, ◌/◌, ◌%◌, Bool, false, cond, List, [], ◌∷◌, get_or, replicate, eqb, None, Option, Some}
 use Rattle.money.specs.declared.Rate.{Rate}
 use Rattle.money.specs.declared.Rates.{Rates}
 use Rattle.calendar.specs.declared.Period.{Period}
 use Rattle.calendar.specs.declared.Period.TheVariants.{Day, Week, Month}
 use Rattle.rules.specs.declared.Place.{Place}
 use Rattle.rules.specs.declared.Place.TheVariants.{One, Two, Three, Four}
-use Rattle.rules.specs.declared.Found.{Found}
-use Rattle.rules.specs.declared.Found.TheVariants.{At, Nothing}
 use Rattle.rules.specs.declared.Masks.{Masks}
 use Rattle.rules.specs.declared.MaximumAmount.{MaximumAmount}
 use Rattle.rules.specs.declared.AccumulatorRule.{AccumulatorRule}
@@ -196,14 +194,14 @@ profile_base place = word.profile_from (index_of place)
 abbrev pub profile_at : Rules → Place → Profile
 profile_at rules place = get_or rules.profiles (index_of place) blank_profile
 
-abbrev pub place_or : Rules → Place → ℕ → Found → Found
-place_or rules place number elsewhere = cond (eqb (profile_at rules place).number number) (At place) elsewhere
+abbrev pub place_or : Rules → Place → ℕ → Option Place → Option Place
+place_or rules place number elsewhere = cond (eqb (profile_at rules place).number number) (Some place) elsewhere
 
 -- the place of the profile of a number; no profile has number 0
-unfoldable pub find_profile : Rules → ℕ → Found
+unfoldable pub find_profile : Rules → ℕ → Option Place
 find_profile rules number =
-    cond (eqb number 0) Nothing
-    (place_or rules One number (place_or rules Two number (place_or rules Three number (place_or rules Four number Nothing))))
+    cond (eqb number 0) None
+    (place_or rules One number (place_or rules Two number (place_or rules Three number (place_or rules Four number None))))
 
 -- of accumulator or counter i + 1
 abbrev pub currency_at : Rules → ℕ → ℕ

@@ -25,12 +25,6 @@ pub enum Place {
 }
 
 #[derive(Drop)]
-pub enum Found {
-    At(Place),
-    Nothing,
-}
-
-#[derive(Drop)]
 pub struct Masks {
     pub online: u32,
     pub decline: u32,
@@ -183,24 +177,24 @@ pub fn profile_number(words: &Words, place: Place) -> u8
 }
 
 // The place if its profile has the number, else what was found elsewhere.
-fn place_or(words: &Words, place: Place, number: u8, elsewhere: Found) -> Found
+fn place_or(words: &Words, place: Place, number: u8, elsewhere: Option<Place>) -> Option<Place>
     ensures { result ≡ place_or (rules_of words.now) place number elsewhere }
 {
     if profile_number(words, place) == number {
-        Found::At(place)
+        Some(place)
     } else {
         elsewhere
     }
 }
 
 // The place of the profile of a number. No profile has number 0.
-pub fn find_profile(words: &Words, number: u8) -> Found
+pub fn find_profile(words: &Words, number: u8) -> Option<Place>
     ensures { result ≡ find_profile (rules_of words.now) number }
 {
     if number == 0 {
-        return Found::Nothing;
+        return None;
     }
-    let fourth = place_or(words, Place::Four, number, Found::Nothing);
+    let fourth = place_or(words, Place::Four, number, None);
     let third = place_or(words, Place::Three, number, fourth);
     let second = place_or(words, Place::Two, number, third);
     place_or(words, Place::One, number, second)

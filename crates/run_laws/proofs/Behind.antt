@@ -12,9 +12,6 @@ use lib.Seq.{take-append-le, drop-append-le}
 use Rattle.rules.specs.Rules.{Rules, rules_of}
 use Rattle.rules.specs.declared.Values.{Values}
 use Rattle.slot.specs.declared.Slots.{Slots}
-use Rattle.shape.specs.declared.Selecting.{Selecting}
-use Rattle.shape.specs.declared.Selecting.TheVariants.{Off, On}
-use Rattle.shape.specs.declared.Dating.{Dating}
 use Rattle.shape.specs.declared.Family.{Family}
 use Rattle.shape.specs.declared.Shape.{Shape}
 use Rattle.shape.specs.Shape.{Lies}
@@ -48,6 +45,9 @@ use Rattle.run_laws.specs.Behind.{left_from, ReadFrom, answer_lines}
 use Rattle.run_laws.proofs.Appended as Appended
 use Rattle.run_laws.proofs.Laws.{both, end-is-past}
 use Rattle.run_laws.proofs.Singly.{one, sitting_of, told_is}
+use Rattle.std.specs.Prelude.{None, Option, Some}
+use Rattle.shape.specs.declared.SelectionFile.{SelectionFile}
+use Rattle.shape.specs.declared.Span.{Span}
 
 module _ (p r : List ℕ) where
   -- ---- the file stays where it lies
@@ -62,11 +62,11 @@ module _ (p r : List ℕ) where
       ap (take (end - start)) (drop-append-le start p r (omega arith)) ∙ take-append-le (end - start) (drop start p) r (omega (arith, rest)) in
       rw (here, there, same)
 
-  read_stays : (selecting : Selecting) (dating : Dating) (family : Family) (slots : Slots) (kind : ℕ) (body : List ℕ) → Lies selecting (length p)
+  read_stays : (selecting : Option SelectionFile) (dating : Option Span) (family : Family) (slots : Slots) (kind : ℕ) (body : List ℕ) → Lies selecting (length p)
       → read_by selecting dating family slots (p ++ r) kind body ≡ read_by selecting dating family slots p kind body
-  read_stays Off dating family slots kind body lies = refl
-  read_stays (On start end entries) dating family slots kind body lies =
-      ap (λ file. selecting_of dating family slots file entries kind body) (file_stays start end lies.0 lies.1)
+  read_stays None dating family slots kind body lies = refl
+  read_stays (Some part) dating family slots kind body lies =
+      ap (λ file. selecting_of dating family slots file part.entries kind body) (file_stays part.start part.end lies.0 lies.1)
 
   module _ (shape : Shape) (lies : Lies shape.selecting (length p)) where
     record_stays : (rules : Rules) (state : State) (kind : ℕ) (body : List ℕ) (end : ℕ)

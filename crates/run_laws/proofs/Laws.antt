@@ -20,8 +20,6 @@ use Rattle.paper.specs.Paper.{end_at, is_fault_at, next_at}
 use Rattle.paper.specs.Walk.{Met, part, written, met_in, place_in}
 use Rattle.paper.proofs.Walk.{Stopped, past_end, rests, walk_ends, walk-on}
 use Rattle.iad.specs.declared.Iad.{Iad}
-use Rattle.iad.specs.declared.ReadIad.TheVariants.{Fields}
-use Rattle.iad.specs.declared.Written.TheVariants.{Done as IadDone}
 use Rattle.iad.specs.Iad.{is_writable, read_iad, write_iad, written as written_iad}
 use Rattle.iad.proofs.RoundTrip.{written-size, whole}
 use Rattle.state.specs.declared.State.{State}
@@ -33,11 +31,10 @@ use Rattle.records.specs.Records.{record_taken, can_be_read}
 use Rattle.records.proofs.Readable.{IsAnswered, Answers, answered_or_not}
 use Rattle.answers.specs.Answers.{size, answer_bytes}
 use Rattle.answers.proofs.Laws.{answer-size}
-use Rattle.run_rule.specs.declared.Ran.{Ran}
-use Rattle.run_rule.specs.declared.Ran.TheVariants.{Done, Refused}
 use Rattle.run_rule.proofs.Rulings.{done-is}
 use Rattle.runs.specs.Runs.{records_in, stop_in, all_read, is_run, Card, answered_in, taken_by, card_behind, card_after, answers_to, ruled_run, unless, card_run, room_run, end_of}
 use Rattle.run_laws.specs.Singly.{spelled}
+use Rattle.std.specs.Prelude.{Err, Ok}
 use Rattle.run_laws.proofs.Appended as Appended
 
 pub end-is-past : (s : List ℕ) (at : ℕ) → next_at s at ≡ End → length s ≤ at
@@ -60,11 +57,11 @@ spelled_is (Given kind atc iad) = refl
 spelled_is AnswerDone = refl
 
 -- reading the IAD of an answer gives its fields back
-pub iad_back : (kind : Kind) (atc : ℕ) (iad : Iad) → is_writable iad ≡ true → read_iad (drop 4 (spelled (Given kind atc iad))) ≡ Fields iad
+pub iad_back : (kind : Kind) (atc : ℕ) (iad : Iad) → is_writable iad ≡ true → read_iad (drop 4 (spelled (Given kind atc iad))) ≡ Ok iad
 unfolding write_iad
 iad_back kind atc iad e =
     let zeros : List ℕ = replicate 32 0 in
-    let done : write_iad iad zeros ≡ IadDone = rw e in
+    let done : write_iad iad zeros ≡ (Ok tt) = rw e in
     let all = take_all 32 (written_iad iad zeros) (omega (arith, written-size iad)) in
     ap read_iad (sym all) ∙ ((whole iad zeros).0 done).0
 
@@ -72,7 +69,7 @@ module _ (shape : Shape) (paper : List ℕ) where
   -- ---- no record
 
   pub none : (card : Card) (room : List ℕ)
-      → (ruled_run shape [] (length room) ≡ Done 0) × (card_run shape paper card [] (length room) ≡ card) × (room_run shape paper card [] room ≡ room)
+      → (ruled_run shape [] (length room) ≡ Ok 0) × (card_run shape paper card [] (length room) ≡ card) × (room_run shape paper card [] room ≡ room)
   unfolding ruled_run card_run room_run is_run met_in place_in all_read card_after answers_to
   none card room = let any = le-ltb (length room) 0 (omega arith) in rw (any) (refl, refl, refl)
 
@@ -120,7 +117,7 @@ module _ (shape : Shape) (paper : List ℕ) where
       let p = both (leb (length run) (stop_in run)) (all_read shape (records_in run)) e in
       (leb-true (length run) (stop_in run) p.0, p.1)
 
-  carried : (run : List ℕ) (room : ℕ) → is_run shape run ≡ true → size * length (records_in run) ≤ room → ruled_run shape run room ≡ Done (length (records_in run))
+  carried : (run : List ℕ) (room : ℕ) → is_run shape run ≡ true → size * length (records_in run) ≤ room → ruled_run shape run room ≡ Ok (length (records_in run))
   unfolding ruled_run
   carried run room is fits = rw (is, le-ltb room (size * length (records_in run)) fits)
 
@@ -167,7 +164,7 @@ module _ (shape : Shape) (paper : List ℕ) where
       counts : length (records_in (a ++ b)) ≡ length (records_in a) + length (records_in b)
       counts = ap length records-joined ∙ length-append (records_in a) (records_in b)
 
-      pub joined : (ruled_run shape (a ++ b) (length room) ≡ Done (length (records_in a) + length (records_in b)))
+      pub joined : (ruled_run shape (a ++ b) (length room) ≡ Ok (length (records_in a) + length (records_in b)))
           × (card_run shape paper card (a ++ b) (length room) ≡ card_run shape paper left b (length room - done))
           × (room_run shape paper card (a ++ b) room
           ≡ take done (room_run shape paper card a room) ++ room_run shape paper left b (drop done (room_run shape paper card a room)))
@@ -193,7 +190,7 @@ module _ (shape : Shape) (paper : List ℕ) where
           drop-drop (size * length (records_in b)) done room ∙ ap (λ (n : ℕ). drop n room) to in
           let whole : answers_to shape paper card (records_in (a ++ b)) ≡ A ++ B =
           ap (answers_to shape paper card) records-joined ∙ split.1 ∙ ap (λ c. A ++ answers_to shape paper c (records_in b)) (sym first) in (
-            carried (a ++ b) (length room) is all ∙ ap Done counts,
+            carried (a ++ b) (length room) is all ∙ ap Ok counts,
             after card (a ++ b) (length room) is all ∙ ap (card_after shape paper card) records-joined ∙ split.0
                 ∙ ap (λ c. card_after shape paper c (records_in b)) (sym first) ∙ sym (after left b (length room - done) is_b (omega arith)),
             placed card (a ++ b) room is all ∙ ap (λ l. l ++ drop (size * length (records_in (a ++ b))) room) whole
@@ -244,7 +241,7 @@ module _ (shape : Shape) (paper : List ℕ) where
       -- it is answered, and the card is what the record leaves; the answer has its four fields, and those not given are zero
       pub single : (card : Card) (room : List ℕ) → 36 ≤ length room →
           let is = one_answer card met can in
-          (ruled_run shape bytes (length room) ≡ Done 1)
+          (ruled_run shape bytes (length room) ≡ Ok 1)
           × (card_run shape paper card bytes (length room) ≡ card_behind shape paper card met)
           × (room_run shape paper card bytes room ≡ spelled is.answer ++ drop 36 room)
       unfolding card_after answers_to
@@ -256,7 +253,7 @@ module _ (shape : Shape) (paper : List ℕ) where
           let bytes-are : answers_to shape paper card (records_in bytes) ≡ spelled is.answer =
           ap (answers_to shape paper card) alone.0 ∙ append-nil (answered_in (taken_by shape paper card met).event) ∙ ap answered_in is.event_is
           ∙ spelled_is is.answer in (
-            carried bytes (length room) is_one fits_one ∙ ap Done count,
+            carried bytes (length room) is_one fits_one ∙ ap Ok count,
             after card bytes (length room) is_one fits_one ∙ ap (card_after shape paper card) alone.0,
             placed card bytes room is_one fits_one ∙ ap (λ l. l ++ drop (size * length (records_in bytes)) room) bytes-are
                 ∙ ap (λ (n : ℕ). spelled is.answer ++ drop n room) to,
@@ -329,40 +326,40 @@ module _ (shape : Shape) (paper : List ℕ) where
 
     -- refusal 9 exactly there
     module _ (room : ℕ) where
-      pub nine : ruled_run shape run room ≡ Refused Unreadable → Broken run ⊎ Unread run
+      pub nine : ruled_run shape run room ≡ Err Unreadable → Broken run ⊎ Unread run
       unfolding ruled_run is_run
       nine = by whole_is (all_read shape (records_in run)) refl refl where
-        other : (b : Bool) → cond b (Refused NoRoomForAnswers) (Done (length (records_in run))) ≡ Refused Unreadable → ⊥
+        other : (b : Bool) → cond b (Err NoRoomForAnswers) (Ok (length (records_in run))) ≡ Err Unreadable → ⊥
         other true e = let z : ◌≡◌ {A = ℕ} 0 1 = cc in omega arith
         other false e = let z : ◌≡◌ {A = ℕ} 0 1 = cc in omega arith
 
         by : (all read : Bool) → leb (length run) (stop_in run) ≡ all → all_read shape (records_in run) ≡ read
-            → cond (all && read) (cond (ltb room (size * length (records_in run))) (Refused NoRoomForAnswers) (Done (length (records_in run)))) (Refused Unreadable)
-            ≡ Refused Unreadable → Broken run ⊎ Unread run
+            → cond (all && read) (cond (ltb room (size * length (records_in run))) (Err NoRoomForAnswers) (Ok (length (records_in run)))) (Err Unreadable)
+            ≡ Err Unreadable → Broken run ⊎ Unread run
         by true true w r e = absurd (other (ltb room (size * length (records_in run))) e)
         by true false w r e = inr (unread_among [] (records_in run) run refl r)
         by false read w r e = inl (broken_if w)
 
-      pub nine_back : Card → Broken run ⊎ Unread run → ruled_run shape run room ≡ Refused Unreadable
+      pub nine_back : Card → Broken run ⊎ Unread run → ruled_run shape run room ≡ Err Unreadable
       unfolding ruled_run is_run
       nine_back card (inl broken) = rw (if_broken broken)
       nine_back card (inr unread) = rw (if_unread card unread, and-false whole_is)
 
       -- where it is not 9: 17 exactly where the room is short, and otherwise every record is answered
-      pub seventeen : (ruled_run shape run room ≡ Refused Unreadable → ⊥)
-          → (room < size * length (records_in run) → ruled_run shape run room ≡ Refused NoRoomForAnswers)
-          × (size * length (records_in run) ≤ room → ruled_run shape run room ≡ Done (length (records_in run)))
+      pub seventeen : (ruled_run shape run room ≡ Err Unreadable → ⊥)
+          → (room < size * length (records_in run) → ruled_run shape run room ≡ Err NoRoomForAnswers)
+          × (size * length (records_in run) ≤ room → ruled_run shape run room ≡ Ok (length (records_in run)))
       unfolding ruled_run
       seventeen not_nine = by (is_run shape run) not_nine where
         by : (b : Bool)
-            → (cond b (cond (ltb room (size * length (records_in run))) (Refused NoRoomForAnswers) (Done (length (records_in run)))) (Refused Unreadable)
-            ≡ Refused Unreadable → ⊥)
+            → (cond b (cond (ltb room (size * length (records_in run))) (Err NoRoomForAnswers) (Ok (length (records_in run)))) (Err Unreadable)
+            ≡ Err Unreadable → ⊥)
             → (room < size * length (records_in run)
-            → cond b (cond (ltb room (size * length (records_in run))) (Refused NoRoomForAnswers) (Done (length (records_in run)))) (Refused Unreadable)
-            ≡ Refused NoRoomForAnswers)
+            → cond b (cond (ltb room (size * length (records_in run))) (Err NoRoomForAnswers) (Ok (length (records_in run)))) (Err Unreadable)
+            ≡ Err NoRoomForAnswers)
             × (size * length (records_in run) ≤ room
-            → cond b (cond (ltb room (size * length (records_in run))) (Refused NoRoomForAnswers) (Done (length (records_in run)))) (Refused Unreadable)
-            ≡ Done (length (records_in run)))
+            → cond b (cond (ltb room (size * length (records_in run))) (Err NoRoomForAnswers) (Ok (length (records_in run)))) (Err Unreadable)
+            ≡ Ok (length (records_in run)))
         by true n = (λ h. rw (lt-ltb room (size * length (records_in run)) h), λ h. rw (le-ltb room (size * length (records_in run)) h))
         by false n = absurd (n refl)
 
@@ -370,13 +367,13 @@ module _ (shape : Shape) (paper : List ℕ) where
 
     module _ (card : Card) (room : List ℕ) where
       -- for a refusal the card and every byte of the room
-      pub untouched : (refusal : Refusal) → ruled_run shape run (length room) ≡ Refused refusal
+      pub untouched : (refusal : Refusal) → ruled_run shape run (length room) ≡ Err refusal
           → (card_run shape paper card run (length room) ≡ card) × (room_run shape paper card run room ≡ room)
       unfolding card_run room_run
       untouched refusal e = rw e (refl, refl)
 
       -- behind the answers the room, whatever they are
-      pub beyond : (n : ℕ) → ruled_run shape run (length room) ≡ Done n → drop (36 * n) (room_run shape paper card run room) ≡ drop (36 * n) room
+      pub beyond : (n : ℕ) → ruled_run shape run (length room) ≡ Ok n → drop (36 * n) (room_run shape paper card run room) ≡ drop (36 * n) room
       beyond n e =
           let is = done-is shape run (length room) n e in
           let answers = answers_to shape paper card (records_in run) in

@@ -19,10 +19,10 @@ use Rattle.card.specs.Card.{step_of, start_step, second_step}
 use Rattle.records.specs.Records.{answered_by, scripted_by, body_writes}
 use Rattle.keeper.specs.Keeper.{rooms_after, rooms_recorded}
 use Rattle.answers.specs.Answers.{answer_bytes}
-use Rattle.run_rule.specs.declared.Ran.{Ran}
-use Rattle.run_rule.specs.declared.Ran.TheVariants.{Done, Refused}
 use Rattle.runs.specs.Runs.{all_read, is_run, Card, card_behind, card_after, answers_to, ruled_run, card_run, room_run}
 use Rattle.spelling.specs.Printed.{printed, body}
+use Rattle.std.specs.Prelude.{Err, Ok, Result}
+use Rattle.refusal.specs.declared.Refusal.{Refusal}
 
 abbrev card : Card
 card = record { words = []; rules = rules_in body [] [] 0; rooms = no_rooms; state = fresh_state (fresh_in body []) }
@@ -55,9 +55,9 @@ abbrev refused : (refusal : ℕ) → List ℕ
 refused refusal = refusal ∷ replicate 35 0
 
 -- what became of a run, as a number: that of its refusal, or 100 and its answers
-abbrev ran_number : Ran → ℕ
-ran_number (Refused refusal) = refusal_number refusal
-ran_number (Done answers) = 100 + answers
+abbrev ran_number : Result ℕ Refusal → ℕ
+ran_number (Err refusal) = refusal_number refusal
+ran_number (Ok answers) = 100 + answers
 
 -- what became of it, and the room
 unfoldable pub comes_to : (run : List ℕ) (room ran : ℕ) → (left : List ℕ) → Bool

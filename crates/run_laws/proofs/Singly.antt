@@ -11,8 +11,6 @@ use Rattle.shape.specs.declared.Shape.{Shape}
 use Rattle.paper.specs.Walk.{Met}
 use Rattle.command.specs.declared.Command.{Command}
 use Rattle.command.specs.declared.Command.TheVariants.{Start, First, Second}
-use Rattle.command.specs.declared.ReadCommand.{ReadCommand}
-use Rattle.command.specs.declared.ReadCommand.TheVariants.{Taken as CommandTaken, Refused as CommandRefused}
 use Rattle.command.specs.Command.{command_in, is_command}
 use Rattle.command.proofs.Readable.{Reads, read_or_not}
 use Rattle.element.specs.declared.Write.{Write}
@@ -28,11 +26,11 @@ use Rattle.keeper.specs.Keeper.{rooms_after, rooms_recorded}
 use Rattle.answers.specs.Answers.{size}
 use Rattle.demands.specs.Conversation.{Exchange, Sitting, outcome_of, told, run as converse}
 use Rattle.room_laws.specs.Kept.{rooms_told, rooms_over}
-use Rattle.run_rule.specs.declared.Ran.TheVariants.{Done}
 use Rattle.run_rule.proofs.Rulings.{done-is}
 use Rattle.runs.specs.Runs.{records_in, all_read, Card, answered_in, taken_by, writes_of, card_behind, card_after, answers_to, ruled_run, card_run, room_run}
 use Rattle.run_laws.specs.Singly.{spelled, answers_over, command_sent, script_sent, sent_by, messages_of, seated}
 use Rattle.run_laws.proofs.Laws.{both, spelled_is, answers-size, parts, placed, after}
+use Rattle.std.specs.Prelude.{Ok}
 
 -- ---- a record and its message
 
@@ -55,8 +53,8 @@ module _ (shape : Shape) (paper : List ℕ) where
     by-body (result ∷ template) e = record { state-is = refl; said = Script; event_is = refl; writes_are = refl }
 
     by-command : (command : Command)
-        → Same (answered_by card.rules card.state 0 (CommandTaken command)) []
-        (message_step card.rules card.state (command_sent (CommandTaken command))) (message_writes card.state (command_sent (CommandTaken command)))
+        → Same (answered_by card.rules card.state 0 (Ok command)) []
+        (message_step card.rules card.state (command_sent (Ok command))) (message_writes card.state (command_sent (Ok command)))
     by-command (Start start) = record { state-is = refl; said = _; event_is = refl; writes_are = refl }
     by-command (First first) = record { state-is = refl; said = _; event_is = refl; writes_are = refl }
     by-command (Second second) = record { state-is = refl; said = _; event_is = refl; writes_are = refl }
@@ -125,7 +123,7 @@ module _ (shape : Shape) (paper : List ℕ) where
       }
 
   -- A RUN that is carried out: its answers stand in front in the room
-  pub answers-there : (card : Card) (records room : List ℕ) (n : ℕ) → ruled_run shape records (length room) ≡ Done n
+  pub answers-there : (card : Card) (records room : List ℕ) (n : ℕ) → ruled_run shape records (length room) ≡ Ok n
       → take (36 * n) (room_run shape paper card records room) ≡ answers_to shape paper card (records_in records)
   answers-there card records room n done =
       let is = done-is shape records (length room) n done in
@@ -136,7 +134,7 @@ module _ (shape : Shape) (paper : List ℕ) where
       ∙ ap (λ (k : ℕ). take k (answers ++ drop (size * length (records_in records)) room)) to
       ∙ take-append_seam answers (drop (size * length (records_in records)) room)
 
-  pub as_singly : (card : Card) (records room : List ℕ) (n : ℕ) → ruled_run shape records (length room) ≡ Done n →
+  pub as_singly : (card : Card) (records room : List ℕ) (n : ℕ) → ruled_run shape records (length room) ≡ Ok n →
       let messages = messages_of shape paper card (records_in records) in
       let then = converse (seated card) messages in
       let left = card_run shape paper card records (length room) in

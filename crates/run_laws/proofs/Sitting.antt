@@ -12,22 +12,12 @@ use Rattle.wire.specs.Wire.{byte}
 use Rattle.refusal.specs.declared.Refusal.{Refusal}
 use Rattle.refusal.specs.declared.Refusal.TheVariants.{Unreadable}
 use Rattle.rules.specs.Rules.{Rules, rules_of}
-use Rattle.setup.specs.declared.SetupAnswer.{SetupAnswer}
-use Rattle.setup.specs.declared.SetupAnswer.TheVariants.{Done, Refused as SetupRefused}
 use Rattle.setup.specs.Setup.{is_accepted, read_setup}
-use Rattle.log_tail.specs.declared.Judged.{Judged}
-use Rattle.log_tail.specs.declared.Judged.TheVariants.{Sound, Wrong, PastData as TableFault}
-use Rattle.shape.specs.declared.Selecting.{Selecting}
-use Rattle.shape.specs.declared.Selecting.TheVariants.{Off, On}
 use Rattle.shape.specs.declared.Shape.{Shape}
-use Rattle.shape.specs.declared.ReadShape.{ReadShape}
-use Rattle.shape.specs.declared.ReadShape.TheVariants.{Taken as ShapeTaken, Refused as ShapeRefused}
 use Rattle.shape.specs.Shape.{Lies, base_part, cycles_part, family_part, selecting_at, shape_of, shape_at}
 use Rattle.shape.proofs.Inside as Inside
 use Rattle.paper.specs.declared.Next.{Next}
 use Rattle.paper.specs.declared.Next.TheVariants.{Record, Fault, End}
-use Rattle.paper.specs.declared.Opened.{Opened}
-use Rattle.paper.specs.declared.Opened.TheVariants.{Setup, Refused as OpenRefused}
 use Rattle.paper.specs.Paper.{latest, next_at, is_unreadable, setup_in, open_paper}
 use Rattle.paper.specs.Walk.{part}
 use Rattle.paper.proofs.Walk.{inside}
@@ -44,34 +34,40 @@ use Rattle.run_laws.specs.Singly.{messages_of, seated}
 use Rattle.run_laws.specs.Behind.{left_by, ReadWhole, answer_lines}
 use Rattle.run_laws.proofs.Appended as Appended
 use Rattle.run_laws.proofs.Behind.{tail, front}
+use Rattle.std.specs.Prelude.{Err, None, Ok, Option, Result, Some}
+use Rattle.log_tail.specs.declared.Fault.{Fault}
+use Rattle.log_tail.specs.declared.Fault.TheVariants.{PastData}
+use Rattle.log_tail.specs.declared.Fault.TheVariants.{Wrong}
+use Rattle.paper.specs.declared.Opened.{Opened}
+use Rattle.shape.specs.declared.SelectionFile.{SelectionFile}
 
 -- ---- the set-up
 
 pub record Opens (p : List ℕ) (version start end : ℕ) : Type 0 where
-  pub is : open_paper p ≡ Setup version start end
+  pub is : open_paper p ≡ Ok (record { version = version; start = start; end = end })
   pub readable : is_unreadable p ≡ false
   pub version-is : byte p 0 ≡ version
   pub first : next_at p 1 ≡ Record 1 start end
 
-pub opens : (p : List ℕ) (version start end : ℕ) → open_paper p ≡ Setup version start end → Opens p version start end
+pub opens : (p : List ℕ) (version start end : ℕ) → open_paper p ≡ Ok (record { version = version; start = start; end = end }) → Opens p version start end
 unfolding open_paper
 opens p version start end is = by (is_unreadable p) (next_at p 1) refl refl is where
   by_kind : (kind from to : ℕ) (b : Bool) → eqb kind 1 ≡ b → is_unreadable p ≡ false → next_at p 1 ≡ Record kind from to
-      → cond b (Setup (byte p 0) from to) (OpenRefused Unreadable) ≡ Setup version start end → Opens p version start end
+      → cond b (Ok (record { version = byte p 0; start = from; end = to })) (Err Unreadable) ≡ Ok (record { version = version; start = start; end = end }) → Opens p version start end
   by_kind kind from to true k u n e =
       let one = eqb-true kind 1 k in
       record { is = is; readable = u; version-is = cc; first = cc }
   by_kind kind from to false k u n e = absurd (let z : ◌≡◌ {A = ℕ} 0 1 = cc in omega arith)
 
   by : (b : Bool) (next : Next) → is_unreadable p ≡ b → next_at p 1 ≡ next
-      → cond b (OpenRefused Unreadable) (setup_in (byte p 0) next) ≡ Setup version start end → Opens p version start end
+      → cond b (Err Unreadable) (setup_in (byte p 0) next) ≡ Ok (record { version = version; start = start; end = end }) → Opens p version start end
   by true next u n e = absurd (let z : ◌≡◌ {A = ℕ} 0 1 = cc in omega arith)
   by false End u n e = absurd (let z : ◌≡◌ {A = ℕ} 0 1 = cc in omega arith)
   by false Fault u n e = absurd (let z : ◌≡◌ {A = ℕ} 0 1 = cc in omega arith)
   by false (Record kind from to) u n e = by_kind kind from to (eqb kind 1) refl u n e
 
 module _ (p r : List ℕ) (fits : length (p ++ r) ≤ 65536) (version start end : ℕ) (o : Opens p version start end) where
-  still_open : open_paper (p ++ r) ≡ Setup version start end
+  still_open : open_paper (p ++ r) ≡ Ok (record { version = version; start = start; end = end })
   unfolding open_paper
   still_open =
       let i = inside p 1 1 start end o.first in
@@ -105,7 +101,7 @@ pub record Within (p : List ℕ) (begun : Begun) : Type 0 where
   pub at_most : begun.at ≤ length p
 
 module _ (p : List ℕ) (version start end : ℕ) (o : Opens p version start end) where
-  lies_at : (selecting : Selecting) → Lies selecting (length (part p start end)) → Lies (selecting_at start selecting) (length p)
+  lies_at : (selecting : Option SelectionFile) → Lies selecting (length (part p start end)) → Lies (selecting_at start selecting) (length p)
   lies_at selecting = by selecting where
     i : start + length (part p start end) ≤ length p
     i =
@@ -113,23 +109,23 @@ module _ (p : List ℕ) (version start end : ℕ) (o : Opens p version start end
         let size = part_length p start end (omega (arith, j.start_is, j.holds)) j.fits in
         omega (arith, size, j.start_is, j.holds, j.fits)
 
-    by : (selecting : Selecting) → Lies selecting (length (part p start end)) → Lies (selecting_at start selecting) (length p)
-    by Off lies = tt
-    by (On from to entries) lies = (omega (arith, lies.0), omega (arith, lies.1, i))
+    by : (selecting : Option SelectionFile) → Lies selecting (length (part p start end)) → Lies (selecting_at start selecting) (length p)
+    by None lies = tt
+    by (Some part) lies = (omega (arith, lies.0), omega (arith, lies.1, i))
 
   pub within : (begun_of p).event ≡ SetUp → Within p (begun_of p)
   unfolding begun_of setup_begun base_begun past_begun
   within e = subst (λ opened. (opened_begun p opened).event ≡ SetUp → Within p (opened_begun p opened)) (sym o.is) (by (shape_of version (part p start end)) refl) e where
-    by-log : (judged : Judged) (good : Bool) (begun : Begun) → Within p begun → (logged_begun judged good end begun).event ≡ SetUp
+    by-log : (judged : Result Unit Fault) (good : Bool) (begun : Begun) → Within p begun → (logged_begun judged good end begun).event ≡ SetUp
         → Within p (logged_begun judged good end begun)
-    by-log Sound good begun w e = w
-    by-log Wrong good begun w e = absurd (let z : ◌≡◌ {A = ℕ} 0 1 = cc in omega arith)
-    by-log TableFault good begun w e = absurd (let z : ◌≡◌ {A = ℕ} 0 1 = cc in omega arith)
+    by-log (Ok done) good begun w e = w
+    by-log (Err Wrong) good begun w e = absurd (let z : ◌≡◌ {A = ℕ} 0 1 = cc in omega arith)
+    by-log (Err PastData) good begun w e = absurd (let z : ◌≡◌ {A = ℕ} 0 1 = cc in omega arith)
 
-    by : (read : ReadShape) → shape_of version (part p start end) ≡ read → (shaped_begun (part p start end) start end read).event ≡ SetUp
+    by : (read : Result Shape Refusal) → shape_of version (part p start end) ≡ read → (shaped_begun (part p start end) start end read).event ≡ SetUp
         → Within p (shaped_begun (part p start end) start end read)
-    by (ShapeRefused refusal) s e = absurd (let z : ◌≡◌ {A = ℕ} 0 1 = cc in omega arith)
-    by (ShapeTaken shape) s e =
+    by (Err refusal) s e = absurd (let z : ◌≡◌ {A = ℕ} 0 1 = cc in omega arith)
+    by (Ok shape) s e =
         let body = part p start end in
         let base = base_part shape body in
         let cycles = cycles_part shape.dating body in
@@ -206,9 +202,9 @@ module _ (words p r : List ℕ) (fits : length (p ++ r) ≤ 65536) where
       ≡ sitting_lines words p ++ answer_lines (length (sitting_lines words p)) (seated card) (messages_of (begun_of p).shape p card (records_in r))
   unfolding ReadWhole begun_of
   as_sitting read = by (open_paper p) refl where
-    by : (opened : Opened) → open_paper p ≡ opened → (card : Card) → card.rules ≡ (left_by words p).rules → card.state ≡ (left_by words p).state
+    by : (opened : Result Opened Refusal) → open_paper p ≡ opened → (card : Card) → card.rules ≡ (left_by words p).rules → card.state ≡ (left_by words p).state
         → is_run (begun_of p).shape r ≡ true
         → sitting_lines words (p ++ r)
         ≡ sitting_lines words p ++ answer_lines (length (sitting_lines words p)) (seated card) (messages_of (begun_of p).shape p card (records_in r))
-    by (OpenRefused refusal) e = absurd (let z : ◌≡◌ {A = ℕ} 0 1 = (let f = ap (λ opened. (opened_begun p opened).event) (sym e) ∙ read.0 in cc) in omega arith)
-    by (Setup version start end) e = whole version start end (opens p version start end e) read
+    by (Err refusal) e = absurd (let z : ◌≡◌ {A = ℕ} 0 1 = (let f = ap (λ opened. (opened_begun p opened).event) (sym e) ∙ read.0 in cc) in omega arith)
+    by (Ok opened) e = whole opened.version opened.start opened.end (opens p opened.version opened.start opened.end e) read

@@ -1,12 +1,10 @@
 -- The records of a run as messages, sent singly (document 02, Eleven).
-use Rattle.std.specs.Prelude.{ℕ, ◌/◌, ◌%◌, cond, List, [], ◌∷◌, ◌++◌, length, replicate}
+use Rattle.std.specs.Prelude.{ℕ, ◌/◌, ◌%◌, cond, List, [], ◌∷◌, ◌++◌, length, replicate, Err, Ok, Result}
 use Rattle.refusal.specs.Refusal.{refusal_number}
 use Rattle.iad.specs.Iad.{written}
 use Rattle.shape.specs.declared.Shape.{Shape}
 use Rattle.paper.specs.Walk.{Met}
 use Rattle.command.specs.declared.Command.TheVariants.{Start, First, Second}
-use Rattle.command.specs.declared.ReadCommand.{ReadCommand}
-use Rattle.command.specs.declared.ReadCommand.TheVariants.{Taken, Refused}
 use Rattle.command.specs.Command.{command_in}
 use Rattle.state.specs.declared.State.{State}
 use Rattle.state.specs.declared.Answer.{Answer}
@@ -16,6 +14,8 @@ use Rattle.records.specs.Records.{is_script}
 use Rattle.card.specs.Message.{Message, StartCommand, FirstCommand, SecondCommand, ScriptCommand}
 use Rattle.demands.specs.Conversation.{Sitting, outcome_of, told}
 use Rattle.runs.specs.Runs.{Card, card_behind}
+use Rattle.command.specs.declared.Command.{Command}
+use Rattle.refusal.specs.declared.Refusal.{Refusal}
 
 -- AN ANSWER in 36 numbers: refusal, CID, ATC with its high byte first, IAD
 abbrev pub spelled : Answer → List ℕ
@@ -30,11 +30,11 @@ answers_over sitting [] = []
 answers_over sitting (message ∷ more) = spelled (outcome_of sitting message).answer ++ answers_over (told sitting message) more
 
 -- the message that a record carries; one that cannot be read carries none, and stands for an empty script
-abbrev pub command_sent : ReadCommand → Message
-command_sent (Taken (Start start)) = StartCommand start
-command_sent (Taken (First first)) = FirstCommand first
-command_sent (Taken (Second second)) = SecondCommand second
-command_sent (Refused refusal) = ScriptCommand 0 []
+abbrev pub command_sent : Result Command Refusal → Message
+command_sent (Ok (Start start)) = StartCommand start
+command_sent (Ok (First first)) = FirstCommand first
+command_sent (Ok (Second second)) = SecondCommand second
+command_sent (Err refusal) = ScriptCommand 0 []
 
 abbrev pub script_sent : (body : List ℕ) → Message
 script_sent [] = ScriptCommand 0 []

@@ -7,12 +7,12 @@ use lib.ListN.{replicate, take}
 use Rattle.wire.specs.Wire.{number}
 use Rattle.paper.specs.Paper.{next_at}
 use Rattle.paper.specs.Walk.{met_in}
-use Rattle.ring.specs.declared.Found.{Found}
-use Rattle.ring.specs.declared.Found.TheVariants.{Record as Kept, Nothing}
 use Rattle.ring.specs.Ring.{no_records, record_in, record_put, added_in, added, count_in, found}
 use Rattle.journal.specs.declared.Logging.{Logging}
 use Rattle.journal.specs.Journal.{is_logging, closed_by, noted, watched}
 use Rattle.run_log.specs.RunLog.{given_by, watched_answer, ring_over, ring_run}
+use Rattle.std.specs.Prelude.{None, Option, Some}
+use Rattle.ring.specs.declared.Record.{Record}
 
 -- declined and approved transactions of profile 1
 abbrev logging : (size : ℕ) → Logging
@@ -48,9 +48,9 @@ answers =
     ++ started 3 ++ given 0x00 3 0x82 0x31 0x30 0 ++ refused
 
 -- each record, the newest first: First's place, Second's, the CVR, ATC, CID
-abbrev cells : Found → List ℕ
-cells Nothing = []
-cells (Kept r) = r.first ∷ r.second ∷ r.cvr ∷ r.atc ∷ r.cid ∷ []
+abbrev cells : Option Record → List ℕ
+cells None = []
+cells (Some r) = r.first ∷ r.second ∷ r.cvr ∷ r.atc ∷ r.cid ∷ []
 
 abbrev shown_from : (ring : List ℕ) (size k n : ℕ) → List (List ℕ)
 shown_from ring size k zero = []

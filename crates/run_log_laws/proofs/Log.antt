@@ -9,13 +9,7 @@ use lib.ListN.{length, take, drop, length-append, length-drop}
 use lib.Seq.{take-append-le, drop-append-le}
 use Rattle.rules.specs.Rules.{Rules}
 use Rattle.setup.specs.Setup.{is_accepted}
-use Rattle.log_tail.specs.declared.Judged.{Judged}
-use Rattle.log_tail.specs.declared.Judged.TheVariants.{Sound, Wrong, PastData as TableFault}
-use Rattle.shape.specs.declared.Logging.{Logging as LogTail}
-use Rattle.shape.specs.declared.Logging.TheVariants.{Off, On}
 use Rattle.shape.specs.declared.Shape.{Shape}
-use Rattle.shape.specs.declared.ReadShape.{ReadShape}
-use Rattle.shape.specs.declared.ReadShape.TheVariants.{Taken as ShapeTaken, Refused as ShapeRefused}
 use Rattle.shape.specs.Shape.{Keeps, base_part, cycles_part, family_part, logging_at, shape_of, shape_at}
 use Rattle.shape.proofs.Inside as Inside
 use Rattle.paper.specs.Walk.{part}
@@ -27,6 +21,12 @@ use Rattle.opening.proofs.Parts.{part_length}
 use Rattle.records.specs.declared.Event.TheVariants.{SetUp}
 use Rattle.paper_log.specs.Log.{tail_at, logging_in, tailed, log_of}
 use Rattle.run_laws.proofs.Sitting.{Opens}
+use Rattle.std.specs.Prelude.{Err, None, Ok, Option, Result, Some}
+use Rattle.log_tail.specs.declared.Fault.{Fault}
+use Rattle.log_tail.specs.declared.Fault.TheVariants.{PastData}
+use Rattle.log_tail.specs.declared.Fault.TheVariants.{Wrong}
+use Rattle.refusal.specs.declared.Refusal.{Refusal}
+use Rattle.shape.specs.declared.Span.{Span}
 
 -- the log's tail lies in the paper
 module _ (p : List ℕ) (version start end : ℕ) (o : Opens p version start end) where
@@ -39,25 +39,25 @@ module _ (p : List ℕ) (version start end : ℕ) (o : Opens p version start end
       let size = part_length p start end (omega (arith, i.start_is, i.holds)) i.fits in
       omega (arith, size, i.start_is, i.holds, i.fits)
 
-  keeps_at : (logging : LogTail) → Keeps logging (length body) → Keeps (logging_at start logging) (length p)
-  keeps_at Off keeps = tt
-  keeps_at (On from to) keeps = (omega (arith, keeps.0), omega (arith, keeps.1, body_in_lem))
+  keeps_at : (logging : Option Span) → Keeps logging (length body) → Keeps (logging_at start logging) (length p)
+  keeps_at None keeps = tt
+  keeps_at (Some part) keeps = (omega (arith, keeps.0), omega (arith, keeps.1, body_in_lem))
 
   pub tail_in : (begun_of p).event ≡ SetUp → Keeps (begun_of p).shape.logging (length p)
   unfolding begun_of setup_begun base_begun past_begun
   tail_in e =
       subst (λ opened. (opened_begun p opened).event ≡ SetUp → Keeps (opened_begun p opened).shape.logging (length p)) (sym o.is)
       (by (shape_of version body) refl) e where
-        by-log : (judged : Judged) (good : Bool) (begun : Begun) → Keeps begun.shape.logging (length p)
+        by-log : (judged : Result Unit Fault) (good : Bool) (begun : Begun) → Keeps begun.shape.logging (length p)
             → (logged_begun judged good end begun).event ≡ SetUp → Keeps (logged_begun judged good end begun).shape.logging (length p)
-        by-log Sound good begun keeps e = keeps
-        by-log Wrong good begun keeps e = absurd (let z : ◌≡◌ {A = ℕ} 0 1 = cc in omega arith)
-        by-log TableFault good begun keeps e = absurd (let z : ◌≡◌ {A = ℕ} 0 1 = cc in omega arith)
+        by-log (Ok done) good begun keeps e = keeps
+        by-log (Err Wrong) good begun keeps e = absurd (let z : ◌≡◌ {A = ℕ} 0 1 = cc in omega arith)
+        by-log (Err PastData) good begun keeps e = absurd (let z : ◌≡◌ {A = ℕ} 0 1 = cc in omega arith)
 
-        by : (read : ReadShape) → shape_of version body ≡ read → (shaped_begun body start end read).event ≡ SetUp
+        by : (read : Result Shape Refusal) → shape_of version body ≡ read → (shaped_begun body start end read).event ≡ SetUp
             → Keeps (shaped_begun body start end read).shape.logging (length p)
-        by (ShapeRefused refusal) s e = absurd (let z : ◌≡◌ {A = ℕ} 0 1 = cc in omega arith)
-        by (ShapeTaken shape) s e =
+        by (Err refusal) s e = absurd (let z : ◌≡◌ {A = ℕ} 0 1 = cc in omega arith)
+        by (Ok shape) s e =
             let base = base_part shape body in
             let cycles = cycles_part shape.dating body in
             let family = family_part shape.family body in
@@ -80,6 +80,6 @@ module _ (p r : List ℕ) where
   pub logging_same : (rules : Rules) (shape : Shape) → Keeps shape.logging (length p) → (log_of rules shape (p ++ r)).logging ≡ (log_of rules shape p).logging
   unfolding log_of
   logging_same rules shape = by shape.logging where
-    by : (logging : LogTail) → Keeps logging (length p) → (tailed rules shape (p ++ r) logging).logging ≡ (tailed rules shape p logging).logging
-    by Off keeps = refl
-    by (On start end) keeps = ap (logging_in rules) (tail_stays start end keeps.0 keeps.1)
+    by : (logging : Option Span) → Keeps logging (length p) → (tailed rules shape (p ++ r) logging).logging ≡ (tailed rules shape p logging).logging
+    by None keeps = refl
+    by (Some part) keeps = ap (logging_in rules) (tail_stays part.start part.end keeps.0 keeps.1)

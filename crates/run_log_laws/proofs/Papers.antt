@@ -9,8 +9,6 @@ use lib.ListN.{length, length-append}
 use Rattle.rules.specs.Word.{word_count}
 use Rattle.rules.specs.Rules.{Rules, rules_of}
 use Rattle.shape.specs.declared.Shape.{Shape}
-use Rattle.paper.specs.declared.Opened.{Opened}
-use Rattle.paper.specs.declared.Opened.TheVariants.{Setup, Refused as OpenRefused}
 use Rattle.paper.specs.Paper.{open_paper}
 use Rattle.begun.specs.declared.Begun.{Begun}
 use Rattle.opening.specs.Opening.{opened_begun, begun_of, words_begun}
@@ -26,7 +24,6 @@ use Rattle.ring.proofs.Newest.{Newest}
 use Rattle.journal.specs.declared.Logging.{Logging}
 use Rattle.journal.specs.Logged.{Seen, heard_out, ring_through, logged_in, turned}
 use Rattle.journal.proofs.Newest.{through_newest}
-use Rattle.run_rule.specs.declared.Ran.TheVariants.{Done}
 use Rattle.run_rule.proofs.Rulings.{done-is}
 use Rattle.runs.specs.Runs.{records_in, is_run, Card, ruled_run}
 use Rattle.run_laws.specs.Behind.{left_by, ReadWhole}
@@ -39,6 +36,9 @@ use Rattle.run_log_laws.specs.RunSeen.{seen_over, ring_behind}
 use Rattle.run_log_laws.proofs.Rings.{Readable, first_of, run-logs}
 use Rattle.run_log_laws.proofs.Behind.{tail, front}
 use Rattle.run_log_laws.proofs.Log.{tail_in, logging_same}
+use Rattle.std.specs.Prelude.{Err, Ok, Result}
+use Rattle.paper.specs.declared.Opened.{Opened}
+use Rattle.refusal.specs.declared.Refusal.{Refusal}
 
 -- ---- every answer of a paper can be read from its bytes
 
@@ -124,14 +124,14 @@ module _ (words p r : List ℕ) (fits : length (p ++ r) ≤ 65536) (read : ReadW
   opened_so : Opened-so
   unfolding ReadWhole begun_of
   opened_so = by (open_paper p) refl where
-    by : (opened : Opened) → open_paper p ≡ opened → Opened-so
-    by (OpenRefused refusal) e = absurd (let z : ◌≡◌ {A = ℕ} 0 1 = (let f = ap (λ opened. (opened_begun p opened).event) (sym e) ∙ read.0 in cc) in omega arith)
-    by (Setup version start end) e =
-        let o = opens p version start end e in
+    by : (opened : Result Opened Refusal) → open_paper p ≡ opened → Opened-so
+    by (Err refusal) e = absurd (let z : ◌≡◌ {A = ℕ} 0 1 = (let f = ap (λ opened. (opened_begun p opened).event) (sym e) ∙ read.0 in cc) in omega arith)
+    by (Ok opened) e =
+        let o = opens p opened.version opened.start opened.end e in
         record {
-          begun-is = ap (λ (b : Begun). b.event) (begins version start end o) ∙ set_up_lem;
-          logging_is = logging_is version start end o;
-          seen-is = whole version start end o;
+          begun-is = ap (λ (b : Begun). b.event) (begins opened.version opened.start opened.end o) ∙ set_up_lem;
+          logging_is = logging_is opened.version opened.start opened.end o;
+          seen-is = whole opened.version opened.start opened.end o;
         }
 
   -- WHAT IS SAID IN THE PAPER, AND THEN IN THE RUN, lent the place where it begins
@@ -141,7 +141,7 @@ module _ (words p r : List ℕ) (fits : length (p ++ r) ≤ 65536) (read : ReadW
   -- ---- the ring
 
   module _ (lent : length words ≡ word_count) (bytes : Bytes (p ++ r)) (room : List ℕ) (n : ℕ)
-      (done : ruled_run begun.shape r (length room) ≡ Done n) (logging : Logging) where
+      (done : ruled_run begun.shape r (length room) ≡ Ok n) (logging : Logging) where
     -- the ring of the paper, and behind it the run's
     abbrev pub both_rings : List ℕ
     both_rings = ring_behind begun.shape p logging card r (length p) room (ring_through logging no_records (seen_in words p))
@@ -161,7 +161,7 @@ module _ (words p r : List ℕ) (fits : length (p ++ r) ≤ 65536) (read : ReadW
     joined-newest = rw logs-joined (through_newest logging (seen_in words (p ++ r)))
 
   -- AND WITH THE PAPER'S LOG the newest of those that both together log
-  module _ (lent : length words ≡ word_count) (bytes : Bytes (p ++ r)) (room : List ℕ) (n : ℕ) (done : ruled_run begun.shape r (length room) ≡ Done n) where
+  module _ (lent : length words ≡ word_count) (bytes : Bytes (p ++ r)) (room : List ℕ) (n : ℕ) (done : ruled_run begun.shape r (length room) ≡ Ok n) where
     pub joined-owed : Newest (log_in words p).logging.size (logged_of words (p ++ r)) (both_rings lent bytes room n done (log_in words p).logging)
     unfolding logged_of
     joined-owed =

@@ -17,7 +17,6 @@ use Rattle.answers.specs.Answers.{size, answer_bytes}
 use Rattle.answers.proofs.Laws.{answer-size}
 use Rattle.journal.specs.declared.Logging.{Logging}
 use Rattle.journal.specs.Logged.{Seen, heard_out, ring_through}
-use Rattle.run_rule.specs.declared.Ran.TheVariants.{Done, Refused}
 use Rattle.run_rule.proofs.Rulings.{done-is}
 use Rattle.runs.specs.Runs.{records_in, all_read, Card, card_behind, answers_to, ruled_run}
 use Rattle.run_laws.proofs.Laws.{both, parts}
@@ -28,6 +27,7 @@ use Rattle.log_laws.specs.Spoken.{heard_of, seen_then}
 use Rattle.run_log_laws.specs.RunSeen.{seen_over, ring_behind}
 use Rattle.run_log_laws.proofs.Answers.{answer-watched}
 use Rattle.run_log_laws.proofs.Said.{exchanged}
+use Rattle.std.specs.Prelude.{Err, Ok}
 
 -- its answer can be read from its bytes
 abbrev pub Readable : Seen → Type 0
@@ -61,7 +61,7 @@ module _ (logging : Logging) (shape : Shape) (paper : List ℕ) where
 
   module _ (card : Card) (run : List ℕ) (place : ℕ) (room ring : List ℕ) where
     -- A RUN THAT WAS CARRIED OUT
-    pub run-logs : (n : ℕ) → ruled_run shape run (length room) ≡ Done n → Each Readable (seen_over shape paper card place (records_in run))
+    pub run-logs : (n : ℕ) → ruled_run shape run (length room) ≡ Ok n → Each Readable (seen_over shape paper card place (records_in run))
         → ring_behind shape paper logging card run place room ring ≡ ring_through logging ring (seen_over shape paper card place (records_in run))
     unfolding ring_behind ring_run
     run-logs n done legible =
@@ -70,7 +70,7 @@ module _ (logging : Logging) (shape : Shape) (paper : List ℕ) where
         (rings (records_in run) card place ring (parts shape paper run is.0).1 legible)
 
     -- A REFUSED RUN, 9 or 17, leaves no answer to watch
-    pub refused-logs-none : (refusal : Refusal) → ruled_run shape run (length room) ≡ Refused refusal
+    pub refused-logs-none : (refusal : Refusal) → ruled_run shape run (length room) ≡ Err refusal
         → ring_behind shape paper logging card run place room ring ≡ ring
     unfolding ring_behind ring_run ring_over
     refused-logs-none refusal refused = rw refused (by (records_in run)) where

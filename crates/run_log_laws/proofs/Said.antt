@@ -8,9 +8,6 @@ use borrow.Author.Tests.{eqb-true, eq-eqb, ne_eqb}
 use lib.Dec.{eqb, ltb}
 use lib.ListN.{length}
 use Rattle.rules.specs.declared.Values.{Values}
-use Rattle.shape.specs.declared.Selecting.{Selecting}
-use Rattle.shape.specs.declared.Selecting.TheVariants.{Off, On}
-use Rattle.shape.specs.declared.Dating.{Dating}
 use Rattle.shape.specs.declared.Family.{Family}
 use Rattle.shape.specs.declared.Shape.{Shape}
 use Rattle.paper.specs.Walk.{Met}
@@ -18,8 +15,6 @@ use Rattle.state.specs.declared.Answer.{Answer}
 use Rattle.state.specs.declared.Answer.TheVariants.{Refused, Started, Given, Done}
 use Rattle.command.specs.declared.Command.{Command}
 use Rattle.command.specs.declared.Command.TheVariants.{Start, First as FirstCommand, Second as SecondCommand}
-use Rattle.command.specs.declared.ReadCommand.{ReadCommand}
-use Rattle.command.specs.declared.ReadCommand.TheVariants.{Taken as CommandTaken, Refused as CommandRefused}
 use Rattle.command.specs.Command.{is_cpace, start_length, first_length, slots_of, second_of, command_of, start_selected, selecting_of, read_by, command_in, is_command}
 use Rattle.command.proofs.Readable.{read_or_not}
 use Rattle.scripting.specs.Scripting.{script_step}
@@ -37,6 +32,10 @@ use Rattle.run_log.specs.RunLog.{heard_by}
 use Rattle.log_laws.specs.Spoken.{heard_of}
 use Rattle.log_laws.proofs.Said.{both, fork}
 use Rattle.run_log_laws.proofs.Answers.{Unheard}
+use Rattle.std.specs.Prelude.{Err, None, Ok, Option, Result, Some}
+use Rattle.refusal.specs.declared.Refusal.{Refusal}
+use Rattle.shape.specs.declared.SelectionFile.{SelectionFile}
+use Rattle.shape.specs.declared.Span.{Span}
 
 module _ (kind : ℕ) (body : List ℕ) where
   heard-other : (kind ≡ 3 → ⊥) → (kind ≡ 4 → ⊥) → heard_by kind body ≡ Other
@@ -52,9 +51,9 @@ module _ (kind : ℕ) (body : List ℕ) where
   unfolding second_of
   second-heard is = rw (ne_eqb kind 3 (λ q. omega arith), eq-eqb kind 4 is)
 
-  abbrev AsSaid : ReadCommand → Type 0
-  AsSaid (CommandTaken command) = heard_by kind body ≡ heard_of (SaidCommand command)
-  AsSaid (CommandRefused refusal) = Unit
+  abbrev AsSaid : Result Command Refusal → Type 0
+  AsSaid (Ok command) = heard_by kind body ≡ heard_of (SaidCommand command)
+  AsSaid (Err refusal) = Unit
 
   -- it is of a kind and has a length
   abbrev is_of : (n long : ℕ) → Bool
@@ -63,7 +62,7 @@ module _ (kind : ℕ) (body : List ℕ) where
   of : (n long : ℕ) → is_of n long ≡ true → kind ≡ n
   of n long e = (both kind n (length body) long e).0
 
-  named-said : (dating : Dating) (family : Family) → AsSaid (command_of dating family kind body)
+  named-said : (dating : Option Span) (family : Family) → AsSaid (command_of dating family kind body)
   unfolding command_of
   named-said dating family =
       fork AsSaid (is_of 2 (start_length family)) (λ e. start-heard (of 2 (start_length family) e)) (λ not_start.
@@ -73,10 +72,10 @@ module _ (kind : ℕ) (body : List ℕ) where
   command-said : (shape : Shape) (values : Values) (paper : List ℕ) → AsSaid (command_in shape values paper kind body)
   unfolding command_in
   command-said shape values paper = by shape.selecting where
-    by : (selecting : Selecting)
+    by : (selecting : Option SelectionFile)
         → AsSaid (read_by selecting shape.dating shape.family (slots_of shape.family values) paper kind body)
-    by Off = named-said shape.dating shape.family
-    by (On start end entries) = (unfold selecting_of start_selected in
+    by None = named-said shape.dating shape.family
+    by (Some part) = (unfold selecting_of start_selected in
         fork AsSaid (eqb kind 2)
         (λ e. fork AsSaid (is_cpace shape.family && eqb (length body) 0) (λ none. tt) (λ some. start-heard (eqb-true kind 2 e)))
         (λ not_start. named-said shape.dating shape.family))
@@ -125,13 +124,13 @@ module _ (shape : Shape) (paper : List ℕ) (card : Card) where
         let answer = (script_step card.state result template).answer in
         record { said = Script; answer = answer; event_is = sym is; heard-is = heard; unheard = other_unheard answer }
 
-    commanded : (read : ReadCommand) (command : Command) → read ≡ CommandTaken command → AsSaid met.kind met.body read
+    commanded : (read : Result Command Refusal) (command : Command) → read ≡ Ok command → AsSaid met.kind met.body read
         → (answered_by card.rules card.state 0 read).event ≡ (taken_by shape paper card met).event → Exchanged shape paper card met
     commanded read command is as_said there =
         record {
           said = SaidCommand command;
           answer = (step_of card.rules card.state command).answer;
-          event_is = sym there ∙ ap (λ (r : ReadCommand). (answered_by card.rules card.state 0 r).event) is;
+          event_is = sym there ∙ ap (λ (r : Result Command Refusal). (answered_by card.rules card.state 0 r).event) is;
           heard-is = subst (AsSaid met.kind met.body) is as_said;
           unheard = command_unheard command;
         }

@@ -4,24 +4,23 @@
 ghost use Rattle.std.specs.Prelude.{◌≡◌};
 ghost use Rattle.run_page.specs.RunPage.{refusal_in, answers_in};
 
-use run_rule::Ran;
 
 // The refusal of a run, 0 where there is none.
-pub fn refusal_in(ran: Ran) -> u8
+pub fn refusal_in(ran: Result<usize, Refusal>) -> u8
     ensures { result ≡ refusal_in ran }
 {
     match ran {
-        Ran::Done { .. } => 0,
-        Ran::Refused(refusal) => refusal.number(),
+        Ok { .. } => 0,
+        Err(refusal) => refusal.number(),
     }
 }
 
 // How many records were answered.
-pub fn answers_in(ran: Ran) -> usize
+pub fn answers_in(ran: Result<usize, Refusal>) -> usize
     ensures { result ≡ answers_in ran }
 {
     match ran {
-        Ran::Done { answers } => answers,
-        Ran::Refused(_) => 0,
+        Ok(answers) => answers,
+        Err(_) => 0,
     }
 }

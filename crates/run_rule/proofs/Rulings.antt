@@ -10,43 +10,41 @@ use lib.ListN.{length}
 use Rattle.refusal.specs.declared.Refusal.TheVariants.{Unreadable, NoRoomForAnswers}
 use Rattle.shape.specs.declared.Shape.{Shape}
 use Rattle.answers.specs.Answers.{size}
-use Rattle.run_rule.specs.declared.Counted.{Counted}
-use Rattle.run_rule.specs.declared.Counted.TheVariants.{Records, Unreadable as NotCounted}
-use Rattle.run_rule.specs.declared.Ran.TheVariants.{Done, Refused}
 use Rattle.run_rule.specs.Ruling.{records_in, is_run, count_of, ruled_run}
+use Rattle.std.specs.Prelude.{Err, None, Ok, Option, Some}
 
 module _ (shape : Shape) (run : List ℕ) where
   -- the count tells whether it is a run
-  pub uncounted : (counted : Counted) → counted ≡ count_of shape run → ((count : ℕ) → counted ≡ Records count → ⊥) → is_run shape run ≡ false
+  pub uncounted : (counted : Option ℕ) → counted ≡ count_of shape run → ((count : ℕ) → counted ≡ Some count → ⊥) → is_run shape run ≡ false
   unfolding count_of
   uncounted counted is k = by (is_run shape run) (rw is at k) where
-    by : (b : Bool) → ((count : ℕ) → cond b (Records (length (records_in run))) NotCounted ≡ Records count → ⊥) → b ≡ false
+    by : (b : Bool) → ((count : ℕ) → cond b (Some (length (records_in run))) None ≡ Some count → ⊥) → b ≡ false
     by true z = absurd (z _ refl)
     by false z = refl
 
-  counted : {count : ℕ} → count_of shape run ≡ Records count → (is_run shape run ≡ true) × (length (records_in run) ≡ count)
+  counted : {count : ℕ} → count_of shape run ≡ Some count → (is_run shape run ≡ true) × (length (records_in run) ≡ count)
   unfolding count_of
   counted {count} = by (is_run shape run) refl where
-    by : (b : Bool) → is_run shape run ≡ b → cond b (Records (length (records_in run))) NotCounted ≡ Records count
+    by : (b : Bool) → is_run shape run ≡ b → cond b (Some (length (records_in run))) None ≡ Some count
         → (is_run shape run ≡ true) × (length (records_in run) ≡ count)
     by true e is = (e, cc)
     by false e is = absurd (let z : ◌≡◌ {A = ℕ} 0 1 = cc in omega arith)
 
   -- the three rulings
   module _ (room : ℕ) where
-    pub no_run : is_run shape run ≡ false → ruled_run shape run room ≡ Refused Unreadable
+    pub no_run : is_run shape run ≡ false → ruled_run shape run room ≡ Err Unreadable
     unfolding ruled_run
     no_run e = rw e
 
-    module _ {count : ℕ} (e : count_of shape run ≡ Records count) where
-      pub no_room : room / size < count → ruled_run shape run room ≡ Refused NoRoomForAnswers
+    module _ {count : ℕ} (e : count_of shape run ≡ Some count) where
+      pub no_room : room / size < count → ruled_run shape run room ≡ Err NoRoomForAnswers
       unfolding ruled_run
       no_room h =
           let is = counted e in
           let short : ltb room (size * length (records_in run)) ≡ true = lt-ltb room (size * length (records_in run)) (omega (arith, is.1)) in
           rw (is.0, short)
 
-      pub has_room_lem : count ≤ room / size → ruled_run shape run room ≡ Done count
+      pub has_room_lem : count ≤ room / size → ruled_run shape run room ≡ Ok count
       unfolding ruled_run
       has_room_lem h =
           let is = counted e in
@@ -54,12 +52,12 @@ module _ (shape : Shape) (run : List ℕ) where
           rw (is.0, enough, is.1)
 
     -- what is carried out is a run, and the room has the bytes for its answers
-    pub done-is : (n : ℕ) → ruled_run shape run room ≡ Done n
+    pub done-is : (n : ℕ) → ruled_run shape run room ≡ Ok n
         → (is_run shape run ≡ true) × (size * length (records_in run) ≤ room) × (length (records_in run) ≡ n)
     unfolding ruled_run
     done-is n = by (is_run shape run) (ltb room (size * length (records_in run))) refl refl where
       by : (b short : Bool) → is_run shape run ≡ b → ltb room (size * length (records_in run)) ≡ short
-          → cond b (cond short (Refused NoRoomForAnswers) (Done (length (records_in run)))) (Refused Unreadable) ≡ Done n
+          → cond b (cond short (Err NoRoomForAnswers) (Ok (length (records_in run)))) (Err Unreadable) ≡ Ok n
           → (is_run shape run ≡ true) × (size * length (records_in run) ≤ room) × (length (records_in run) ≡ n)
       by true false i l e = (i, ltb-false room (size * length (records_in run)) l, cc)
       by true true i l e = absurd (let z : ◌≡◌ {A = ℕ} 0 1 = cc in omega arith)

@@ -15,9 +15,8 @@ use Rattle.paper.specs.Paper.{next_at}
 use Rattle.paper.specs.Walk.{Met, part, met_in, place_in}
 use Rattle.paper.proofs.Walk.{inside, Stopped, past_end, rests, walk-on}
 use Rattle.records.specs.Records.{can_be_read}
-use Rattle.run_rule.specs.declared.Counted.{Counted}
-use Rattle.run_rule.specs.declared.Counted.TheVariants.{Records, Unreadable}
 use Rattle.run_rule.specs.Ruling.{records_in, all_read, is_run, count_of}
+use Rattle.std.specs.Prelude.{None, Some}
 
 -- what stands at a place is no record
 pub stopped : (run : List ℕ) (at : ℕ) (next : Next) → ((kind start end : ℕ) → next ≡ Record kind start end → ⊥) → next ≡ next_at run at → Stopped run at
@@ -74,13 +73,13 @@ module _ (shape : Shape) (run : List ℕ) where
             counts = omega (arith, counting.counts, ap length on.0);
           }
 
-      pub unread : can_be_read shape kind (end - start) ≡ false → Unreadable ≡ count_of shape run
+      pub unread : can_be_read shape kind (end - start) ≡ false → None ≡ count_of shape run
       unfolding count_of
       unread not =
           let no_run : is_run_from at ≡ false = rw not at (first at kind start end e) in
           rw (sym counting.decides ∙ no_run)
 
-    pub no_record : at < length run → Stopped run at → Unreadable ≡ count_of shape run
+    pub no_record : at < length run → Stopped run at → None ≡ count_of shape run
     unfolding count_of
     no_record h stopped =
         let stays = (rests (length run) run at stopped).1 in
@@ -88,7 +87,7 @@ module _ (shape : Shape) (run : List ℕ) where
         let no_run = sym counting.decides ∙ ap (λ b. b && all_read shape (met_from at)) short in
         rw no_run
 
-    pub all-counted : length run ≤ at → Records count ≡ count_of shape run
+    pub all-counted : length run ≤ at → Some count ≡ count_of shape run
     unfolding count_of all_read
     all-counted h =
         let over = rests (length run) run at (inl (past_end run at h)) in

@@ -1,14 +1,11 @@
 -- A run (document 02, Eleven): the bytes of zero or more records as they stand in a paper, and what is ruled of it.
-use Rattle.std.specs.Prelude.{ℕ, ◌*◌, Bool, true, cond, ◌&&◌, List, [], ◌∷◌, leb, ltb, length}
+use Rattle.std.specs.Prelude.{ℕ, ◌*◌, Bool, true, cond, ◌&&◌, List, [], ◌∷◌, leb, ltb, length, Err, None, Ok, Option, Result, Some}
 use Rattle.refusal.specs.declared.Refusal.TheVariants.{Unreadable, NoRoomForAnswers}
 use Rattle.shape.specs.declared.Shape.{Shape}
 use Rattle.paper.specs.Walk.{Met, met_in, place_in}
 use Rattle.records.specs.Records.{can_be_read}
 use Rattle.answers.specs.Answers.{size}
-use Rattle.run_rule.specs.declared.Counted.{Counted}
-use Rattle.run_rule.specs.declared.Counted.TheVariants.{Records, Unreadable as NotCounted}
-use Rattle.run_rule.specs.declared.Ran.{Ran}
-use Rattle.run_rule.specs.declared.Ran.TheVariants.{Done, Refused}
+use Rattle.refusal.specs.declared.Refusal.{Refusal}
 
 -- its records, and where the walk over them stops: at its end, a length 0 or a record cut short
 abbrev pub records_in : (run : List ℕ) → List Met
@@ -25,12 +22,12 @@ all_read shape (met ∷ more) = can_be_read shape met.kind (length met.body) && 
 unfoldable pub is_run : Shape → (run : List ℕ) → Bool
 is_run shape run = leb (length run) (stop_in run) && all_read shape (records_in run)
 
-unfoldable pub count_of : Shape → (run : List ℕ) → Counted
-count_of shape run = cond (is_run shape run) (Records (length (records_in run))) NotCounted
+unfoldable pub count_of : Shape → (run : List ℕ) → Option ℕ
+count_of shape run = cond (is_run shape run) (Some (length (records_in run))) None
 
 -- THE RULING: refusal 9 for what is no run, then 17 for room of so many bytes that is too small for all answers
-unfoldable pub ruled_run : Shape → (run : List ℕ) (room : ℕ) → Ran
+unfoldable pub ruled_run : Shape → (run : List ℕ) (room : ℕ) → Result ℕ Refusal
 ruled_run shape run room =
     cond (is_run shape run)
-    (cond (ltb room (size * length (records_in run))) (Refused NoRoomForAnswers) (Done (length (records_in run))))
-    (Refused Unreadable)
+    (cond (ltb room (size * length (records_in run))) (Err NoRoomForAnswers) (Ok (length (records_in run))))
+    (Err Unreadable)

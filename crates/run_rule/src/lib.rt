@@ -9,50 +9,35 @@ use paper::Next;
 use refusal::Refusal;
 use shape::Shape;
 
-#[derive(Clone, Copy)]
-pub enum Ran {
-    // So many records were answered.
-    Done { answers: usize },
-    // Nothing was run.
-    Refused(Refusal),
-}
-
-// How many records a run has.
-#[derive(Drop)]
-enum Counted {
-    Records(usize),
-    Unreadable,
-}
-
 // The records of a run are counted, where each of them can be read.
-fn count_records(shape: Shape, records: &[u8]) -> Counted
+fn count_records(shape: Shape, records: &[u8]) -> Option<usize>
     ensures { result ≡ count_of shape records.now }
 {
     let mut at = 0;
     let mut count = 0;
     while at < records.len() {
         let Next::Record { kind, start, end } = paper::record_at(records, at) else {
-            return Counted::Unreadable;
+            return None;
         };
         if !records::can_be_read(shape, kind, end - start) {
-            return Counted::Unreadable;
+            return None;
         }
         at = end;
         count += 1;
     }
-    Counted::Records(count)
+    Some(count)
 }
 
 // Refusal 9 for a run that is not made of records that can be read, then 17 for room of so many bytes
 // that is too small for all answers.
-pub fn rule(shape: Shape, records: &[u8], room: usize) -> Ran
+pub fn rule(shape: Shape, records: &[u8], room: usize) -> Result<usize, Refusal>
     ensures { result ≡ ruled_run shape records.now room }
 {
-    let Counted::Records(count) = count_records(shape, records) else {
-        return Ran::Refused(Refusal::Unreadable);
+    let Some(count) = count_records(shape, records) else {
+        return Err(Refusal::Unreadable);
     };
     if room / answers::SIZE < count {
-        return Ran::Refused(Refusal::NoRoomForAnswers);
+        return Err(Refusal::NoRoomForAnswers);
     }
-    Ran::Done { answers: count }
+    Ok(count)
 }

@@ -7,10 +7,11 @@ use borrow.Author.Tests.{le-leb, lt-leb}
 use lib.ListN.{length}
 use lib.Seq.{sets}
 use Rattle.text.specs.Stored.{Stored}
-use Rattle.run_rule.specs.declared.Ran.{Ran}
 use Rattle.run_page.specs.RunPage.{ran_line, hex_lines, page_of, page_size, page_text, page_end}
+use Rattle.std.specs.Prelude.{Result}
+use Rattle.refusal.specs.declared.Refusal.{Refusal}
 
-module _ (text : List ℕ) (ran : Ran) (room : List ℕ) where
+module _ (text : List ℕ) (ran : Result ℕ Refusal) (room : List ℕ) where
   pub no_page : length text < page_size (length room) → (0 ≡ page_end (length text) ran room) × (text ≡ page_text text ran room)
   unfolding page_text page_end
   no_page full = let none = lt-leb (page_size (length room)) (length text) full in (rw none, rw none)

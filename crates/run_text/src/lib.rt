@@ -7,7 +7,6 @@ ghost use Rattle.hex_digits.specs.Hex.{hex_byte};
 ghost use Rattle.text.specs.Stored.{Stored};
 ghost use Rattle.run_page.specs.RunPage.{ran_line, feed, hex_lines, page_end, page_text};
 
-use run_rule::Ran;
 
 // The most bytes of what became of a run.
 const LONGEST_HEAD: usize = 46;
@@ -23,7 +22,7 @@ fn put_text(room: &mut [u8], at: usize, text: &[u8]) -> usize
 }
 
 // What became of a run.
-fn put_ran(room: &mut [u8], at: usize, ran: Ran) -> usize
+fn put_ran(room: &mut [u8], at: usize, ran: Result<usize, Refusal>) -> usize
     requires { at + 46 ≤ length room.old }
     ensures { Stored room.old at (ran_line ran) 46 result room.new }
 {
@@ -67,7 +66,7 @@ fn put_lines(room: &mut [u8], at: usize, bytes: &[u8]) -> usize
 }
 
 // The whole page, and where it ends. Without room for the longest page nothing is written.
-pub fn put_page(text: &mut [u8], ran: Ran, room: &[u8]) -> usize
+pub fn put_page(text: &mut [u8], ran: Result<usize, Refusal>, room: &[u8]) -> usize
     ensures { (result ≡ page_end (length text.old) ran room.now)
         × (text.new ≡ page_text text.old ran room.now) }
 {

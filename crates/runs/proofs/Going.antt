@@ -17,8 +17,6 @@ use Rattle.paper.specs.Walk.{Met, part, place_in}
 use Rattle.paper.proofs.Walk.{inside, Stopped, past_end, rests, walk-on}
 use Rattle.text.proofs.Laws.{sets_on}
 use Rattle.script.specs.Script.{rules_after, words_after}
-use Rattle.command.specs.declared.ReadCommand.{ReadCommand}
-use Rattle.command.specs.declared.ReadCommand.TheVariants.{Taken as CommandTaken, Refused as CommandRefused}
 use Rattle.command.specs.Command.{command_in}
 use Rattle.state.specs.declared.State.{State}
 use Rattle.state.specs.declared.Answer.{Answer}
@@ -33,6 +31,9 @@ use Rattle.answers.specs.Answers.{size, answer_bytes, placed}
 use Rattle.answers.proofs.Laws.{answer-size}
 use Rattle.runs.specs.Runs.{records_in, all_read, is_run, Card, card_of, answered_in, taken_by, writes_of, card_behind, card_after, answers_to}
 use Rattle.run_rule.proofs.Walk.{met_from, is_run_from, body_length, first}
+use Rattle.std.specs.Prelude.{Err, Ok, Result}
+use Rattle.command.specs.declared.Command.{Command}
+use Rattle.refusal.specs.declared.Refusal.{Refusal}
 
 -- ---- a record, wherever it ends
 
@@ -42,14 +43,14 @@ pub elsewhere : (rules : Rules) (shape : Shape) (state : State) (paper : List �
     (taken.state ≡ at-0.state) × (taken.event ≡ at-0.event)
 unfolding answered_by scripted_by
 elsewhere rules shape state paper kind body end = by (is_script shape kind) body (command_in shape state.values paper kind body) where
-  by : (script : Bool) (body : List ℕ) (read : ReadCommand) →
+  by : (script : Bool) (body : List ℕ) (read : Result Command Refusal) →
       let taken = cond script (scripted_by state body end) (answered_by rules state end read) in
       let at-0 = cond script (scripted_by state body 0) (answered_by rules state 0 read) in
       (taken.state ≡ at-0.state) × (taken.event ≡ at-0.event)
   by true [] read = (refl, refl)
   by true (result ∷ template) read = (refl, refl)
-  by false body (CommandTaken command) = (refl, refl)
-  by false body (CommandRefused refusal) = (refl, refl)
+  by false body (Ok command) = (refl, refl)
+  by false body (Err refusal) = (refl, refl)
 
 -- what was not answered was not read
 pub not_answered : (event : Event) {said : Said} {answer : Answer} → ((said : Said) (answer : Answer) → event ≡ Answered said answer → ⊥) → event ≡ Answered said answer → ⊥

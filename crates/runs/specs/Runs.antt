@@ -1,5 +1,5 @@
 -- A run carried out (document 02, Eleven): the card behind its records, and their answers in the lent room.
-use Rattle.std.specs.Prelude.{ℕ, List, [], ◌∷◌, ◌++◌, length}
+use Rattle.std.specs.Prelude.{ℕ, List, [], ◌∷◌, ◌++◌, length, Err, Ok, Result}
 use Rattle.std.proofs.lemmas.List.Edits.{sets}
 use Rattle.rules.specs.Rules.{Rules, rules_of}
 use Rattle.shape.specs.declared.Shape.{Shape}
@@ -13,11 +13,10 @@ use Rattle.records.specs.declared.Taken.{Taken}
 use Rattle.records.specs.Records.{record_taken, record_writes}
 use Rattle.keeper.specs.Keeper.{rooms_recorded}
 use Rattle.answers.specs.Answers.{answer_bytes}
-use Rattle.run_rule.specs.declared.Ran.{Ran}
-use Rattle.run_rule.specs.declared.Ran.TheVariants.{Done, Refused}
 pub use Rattle.run_rule.specs.Ruling.{records_in, stop_in}
 unfoldable pub use Rattle.run_rule.specs.Ruling.{all_read, is_run, ruled_run}
 use Rattle.runs.specs.declared.RunEnd.{RunEnd}
+use Rattle.refusal.specs.declared.Refusal.{Refusal}
 
 -- THE CARD: its rules and the words that they lie in, the room left, its state
 pub record Card : Type 0 where
@@ -63,9 +62,9 @@ module _ (shape : Shape) (paper : List ℕ) where
   answers_to card (met ∷ more) = answered_in (taken_by card met).event ++ answers_to (card_behind card met) more
 
 -- a run is carried out, or for a refusal nothing is
-abbrev pub unless : {A : Type 0} → Ran → (refused done : A) → A
-unless (Refused refusal) refused done = refused
-unless (Done answers) refused done = done
+abbrev pub unless : {A : Type 0} → Result ℕ Refusal → (refused done : A) → A
+unless (Err refusal) refused done = refused
+unless (Ok answers) refused done = done
 
 unfoldable pub card_run : Shape → (paper : List ℕ) → Card → (run : List ℕ) (room : ℕ) → Card
 card_run shape paper card run room = unless (ruled_run shape run room) card (card_after shape paper card (records_in run))

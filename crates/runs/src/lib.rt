@@ -12,7 +12,6 @@ use paper::Next;
 use records::Event;
 use rooms::Rooms;
 use rules::Words;
-use run_rule::Ran;
 use shape::Shape;
 use state::State;
 
@@ -20,7 +19,7 @@ use state::State;
 #[derive(Drop)]
 pub struct RunEnd {
     pub state: State,
-    pub ran: Ran,
+    pub ran: Result<usize, Refusal>,
 }
 
 // Each record is answered on the card as it then stands, and its answer stored behind those before it.
@@ -88,8 +87,8 @@ pub fn run(
 {
     let ran = run_rule::rule(shape, records, room.len());
     match ran {
-        Ran::Refused(_) => RunEnd { state, ran },
-        Ran::Done { .. } => RunEnd {
+        Err(_) => RunEnd { state, ran },
+        Ok { .. } => RunEnd {
             state: answer_records(words, rooms, shape, paper, state, records, room),
             ran,
         },

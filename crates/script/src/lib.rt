@@ -7,7 +7,7 @@ ghost use Rattle.put_data.specs.PutData.{writes_of, is_some, is_valid};
 ghost use Rattle.script.specs.Script.{values_after, rules_after, words_after};
 ghost use Rattle.script.specs.Script.{done, given, ran_of, rules_run, words_run};
 
-use cursor::{Next, next_command};
+use cursor::{Span, next_command};
 use marks::Scripts;
 use put_data::{is_valid, next_write};
 use rules::{Values, Words};
@@ -61,7 +61,7 @@ pub fn run(
 {
     let mut at = 0;
     loop {
-        let Next::Command { start, size } = next_command(template, at) else {
+        let Some(Span { start, size }) = next_command(template, at) else {
             return Ran { values, scripts };
         };
         let end = start + size;

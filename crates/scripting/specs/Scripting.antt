@@ -1,5 +1,5 @@
 -- An issuer's script sent to a card: a ruling, then a performance (document 02, Twelve).
-use Rattle.std.specs.Prelude.{ℕ, Bool, cond, List, [], eqb, ltb}
+use Rattle.std.specs.Prelude.{ℕ, Bool, cond, List, [], eqb, ltb, Err, Ok, Result}
 use Rattle.refusal.specs.declared.Refusal.TheVariants.{OutOfTurn, OutOfRange, Malformed, TooDeep}
 use Rattle.state.specs.declared.Answer.TheVariants.{Done}
 use Rattle.state.specs.declared.Phase.{Phase}
@@ -7,19 +7,20 @@ use Rattle.state.specs.declared.Phase.TheVariants.{Idle, Opened, Asked}
 use Rattle.state.specs.declared.State.{State}
 use Rattle.state.specs.declared.Outcome.{Outcome}
 use Rattle.state.specs.Ruling.{Ruling, refuse, take, carried}
-use Rattle.object.specs.declared.Reading.{Reading}
-use Rattle.object.specs.declared.Reading.TheVariants.{Sound, Malformed as NoTemplate, TooDeep as DeepTemplate}
 use Rattle.object.specs.Object.{read_template}
 use Rattle.element.specs.declared.Write.{Write}
 use Rattle.marks.specs.declared.Scripts.{Scripts}
 use Rattle.script.specs.Script.{template_tried, ran_of}
+use Rattle.object.specs.declared.Fault.{Fault}
+use Rattle.object.specs.declared.Fault.TheVariants.{Malformed as NoTemplate}
+use Rattle.object.specs.declared.Fault.TheVariants.{TooDeep as DeepTemplate}
 
 -- 2 where First is due, 6 for a secure messaging result above 1, then 18 or 19 by its template. It goes on with whether the result is
 -- "verified"
-abbrev pub rule_reading : (verified : Bool) → Reading → Ruling Bool
-rule_reading verified Sound = take verified
-rule_reading verified NoTemplate = refuse Malformed
-rule_reading verified DeepTemplate = refuse TooDeep
+abbrev pub rule_reading : (verified : Bool) → Result Unit Fault → Ruling Bool
+rule_reading verified (Ok done) = take verified
+rule_reading verified (Err NoTemplate) = refuse Malformed
+rule_reading verified (Err DeepTemplate) = refuse TooDeep
 
 abbrev pub rule_script_fields : (result : ℕ) → (template : List ℕ) → Ruling Bool
 rule_script_fields result template = cond (ltb 1 result) (refuse OutOfRange) (rule_reading (eqb result 1) (read_template template))

@@ -6,7 +6,7 @@ ghost use Rattle.rules.specs.Rules.{rules_of};
 ghost use Rattle.script.specs.Script.{rules_after, words_after, rules_run, words_run};
 ghost use Rattle.scripting.specs.Scripting.{script_performed, script_taken, template_writes, script_step, script_writes};
 
-use object::Reading;
+use object::Fault;
 use refusal::Refusal;
 use rules::Words;
 use state::{Answer, Outcome, Phase, State, refuse};
@@ -48,9 +48,9 @@ fn take_script(words: &mut Words, state: State, res: u8, template: &[u8]) -> Out
         return refuse(state, Refusal::OutOfRange);
     }
     match object::read_template(template) {
-        Reading::Sound => run_script(words, state, res == 1, template),
-        Reading::Malformed => refuse(state, Refusal::Malformed),
-        Reading::TooDeep => refuse(state, Refusal::TooDeep),
+        Ok(()) => run_script(words, state, res == 1, template),
+        Err(Fault::Malformed) => refuse(state, Refusal::Malformed),
+        Err(Fault::TooDeep) => refuse(state, Refusal::TooDeep),
     }
 }
 

@@ -1,20 +1,18 @@
 -- What the three calls return, and what they leave in the lent cells and bytes (request Eleven). A seat of fewer cells than a card takes is refusal 7
 -- before all else. Where a call returns 0 its card is stored; else nothing changes.
-use Rattle.std.specs.Prelude.{ℕ, cond, List, eqb}
+use Rattle.std.specs.Prelude.{ℕ, cond, List, eqb, Err, Ok, Result}
 use Rattle.refusal.specs.declared.Refusal.TheVariants.{RoomTooSmall}
 use Rattle.refusal.specs.Refusal.{refusal_number}
 use Rattle.rules.specs.Rules.{rules_of, blank_words}
-use Rattle.rooms.specs.declared.RoomLeft.{RoomLeft}
-use Rattle.rooms.specs.declared.RoomLeft.TheVariants.{Left, Refused as NoRoom}
 use Rattle.rooms.specs.Rooms.{no_rooms, room_left as stored_room, room_number as stored_number}
 use Rattle.records.specs.declared.Event.{Event}
 use Rattle.records.specs.declared.Event.TheVariants.{SetUp, End, Refused, Answered}
 use Rattle.opening.specs.Opening.{begun_of, words_begun}
 use Rattle.keeper.specs.Keeper.{rooms_begun}
-use Rattle.run_rule.specs.declared.Ran.{Ran}
-use Rattle.run_rule.specs.declared.Ran.TheVariants.{Done, Refused as RunRefused}
 use Rattle.runs.specs.Runs as runs
 use Rattle.card_cells.specs.Seat.{Card, card_of, is_short, stored_in, card_in}
+use Rattle.money.specs.declared.AccumulatorAmount.{AccumulatorAmount}
+use Rattle.refusal.specs.declared.Refusal.{Refusal}
 
 abbrev pub seat_number : (cells : List ℕ) → (other : ℕ) → ℕ
 seat_number cells other = cond (is_short cells) (refusal_number RoomTooSmall) other
@@ -45,11 +43,11 @@ card_behind paper card records room =
     let after = runs.card_run card.shape paper (run_card card) records room in
     card_of after.words after.rooms card.shape after.state
 
-abbrev pub ran_number : Ran → ℕ
-ran_number (Done answers) = 0
-ran_number (RunRefused refusal) = refusal_number refusal
+abbrev pub ran_number : Result ℕ Refusal → ℕ
+ran_number (Ok answers) = 0
+ran_number (Err refusal) = refusal_number refusal
 
-abbrev pub ruling : (cells records : List ℕ) (room : ℕ) → Ran
+abbrev pub ruling : (cells records : List ℕ) (room : ℕ) → Result ℕ Refusal
 ruling cells records room = runs.ruled_run (card_in cells).shape records room
 
 unfoldable pub run_number : (cells records : List ℕ) (room : ℕ) → ℕ
@@ -64,12 +62,12 @@ run_room paper cells records room =
     cond (is_short cells) room (runs.room_run (card_in cells).shape paper (run_card (card_in cells)) records room)
 
 -- THE ROOM LEFT of an accumulator of a profile, as the seated card stores it
-abbrev pub asked : (cells : List ℕ) (profile accumulator : ℕ) → RoomLeft
+abbrev pub asked : (cells : List ℕ) (profile accumulator : ℕ) → Result AccumulatorAmount Refusal
 asked cells profile accumulator = stored_room (rules_of (card_in cells).words) (card_in cells).rooms profile accumulator
 
-abbrev pub left_or : (before : ℕ) → RoomLeft → ℕ
-left_or before (Left amount) = amount.0
-left_or before (NoRoom refusal) = before
+abbrev pub left_or : (before : ℕ) → Result AccumulatorAmount Refusal → ℕ
+left_or before (Ok amount) = amount.0
+left_or before (Err refusal) = before
 
 unfoldable pub room_number : (cells : List ℕ) (profile accumulator : ℕ) → ℕ
 room_number cells profile accumulator = seat_number cells (stored_number (asked cells profile accumulator))

@@ -11,8 +11,7 @@ use card_cells::{SHAPE, SIZE, VALUES, put_card, rooms_in, words_in};
 use keeper::begin;
 use records::Event;
 use refusal::Refusal;
-use rooms::{RoomLeft, room_left};
-use run_rule::Ran;
+use rooms::room_left;
 use runs::run;
 
 // 0, or the refusal.
@@ -27,12 +26,12 @@ fn event_number(event: Event) -> u8
     }
 }
 
-fn ran_number(ran: Ran) -> u8
+fn ran_number(ran: Result<usize, Refusal>) -> u8
     ensures { result ≡ ran_number ran }
 {
     match ran {
-        Ran::Done { .. } => 0,
-        Ran::Refused(refusal) => refusal.number(),
+        Ok { .. } => 0,
+        Err(refusal) => refusal.number(),
     }
 }
 
@@ -106,10 +105,10 @@ pub extern "C" fn comblattice_room(seat: &[u64], profile: u8, accumulator: u8, l
     let words = words_in(seat);
     let rooms = rooms_in(seat);
     match room_left(&words, &rooms, profile, accumulator) {
-        RoomLeft::Left(amount) => {
+        Ok(amount) => {
             *left = amount.0;
             0
         }
-        RoomLeft::Refused(refusal) => refusal.number(),
+        Err(refusal) => refusal.number(),
     }
 }

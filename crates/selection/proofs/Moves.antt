@@ -15,8 +15,8 @@ use Rattle.entry.specs.declared.Action.{Action}
 use Rattle.entry.specs.declared.Action.TheVariants.{Move}
 use Rattle.entry.proofs.Facts.{moves_down}
 use Rattle.selection.specs.Selection.{first_entry, below, entries_of, is_file, one_more, follow, select_from, selection_of, skipped}
-use Rattle.selection.specs.declared.Selection.{Selection}
-use Rattle.selection.specs.declared.Selection.TheVariants.{NotSelected}
+use Rattle.std.specs.Prelude.{None, Option}
+use Rattle.selection.specs.declared.Selected.{Selected}
 
 pub skip_none : (s : List ℕ) (k : ℕ) → k ≡ 0 → s ≡ skipped s k
 unfolding skipped
@@ -50,7 +50,7 @@ from-skipped (suc k) (suc n) s d slots =
     let z : suc n - suc k ≡ n - k = omega arith in
     from-skipped k n (below s) d slots ∙ ap (λ (m : ℕ). selection_of (skipped (below s) k) m d slots) (sym z)
 
-pub none : (s d : List ℕ) (slots : Slots) (n : ℕ) → n ≡ 0 → selection_of s n d slots ≡ NotSelected
+pub none : (s d : List ℕ) (slots : Slots) (n : ℕ) → n ≡ 0 → selection_of s n d slots ≡ None
 unfolding selection_of select_from entries_of
 none s d slots n h = rw h
 
@@ -81,8 +81,8 @@ module _ {s d : List ℕ} {slots : Slots} {n : ℕ} {r : Action} (v : Visit s d 
         let below-is = skip_more s m (λ z. omega arith) in
         step (Move m) e ∙ ap one_more (from-skipped (m - 1) (n - 1) (below s) d slots ∙ ap₂ (λ (t : List ℕ) (k : ℕ). selection_of t k d slots) (sym below-is) l)
 
-    pub moves-on : {t : List ℕ} {q p : Selection} → t ≡ skipped s m → q ≡ selection_of t (n - m) d slots → q ≡ p → one_more p ≡ selection_of s n d slots
+    pub moves-on : {t : List ℕ} {q p : Option Selected} → t ≡ skipped s m → q ≡ selection_of t (n - m) d slots → q ≡ p → one_more p ≡ selection_of s n d slots
     moves-on g f a = ap one_more (sym a ∙ f ∙ ap (λ (x : List ℕ). selection_of x (n - m) d slots) g) ∙ sym moved
 
-    pub moves-past : n ≤ m → selection_of s n d slots ≡ NotSelected
+    pub moves-past : n ≤ m → selection_of s n d slots ≡ None
     moves-past h = moved ∙ ap one_more (none (skipped s m) d slots (n - m) (omega arith))

@@ -17,19 +17,20 @@ use Rattle.entry.specs.declared.Action.{Action}
 use Rattle.entry.specs.declared.Action.TheVariants.{Profile, Move, Refused}
 use Rattle.selection.specs.Selection.{entries_of, one_more, follow, select_from, selection_of}
 use Rattle.selection.specs.Visits.{onward, visited_from, visited, entry_at, Alike, All, Among, Tests}
-use Rattle.selection.specs.declared.Selection.{Selection}
 use Rattle.selection.proofs.Looked.{same_action}
 use Rattle.selection.proofs.Visits.{entries-number}
+use Rattle.std.specs.Prelude.{Option}
+use Rattle.selection.specs.declared.Selected.{Selected}
 
 all_map : (P : ℕ → Type 0) (xs : List ℕ) → All P (map suc xs) → All (λ i. P (suc i)) xs
 all_map P [] h = tt
 all_map P (x ∷ xs) h = (h.0, all_map P xs h.1)
 
 -- the same selection, by the same visits
-abbrev Same : (s s' : Selection) (v v' : List ℕ) → Type 0
+abbrev Same : (s s' : Option Selected) (v v' : List ℕ) → Type 0
 Same s s' v v' = (s ≡ s') × (v ≡ v')
 
-follow_alike : (P : ℕ → Type 0) (a : Action) (f g : ℕ → Selection) (v w : ℕ → List ℕ)
+follow_alike : (P : ℕ → Type 0) (a : Action) (f g : ℕ → Option Selected) (v w : ℕ → List ℕ)
     → ((m : ℕ) → All P (map suc (v m)) → Same (f m) (g m) (v m) (w m))
     → All P (map suc (onward a v)) → Same (follow a f) (follow a g) (onward a v) (onward a w)
 unfolding follow
@@ -53,7 +54,7 @@ module _ (d d' : List ℕ) (slots slots' : Slots) (family : slots.testable ≡ s
       let P : ℕ → Type 0 = AlikeAt (e ∷ es) (e' ∷ es') in
       let a : action_taken e d slots ≡ action_taken e' d' slots' =
       same_action e d d' slots slots' family here.seen here.tested ∙ ap (λ (x : List ℕ). action_taken x d' slots') here.entry in
-      let f : ℕ → Selection = λ m. select_from (m - 1) es' d' slots' in
+      let f : ℕ → (Option Selected) = λ m. select_from (m - 1) es' d' slots' in
       let v : ℕ → List ℕ = λ m. visited_from (m - 1) es' d' slots' in
       let (s, t) =
       follow_alike P (action_taken e d slots) (λ m. select_from (m - 1) es d slots) f (λ m. visited_from (m - 1) es d slots) v

@@ -10,18 +10,18 @@ use Rattle.entry.specs.declared.Action.{Action}
 use Rattle.entry.specs.declared.Action.TheVariants.{Profile, Move, Refused}
 use Rattle.selection.specs.Selection.{below, entries_of, one_more, follow, select_from, selection_of, visits_of}
 use Rattle.selection.specs.Visits.{onward, visited_from, visited}
-use Rattle.selection.specs.declared.Selection.{Selection}
-use Rattle.selection.specs.declared.Selection.TheVariants.{Selected, NotSelected}
+use Rattle.std.specs.Prelude.{None, Option, Some}
+use Rattle.selection.specs.declared.Selected.{Selected}
 
 -- AT MOST AS MANY VISITS AS ENTRIES
-follow-few : (a : Action) (f : ℕ → Selection) (n : ℕ) → ((m : ℕ) → visits_of (f m) ≤ n) → visits_of (follow a f) ≤ suc n
+follow-few : (a : Action) (f : ℕ → Option Selected) (n : ℕ) → ((m : ℕ) → visits_of (f m) ≤ n) → visits_of (follow a f) ≤ suc n
 unfolding follow
 follow-few (Profile p) f n h = omega arith
 follow-few (Move m) f n h = more (f m) (h m)
   where
-    more : (s : Selection) → visits_of s ≤ n → visits_of (one_more s) ≤ suc n
-    more (Selected p v) g = omega arith
-    more NotSelected g = omega arith
+    more : (s : Option Selected) → visits_of s ≤ n → visits_of (one_more s) ≤ suc n
+    more (Some chosen) g = omega arith
+    more None g = omega arith
 follow-few Refused f n h = omega arith
 
 few-from : (k : ℕ) (es : List (List ℕ)) (d : List ℕ) (slots : Slots) → visits_of (select_from k es d slots) ≤ length es
@@ -41,23 +41,23 @@ module _ (file : List ℕ) (n : ℕ) (d : List ℕ) (slots : Slots) where
   unfolding selection_of
   few-visits = omega (arith, few-from 0 (entries_of file n) d slots, entries-number n file)
 
-  pub few-told : (r : Selection) (p v : ℕ) → r ≡ selection_of file n d slots → r ≡ Selected p v → v ≤ n
+  pub few-told : (r : Option Selected) (p v : ℕ) → r ≡ selection_of file n d slots → r ≡ Some (record { profile = p; visits = v }) → v ≤ n
   few-told r p v e f = omega (arith, few-visits, ap visits_of (sym e ∙ f))
 
 -- VISITS ARE THE ENTRIES VISITED
-follow-counts : (a : Action) (f : ℕ → Selection) (v : ℕ → List ℕ) → ((m p n : ℕ) → f m ≡ Selected p n → length (v m) ≡ n)
-    → (p n : ℕ) → follow a f ≡ Selected p n → suc (length (map suc (onward a v))) ≡ n
+follow-counts : (a : Action) (f : ℕ → Option Selected) (v : ℕ → List ℕ) → ((m p n : ℕ) → f m ≡ Some (record { profile = p; visits = n }) → length (v m) ≡ n)
+    → (p n : ℕ) → follow a f ≡ Some (record { profile = p; visits = n }) → suc (length (map suc (onward a v))) ≡ n
 unfolding follow
 follow-counts (Profile q) f v h p n e = cc
 follow-counts (Move m) f v h p n e = more (f m) refl e
   where
-    more : (s : Selection) → f m ≡ s → one_more s ≡ Selected p n → suc (length (map suc (v m))) ≡ n
-    more (Selected q k) g i = let z : k + 1 ≡ n = cc in omega (arith, length-map (v m) suc, h m q k g)
-    more NotSelected g i = let z : ◌≡◌ {A = ℕ} 0 1 = cc in absurd (omega arith)
+    more : (s : Option Selected) → f m ≡ s → one_more s ≡ Some (record { profile = p; visits = n }) → suc (length (map suc (v m))) ≡ n
+    more (Some chosen) g i = let z : chosen.visits + 1 ≡ n = cc in omega (arith, length-map (v m) suc, h m chosen.profile chosen.visits g)
+    more None g i = let z : ◌≡◌ {A = ℕ} 0 1 = cc in absurd (omega arith)
 follow-counts Refused f v h p n e = let z : ◌≡◌ {A = ℕ} 0 1 = cc in absurd (omega arith)
 
 counts-from : (k : ℕ) (es : List (List ℕ)) (d : List ℕ) (slots : Slots) (p n : ℕ)
-    → select_from k es d slots ≡ Selected p n → length (visited_from k es d slots) ≡ n
+    → select_from k es d slots ≡ Some (record { profile = p; visits = n }) → length (visited_from k es d slots) ≡ n
 unfolding select_from visited_from
 counts-from k [] d slots p n e = let z : ◌≡◌ {A = ℕ} 0 1 = cc in absurd (omega arith)
 counts-from zero (e ∷ es) d slots p n h =
@@ -66,6 +66,6 @@ counts-from zero (e ∷ es) d slots p n h =
 counts-from (suc k) (e ∷ es) d slots p n h = length-map (visited_from k es d slots) suc ∙ counts-from k es d slots p n h
 
 pub counts-visited : (file : List ℕ) (n : ℕ) (d : List ℕ) (slots : Slots) (p v : ℕ)
-    → selection_of file n d slots ≡ Selected p v → length (visited file n d slots) ≡ v
+    → selection_of file n d slots ≡ Some (record { profile = p; visits = v }) → length (visited file n d slots) ≡ v
 unfolding selection_of
 counts-visited file n d slots p v h = counts-from 0 (entries_of file n) d slots p v h

@@ -9,8 +9,8 @@ use Rattle.slot.specs.Slot.{tests_slot}
 use Rattle.slot.specs.declared.Slots.{Slots}
 use Rattle.entry.specs.Entry.{block, is_well_formed, reaches_past, masked, is_any_of, passes, action_of, data_action, action_taken}
 use Rattle.selection.specs.Selection.{entries_of, is_file, follow, select_from, selection_of}
-use Rattle.selection.specs.declared.Selection.{Selection}
-use Rattle.selection.specs.declared.Selection.TheVariants.{Selected}
+use Rattle.std.specs.Prelude.{Option, Some}
+use Rattle.selection.specs.declared.Selected.{Selected}
 
 unfoldable pub complex : List ℕ
 complex =
@@ -34,11 +34,11 @@ complex_is_file = refl
 
 pub record Row : Type 0 where
   pub told : List ℕ
-  pub answer : Selection
+  pub answer : Option Selected
 
 abbrev row : ℕ → ℕ → ℕ → ℕ → ℕ → ℕ → ℕ → ℕ → ℕ → ℕ → ℕ → Row
 row a b c d e f g h i profile visits =
-    record { told = a ∷ b ∷ c ∷ d ∷ e ∷ f ∷ g ∷ h ∷ i ∷ []; answer = Selected profile visits }
+    record { told = a ∷ b ∷ c ∷ d ∷ e ∷ f ∷ g ∷ h ∷ i ∷ []; answer = Some (record { profile = profile; visits = visits }) }
 
 abbrev pub table : List Row
 table =
@@ -56,7 +56,7 @@ table =
     ∷ row 0x01 0x11 0x60 0x00 0x00 0x56 0xE0 0xF0 0xC8 0x07 10
     ∷ []
 
-abbrev pub answers : List Row → List Selection
+abbrev pub answers : List Row → List (Option Selected)
 answers [] = []
 answers (r ∷ rows) = r.answer ∷ answers rows
 
@@ -64,7 +64,7 @@ answers (r ∷ rows) = r.answer ∷ answers rows
 abbrev none : Slots
 none = record { testable = false; amounts = []; counts = [] }
 
-abbrev pub selections : List Row → List Selection
+abbrev pub selections : List Row → List (Option Selected)
 selections [] = []
 selections (r ∷ rows) = selection_of complex 13 r.told none ∷ selections rows
 

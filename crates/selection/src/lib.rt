@@ -9,9 +9,9 @@ use slot::Slots;
 use wire::byte_at;
 
 #[derive(Clone, Copy)]
-pub enum Selection {
-    Selected { profile: u8, visits: u8 },
-    NotSelected,
+pub struct Selected {
+    pub profile: u8,
+    pub visits: u8,
 }
 
 // The first entry, with its length byte. One that is cut short is what there is of it.
@@ -61,26 +61,26 @@ pub fn is_file(file: &[u8], entries: u8) -> bool
 
 // The profile that a file's entries select for the terminal's data and the card's slots, and how many of
 // them were visited.
-pub fn select(file: &[u8], entries: u8, data: &[u8], slots: Slots) -> Selection
+pub fn select(file: &[u8], entries: u8, data: &[u8], slots: Slots) -> Option<Selected>
     ensures { result ≡ selection_of file.now entries «data».now slots }
 {
     if entries == 0 {
-        return Selection::NotSelected;
+        return None;
     }
     match entry::take_action(first_entry(file), data, slots) {
-        Action::Profile(profile) => Selection::Selected { profile, visits: 1 },
+        Action::Profile(profile) => Some(Selected { profile, visits: 1 }),
         Action::Move(down) => {
             if entries <= down {
-                return Selection::NotSelected;
+                return None;
             }
             match select(move_down(file, down), entries - down, data, slots) {
-                Selection::Selected { profile, visits } => Selection::Selected {
+                Some(Selected { profile, visits }) => Some(Selected {
                     profile,
                     visits: visits + 1,
-                },
-                Selection::NotSelected => Selection::NotSelected,
+                }),
+                None => None,
             }
         }
-        Action::Refused => Selection::NotSelected,
+        Action::Refused => None,
     }
 }

@@ -24,9 +24,9 @@ use Rattle.ranges.specs.Ranges.{is_setup}
 use Rattle.tails.specs.Tails.{are_cycles, is_family}
 use Rattle.ranges.proofs.Accepted.{accepted}
 use Rattle.refusal.specs.declared.Refusal.TheVariants.{BadSetup}
-use Rattle.setup.specs.declared.SetupAnswer.TheVariants.{Done, Refused}
 use Rattle.setup.specs.Setup.{rate_in, accumulator_in, counter_in, profile_in, cycle_in, cyclic_in, rules_in, fresh_in, no_card}
 use Rattle.setup.specs.Setup.{is_accepted, read_setup, words_after}
+use Rattle.std.specs.Prelude.{Err, Ok}
 
 -- what a slice of bytes is
 pub record Bytes (s : List ℕ) : Type 0 where
@@ -169,12 +169,12 @@ module _ (s t f : List ℕ) (base-bytes : Bytes s) (cycle-bytes : Bytes t) (fami
 
 -- a refused set-up changes nothing lent, and leaves no card
 pub untouched : (words s t f : List ℕ) (syllabus unnamed : ℕ) → is_accepted s t f unnamed ≡ false
-    → (words_after words s t f syllabus unnamed ≡ words) × (read_setup s t f unnamed ≡ record { fresh = no_card; answer = Refused BadSetup })
+    → (words_after words s t f syllabus unnamed ≡ words) × (read_setup s t f unnamed ≡ record { fresh = no_card; answer = Err BadSetup })
 unfolding words_after read_setup
 untouched words s t f syllabus unnamed bad = (simp bad, simp bad)
 
 -- what an accepted set-up gives the card to start from
 pub started : (s t f : List ℕ) (unnamed : ℕ) → is_accepted s t f unnamed ≡ true
-    → read_setup s t f unnamed ≡ record { fresh = fresh_in s t; answer = Done }
+    → read_setup s t f unnamed ≡ record { fresh = fresh_in s t; answer = Ok tt }
 unfolding read_setup
 started s t f unnamed good = simp good

@@ -1,5 +1,5 @@
 -- What a set-up's body says, byte by byte at document 01's offsets, and what reading it answers.
-use Rattle.std.specs.Prelude.{ℕ, ◌+◌, ◌/◌, ◌%◌, Bool, false, cond, ◌&&◌, List, ltb, eqb}
+use Rattle.std.specs.Prelude.{ℕ, ◌+◌, ◌/◌, ◌%◌, Bool, false, cond, ◌&&◌, List, ltb, eqb, Err, Ok, Result}
 use Rattle.wire.specs.Wire.{byte, number}
 use Rattle.calendar.specs.Calendar.{date_at}
 use Rattle.money.specs.declared.AccumulatorAmount.{AccumulatorAmount}
@@ -18,9 +18,8 @@ use Rattle.load.specs.Load.{stored}
 use Rattle.ranges.specs.Ranges.{is_setup}
 use Rattle.tails.specs.Tails.{are_cycles, is_family}
 use Rattle.setup.specs.declared.Fresh.{Fresh}
-use Rattle.setup.specs.declared.SetupAnswer.{SetupAnswer}
-use Rattle.setup.specs.declared.SetupAnswer.TheVariants.{Done, Refused}
 use Rattle.setup.specs.declared.ReadSetup.{ReadSetup}
+use Rattle.refusal.specs.declared.Refusal.{Refusal}
 
 -- conversion: from, to (2 each), d (2), s + 9 (1)
 unfoldable pub rate_in : List ℕ → ℕ → Rate
@@ -155,11 +154,11 @@ is_accepted s t f unnamed = is_setup s unnamed && are_cycles t && is_family f
 -- refusal 1 leaves the lent words as they were
 unfoldable pub read_setup : (s t f : List ℕ) (unnamed : ℕ) → ReadSetup
 read_setup s t f unnamed =
-    cond (is_accepted s t f unnamed) (record { fresh = fresh_in s t; answer = Done }) (record { fresh = no_card; answer = Refused BadSetup })
+    cond (is_accepted s t f unnamed) (record { fresh = fresh_in s t; answer = Ok tt }) (record { fresh = no_card; answer = Err BadSetup })
 
 unfoldable pub words_after : (words s t f : List ℕ) (syllabus unnamed : ℕ) → List ℕ
 words_after words s t f syllabus unnamed = cond (is_accepted s t f unnamed) (stored words s t f syllabus) words
 
-abbrev pub setup_number : SetupAnswer → ℕ
-setup_number Done = 0
-setup_number (Refused refusal) = refusal_number refusal
+abbrev pub setup_number : Result Unit Refusal → ℕ
+setup_number (Ok done) = 0
+setup_number (Err refusal) = refusal_number refusal

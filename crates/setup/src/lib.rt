@@ -19,15 +19,9 @@ pub struct Fresh {
 }
 
 #[derive(Drop)]
-pub enum SetupAnswer {
-    Done,
-    Refused(Refusal),
-}
-
-#[derive(Drop)]
 pub struct ReadSetup {
     pub fresh: Fresh,
-    pub answer: SetupAnswer,
+    pub answer: Result<(), Refusal>,
 }
 
 // The value of accumulator i + 1.
@@ -124,13 +118,13 @@ pub fn read_setup(
         let fresh = read_fresh(s, t);
         ReadSetup {
             fresh,
-            answer: SetupAnswer::Done,
+            answer: Ok(()),
         }
     } else {
         let fresh = no_card();
         ReadSetup {
             fresh,
-            answer: SetupAnswer::Refused(Refusal::BadSetup),
+            answer: Err(Refusal::BadSetup),
         }
     }
 }

@@ -7,35 +7,34 @@ use native.Mathlib.Omega.{arith}
 use borrow.Author.Tests.{lt-ltb}
 use lib.Dec.{eqb, ltb}
 use Rattle.wire.specs.Wire.{byte}
-use Rattle.shape.specs.declared.Dating.{Dating}
-use Rattle.shape.specs.declared.Dating.TheVariants.{Off as DatesOff, On as DatesOn}
 use Rattle.shape.specs.declared.Family.{Family}
 use Rattle.shape.specs.declared.Family.TheVariants.{Cpa, Cpace}
-use Rattle.shape.specs.declared.Logging.TheVariants.{Off as LogOff}
 use Rattle.shape.specs.declared.Shape.{Shape}
-use Rattle.shape.specs.declared.ReadShape.TheVariants.{Taken}
-use Rattle.shape.specs.declared.Tails.{Tails}
 use Rattle.shape.specs.Shape.{base_length, based, base_tail, file_end, selects, selection_tail, follows, syllabus_tail}
 use Rattle.shape.specs.Shape.{dates, dates_end, dating_tail, families, family_end, family_tail, scripts, scripting_tail, since, tails_of, shape_of}
 use Rattle.shape.proofs.Ends.{Ends, Read, since-ends, whole_reads, end-ends, switched_ends, byte-ends}
+use Rattle.std.specs.Prelude.{None, Ok, Option, Some}
+use Rattle.shape.specs.Shape.{span}
+use Rattle.shape.specs.declared.Span.{Span}
+use Rattle.shape.specs.declared.Tails.{Tails}
 
 -- what holds of a base, and stays with each tail up to version 05
 pub record Stays (P : Shape → Type 0) : Type 0 where
   pub base : (n : ℕ) → P (based n)
   pub selected : (shape : Shape) (start end entries : ℕ) → P shape → P (selects shape start end entries)
   pub followed : (shape : Shape) (syllabus : ℕ) → P shape → P (follows shape syllabus)
-  pub dated : (shape : Shape) (dating : Dating) → P shape → P (dates shape dating)
+  pub dated : (shape : Shape) (dating : Option Span) → P shape → P (dates shape dating)
   pub named : (shape : Shape) (family : Family) → P shape → P (families shape family)
 
 module _ (body : List ℕ) where
   -- the tails up to version 05, and up to version 06
-  abbrev tails5 : (version : ℕ) → Tails
+  abbrev tails5 : (version : ℕ) → Option Tails
   tails5 version =
       since 5 version
       (since 4 version (since 3 version (since 2 version (base_tail body) (selection_tail body)) (syllabus_tail body)) (dating_tail body))
       (family_tail body)
 
-  abbrev tails6 : (version : ℕ) → Tails
+  abbrev tails6 : (version : ℕ) → Option Tails
   tails6 version = since 6 version (tails5 version) (scripting_tail body)
 
   module _ (P : Shape → Type 0) (stays : Stays P) where
@@ -55,7 +54,7 @@ module _ (body : List ℕ) where
     dating_stays : (shape : Shape) (at : ℕ) → P shape → Ends P (dating_tail body shape at)
     unfolding dating_tail
     dating_stays shape at z =
-        switched_ends body P at _ _ (dates_end body at) (stays.dated shape DatesOff z) (stays.dated shape (DatesOn at (dates_end body at)) z)
+        switched_ends body P at _ _ (dates_end body at) (stays.dated shape None z) (stays.dated shape (Some (span at (dates_end body at))) z)
 
     family_stays : (shape : Shape) (at : ℕ) → P shape → Ends P (family_tail body shape at)
     unfolding family_tail
@@ -98,14 +97,14 @@ module _ (body : List ℕ) where
       rw (log, lt-ltb version 6 below) (stay_5 Unscripted unscripted version)
 
   -- BELOW VERSION 06
-  pub off-below : (version : ℕ) → version < 6 → (shape : Shape) → shape_of version body ≡ Taken shape → shape.scripting ≡ false
+  pub off-below : (version : ℕ) → version < 6 → (shape : Shape) → shape_of version body ≡ Ok shape → shape.scripting ≡ false
   unfolding shape_of
   off-below version below shape e =
       let off : Unscripted shape = subst (Read Unscripted) e (whole_reads body Unscripted (tails_of version body) (off-before version below)) in
       ap (λ (s : Shape). s.scripting) (sym off)
 
   abbrev Unlogged : Shape → Type 0
-  Unlogged shape = shape.logging ≡ LogOff
+  Unlogged shape = shape.logging ≡ None
 
   unlogged : Stays Unlogged
   unlogged =
@@ -122,6 +121,6 @@ module _ (body : List ℕ) where
   unlogged-before version below = rw (lt-ltb version 7 below) (stay_6 Unlogged unlogged (λ shape on z. z) version)
 
   -- BELOW VERSION 07
-  pub unlogged-below : (version : ℕ) → version < 7 → (shape : Shape) → shape_of version body ≡ Taken shape → shape.logging ≡ LogOff
+  pub unlogged-below : (version : ℕ) → version < 7 → (shape : Shape) → shape_of version body ≡ Ok shape → shape.logging ≡ None
   unfolding shape_of
   unlogged-below version below shape e = subst (Read Unlogged) e (whole_reads body Unlogged (tails_of version body) (unlogged-before version below))

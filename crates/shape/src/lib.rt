@@ -5,22 +5,19 @@
 
 use refusal::Refusal;
 
-// Whether profiles are selected. The Profile Selection File stands from start up to end.
+// A Profile Selection File of so many entries stands in the body from start up to end.
 #[derive(Clone, Copy)]
-pub enum Selecting {
-    Off,
-    On {
-        start: usize,
-        end: usize,
-        entries: u8,
-    },
+pub struct SelectionFile {
+    pub start: usize,
+    pub end: usize,
+    pub entries: u8,
 }
 
-// Whether a First carries a date. The tail with the cyclic accumulators stands from start up to end.
+// A part of the body, from start up to end.
 #[derive(Clone, Copy)]
-pub enum Dating {
-    Off,
-    On { start: usize, end: usize },
+pub struct Span {
+    pub start: usize,
+    pub end: usize,
 }
 
 // The card family. The tail with a CPACE card's controls and cashback checks stands from start up to end.
@@ -30,37 +27,24 @@ pub enum Family {
     Cpace { start: usize, end: usize },
 }
 
-// Whether transactions are logged. The tail with the log's settings and tables stands from start up to
-// end.
-#[derive(Clone, Copy)]
-pub enum Logging {
-    Off,
-    On { start: usize, end: usize },
-}
-
 // The base's length, what the tails say, an older paper's being off, and the first mask bit that is
 // unnamed.
 #[derive(Clone, Copy)]
 pub struct Shape {
     pub base: usize,
-    pub selecting: Selecting,
+    pub selecting: Option<SelectionFile>,
     pub syllabus: u8,
-    pub dating: Dating,
+    pub dating: Option<Span>,
     pub family: Family,
     pub scripting: bool,
-    pub logging: Logging,
+    pub logging: Option<Span>,
     pub unnamed: u32,
 }
 
 // What tails come to, and where the last of them ends.
-#[derive(Drop)]
-pub enum Tails {
-    Ended { shape: Shape, at: usize },
-    Wrong,
+#[derive(Clone, Copy)]
+pub struct Tails {
+    pub shape: Shape,
+    pub at: usize,
 }
 
-#[derive(Drop)]
-pub enum ReadShape {
-    Taken(Shape),
-    Refused(Refusal),
-}

@@ -4,14 +4,8 @@ use mathlib.Core.List.{List, [], ◌∷◌, ◌++◌, append_assoc, append-nil}
 use Prim.Native.Nat.{ℕ}
 use native.Mathlib.Nat.{mod-eq_of_lt}
 use lib.ListN.{length}
-use Rattle.shape.specs.declared.Selecting.{Selecting}
-use Rattle.shape.specs.declared.Selecting.TheVariants.{Off, On}
-use Rattle.shape.specs.declared.Dating.{Dating}
-use Rattle.shape.specs.declared.Dating.TheVariants.{Off as DatesOff, On as DatesOn}
 use Rattle.shape.specs.declared.Family.{Family}
 use Rattle.shape.specs.declared.Family.TheVariants.{Cpa, Cpace}
-use Rattle.shape.specs.declared.Logging.{Logging}
-use Rattle.shape.specs.declared.Logging.TheVariants.{Off as LogOff, On as LogOn}
 use Rattle.shape.specs.declared.Shape.{Shape}
 use Rattle.cells.specs.Cells.{flag_of}
 use Rattle.cells.proofs.Spread.{three, four}
@@ -19,22 +13,26 @@ use Rattle.cells.proofs.Back.{flag_back}
 use Rattle.shape_seat.specs.Shapes.{selecting_cells, selecting_at, dating_cells, dating_at, family_cells, family_at, logging_cells, logging_at, shape_cells, shape_in}
 use Rattle.shape_seat.specs.Shapes.{SelectingFits, ShapeFits}
 use Rattle.shape_seat.proofs.Spread.{selecting_spread, dating_spread, family_spread, logging_spread}
+use Rattle.std.specs.Prelude.{None, Option, Some}
+use Rattle.shape.specs.Shape.{file}
+use Rattle.shape.specs.declared.SelectionFile.{SelectionFile}
+use Rattle.shape.specs.declared.Span.{Span}
 
-selecting_back : (selecting : Selecting) → SelectingFits selecting → selecting_at (selecting_cells selecting) 0 ≡ selecting
-selecting_back Off fits = refl
-selecting_back (On start end entries) fits = ap (On start end) (mod-eq_of_lt fits)
+selecting_back : (selecting : Option SelectionFile) → SelectingFits selecting → selecting_at (selecting_cells selecting) 0 ≡ selecting
+selecting_back None fits = refl
+selecting_back (Some part) fits = ap ((λ entries. Some (file part.start part.end entries))) (mod-eq_of_lt fits)
 
-dating_back : (dating : Dating) → dating_at (dating_cells dating) 0 ≡ dating
-dating_back DatesOff = refl
-dating_back (DatesOn start end) = refl
+dating_back : (dating : Option Span) → dating_at (dating_cells dating) 0 ≡ dating
+dating_back None = refl
+dating_back (Some part) = refl
 
 family_back : (family : Family) → family_at (family_cells family) 0 ≡ family
 family_back Cpa = refl
 family_back (Cpace start end) = refl
 
-logging_back : (logging : Logging) → logging_at (logging_cells logging) 0 ≡ logging
-logging_back LogOff = refl
-logging_back (LogOn start end) = refl
+logging_back : (logging : Option Span) → logging_at (logging_cells logging) 0 ≡ logging
+logging_back None = refl
+logging_back (Some part) = refl
 
 module _ (shape : Shape) where
   spread : (rest : List ℕ) → shape_cells shape ++ rest

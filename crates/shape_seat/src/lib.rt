@@ -7,58 +7,58 @@ ghost use Rattle.shape_seat.specs.Shapes.{selecting_cells, selecting_at, dating_
 ghost use Rattle.shape_seat.specs.Shapes.{SelectingFits, ShapeFits};
 
 use cells::{cell, flag};
-use shape::{Dating, Family, Logging, Selecting, Shape};
+use shape::{Family, SelectionFile, Shape, Span};
 
 // How many cells a shape takes.
 pub const SHAPE: usize = 17;
 
-fn selecting_cells(selecting: Selecting) -> [u64; 4]
+fn selecting_cells(selecting: Option<SelectionFile>) -> [u64; 4]
     ensures { (result ≡ selecting_cells selecting) × SelectingFits selecting }
 {
     match selecting {
-        Selecting::Off => [0, 0, 0, 0],
-        Selecting::On {
+        None => [0, 0, 0, 0],
+        Some(SelectionFile {
             start,
             end,
             entries,
-        } => [1, start as u64, end as u64, entries as u64],
+        }) => [1, start as u64, end as u64, entries as u64],
     }
 }
 
-fn selecting_at(cells: &[u64], at: usize) -> Selecting
+fn selecting_at(cells: &[u64], at: usize) -> Option<SelectionFile>
     requires { at ≤ 64 }
     ensures { result ≡ selecting_at cells.now at }
 {
     if cell(cells, at) != 1 {
-        return Selecting::Off;
+        return None;
     }
-    Selecting::On {
+    Some(SelectionFile {
         start: cell(cells, at + 1) as usize,
         end: cell(cells, at + 2) as usize,
         entries: (cell(cells, at + 3) % 256) as u8,
-    }
+    })
 }
 
-fn dating_cells(dating: Dating) -> [u64; 3]
+fn dating_cells(dating: Option<Span>) -> [u64; 3]
     ensures { result ≡ dating_cells dating }
 {
     match dating {
-        Dating::Off => [0, 0, 0],
-        Dating::On { start, end } => [1, start as u64, end as u64],
+        None => [0, 0, 0],
+        Some(Span { start, end }) => [1, start as u64, end as u64],
     }
 }
 
-fn dating_at(cells: &[u64], at: usize) -> Dating
+fn dating_at(cells: &[u64], at: usize) -> Option<Span>
     requires { at ≤ 64 }
     ensures { result ≡ dating_at cells.now at }
 {
     if cell(cells, at) != 1 {
-        return Dating::Off;
+        return None;
     }
-    Dating::On {
+    Some(Span {
         start: cell(cells, at + 1) as usize,
         end: cell(cells, at + 2) as usize,
-    }
+    })
 }
 
 fn family_cells(family: Family) -> [u64; 3]
@@ -83,26 +83,26 @@ fn family_at(cells: &[u64], at: usize) -> Family
     }
 }
 
-fn logging_cells(logging: Logging) -> [u64; 3]
+fn logging_cells(logging: Option<Span>) -> [u64; 3]
     ensures { result ≡ logging_cells logging }
 {
     match logging {
-        Logging::Off => [0, 0, 0],
-        Logging::On { start, end } => [1, start as u64, end as u64],
+        None => [0, 0, 0],
+        Some(Span { start, end }) => [1, start as u64, end as u64],
     }
 }
 
-fn logging_at(cells: &[u64], at: usize) -> Logging
+fn logging_at(cells: &[u64], at: usize) -> Option<Span>
     requires { at ≤ 64 }
     ensures { result ≡ logging_at cells.now at }
 {
     if cell(cells, at) != 1 {
-        return Logging::Off;
+        return None;
     }
-    Logging::On {
+    Some(Span {
         start: cell(cells, at + 1) as usize,
         end: cell(cells, at + 2) as usize,
-    }
+    })
 }
 
 // A shape: base, selecting, syllabus, dating, family, scripting, logging, unnamed.

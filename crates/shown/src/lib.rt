@@ -5,7 +5,7 @@ ghost use Rattle.std.specs.Prelude.{◌≡◌};
 ghost use Rattle.shown.specs.Shown.{wants_after, unshown, shown_behind};
 
 use records::{Event, Taken};
-use shape::{Dating, Family, Logging, Selecting, Shape};
+use shape::{Family, SelectionFile, Shape, Span};
 use state::State;
 use std::num::wrapping_add_u16;
 
@@ -51,12 +51,12 @@ pub fn show_nothing(to: usize) -> Shown
     Shown {
         shape: Shape {
             base: 0,
-            selecting: Selecting::Off,
+            selecting: None,
             syllabus: 0,
-            dating: Dating::Off,
+            dating: None,
             family: Family::Cpa,
             scripting: false,
-            logging: Logging::Off,
+            logging: None,
             unnamed: 4_194_304,
         },
         state: fresh::fresh_card(none),

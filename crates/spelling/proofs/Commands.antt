@@ -18,16 +18,10 @@ use Rattle.cpace.specs.declared.Cvm.TheVariants.{OnlinePin, Signature, NoCvm}
 use Rattle.cpace.specs.Cpace.{method_of, cvm_at, cashback_at}
 use Rattle.refusal.specs.declared.Refusal.TheVariants.{Unreadable}
 use Rattle.slot.specs.declared.Slots.{Slots}
-use Rattle.shape.specs.declared.Dating.{Dating}
-use Rattle.shape.specs.declared.Dating.TheVariants.{Off, On}
 use Rattle.shape.specs.declared.Family.{Family}
 use Rattle.shape.specs.declared.Family.TheVariants.{Cpa, Cpace}
-use Rattle.command.specs.declared.When.{When}
-use Rattle.command.specs.declared.When.TheVariants.{Undated, On as DatedOn}
 use Rattle.command.specs.declared.First.{First}
 use Rattle.command.specs.declared.Second.{Second}
-use Rattle.command.specs.declared.ReadCommand.{ReadCommand}
-use Rattle.command.specs.declared.ReadCommand.TheVariants.{Refused}
 use Rattle.command.specs.Command.{plain_length, when_of, start_of, first_of, second_of, command_of, start_selected, selecting_of}
 use Rattle.command.specs.Command as C
 use Rattle.card.specs.Message.{FirstCommand, SecondCommand}
@@ -39,24 +33,29 @@ use Rattle.spelling.specs.Spelling.{cvm_of, cashback_of, first_sent, stands_for}
 use Rattle.spelling.specs.Faults.{start_length, first_length, last_kind}
 use Rattle.spelling.specs.Sitting.{Read, sends, refuses, command_read, script_read}
 use Rattle.spelling.proofs.Numbers.{no_bytes, number_small, bytes_drop, big-at, peel}
+use Rattle.std.specs.Prelude.{Err, None, Option, Result, Some}
+use Rattle.command.specs.declared.Command.{Command}
+use Rattle.refusal.specs.declared.Refusal.{Refusal}
+use Rattle.shape.specs.Shape.{span}
+use Rattle.shape.specs.declared.Span.{Span}
 
 abbrev pub of : Choice → Dates → CardFamily → Scripting → Manner
 of choice dates family scripts = record { choice = choice; dates = dates; family = family; scripts = scripts }
 
 -- what reads a record where profiles are chosen so, dates given so, and the card is of that family; where the tails stand is nothing to it
-abbrev pub dating_of : Dates → Dating
-dating_of undated = Off
-dating_of dated = On 0 0
+abbrev pub dating_of : Dates → Option Span
+dating_of undated = None
+dating_of dated = Some (span 0 0)
 
 abbrev pub family_of : CardFamily → Family
 family_of cpa = Cpa
 family_of cpace = Cpace 0 0
 
-abbrev read_as : Choice → Dates → CardFamily → Slots → ℕ → List ℕ → ReadCommand
+abbrev read_as : Choice → Dates → CardFamily → Slots → ℕ → List ℕ → Result Command Refusal
 read_as by_name dates family slots kind body = command_of (dating_of dates) (family_of family) kind body
 read_as (by_file file entries) dates family slots kind body = selecting_of (dating_of dates) (family_of family) slots file entries kind body
 
-abbrev pub read_by : Manner → Slots → ℕ → List ℕ → ReadCommand
+abbrev pub read_by : Manner → Slots → ℕ → List ℕ → Result Command Refusal
 read_by manner slots kind body = read_as manner.choice manner.dates manner.family slots kind body
 
 -- and what it is read as: where scripts are on, one of kind 5 is a script
@@ -84,11 +83,11 @@ date-is : {a b c x y z : ℕ} → a ≡ x → b ≡ y → c ≡ z
     → ◌≡◌ {A = Date} (record { year = a; month = b; day = c }) (record { year = x; month = y; day = z })
 date-is p q r = λ i. record { year = p i; month = q i; day = r i }
 
-abbrev first_as : (a b c d : ℕ) → When → Cvm → Bool → First
+abbrev first_as : (a b c d : ℕ) → Option Date → Cvm → Bool → First
 first_as a b c d when cvm cashback =
     record { requested = a; amount = record { 0 = b }; currency = c; terminal = d; when = when; cvm = cvm; cashback = cashback }
 
-first-is : {a b c d w x y z : ℕ} {m n : When} {v u : Cvm} {k l : Bool} → a ≡ w → b ≡ x → c ≡ y → d ≡ z → m ≡ n → v ≡ u → k ≡ l
+first-is : {a b c d w x y z : ℕ} {m n : Option Date} {v u : Cvm} {k l : Bool} → a ≡ w → b ≡ x → c ≡ y → d ≡ z → m ≡ n → v ≡ u → k ≡ l
     → first_as a b c d m v k ≡ first_as w x y z n u l
 first-is p q r s t e f = λ i. first_as (p i) (q i) (r i) (s i) (t i) (e i) (f i)
 
@@ -178,14 +177,14 @@ module _ (dates : Dates) (s : List ℕ) where
       let r = shown_read_lem s place r1 r2 r3 cashback e h in
       (l, cvm_read s place r1 r2 r3 cashback r, cashback_read_lem s place r1 r2 r3 cashback r)
 
-  first_taken_lem : (family : CardFamily) (when : When) (a b c d : ℕ) (p : Presented) → FirstIn a b c d s → when_of (dating_of dates) s ≡ when
+  first_taken_lem : (family : CardFamily) (when : Option Date) (a b c d : ℕ) (p : Presented) → FirstIn a b c d s → when_of (dating_of dates) s ≡ when
       → Presents family p → command_read (command_of (dating_of dates) (family_of family) 3 s) ≡ sends (first_sent when a b c d p)
   unfolding command_of first_of
   first_taken_lem family when a b c d p r w q =
       rw (eq-eqb (length s) (C.first_length (dating_of dates) (family_of family)) q.0)
       (ap (λ (f : First). sends (FirstCommand f)) (first-is (as_byte s 0 a r.0) r.1 r.2 (as_byte s 11 d r.3) w q.1 q.2))
 
-second-taken : (dating : Dating) (family : Family) (a b c d : ℕ) → a < 256 → b < 256 ^ 2 → c < 256 → d < 256 ^ 4
+second-taken : (dating : Option Span) (family : Family) (a b c d : ℕ) → a < 256 → b < 256 ^ 2 → c < 256 → d < 256 ^ 4
     → command_read (command_of dating family 4 (second_body a b c d)) ≡ sends (SecondCommand (record { requested = a; code = b; issuer = c; csu = d }))
 unfolding command_of second_of big
 second-taken dating family a b c d ha hb hc hd =
@@ -218,15 +217,15 @@ taken manner slots x h = by manner.choice manner.dates manner.family manner.scri
   by choice undated family scripts (first a b c d p) h =
       let s = first_bytes a b c d (presented_bytes p) in
       ap command_read (not_start (of choice undated family scripts) slots 3 s (λ e. omega arith))
-      ∙ first_taken_lem undated s family Undated a b c d p (first_read a b c d (presented_bytes p) h.0) refl
+      ∙ first_taken_lem undated s family None a b c d p (first_read a b c d (presented_bytes p) h.0) refl
       (presented_read undated s family p refl (omega arith) h.1)
   by choice dated family scripts (first_on date a b c d p) h =
       let behind = date_bytes date ++ presented_bytes p in
       let s = first_bytes a b c d behind in
       let t = date-read a b c d date (presented_bytes p) h.1 in
       ap command_read (not_start (of choice dated family scripts) slots 3 s (λ e. omega arith))
-      ∙ first_taken_lem dated s family (DatedOn date) a b c d p (first_read a b c d behind h.0)
-      (ap DatedOn (date-is (as_byte s 12 date.year t.0) (as_byte s 13 date.month t.1) (as_byte s 14 date.day t.2)))
+      ∙ first_taken_lem dated s family (Some date) a b c d p (first_read a b c d behind h.0)
+      (ap Some (date-is (as_byte s 12 date.year t.0) (as_byte s 13 date.month t.1) (as_byte s 14 date.day t.2)))
       (presented_read dated s family p refl (omega arith) h.2)
   by choice dates family scripts (second a b c d) h =
       ap command_read (not_start (of choice dates family scripts) slots 4 (second_body a b c d) (λ e. omega arith))
@@ -520,7 +519,7 @@ module _ (body : List ℕ) (bytes : Bytes body) where
 -- ---- and what is wrong is refused
 
 other : (manner : Manner) (slots : Slots) (kind : ℕ) (body : List ℕ) → (kind ≡ 2 → ⊥) → (kind ≡ 3 → ⊥) → (kind ≡ 4 → ⊥)
-    → read_by manner slots kind body ≡ Refused Unreadable
+    → read_by manner slots kind body ≡ Err Unreadable
 unfolding command_of
 other manner slots kind body p q r = not_start manner slots kind body p ∙ simp (ne_eqb kind 2 p, ne_eqb kind 3 q, ne_eqb kind 4 r)
 
@@ -535,7 +534,7 @@ first-asked undated cpace = refl
 first-asked dated cpa = refl
 first-asked dated cpace = refl
 
-empty-refused : (choice : Choice) (dates : Dates) (slots : Slots) → read_as choice dates cpace slots 2 [] ≡ Refused Unreadable
+empty-refused : (choice : Choice) (dates : Dates) (slots : Slots) → read_as choice dates cpace slots 2 [] ≡ Err Unreadable
 unfolding command_of selecting_of start_selected
 empty-refused by_name dates slots = refl
 empty-refused (by_file file entries) dates slots = refl
@@ -553,7 +552,7 @@ module _ (manner : Manner) (slots : Slots) (kind : ℕ) (body : List ℕ) where
   beyond scripted l = rw (ne_eqb kind 5 (λ e. omega arith))
 
   -- and no command
-  unheard : (eqb kind 5 && is_scripted manner.scripts) ≡ false → read_by manner slots kind body ≡ Refused Unreadable
+  unheard : (eqb kind 5 && is_scripted manner.scripts) ≡ false → read_by manner slots kind body ≡ Err Unreadable
       → hears manner slots kind body ≡ refuses Unreadable
   unheard n e = rw (n, e)
 

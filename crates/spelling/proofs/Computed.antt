@@ -19,9 +19,7 @@ use Rattle.tails.specs.Tails.{is_cycle, is_cyclic_rule, are_cyclic_rules, are_cy
 use Rattle.calendar.specs.Calendar.{date_at, has_day, is_day}
 use Rattle.setup.specs.Setup.{fresh_in, read_setup, words_after, rate_in, accumulator_in, counter_in, profile_in, cycle_in, cyclic_in, rules_in}
 use Rattle.shape.specs.declared.Shape.{Shape}
-use Rattle.shape.specs.declared.ReadShape.{ReadShape}
 use Rattle.shape.specs.Shape.{shape_of, tails_of, base_tail, entries_end, selection_tail, syllabus_tail, dating_tail, family_tail, scripting_tail, logging_tail}
-use Rattle.log_tail.specs.declared.Judged.{Judged}
 use Rattle.log_tail.specs.LogTail.{entry_in, reaches_past, are_flags, are_sources, are_within, is_in_range, is_within, judged}
 use Rattle.paper.specs.Paper.{next_at, open_paper}
 use Rattle.command.specs.declared.Command.{Command}
@@ -56,6 +54,9 @@ use Rattle.conversation.specs.Events.{events_from, events_of}
 use Rattle.hex_digits.specs.Hex.{hex}
 use Rattle.lines.specs.Lines.{digit, decimal, refusal_line, start_line, selected_line, cryptogram_line}
 use Rattle.lines.specs.Sitting.{answer_line, lines_of, sitting_lines}
+use Rattle.std.specs.Prelude.{Result}
+use Rattle.log_tail.specs.declared.Fault.{Fault}
+use Rattle.refusal.specs.declared.Refusal.{Refusal}
 
 -- the ranges of a set-up
 unfoldable in_range : List ℕ → (unnamed : ℕ) → Bool
@@ -64,12 +65,12 @@ unfolding number is_setup has_length is_head are_accumulators is_accumulator are
 in_range s unnamed = is_setup s unnamed
 
 -- its tails
-unfoldable tailed : (version : ℕ) (body : List ℕ) → ReadShape
+unfoldable tailed : (version : ℕ) (body : List ℕ) → Result Shape Refusal
 unfolding tails_of base_tail entries_end selection_tail syllabus_tail dating_tail family_tail scripting_tail logging_tail are_cycles is_cycle are_cyclic_rules is_cyclic_rule date_at is_day
     has_day is_family
 tailed version body = shape_of version body
 
-unfoldable logged : Shape → (body : List ℕ) → Judged
+unfoldable logged : Shape → (body : List ℕ) → Result Unit Fault
 unfolding entry_in reaches_past are_flags are_sources are_within is_in_range is_within judged
 logged shape body = log_judged shape body
 

@@ -11,8 +11,6 @@ use Rattle.rules.specs.Rules.{Rules}
 use Rattle.shape.specs.declared.Shape.{Shape}
 use Rattle.paper.specs.Walk.{part}
 use Rattle.command.specs.declared.Command.TheVariants.{Start, First, Second}
-use Rattle.command.specs.declared.ReadCommand.{ReadCommand}
-use Rattle.command.specs.declared.ReadCommand.TheVariants.{Taken as CommandTaken, Refused as CommandRefused}
 use Rattle.command.specs.Command.{command_in}
 use Rattle.element.specs.declared.Write.{Write}
 use Rattle.state.specs.declared.State.{State}
@@ -31,6 +29,9 @@ use Rattle.spelling.specs.Sitting.{Ends, ended, faulty, last_events, last_lines}
 use Rattle.spelling.proofs.Numbers.{no_bytes}
 use Rattle.spelling.proofs.Shapes.{record_length, shift, next_drop, next-nothing}
 use Rattle.spelling.proofs.Records.{Stands, sent-stands, Faulty, at_next, at_record, reads_end, reads_fault, reads_spelled}
+use Rattle.std.specs.Prelude.{Err, Ok, Result}
+use Rattle.command.specs.declared.Command.{Command}
+use Rattle.refusal.specs.declared.Refusal.{Refusal}
 use Rattle.spelling.proofs.Records as R
 
 -- ---- a record is taken as it is read, and so it writes
@@ -46,13 +47,13 @@ writes_as state (sends m) = message_writes state m
 writes_as state (refuses refusal) = []
 
 module _ (rules : Rules) (state : State) (end : ℕ) where
-  command_as : (read : ReadCommand)
+  command_as : (read : Result Command Refusal)
       → (answered_by rules state end read ≡ taken_as rules state end (command_read read)) × ([] ≡ writes_as state (command_read read))
   unfolding answered_by step_of message_step message_writes
-  command_as (CommandTaken (Start start)) = (refl, refl)
-  command_as (CommandTaken (First first)) = (refl, refl)
-  command_as (CommandTaken (Second second)) = (refl, refl)
-  command_as (CommandRefused refusal) = (refl, refl)
+  command_as (Ok (Start start)) = (refl, refl)
+  command_as (Ok (First first)) = (refl, refl)
+  command_as (Ok (Second second)) = (refl, refl)
+  command_as (Err refusal) = (refl, refl)
 
   script_as : (body : List ℕ)
       → (scripted_by state body end ≡ taken_as rules state end (script_read body)) × (body_writes state body ≡ writes_as state (script_read body))
@@ -60,7 +61,7 @@ module _ (rules : Rules) (state : State) (end : ℕ) where
   script_as [] = (refl, refl)
   script_as (result ∷ template) = (refl, refl)
 
-  record_as : (b : Bool) (body : List ℕ) (read : ReadCommand)
+  record_as : (b : Bool) (body : List ℕ) (read : Result Command Refusal)
       → (cond b (scripted_by state body end) (answered_by rules state end read) ≡ taken_as rules state end (cond b (script_read body) (command_read read)))
       × (cond b (body_writes state body) [] ≡ writes_as state (cond b (script_read body) (command_read read)))
   record_as true body read = script_as body

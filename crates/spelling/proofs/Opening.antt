@@ -13,13 +13,13 @@ use Rattle.wire.specs.Wire.{byte}
 use Rattle.refusal.specs.declared.Refusal.TheVariants.{Unreadable}
 use Rattle.paper.specs.declared.Next.{Next}
 use Rattle.paper.specs.declared.Next.TheVariants.{Record, Fault, End}
-use Rattle.paper.specs.declared.Opened.TheVariants.{Setup, Refused}
 use Rattle.paper.specs.Paper.{latest, is_unreadable, next_at, setup_in, open_paper, opened_number}
 use Rattle.paper.specs.Walk.{part}
 use Rattle.spelling.specs.Spelling.{Bytes, record_of}
 use Rattle.spelling.specs.Faults.{Whole, OpenFault, empty, over, bad_version, setup-missing, setup-broken, other-first, Opens}
 use Rattle.spelling.proofs.Shapes.{Shape, nothing, broken, whole, shape, shift, next_drop, part_drop, next-nothing, next-broken}
 use Rattle.spelling.proofs.Shapes.{here_length, next-whole, body-there, rest-there}
+use Rattle.std.specs.Prelude.{Err, Ok}
 
 -- ---- what opens
 
@@ -40,7 +40,7 @@ module _ (s : List ℕ) (version : ℕ) (body rest : List ℕ) (o : Opens s vers
       ))
 
   -- ITS VERSION AND ITS SET-UP'S BODY ARE READ, AND THE READER GOES ON BEHIND IT
-  pub opens : (open_paper s ≡ Setup version 4 (4 + length body)) × (part s 4 (4 + length body) ≡ body) × (drop (4 + length body) s ≡ rest)
+  pub opens : (open_paper s ≡ Ok (record { version = version; start = 4; end = 4 + length body })) × (part s 4 (4 + length body) ≡ body) × (drop (4 + length body) s ≡ rest)
   unfolding open_paper
   opens =
       let l = size in
@@ -71,19 +71,19 @@ fourth-holds false true c = refl
 fourth-holds false false true = refl
 fourth-holds false false false = refl
 
-unreadable : (s : List ℕ) → is_unreadable s ≡ true → open_paper s ≡ Refused Unreadable
+unreadable : (s : List ℕ) → is_unreadable s ≡ true → open_paper s ≡ Err Unreadable
 unfolding open_paper
 unreadable s e = rw e
 
-no_setup : (s : List ℕ) (n : Next) → next_at s 1 ≡ n → setup_in (byte s 0) n ≡ Refused Unreadable → open_paper s ≡ Refused Unreadable
+no_setup : (s : List ℕ) (n : Next) → next_at s 1 ≡ n → setup_in (byte s 0) n ≡ Err Unreadable → open_paper s ≡ Err Unreadable
 unfolding open_paper
 no_setup s n e h = rw (e, h) (by (is_unreadable s)) where
-  by : (b : Bool) → cond b (Refused Unreadable) (Refused Unreadable) ≡ Refused Unreadable
+  by : (b : Bool) → cond b (Err Unreadable) (Err Unreadable) ≡ Err Unreadable
   by true = refl
   by false = refl
 
 -- ONE OF THE CAUSES: REFUSAL 9
-pub faults : (s : List ℕ) → OpenFault s → open_paper s ≡ Refused Unreadable
+pub faults : (s : List ℕ) → OpenFault s → open_paper s ≡ Err Unreadable
 faults s (empty e) = unreadable s (rw e)
 faults s (over l) = unreadable s (rw (lt-ltb 65536 (length s) l) (second_holds (eqb (length s) 0) (eqb (byte s 0) 0) (ltb latest (byte s 0))))
 faults s (bad_version version rest e (inl z)) = unreadable s (rw (e, z) (third-holds (eqb (length (0 ∷ rest)) 0) (ltb 65536 (length (0 ∷ rest))) (ltb latest 0)))
@@ -144,7 +144,7 @@ nine_exactly s h = (λ e. by e (opens_or_faults s h), λ f. rw (faults s f)) whe
       absurd (omega arith)
 
 -- AND WHAT IS READ AS A SET-UP IS THE PAPER THAT OPENS SO
-pub setup-exactly : (s : List ℕ) → Bytes s → (version start end : ℕ) → open_paper s ≡ Setup version start end
+pub setup-exactly : (s : List ℕ) → Bytes s → (version start end : ℕ) → open_paper s ≡ Ok (record { version = version; start = start; end = end })
     → (start ≡ 4) × Opens s version (part s start end) (drop end s)
 setup-exactly s h version start end e = by (opens_or_faults s h) where
   by : OpenFault s ⊎ Opening s → (start ≡ 4) × Opens s version (part s start end) (drop end s)

@@ -9,32 +9,19 @@ use lib.Dec.{eqb}
 use lib.ListN.{length, take, drop, length-drop}
 use lib.Seq.{drop-append-le, take-append-le}
 use Rattle.refusal.specs.declared.Refusal.TheVariants.{BadSetup, Unreadable, PastData}
-use Rattle.log_tail.specs.declared.Judged.{Judged}
-use Rattle.log_tail.specs.declared.Judged.TheVariants.{Sound, Wrong as LogWrong, PastData as TableFault}
 use Rattle.rules.specs.Rules.{rules_of}
 use Rattle.rules.specs.Word.{word_count}
-use Rattle.setup.specs.declared.SetupAnswer.{SetupAnswer}
-use Rattle.setup.specs.declared.SetupAnswer.TheVariants.{Done, Refused as SetupRefused}
 use Rattle.setup.specs.declared.ReadSetup.{ReadSetup}
 use Rattle.setup.specs.Setup.{read_setup, setup_number, no_card, fresh_in, is_accepted, words_after}
 use Rattle.setup.proofs.Faithful as F
 use Rattle.refusal.specs.declared.Refusal.{Refusal}
 use Rattle.refusal.specs.Refusal.{refusal_number}
-use Rattle.shape.specs.declared.Selecting.{Selecting}
-use Rattle.shape.specs.declared.Selecting.TheVariants.{Off, On}
-use Rattle.shape.specs.declared.Dating.{Dating}
-use Rattle.shape.specs.declared.Dating.TheVariants.{Off as DatesOff, On as DatesOn}
 use Rattle.shape.specs.declared.Family.{Family}
 use Rattle.shape.specs.declared.Family.TheVariants.{Cpa, Cpace}
 use Rattle.shape.specs.declared.Shape.{Shape}
-use Rattle.shape.specs.declared.Tails.{Tails}
-use Rattle.shape.specs.declared.Tails.TheVariants.{Ended, Wrong}
-use Rattle.shape.specs.declared.ReadShape.{ReadShape}
-use Rattle.shape.specs.declared.ReadShape.TheVariants.{Taken, Refused as ShapeRefused}
 use Rattle.shape.specs.Shape.{base_part, cycles_part, family_part, tails_of, whole, shape_of, shape_at, selecting_at, dating_at, family_at, shape_number}
 use Rattle.shape.specs.Shape as Sh
 use Rattle.shape.proofs.Inside.{inside}
-use Rattle.paper.specs.declared.Opened.TheVariants.{Setup}
 use Rattle.paper.specs.Paper.{open_paper}
 use Rattle.paper.specs.Walk.{part}
 use Rattle.lines.specs.Lines.{refusal_line}
@@ -54,16 +41,23 @@ use Rattle.spelling.proofs.Shapes.{record_is, here_length, part_drop}
 use Rattle.spelling.proofs.Opening.{opens, faults, Opening, opens_or_faults}
 use Rattle.spelling.proofs.Lines.{events-by, lines-happened}
 use Rattle.spelling.proofs.Parsed.{parsed, one_way}
+use Rattle.std.specs.Prelude.{Err, None, Ok, Option, Result, Some}
+use Rattle.log_tail.specs.declared.Fault.{Fault}
+use Rattle.log_tail.specs.declared.Fault.TheVariants.{PastData as TableFault}
+use Rattle.log_tail.specs.declared.Fault.TheVariants.{Wrong}
+use Rattle.shape.specs.declared.SelectionFile.{SelectionFile}
+use Rattle.shape.specs.declared.Span.{Span}
+use Rattle.shape.specs.declared.Tails.{Tails}
 
 -- ---- set-ups that are taken, and the others
 
 by_answer : (s t : List ℕ) → Bool → ReadSetup
-by_answer s t b = cond b (record { fresh = fresh_in s t; answer = Done }) (record { fresh = no_card; answer = SetupRefused BadSetup })
+by_answer s t b = cond b (record { fresh = fresh_in s t; answer = Ok tt }) (record { fresh = no_card; answer = Err BadSetup })
 
-is-accepted : (s t f : List ℕ) (unnamed : ℕ) → (read_setup s t f unnamed).answer ≡ Done → is_accepted s t f unnamed ≡ true
+is-accepted : (s t f : List ℕ) (unnamed : ℕ) → (read_setup s t f unnamed).answer ≡ Ok tt → is_accepted s t f unnamed ≡ true
 unfolding read_setup by_answer
 is-accepted s t f unnamed e = by (is_accepted s t f unnamed) refl e where
-  by : (b : Bool) → is_accepted s t f unnamed ≡ b → (by_answer s t b).answer ≡ Done → is_accepted s t f unnamed ≡ true
+  by : (b : Bool) → is_accepted s t f unnamed ≡ b → (by_answer s t b).answer ≡ Ok tt → is_accepted s t f unnamed ≡ true
   by true q e = q
   by false q e = let z : ◌≡◌ {A = ℕ} 0 1 = cc in absurd (omega arith)
 
@@ -75,20 +69,20 @@ not_accepted s t f unnamed = by (is_accepted s t f unnamed) where
   by false e = refl
 
 -- a shape is taken, or its refusal is 1
-pub data ShapeWays (t : ReadShape) : Type 0 where
-  shape-taken : (shape : Shape) → t ≡ Taken shape → ShapeWays t
+pub data ShapeWays (t : Result Shape Refusal) : Type 0 where
+  shape-taken : (shape : Shape) → t ≡ Ok shape → ShapeWays t
   shape_one : shape_number t ≡ 1 → ShapeWays t
 
 shape_ways : (version : ℕ) (body : List ℕ) → ShapeWays (shape_of version body)
 unfolding shape_of
 shape_ways version body = by (tails_of version body) where
-  by_end : (shape : Shape) (b : Bool) → ShapeWays (cond b (Taken shape) (ShapeRefused BadSetup))
+  by_end : (shape : Shape) (b : Bool) → ShapeWays (cond b (Ok shape) (Err BadSetup))
   by_end shape true = shape-taken shape refl
   by_end shape false = shape_one refl
 
-  by : (tails : Tails) → ShapeWays (whole body tails)
-  by Wrong = shape_one refl
-  by (Ended shape at) = by_end shape (eqb at (length body))
+  by : (tails : Option Tails) → ShapeWays (whole body tails)
+  by None = shape_one refl
+  by (Some tails) = by_end tails.shape (eqb tails.at (length body))
 
 abbrev accepts : Shape → (body : List ℕ) → Bool
 accepts shape body = is_accepted (base_part shape body) (cycles_part shape.dating body) (family_part shape.family body) shape.unnamed
@@ -97,13 +91,13 @@ accepts shape body = is_accepted (base_part shape body) (cycles_part shape.datin
 pub set_up_or_not : (version : ℕ) (body : List ℕ) → ((shape : Shape) × SetUp version body shape) ⊎ (NotSetUp version body ⊎ PastSetUp version body)
 unfolding read_setup by_answer
 set_up_or_not version body = by (shape_ways version body) where
-  by-log : (shape : Shape) → shape_of version body ≡ Taken shape → accepts shape body ≡ true → (judged : Judged) → log_judged shape body ≡ judged
+  by-log : (shape : Shape) → shape_of version body ≡ Ok shape → accepts shape body ≡ true → (judged : Result Unit Fault) → log_judged shape body ≡ judged
       → ((shape : Shape) × SetUp version body shape) ⊎ (NotSetUp version body ⊎ PastSetUp version body)
-  by-log shape e q Sound l = inl (shape, record { shape_is = e; base = rw q; log = l })
-  by-log shape e q LogWrong l = inr (inl (no_log shape e l))
-  by-log shape e q TableFault l = inr (inr (record { shape = shape; shape_is = e; base = rw q; log = l }))
+  by-log shape e q (Ok done) l = inl (shape, record { shape_is = e; base = rw q; log = l })
+  by-log shape e q (Err Wrong) l = inr (inl (no_log shape e l))
+  by-log shape e q (Err TableFault) l = inr (inr (record { shape = shape; shape_is = e; base = rw q; log = l }))
 
-  by-base : (shape : Shape) → shape_of version body ≡ Taken shape → (b : Bool) → accepts shape body ≡ b
+  by-base : (shape : Shape) → shape_of version body ≡ Ok shape → (b : Bool) → accepts shape body ≡ b
       → ((shape : Shape) × SetUp version body shape) ⊎ (NotSetUp version body ⊎ PastSetUp version body)
   by-base shape e true q = by-log shape e q (log_judged shape body) refl
   by-base shape e false q = inr (inl (no_base shape e (rw q)))
@@ -112,9 +106,9 @@ set_up_or_not version body = by (shape_ways version body) where
   by (shape-taken shape e) = by-base shape e (accepts shape body) refl
   by (shape_one e) = inr (inl (no_shape e))
 
-pub bytes-cycles : (dating : Dating) (body : List ℕ) → Bytes body → Bytes (cycles_part dating body)
-bytes-cycles DatesOff body h = tt
-bytes-cycles (DatesOn start end) body h = bytes_take (end - start) (drop start body) (bytes_drop start body h)
+pub bytes-cycles : (dating : Option Span) (body : List ℕ) → Bytes body → Bytes (cycles_part dating body)
+bytes-cycles None body h = tt
+bytes-cycles (Some part) body h = bytes_take (part.end - part.start) (drop part.start body) (bytes_drop part.start body h)
 
 pub bytes-family : (family : Family) (body : List ℕ) → Bytes body → Bytes (family_part family body)
 bytes-family Cpa body h = tt
@@ -142,24 +136,24 @@ module _ (words s : List ℕ) (version : ℕ) (body rest : List ℕ) (o : Opens 
 
     pub lies_there : Lies (shape_at 4 shape).selecting s
     lies_there = by shape.selecting (inside body version shape t.shape_is).file where
-      by : (x : Selecting) → Sh.Lies x (length body) → Lies (selecting_at 4 x) s
-      by Off i = tt
-      by (On start end entries) i = (omega (arith, i.0), omega (arith, size, i.1))
+      by : (x : Option SelectionFile) → Sh.Lies x (length body) → Lies (selecting_at 4 x) s
+      by None i = tt
+      by (Some part) i = (omega (arith, i.0), omega (arith, size, i.1))
 
     same-choice : choice_in (selecting_at 4 shape.selecting) s ≡ choice_in shape.selecting body
     same-choice = by shape.selecting (inside body version shape t.shape_is).file where
-      by : (x : Selecting) → Sh.Lies x (length body) → choice_in (selecting_at 4 x) s ≡ choice_in x body
-      by Off i = refl
-      by (On start end entries) i =
-          let left : end - start ≤ length (drop start body) = omega (arith, length-drop start body, i.0, i.1) in
-          let file : take (4 + end - (4 + start)) (drop (4 + start) s) ≡ take (end - start) (drop start body) =
-          part_drop s 4 start end
-          ∙ rw (behind-head, drop-append-le start body rest (omega (arith, i.0, i.1))) (take-append-le (end - start) (drop start body) rest left) in
+      by : (x : Option SelectionFile) → Sh.Lies x (length body) → choice_in (selecting_at 4 x) s ≡ choice_in x body
+      by None i = refl
+      by (Some part) i =
+          let left : part.end - part.start ≤ length (drop part.start body) = omega (arith, length-drop part.start body, i.0, i.1) in
+          let file : take (4 + part.end - (4 + part.start)) (drop (4 + part.start) s) ≡ take (part.end - part.start) (drop part.start body) =
+          part_drop s 4 part.start part.end
+          ∙ rw (behind-head, drop-append-le part.start body rest (omega (arith, i.0, i.1))) (take-append-le (part.end - part.start) (drop part.start body) rest left) in
           rw file
 
-    same-dates : (dating : Dating) → dates_in (dating_at 4 dating) ≡ dates_in dating
-    same-dates DatesOff = refl
-    same-dates (DatesOn start end) = refl
+    same-dates : (dating : Option Span) → dates_in (dating_at 4 dating) ≡ dates_in dating
+    same-dates None = refl
+    same-dates (Some part) = refl
 
     same-family : (family : Family) → family_in (family_at 4 family) ≡ family_in family
     same-family Cpa = refl
@@ -217,25 +211,25 @@ pub record One (event : Event) : Type 0 where
   pub is : event ≡ Refused refusal
   pub one : refusal_number refusal ≡ 1
 
-pub refused-shape : (body : List ℕ) (place end : ℕ) (t : ReadShape) → shape_number t ≡ 1 → One (shaped_begun body place end t).event
-refused-shape body place end (ShapeRefused refusal) e = record { refusal = refusal; is = refl; one = e }
-refused-shape body place end (Taken shape) e = absurd (omega arith)
+pub refused-shape : (body : List ℕ) (place end : ℕ) (t : Result Shape Refusal) → shape_number t ≡ 1 → One (shaped_begun body place end t).event
+refused-shape body place end (Err refusal) e = record { refusal = refusal; is = refl; one = e }
+refused-shape body place end (Ok shape) e = absurd (omega arith)
 
 pub refused-base : (shape : Shape) (base tail controls : List ℕ) (end : ℕ)
     → setup_number (read_setup base tail controls shape.unnamed).answer ≡ 1 → One (base_begun shape base tail controls end).event
 unfolding base_begun
 refused-base shape base tail controls end e = by (read_setup base tail controls shape.unnamed).answer e where
-  by : (a : SetupAnswer) → setup_number a ≡ 1 → One (set_up_event a)
-  by Done e = absurd (omega arith)
-  by (SetupRefused refusal) e = record { refusal = refusal; is = refl; one = e }
+  by : (a : Result Unit Refusal) → setup_number a ≡ 1 → One (set_up_event a)
+  by (Ok done) e = absurd (omega arith)
+  by (Err refusal) e = record { refusal = refusal; is = refl; one = e }
 
 -- a base that is refused, whatever the log is
-pub refused-logged : (judged : Judged) (good : Bool) (end : ℕ) (begun : Begun) → good ≡ false → One begun.event
+pub refused-logged : (judged : Result Unit Fault) (good : Bool) (end : ℕ) (begun : Begun) → good ≡ false → One begun.event
     → One (logged_begun judged good end begun).event
 unfolding past_begun
-refused-logged Sound good end begun bad o = o
-refused-logged LogWrong good end begun bad o = record { refusal = BadSetup; is = refl; one = refl }
-refused-logged TableFault good end begun bad o = record { refusal = BadSetup; is = rw bad; one = refl }
+refused-logged (Ok done) good end begun bad o = o
+refused-logged (Err Wrong) good end begun bad o = record { refusal = BadSetup; is = refl; one = refl }
+refused-logged (Err TableFault) good end begun bad o = record { refusal = BadSetup; is = rw bad; one = refl }
 
 pub not_begun : (version : ℕ) (body : List ℕ) (place end : ℕ) → NotSetUp version body → One (shaped_begun body place end (shape_of version body)).event
 not_begun version body place end (no_shape e) = refused-shape body place end (shape_of version body) e

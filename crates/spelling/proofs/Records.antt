@@ -12,10 +12,6 @@ use lib.Seq.{drop-drop, drop-append_seam}
 use Rattle.refusal.specs.declared.Refusal.TheVariants.{Unreadable}
 use Rattle.rules.specs.declared.Values.{Values}
 use Rattle.slot.specs.declared.Slots.{Slots}
-use Rattle.shape.specs.declared.Selecting.{Selecting}
-use Rattle.shape.specs.declared.Selecting.TheVariants.{Off, On}
-use Rattle.shape.specs.declared.Dating.{Dating}
-use Rattle.shape.specs.declared.Dating.TheVariants.{Off as DatesOff, On as DatesOn}
 use Rattle.shape.specs.declared.Family.{Family}
 use Rattle.shape.specs.declared.Family.TheVariants.{Cpa, Cpace}
 use Rattle.shape.specs.declared.Shape.{Shape as PaperShape}
@@ -38,6 +34,9 @@ use Rattle.spelling.proofs.Shapes.{Shape, nothing, whole, shape, record_is, reco
 use Rattle.spelling.proofs.Shapes.{next-nothing, next-broken, next-whole, body-there}
 use Rattle.spelling.proofs.Commands.{of, dating_of, family_of, read_by, is_scripted, hears, taken}
 use Rattle.spelling.proofs.Commands.{Wrong, a_setup, no_command, bad_start, bad_empty, bad_first, bad_second, bad_script, refused_wrong, Meaning, sent, wrong, meaning}
+use Rattle.std.specs.Prelude.{None, Option, Some}
+use Rattle.shape.specs.declared.SelectionFile.{SelectionFile}
+use Rattle.shape.specs.declared.Span.{Span}
 
 -- ---- what can stand at the front
 
@@ -102,15 +101,15 @@ whole-spelled manner x h s more e = record { more = more; is = e; sized = body-s
 
 -- where the tails stand is nothing to the readers
 module _ (slots : Slots) (file : List ℕ) (entries kind : ℕ) (body : List ℕ) where
-  tails_aside : (dating : Dating) (family : Family)
+  tails_aside : (dating : Option Span) (family : Family)
       → (command_of dating family kind body ≡ command_of (dating_of (dates_in dating)) (family_of (family_in family)) kind body)
       × (selecting_of dating family slots file entries kind body
       ≡ selecting_of (dating_of (dates_in dating)) (family_of (family_in family)) slots file entries kind body)
   unfolding command_of start_of first_of selecting_of start_selected
-  tails_aside DatesOff Cpa = (refl, refl)
-  tails_aside DatesOff (Cpace from to) = (refl, refl)
-  tails_aside (DatesOn start end) Cpa = (refl, refl)
-  tails_aside (DatesOn start end) (Cpace from to) = (refl, refl)
+  tails_aside None Cpa = (refl, refl)
+  tails_aside None (Cpace from to) = (refl, refl)
+  tails_aside (Some part) Cpa = (refl, refl)
+  tails_aside (Some part) (Cpace from to) = (refl, refl)
 
 slots_same : (family : Family) (values : Values) → slots_of family values ≡ slots_in (family_in family) values
 unfolding slots_of slots_in
@@ -121,13 +120,13 @@ pub commands-same : (form : PaperShape) (values : Values) (s : List ℕ) → Lie
     → command_in form values s kind body ≡ read_by (manner_in form s) (slots_in (family_in form.family) values) kind body
 unfolding command_in
 commands-same form values s h kind body = rw (slots_same form.family values) (by (slots_in (family_in form.family) values) form.selecting h) where
-  by : (slots : Slots) (selecting : Selecting) → Lies selecting s
+  by : (slots : Slots) (selecting : Option SelectionFile) → Lies selecting s
       → C.read_by selecting form.dating form.family slots s kind body
       ≡ read_by (of (choice_in selecting s) (dates_in form.dating) (family_in form.family) (scripts_in form.scripting)) slots kind body
-  by slots Off h = (tails_aside slots [] 0 kind body form.dating form.family).0
-  by slots (On start end entries) h =
-      rw (le-leb start end h.0, le-leb end (length s) h.1)
-      (tails_aside slots (take (end - start) (drop start s)) entries kind body form.dating form.family).1
+  by slots None h = (tails_aside slots [] 0 kind body form.dating form.family).0
+  by slots (Some part) h =
+      rw (le-leb part.start part.end h.0, le-leb part.end (length s) h.1)
+      (tails_aside slots (take (part.end - part.start) (drop part.start s)) part.entries kind body form.dating form.family).1
 
 scripts-same : (b : Bool) → is_scripted (scripts_in b) ≡ b
 scripts-same true = refl

@@ -16,18 +16,13 @@ use Rattle.setup.specs.Setup.{rules_in, fresh_in}
 use Rattle.rules.specs.declared.Values.{Values}
 use Rattle.slot.specs.Slot.{tests_slot, slot_of, is_slot_sound, lacks_amount, slot_value, slot_passes}
 use Rattle.entry.specs.Entry.{is_well_formed, reaches_past, block, masked, is_any_of, passes, action_of, data_action, slot_action, action_taken}
-use Rattle.selection.specs.declared.Selection.{Selection}
-use Rattle.selection.specs.declared.Selection.TheVariants.{Selected, NotSelected}
 use Rattle.selection.specs.Selection.{entries_of, follow, select_from, selection_of}
-use Rattle.shape.specs.declared.Dating.TheVariants.{On as DatesOn}
 use Rattle.shape.specs.declared.Family.TheVariants.{Cpace}
 use Rattle.shape.specs.declared.Shape.{Shape}
 use Rattle.shape.specs.Shape.{based, selects, dates, families, scripts}
 use Rattle.paper.specs.Paper.{next_at, open_paper, opened_number}
 use Rattle.command.specs.declared.Start.{Start}
 use Rattle.command.specs.declared.First.{First}
-use Rattle.command.specs.declared.When.{When}
-use Rattle.command.specs.declared.When.TheVariants.{Undated, On as DatedOn}
 use Rattle.command.specs.Command.{start_of, first_of, second_of, command_of, start_selected, selecting_of, slots_of, command_in}
 use Rattle.state.specs.declared.Answer.TheVariants.{Started, Done}
 use Rattle.fresh.specs.Fresh.{fresh_state}
@@ -43,6 +38,9 @@ use Rattle.spelling.specs.Spelling.{kind_of, body_of, spell, paper_of}
 use Rattle.spelling.specs.Printed.{printed, body, calendar, calendar_body, cpace_paper, cpace_body}
 use Rattle.spelling.specs.Sitting.{Reading, over, refused, message, reading}
 use Rattle.spelling.proofs.Computed.{answered, heard}
+use Rattle.std.specs.Prelude.{None, Option, Some}
+use Rattle.selection.specs.declared.Selected.{Selected}
+use Rattle.shape.specs.Shape.{span}
 
 -- `nine-exactly`: a paper ends with 9 before its first command
 abbrev is_unread : List ℕ → Bool
@@ -110,11 +108,11 @@ with_scripts = scripts (based 0) true
 
 -- and of a First with its date, in a paper with dates
 abbrev with_dates : Shape
-with_dates = dates (based 0) (DatesOn 0 0)
+with_dates = dates (based 0) (Some (span 0 0))
 
-abbrev is_on : When → (year month day : ℕ) → Bool
-is_on Undated year month day = false
-is_on (DatedOn date) year month day = eqb date.year year && eqb date.month month && eqb date.day day
+abbrev is_on : Option Date → (year month day : ℕ) → Bool
+is_on None year month day = false
+is_on (Some date) year month day = eqb date.year year && eqb date.month month && eqb date.day day
 
 abbrev is_first_on : Reading → (year month day : ℕ) → Bool
 is_first_on reading year month day = of_first (λ f at. is_on f.when year month day) reading
@@ -129,9 +127,9 @@ on_day = spell (first_on day 1 5000 0x0978 0x22 unshown)
 abbrev with_cpace : Shape
 with_cpace = families (based 0) (Cpace 0 0)
 
-abbrev is_named : Selection → (profile visits : ℕ) → Bool
-is_named NotSelected profile visits = false
-is_named (Selected p v) profile visits = eqb p profile && eqb v visits
+abbrev is_named : Option Selected → (profile visits : ℕ) → Bool
+is_named None profile visits = false
+is_named (Some chosen) profile visits = eqb chosen.profile profile && eqb chosen.visits visits
 
 abbrev is_start : Reading → (interface profile visits end : ℕ) → Bool
 is_start reading interface profile visits end =

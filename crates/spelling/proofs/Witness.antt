@@ -11,9 +11,7 @@ use lib.ListN.{length, drop}
 use Rattle.wire.proofs.Pairs.{both}
 use Rattle.rules.specs.Rules.{Rules}
 use Rattle.rules.specs.Word.{word_count}
-use Rattle.shape.specs.declared.Dating.TheVariants.{Off as DatesOff, On as DatesOn}
 use Rattle.shape.specs.declared.Family.TheVariants.{Cpa, Cpace}
-use Rattle.shape.specs.declared.Logging.TheVariants.{On as LogOn}
 use Rattle.shape.specs.declared.Shape.{Shape}
 use Rattle.shape.specs.Shape.{based, selects, dates, families, scripts, logs}
 use Rattle.state.specs.declared.State.{State}
@@ -29,6 +27,8 @@ use Rattle.spelling.specs.Printed.{printed, body, sent, selection, selection_bod
 use Rattle.spelling.proofs.Lines.{events-spelled}
 use Rattle.spelling.proofs.Papers.{lines_of_lem, fourteen_line}
 use Rattle.spelling.proofs.Computed.{begun}
+use Rattle.std.specs.Prelude.{None, Some}
+use Rattle.shape.specs.Shape.{span}
 
 are_bytes : List ℕ → Bool
 are_bytes [] = true
@@ -132,7 +132,7 @@ brought-lines words lent =
 -- ---- the paper whose Firsts have their dates
 
 abbrev calendarly : Shape
-calendarly = dates (based 159) (DatesOn 161 207)
+calendarly = dates (based 159) (Some (span 161 207))
 
 abbrev on_days : Manner
 on_days = record { choice = by_name; dates = dated; family = cpa; scripts = unscripted }
@@ -303,7 +303,7 @@ abbrev wrong : List ℕ
 wrong = 1 ∷ 21 ∷ 0 ∷ 0 ∷ 0 ∷ 0 ∷ []
 
 abbrev pub logging : (end : ℕ) → Shape
-logging end = logs (families (dates (based 159) DatesOff) Cpa) (LogOn 164 end)
+logging end = logs (families (dates (based 159) None) Cpa) (Some (span 164 end))
 
 unfoldable pub logged_paper : List ℕ
 unfolding printed sent spell_all kind_of body_of record_of big

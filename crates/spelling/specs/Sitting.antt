@@ -1,27 +1,20 @@
 -- What the readers make of a place in a paper, and the lines of a conversation.
-use Rattle.std.specs.Prelude.{◌≡◌, cond, List, [], ◌∷◌, ◌++◌, ℕ, ◌+◌, ◌≤◌, length, drop}
+use Rattle.std.specs.Prelude.{◌≡◌, cond, List, [], ◌∷◌, ◌++◌, ℕ, ◌+◌, ◌≤◌, length, drop, Err, None, Ok, Option, Result, Some}
 use Rattle.rules.specs.Rules.{Rules}
 use Rattle.rules.specs.declared.Values.{Values}
 use Rattle.slot.specs.declared.Slots.{Slots}
-use Rattle.setup.specs.declared.SetupAnswer.TheVariants.{Done}
 use Rattle.setup.specs.declared.ReadSetup.{ReadSetup}
 use Rattle.setup.specs.Setup.{read_setup, setup_number, rules_in, fresh_in}
-use Rattle.log_tail.specs.declared.Judged.TheVariants.{Sound, Wrong, PastData as TableFault}
 use Rattle.refusal.specs.declared.Refusal.{Refusal}
 use Rattle.refusal.specs.declared.Refusal.TheVariants.{Unreadable}
 use Rattle.refusal.specs.Refusal.{refusal_number}
-use Rattle.shape.specs.declared.Selecting.{Selecting}
-use Rattle.shape.specs.declared.Selecting.TheVariants.{Off, On}
 use Rattle.shape.specs.declared.Shape.{Shape}
-use Rattle.shape.specs.declared.ReadShape.TheVariants.{Taken as ShapeTaken}
 use Rattle.shape.specs.Shape.{base_part, cycles_part, family_part, shape_of, shape_number}
 use Rattle.paper.specs.declared.Next.{Next}
 use Rattle.paper.specs.declared.Next.TheVariants.{Record, Fault, End}
 use Rattle.paper.specs.Paper.{next_at, next_number}
 use Rattle.paper.specs.Walk.{part}
 use Rattle.command.specs.declared.Command.TheVariants.{Start, First, Second}
-use Rattle.command.specs.declared.ReadCommand.{ReadCommand}
-use Rattle.command.specs.declared.ReadCommand.TheVariants.{Taken, Refused}
 use Rattle.command.specs.Command.{command_in}
 use Rattle.state.specs.declared.State.{State}
 use Rattle.script.specs.Script.{rules_after}
@@ -37,17 +30,21 @@ use Rattle.records.specs.Records.{is_script}
 use Rattle.lines.specs.Sitting.{answer_line, sitting_lines}
 use Rattle.spelling.specs.Spelling.{Sent, spell, spell_all, Manner, manner_in, Fits, AllFit, slots_in, stands_for}
 use Rattle.spelling.specs.Faults.{OpenFault, Opens, RestFault}
+use Rattle.command.specs.declared.Command.{Command}
+use Rattle.log_tail.specs.declared.Fault.TheVariants.{PastData}
+use Rattle.log_tail.specs.declared.Fault.TheVariants.{Wrong}
+use Rattle.shape.specs.declared.SelectionFile.{SelectionFile}
 
 -- what a record is read as: a message, or it is refused
 pub data Read : Type 0 where
   sends : Message → Read
   refuses : Refusal → Read
 
-abbrev pub command_read : ReadCommand → Read
-command_read (Taken (Start start)) = sends (StartCommand start)
-command_read (Taken (First first)) = sends (FirstCommand first)
-command_read (Taken (Second second)) = sends (SecondCommand second)
-command_read (Refused refusal) = refuses refusal
+abbrev pub command_read : Result Command Refusal → Read
+command_read (Ok (Start start)) = sends (StartCommand start)
+command_read (Ok (First first)) = sends (FirstCommand first)
+command_read (Ok (Second second)) = sends (SecondCommand second)
+command_read (Err refusal) = refuses refusal
 
 -- a script's body is its result and its template
 abbrev pub script_read : (body : List ℕ) → Read
@@ -76,9 +73,9 @@ unfoldable pub reading : Shape → Values → (paper : List ℕ) (at : ℕ) → 
 reading shape values s at = reading_in shape values s (next_at s at)
 
 -- the file lies in the paper
-abbrev pub Lies : Selecting → List ℕ → Type 0
-Lies Off s = Unit
-Lies (On start end entries) s = (start ≤ end) × (end ≤ length s)
+abbrev pub Lies : Option SelectionFile → List ℕ → Type 0
+Lies None s = Unit
+Lies (Some part) s = (part.start ≤ part.end) × (part.end ≤ length s)
 
 -- from a place to an end stands, spelled, what was sent, and it stands for a message
 pub record Spelled (manner : Manner) (slots : Slots) (s : List ℕ) (at : ℕ) (m : Message) (end : ℕ) : Type 0 where
@@ -94,23 +91,23 @@ setup_from shape body = read_setup (base_part shape body) (cycles_part shape.dat
 
 -- the set-up is taken: its shape, its base with those tails, and its log
 pub record SetUp (version : ℕ) (body : List ℕ) (shape : Shape) : Type 0 where
-  pub shape_is : shape_of version body ≡ ShapeTaken shape
-  pub base : (setup_from shape body).answer ≡ Done
-  pub log : log_judged shape body ≡ Sound
+  pub shape_is : shape_of version body ≡ Ok shape
+  pub base : (setup_from shape body).answer ≡ Ok tt
+  pub log : log_judged shape body ≡ Ok tt
 
 -- or its shape is refused, or its base, or its log's settings
 pub data NotSetUp (version : ℕ) (body : List ℕ) : Type 0 where
   no_shape : shape_number (shape_of version body) ≡ 1 → NotSetUp version body
-  no_base : (shape : Shape) → shape_of version body ≡ ShapeTaken shape → setup_number (setup_from shape body).answer ≡ 1
+  no_base : (shape : Shape) → shape_of version body ≡ Ok shape → setup_number (setup_from shape body).answer ≡ 1
       → NotSetUp version body
-  no_log : (shape : Shape) → shape_of version body ≡ ShapeTaken shape → log_judged shape body ≡ Wrong → NotSetUp version body
+  no_log : (shape : Shape) → shape_of version body ≡ Ok shape → log_judged shape body ≡ Err Wrong → NotSetUp version body
 
 -- or all of it is right, but that a table of its log reaches past its data
 pub record PastSetUp (version : ℕ) (body : List ℕ) : Type 0 where
   pub shape : Shape
-  pub shape_is : shape_of version body ≡ ShapeTaken shape
-  pub base : (setup_from shape body).answer ≡ Done
-  pub log : log_judged shape body ≡ TableFault
+  pub shape_is : shape_of version body ≡ Ok shape
+  pub base : (setup_from shape body).answer ≡ Ok tt
+  pub log : log_judged shape body ≡ Err PastData
 
 -- the rules that a message leaves
 abbrev pub rules_left : Rules → State → Message → Rules

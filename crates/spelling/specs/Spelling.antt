@@ -1,23 +1,18 @@
 -- The paper spelled (document 01, "The paper"; docs/PAPERS.md): from what a terminal sends to bytes. It uses nothing of the readers.
-use Rattle.std.specs.Prelude.{Bool, true, false, cond, ◌&&◌, List, [], ◌∷◌, ◌++◌, ℕ, zero, suc, ◌+◌, ◌-◌, ◌/◌, ◌%◌, ◌^◌, ◌<◌, eqb, length, take, drop, get_or}
+use Rattle.std.specs.Prelude.{Bool, true, false, cond, ◌&&◌, List, [], ◌∷◌, ◌++◌, ℕ, zero, suc, ◌+◌, ◌-◌, ◌/◌, ◌%◌, ◌^◌, ◌<◌, eqb, length, take, drop, get_or, None, Option, Some}
 use Rattle.calendar.specs.declared.Date.{Date}
 use Rattle.cpace.specs.declared.Cvm.{Cvm}
 use Rattle.cpace.specs.declared.Cvm.TheVariants.{OnlinePin, Signature, NoCvm}
 use Rattle.rules.specs.declared.Values.{Values}
 use Rattle.slot.specs.declared.Slots.{Slots}
-use Rattle.selection.specs.declared.Selection.{Selection}
-use Rattle.selection.specs.declared.Selection.TheVariants.{Selected, NotSelected}
 use Rattle.selection.specs.Selection.{selection_of}
-use Rattle.shape.specs.declared.Selecting.{Selecting}
-use Rattle.shape.specs.declared.Selecting.TheVariants.{Off, On}
-use Rattle.shape.specs.declared.Dating.{Dating}
-use Rattle.shape.specs.declared.Dating.TheVariants.{Off as DatesOff, On as DatesOn}
 use Rattle.shape.specs.declared.Family.{Family}
 use Rattle.shape.specs.declared.Family.TheVariants.{Cpa, Cpace}
 use Rattle.shape.specs.declared.Shape.{Shape}
-use Rattle.command.specs.declared.When.{When}
-use Rattle.command.specs.declared.When.TheVariants.{Undated, On as DatedOn}
 use Rattle.card.specs.Message.{Message, StartCommand, FirstCommand, SecondCommand, ScriptCommand}
+use Rattle.selection.specs.declared.Selected.{Selected}
+use Rattle.shape.specs.declared.SelectionFile.{SelectionFile}
+use Rattle.shape.specs.declared.Span.{Span}
 
 -- each is a byte
 abbrev pub Bytes : List ℕ → Type 0
@@ -110,18 +105,18 @@ pub data Choice : Type 0 where
   by_file : (file : List ℕ) (entries : ℕ) → Choice
 
 -- the file is the bytes from a place to a place
-abbrev pub choice_in : Selecting → List ℕ → Choice
-choice_in Off s = by_name
-choice_in (On start end entries) s = by_file (take (end - start) (drop start s)) entries
+abbrev pub choice_in : Option SelectionFile → List ℕ → Choice
+choice_in None s = by_name
+choice_in (Some part) s = by_file (take (part.end - part.start) (drop part.start s)) part.entries
 
 -- and whether a First has its date
 pub data Dates : Type 0 where
   undated : Dates
   dated : Dates
 
-abbrev pub dates_in : Dating → Dates
-dates_in DatesOff = undated
-dates_in (DatesOn start end) = dated
+abbrev pub dates_in : Option Span → Dates
+dates_in None = undated
+dates_in (Some part) = dated
 
 -- and whose card it is
 pub data CardFamily : Type 0 where
@@ -212,8 +207,8 @@ slots_in family values =
     record { testable = is_tested family; amounts = amount 0 ∷ amount 1 ∷ amount 2 ∷ amount 3 ∷ []; counts = values.counters }
 
 -- the profile that a Start's bytes select: those of the interface too
-abbrev pub selects : Choice → Slots → List ℕ → Selection
-selects by_name slots bytes = NotSelected
+abbrev pub selects : Choice → Slots → List ℕ → Option Selected
+selects by_name slots bytes = None
 selects (by_file file entries) slots bytes = selection_of file entries bytes slots
 
 -- a CPA card asks no interface, and takes each transaction for one without a CVM and without cashback
@@ -234,10 +229,10 @@ cashback_of (shown r1 r2 r3 zero) = false
 cashback_of (shown r1 r2 r3 (suc cashback)) = true
 
 -- the message that it stands for, by what the file's entries may test; a profile that is named is found without a visit
-abbrev pub start_sent : Interface → Selection → Message
+abbrev pub start_sent : Interface → Option Selected → Message
 start_sent interface chosen = StartCommand (record { interface = interface_of interface; chosen = chosen })
 
-abbrev pub first_sent : When → (type amount currency terminal : ℕ) → Presented → Message
+abbrev pub first_sent : Option Date → (type amount currency terminal : ℕ) → Presented → Message
 first_sent when type amount currency terminal presented =
     FirstCommand (record {
       requested = type;
@@ -250,9 +245,9 @@ first_sent when type amount currency terminal presented =
     })
 
 unfoldable pub stands_for : Manner → Slots → Sent → Message
-stands_for manner slots (names interface profile) = start_sent interface (Selected profile 0)
+stands_for manner slots (names interface profile) = start_sent interface (Some (record { profile = profile; visits = 0 }))
 stands_for manner slots (brings interface terminal) = start_sent interface (selects manner.choice slots (start_bytes interface terminal))
-stands_for manner slots (first type amount currency terminal presented) = first_sent Undated type amount currency terminal presented
-stands_for manner slots (first_on date type amount currency terminal presented) = first_sent (DatedOn date) type amount currency terminal presented
+stands_for manner slots (first type amount currency terminal presented) = first_sent None type amount currency terminal presented
+stands_for manner slots (first_on date type amount currency terminal presented) = first_sent (Some date) type amount currency terminal presented
 stands_for manner slots (second type code issuer csu) = SecondCommand (record { requested = type; code = code; issuer = issuer; csu = csu })
 stands_for manner slots (script result template) = ScriptCommand result template

@@ -15,14 +15,8 @@ use Rattle.load_parts.proofs.Sizes.{loaded-size}
 use Rattle.load_parts.proofs.Stores.{all}
 use Rattle.setup.specs.Setup.{is_accepted, words_after}
 use Rattle.setup.proofs.Faithful.{untouched}
-use Rattle.log_tail.specs.declared.Judged.{Judged}
-use Rattle.log_tail.specs.declared.Judged.TheVariants.{Sound, Wrong, PastData as TableFault}
 use Rattle.shape.specs.declared.Shape.{Shape}
-use Rattle.shape.specs.declared.ReadShape.{ReadShape}
-use Rattle.shape.specs.declared.ReadShape.TheVariants.{Taken as ShapeTaken, Refused as ShapeRefused}
 use Rattle.shape.specs.Shape.{base_part, cycles_part, family_part, shape_of, shape_at}
-use Rattle.paper.specs.declared.Opened.{Opened}
-use Rattle.paper.specs.declared.Opened.TheVariants.{Setup, Refused as OpenRefused}
 use Rattle.paper.specs.Paper.{open_paper}
 use Rattle.paper.specs.Walk.{part}
 use Rattle.state.specs.declared.State.{State}
@@ -42,6 +36,11 @@ use Rattle.transcript.proofs.Steps.{Beginning, accepted, refused, begins, set_up
 use Rattle.pages.specs.Stack.{paper_of, behind, pages_in, stack_of}
 use Rattle.stacks.specs.Alone.{apart_in, apart_of}
 use Rattle.stacks.proofs.Many.{as_many}
+use Rattle.std.specs.Prelude.{Err, Ok, Result}
+use Rattle.log_tail.specs.declared.Fault.{Fault}
+use Rattle.log_tail.specs.declared.Fault.TheVariants.{PastData as TableFault}
+use Rattle.log_tail.specs.declared.Fault.TheVariants.{Wrong}
+use Rattle.paper.specs.declared.Opened.{Opened}
 
 -- ---- as many words as before
 
@@ -55,23 +54,23 @@ stored_length words s t f syllabus unnamed = by (is_accepted s t f unnamed) wher
 begun_length : (words paper : List ℕ) → length (words_begun words paper) ≡ length words
 unfolding words_begun setup_words
 begun_length words paper = by (open_paper paper) where
-  by-log : (judged : Judged) (then : List ℕ) → length then ≡ length words → length (logged_words judged words then) ≡ length words
-  by-log Sound then same = same
-  by-log Wrong then same = refl
-  by-log TableFault then same = refl
+  by-log : (judged : Result Unit Fault) (then : List ℕ) → length then ≡ length words → length (logged_words judged words then) ≡ length words
+  by-log (Ok done) then same = same
+  by-log (Err Wrong) then same = refl
+  by-log (Err TableFault) then same = refl
 
-  by_shape : (body : List ℕ) (read : ReadShape) → length (shaped_words words body read) ≡ length words
-  by_shape body (ShapeRefused refusal) = refl
-  by_shape body (ShapeTaken shape) =
+  by_shape : (body : List ℕ) (read : Result Shape Refusal) → length (shaped_words words body read) ≡ length words
+  by_shape body (Err refusal) = refl
+  by_shape body (Ok shape) =
       let base = base_part shape body in
       let cycles = cycles_part shape.dating body in
       let family = family_part shape.family body in
       by-log (log_judged shape body) (words_after words base cycles family shape.syllabus shape.unnamed)
       (stored_length words base cycles family shape.syllabus shape.unnamed)
 
-  by : (opened : Opened) → length (opened_words words paper opened) ≡ length words
-  by (OpenRefused refusal) = refl
-  by (Setup version start end) = by_shape (part paper start end) (shape_of version (part paper start end))
+  by : (opened : Result Opened Refusal) → length (opened_words words paper opened) ≡ length words
+  by (Err refusal) = refl
+  by (Ok opened) = by_shape (part paper opened.start opened.end) (shape_of opened.version (part paper opened.start opened.end))
 
 ending_length : (event : Event) (here more : List ℕ) (n : ℕ) → length here ≡ n → length more ≡ n → length (ending event here more) ≡ n
 ending_length SetUp here more n h m = m
@@ -121,16 +120,16 @@ module _ (words words' paper : List ℕ) (lent : length words ≡ word_count) (l
     by-base shape s t f end false bad e =
         absurd (not_both _ (sym (ap (λ r. set_up_event r.answer) (untouched words s t f shape.syllabus shape.unnamed bad).1) ∙ e))
 
-    by-log : (judged : Judged) (good : Bool) (end : ℕ) (begun : Begun) (then then' : List ℕ) → (begun.event ≡ SetUp → then ≡ then')
+    by-log : (judged : Result Unit Fault) (good : Bool) (end : ℕ) (begun : Begun) (then then' : List ℕ) → (begun.event ≡ SetUp → then ≡ then')
         → (logged_begun judged good end begun).event ≡ SetUp → logged_words judged words then ≡ logged_words judged words' then'
-    by-log Sound good end begun then then' same e = same e
-    by-log Wrong good end begun then then' same e = absurd (not_both BadSetup e)
-    by-log TableFault good end begun then then' same e = absurd (not_both (cond good PastData BadSetup) e)
+    by-log (Ok done) good end begun then then' same e = same e
+    by-log (Err Wrong) good end begun then then' same e = absurd (not_both BadSetup e)
+    by-log (Err TableFault) good end begun then then' same e = absurd (not_both (cond good PastData BadSetup) e)
 
-    by_shape : (body : List ℕ) (place end : ℕ) (read : ReadShape) → (shaped_begun body place end read).event ≡ SetUp
+    by_shape : (body : List ℕ) (place end : ℕ) (read : Result Shape Refusal) → (shaped_begun body place end read).event ≡ SetUp
         → shaped_words words body read ≡ shaped_words words' body read
-    by_shape body place end (ShapeRefused refusal) e = absurd (not_both refusal e)
-    by_shape body place end (ShapeTaken shape) e =
+    by_shape body place end (Err refusal) e = absurd (not_both refusal e)
+    by_shape body place end (Ok shape) e =
         let base = base_part shape body in
         let cycles = cycles_part shape.dating body in
         let family = family_part shape.family body in
@@ -139,9 +138,9 @@ module _ (words words' paper : List ℕ) (lent : length words ≡ word_count) (l
         (words_after words base cycles family shape.syllabus shape.unnamed) (words_after words' base cycles family shape.syllabus shape.unnamed)
         (by-base (shape_at place shape) base cycles family end good refl) e
 
-    by : (opened : Opened) → (opened_begun paper opened).event ≡ SetUp → opened_words words paper opened ≡ opened_words words' paper opened
-    by (OpenRefused refusal) e = absurd (not_both refusal e)
-    by (Setup version start end) e = by_shape (part paper start end) start end (shape_of version (part paper start end)) e
+    by : (opened : Result Opened Refusal) → (opened_begun paper opened).event ≡ SetUp → opened_words words paper opened ≡ opened_words words' paper opened
+    by (Err refusal) e = absurd (not_both refusal e)
+    by (Ok opened) e = by_shape (part paper opened.start opened.end) opened.start opened.end (shape_of opened.version (part paper opened.start opened.end)) e
 
   pub each_alone : transcript_of words paper ≡ transcript_of words' paper
   each_alone = by (begins paper) where

@@ -10,7 +10,6 @@ use lib.ListN.{length, drop, length-drop, get_or-append}
 use lib.Seq.{length-take-le, drop-drop}
 use Rattle.wire.specs.Wire.{byte, number}
 use Rattle.refusal.specs.declared.Refusal.TheVariants.{Unreadable}
-use Rattle.paper.specs.declared.Opened.TheVariants.{Refused as OpenRefused}
 use Rattle.paper.specs.Paper.{open_paper}
 use Rattle.opening.specs.Opening.{begun_of, opened_begun, words_begun, opened_words}
 use Rattle.conversation.specs.Events.{words_left}
@@ -22,6 +21,7 @@ use Rattle.paper_text.proofs.Logged.{no_further_line}
 use Rattle.pages.specs.Stack.{page_of, cut_short, size_of, paper_of, pages_in, stack_of}
 use Rattle.pages.specs.Stack as Stack
 use Rattle.pages.specs.Turn.{too_long, longest_paper, owed}
+use Rattle.std.specs.Prelude.{Err}
 
 -- the length at the front does not hang on what stands behind it
 pub number-front : (s more : List ℕ) (n : ℕ) → n ≤ length s → number (s ++ more) 0 n ≡ number s 0 n
@@ -68,7 +68,7 @@ module _ (words stack : List ℕ) where
 -- ---- a paper that is too long
 
 module _ (words paper : List ℕ) (long : longest_paper < length paper) where
-  unread : open_paper paper ≡ OpenRefused Unreadable
+  unread : open_paper paper ≡ Err Unreadable
   unfolding open_paper
   unread = rw (ne_eqb (length paper) 0 (λ z. omega arith), lt-ltb 65536 (length paper) long)
 

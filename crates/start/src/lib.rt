@@ -7,15 +7,15 @@ ghost use Rattle.start.specs.Start.{opening_step, start_step};
 
 use command::Start;
 use refusal::Refusal;
-use rules::{Found, Words};
-use selection::Selection;
+use rules::Words;
+use selection::Selected;
 use state::{Answer, Outcome, Phase, State, refuse};
 
 // Opens a profile, dropping what was unfinished, and adds 1 to the ATC.
 fn open_profile(words: &Words, state: State, profile: u8, visits: u8) -> Outcome
     ensures { result ≡ opening_step (rules_of words.now) state profile visits }
 {
-    let Found::At(place) = rules::find_profile(words, profile) else {
+    let Some(place) = rules::find_profile(words, profile) else {
         return refuse(state, Refusal::UnknownProfile);
     };
     if state.atc == 65_535 {
@@ -47,7 +47,7 @@ pub fn answer_start(words: &Words, state: State, start: Start) -> Outcome
     }
     let chosen = start.chosen;
     match chosen {
-        Selection::NotSelected => refuse(state, Refusal::NotSelected),
-        Selection::Selected { profile, visits } => open_profile(words, state, profile, visits),
+        None => refuse(state, Refusal::NotSelected),
+        Some(Selected { profile, visits }) => open_profile(words, state, profile, visits),
     }
 }

@@ -6,18 +6,11 @@
 
 ghost use Rattle.std.specs.Prelude.{◌≡◌, ◌+◌, ◌≤◌, ◌<◌, length};
 
-use cursor::{Next, next_command};
+use cursor::{Span, next_command};
 use element::Write;
-use object::{Reading, read_template};
+use object::{Fault, read_template};
 use put_data::{is_valid, next_write};
 use streams::Ending;
-
-// The last write to a slot.
-#[derive(Drop)]
-enum Last {
-    Written(Write),
-    Nothing,
-}
 
 // A text from a place of the room on.
 fn put_text(room: &mut [u8], at: usize, text: &[u8]) -> usize
@@ -109,14 +102,14 @@ fn is_to(write: &Write, kind: u8, slot: usize) -> bool {
 
 // The last of the writes of a kind to a slot.
 fn last_to(command: &[u8], kind: u8, slot: usize) -> Last {
-    let mut last = Last::Nothing;
+    let mut last = None;
     let mut at = 0;
     loop {
         let put_data::Next::Element { write, end } = next_write(command, at) else {
             return last;
         };
         if is_to(&write, kind, slot) {
-            last = Last::Written(write);
+            last = Some(write);
         }
         at = end;
     }
@@ -134,7 +127,7 @@ fn put_slot(
     requires { (at + 45 ≤ length room.old) × (slot < 4) }
     ensures { result ≤ at + 45 }
 {
-    let Last::Written(write) = last_to(command, kind, slot) else {
+    let Some(write) = last_to(command, kind, slot) else {
         return at;
     };
     let at = put_comma(room, start, at);
@@ -195,7 +188,7 @@ fn print_commands(rt: &impl Print, room: &mut [u8], template: &[u8]) -> bool
 {
     let mut at = 0;
     loop {
-        let Next::Command { start, size } = next_command(template, at) else {
+        let Some(Span { start, size }) = next_command(template, at) else {
             return true;
         };
         let end = start + size;
@@ -224,9 +217,9 @@ fn print_line(rt: &impl Print, room: &mut [u8], template: &[u8]) -> bool
     requires { 583 ≤ length room.old }
 {
     match read_template(template) {
-        Reading::Sound => print_sound(rt, room, template),
-        Reading::Malformed => rt.write_all(b"18\n").is_ok(),
-        Reading::TooDeep => rt.write_all(b"19\n").is_ok(),
+        Ok(()) => print_sound(rt, room, template),
+        Err(Fault::Malformed) => rt.write_all(b"18\n").is_ok(),
+        Err(Fault::TooDeep) => rt.write_all(b"19\n").is_ok(),
     }
 }
 

@@ -6,7 +6,6 @@
 
 ghost use Rattle.std.specs.Prelude.{◌≤◌, length};
 
-use bench::Page;
 use intake::Found;
 use paper_text::Parts;
 use record_lines::Showing;
@@ -75,7 +74,7 @@ fn show(
 
 // The lines of the paper's log, behind what was shown of it.
 fn write_log(rt: &impl Print, paper: &[u8], room: &mut [u8]) -> Ending {
-    let Parts::Put { lines, end } = paper_text::put_for_log(paper, room) else {
+    let Some(Parts { lines, end }) = paper_text::put_for_log(paper, room) else {
         return Ending::NotWritten;
     };
     if streams::write_out(rt, &room[lines..end], end - lines) {
@@ -148,7 +147,7 @@ fn take_run(
     );
     let state = turn.state;
     let page = turn.page;
-    let Page::Whole { end } = page else {
+    let Some(end) = page else {
         return Answered {
             state,
             written: false,

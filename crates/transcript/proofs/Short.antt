@@ -10,10 +10,6 @@ use lib.ListN.{length}
 use Rattle.refusal.specs.declared.Refusal.TheVariants.{Unreadable}
 use Rattle.rules.specs.declared.Place.{Place}
 use Rattle.rules.specs.Rules.{Rules}
-use Rattle.shape.specs.declared.Selecting.{Selecting}
-use Rattle.shape.specs.declared.Selecting.TheVariants.{Off, On}
-use Rattle.shape.specs.declared.Dating.{Dating}
-use Rattle.shape.specs.declared.Dating.TheVariants.{Off as DatesOff, On as DatesOn}
 use Rattle.shape.specs.declared.Family.{Family}
 use Rattle.shape.specs.declared.Shape.{Shape}
 use Rattle.paper.specs.declared.Next.{Next}
@@ -22,13 +18,10 @@ use Rattle.paper.specs.Paper.{next_at}
 use Rattle.paper.specs.Walk.{part}
 use Rattle.paper.proofs.Walk.{inside}
 use Rattle.slot.specs.declared.Slots.{Slots}
-use Rattle.selection.specs.declared.Selection.{Selection}
 use Rattle.selection.specs.Selection.{selection_of, visits_of}
 use Rattle.command.specs.declared.Start.{Start}
 use Rattle.command.specs.declared.Command.{Command}
 use Rattle.command.specs.declared.Command.TheVariants.{Start as StartCommand, First as FirstCommand, Second as SecondCommand}
-use Rattle.command.specs.declared.ReadCommand.{ReadCommand}
-use Rattle.command.specs.declared.ReadCommand.TheVariants.{Taken, Refused as NotTaken}
 use Rattle.command.specs.Command.{is_cpace, interface_of, start_length, start_of, plain_length, first_length, first_of, second_of, command_of}
 use Rattle.command.specs.Command.{start_selected, selecting_of, slots_of, file_in, read_by, command_in}
 use Rattle.state.specs.declared.State.{State}
@@ -43,6 +36,11 @@ use Rattle.conversation.specs.Conversation.{next_taken, taken_of}
 use Rattle.opening.proofs.Parts.{part_length}
 use Rattle.lines.specs.Sitting.{answer_line}
 use Rattle.lines.proofs.Short.{NotGiven, not_given_short, answer-short}
+use Rattle.std.specs.Prelude.{Err, None, Ok, Option, Result, Some}
+use Rattle.refusal.specs.declared.Refusal.{Refusal}
+use Rattle.selection.specs.declared.Selected.{Selected}
+use Rattle.shape.specs.declared.SelectionFile.{SelectionFile}
+use Rattle.shape.specs.declared.Span.{Span}
 
 -- ---- a command
 
@@ -52,26 +50,26 @@ Sized (StartCommand start) bytes = Unit
 Sized (FirstCommand first) bytes = 12 ≤ bytes
 Sized (SecondCommand second) bytes = bytes ≡ 8
 
-abbrev SizedIn : ReadCommand → (bytes : ℕ) → Type 0
-SizedIn (NotTaken refusal) bytes = Unit
-SizedIn (Taken command) bytes = Sized command bytes
+abbrev SizedIn : Result Command Refusal → (bytes : ℕ) → Type 0
+SizedIn (Err refusal) bytes = Unit
+SizedIn (Ok command) bytes = Sized command bytes
 
 second_of_both : (a b : Bool) → (a && b) ≡ true → b ≡ true
 second_of_both true b e = e
 second_of_both false b e = absurd (let z : ◌≡◌ {A = ℕ} 0 1 = cc in omega arith)
 
 -- with or without its date, and what a CPACE card asks
-plain_length_lem : (dating : Dating) → 12 ≤ plain_length dating
-plain_length_lem DatesOff = omega arith
-plain_length_lem (DatesOn start end) = omega arith
+plain_length_lem : (dating : Option Span) → 12 ≤ plain_length dating
+plain_length_lem None = omega arith
+plain_length_lem (Some part) = omega arith
 
-first_length_lem : (dating : Dating) (family : Family) → 12 ≤ first_length dating family
+first_length_lem : (dating : Option Span) (family : Family) → 12 ≤ first_length dating family
 first_length_lem dating family = by (is_cpace family) where
   by : (b : Bool) → 12 ≤ cond b (plain_length dating + 9) (plain_length dating)
   by true = omega (arith, plain_length_lem dating)
   by false = plain_length_lem dating
 
-module _ (dating : Dating) (family : Family) (kind : ℕ) (body : List ℕ) where
+module _ (dating : Option Span) (family : Family) (kind : ℕ) (body : List ℕ) where
   abbrev IsFirst : Bool
   IsFirst = eqb kind 3 && eqb (length body) (first_length dating family)
 
@@ -83,8 +81,8 @@ module _ (dating : Dating) (family : Family) (kind : ℕ) (body : List ℕ) wher
   sized-by-kind = by (eqb kind 2 && eqb (length body) (start_length family)) IsFirst IsSecond refl refl where
     by : (start first second : Bool) → IsFirst ≡ first → IsSecond ≡ second
         → SizedIn
-        (cond start (Taken (StartCommand (start_of family body)))
-        (cond first (Taken (FirstCommand (first_of dating family body))) (cond second (Taken (SecondCommand (second_of body))) (NotTaken Unreadable))))
+        (cond start (Ok (StartCommand (start_of family body)))
+        (cond first (Ok (FirstCommand (first_of dating family body))) (cond second (Ok (SecondCommand (second_of body))) (Err Unreadable))))
         (length body)
     by true first second e f = tt
     by false true second e f =
@@ -93,20 +91,20 @@ module _ (dating : Dating) (family : Family) (kind : ℕ) (body : List ℕ) wher
     by false false true e f = eqb-true (length body) 8 (second_of_both (eqb kind 4) (eqb (length body) 8) f)
     by false false false e f = tt
 
-  sized_selected : (chosen : Selection) → SizedIn (start_selected family chosen body) (length body)
+  sized_selected : (chosen : Option Selected) → SizedIn (start_selected family chosen body) (length body)
   unfolding start_selected
   sized_selected chosen = by (is_cpace family && eqb (length body) 0) where
-    by : (b : Bool) → SizedIn (cond b (NotTaken Unreadable) (Taken (StartCommand (record { interface = interface_of family body; chosen = chosen }))))
+    by : (b : Bool) → SizedIn (cond b (Err Unreadable) (Ok (StartCommand (record { interface = interface_of family body; chosen = chosen }))))
         (length body)
     by true = tt
     by false = tt
 
-  sized : (selecting : Selecting) (slots : Slots) (paper : List ℕ) → SizedIn (read_by selecting dating family slots paper kind body) (length body)
+  sized : (selecting : Option SelectionFile) (slots : Slots) (paper : List ℕ) → SizedIn (read_by selecting dating family slots paper kind body) (length body)
   unfolding selecting_of
-  sized Off slots paper = sized-by-kind
-  sized (On start end entries) slots paper = by (eqb kind 2) refl where
-    by : (b : Bool) → eqb kind 2 ≡ b → SizedIn (selecting_of dating family slots (file_in paper start end) entries kind body) (length body)
-    by true e = rw e (sized_selected (selection_of (file_in paper start end) entries body slots))
+  sized None slots paper = sized-by-kind
+  sized (Some part) slots paper = by (eqb kind 2) refl where
+    by : (b : Bool) → eqb kind 2 ≡ b → SizedIn (selecting_of dating family slots (file_in paper part.start part.end) part.entries kind body) (length body)
+    by true e = rw e (sized_selected (selection_of (file_in paper part.start part.end) part.entries body slots))
     by false e = rw e sized-by-kind
 
 module _ (rules : Rules) (state : State) where
@@ -144,10 +142,10 @@ pub record_short : (rules : Rules) (shape : Shape) (state : State) (paper : List
     → LineOf number (taken_of rules shape state paper at).event ((taken_of rules shape state paper at).at - at)
 unfolding taken_of answered_by scripted_by
 record_short rules shape state paper at number = by (next_at paper at) refl where
-  by_read : (end bytes : ℕ) (read : ReadCommand) → SizedIn read bytes → end - at ≡ 3 + bytes
+  by_read : (end bytes : ℕ) (read : Result Command Refusal) → SizedIn read bytes → end - at ≡ 3 + bytes
       → LineOf number (answered_by rules state end read).event ((answered_by rules state end read).at - at)
-  by_read end bytes (NotTaken refusal) s e = tt
-  by_read end bytes (Taken command) s e = (omega arith, omega (arith, command-short rules state number bytes command s))
+  by_read end bytes (Err refusal) s e = tt
+  by_read end bytes (Ok command) s e = (omega arith, omega (arith, command-short rules state number bytes command s))
 
   by-body : (end : ℕ) (body : List ℕ) → 3 ≤ end - at → LineOf number (scripted_by state body end).event ((scripted_by state body end).at - at)
   by-body end [] e = tt

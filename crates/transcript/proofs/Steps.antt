@@ -13,25 +13,15 @@ use Rattle.refusal.specs.declared.Refusal.{Refusal}
 use Rattle.refusal.specs.declared.Refusal.TheVariants.{BadSetup, Unreadable, PastData}
 use Rattle.refusal.specs.Refusal.{refusal_number}
 use Rattle.rules.specs.Rules.{Rules, rules_of}
-use Rattle.setup.specs.declared.SetupAnswer.{SetupAnswer}
-use Rattle.setup.specs.declared.SetupAnswer.TheVariants.{Done, Refused as SetupRefused}
 use Rattle.setup.specs.Setup.{is_accepted, read_setup}
-use Rattle.log_tail.specs.declared.Judged.{Judged}
-use Rattle.log_tail.specs.declared.Judged.TheVariants.{Sound, Wrong, PastData as TableFault}
 use Rattle.shape.specs.declared.Shape.{Shape}
-use Rattle.shape.specs.declared.ReadShape.{ReadShape}
-use Rattle.shape.specs.declared.ReadShape.TheVariants.{Taken as ShapeTaken, Refused as ShapeRefused}
 use Rattle.shape.specs.Shape.{base_part, cycles_part, family_part, shape_of, shape_at}
 use Rattle.paper.specs.declared.Next.{Next}
 use Rattle.paper.specs.declared.Next.TheVariants.{Record, Fault, End as PaperEnd}
-use Rattle.paper.specs.declared.Opened.{Opened}
-use Rattle.paper.specs.declared.Opened.TheVariants.{Setup, Refused as OpenRefused}
 use Rattle.paper.specs.Paper.{latest, next_at, setup_in, is_unreadable, open_paper}
 use Rattle.paper.specs.Walk.{part}
 use Rattle.paper.proofs.Walk.{inside}
 use Rattle.records.specs.declared.Said.{Said}
-use Rattle.command.specs.declared.ReadCommand.{ReadCommand}
-use Rattle.command.specs.declared.ReadCommand.TheVariants.{Taken as CommandTaken, Refused as NotTaken}
 use Rattle.command.specs.Command.{command_in}
 use Rattle.state.specs.declared.Answer.{Answer}
 use Rattle.state.specs.declared.State.{State}
@@ -51,6 +41,12 @@ use Rattle.script.specs.Script.{rules_after, words_after}
 use Rattle.lines.specs.Lines.{refusal_line}
 use Rattle.lines.specs.Sitting.{answer_line, lines_of, sitting_lines}
 use Rattle.transcript.specs.Transcript.{set_up_number, joined, transcript_of, rest_of}
+use Rattle.std.specs.Prelude.{Err, Ok, Result}
+use Rattle.command.specs.declared.Command.{Command}
+use Rattle.log_tail.specs.declared.Fault.{Fault}
+use Rattle.log_tail.specs.declared.Fault.TheVariants.{PastData as TableFault}
+use Rattle.log_tail.specs.declared.Fault.TheVariants.{Wrong}
+use Rattle.paper.specs.declared.Opened.{Opened}
 
 -- ---- a record
 
@@ -62,9 +58,9 @@ never_set_up rules shape state paper at = by (next_at paper at) where
   by-body end [] e = let z : ◌≡◌ {A = ℕ} 0 1 = cc in omega arith
   by-body end (result ∷ template) e = let z : ◌≡◌ {A = ℕ} 0 1 = cc in omega arith
 
-  by_read : (end : ℕ) (read : ReadCommand) → (answered_by rules state end read).event ≡ SetUp → ⊥
-  by_read end (NotTaken refusal) e = let z : ◌≡◌ {A = ℕ} 0 1 = cc in omega arith
-  by_read end (CommandTaken command) e = let z : ◌≡◌ {A = ℕ} 0 1 = cc in omega arith
+  by_read : (end : ℕ) (read : Result Command Refusal) → (answered_by rules state end read).event ≡ SetUp → ⊥
+  by_read end (Err refusal) e = let z : ◌≡◌ {A = ℕ} 0 1 = cc in omega arith
+  by_read end (Ok command) e = let z : ◌≡◌ {A = ℕ} 0 1 = cc in omega arith
 
   by : (next : Next) → (next_taken rules shape state paper at next).event ≡ SetUp → ⊥
   by PaperEnd e = let z : ◌≡◌ {A = ℕ} 0 1 = cc in omega arith
@@ -171,7 +167,7 @@ pub data Beginning (paper : List ℕ) (begun : Begun) : Type 0 where
   accepted : begun.event ≡ SetUp → Opening paper begun.at → Beginning paper begun
   refused : (refusal : Refusal) → begun.event ≡ Refused refusal → Beginning paper begun
 
-opening : (paper : List ℕ) (version start end : ℕ) → open_paper paper ≡ Setup version start end → Opening paper end
+opening : (paper : List ℕ) (version start end : ℕ) → open_paper paper ≡ Ok (record { version = version; start = start; end = end }) → Opening paper end
 unfolding open_paper
 opening paper version start end = by (is_unreadable paper) (next_at paper 1) refl refl where
   not_long : (a b c d : Bool) → (a || b || c || d) ≡ false → b ≡ false
@@ -180,7 +176,7 @@ opening paper version start end = by (is_unreadable paper) (next_at paper 1) ref
   not_long true b c d e = absurd (let z : ◌≡◌ {A = ℕ} 0 1 = cc in omega arith)
 
   by_kind : (version₀ kind start₀ end₀ : ℕ) (b : Bool) → next_at paper 1 ≡ Record kind start₀ end₀ → length paper ≤ 65536
-      → cond b (Setup version₀ start₀ end₀) (OpenRefused Unreadable) ≡ Setup version start end → Opening paper end
+      → cond b (Ok (record { version = version₀; start = start₀; end = end₀ })) (Err Unreadable) ≡ Ok (record { version = version; start = start; end = end }) → Opening paper end
   by_kind version₀ kind start₀ end₀ true n short e =
       let i = inside paper 1 kind start₀ end₀ n in
       let same : end₀ ≡ end = cc in
@@ -188,7 +184,7 @@ opening paper version start end = by (is_unreadable paper) (next_at paper 1) ref
   by_kind version₀ kind start₀ end₀ false n short e = absurd (let z : ◌≡◌ {A = ℕ} 0 1 = cc in omega arith)
 
   by : (b : Bool) (next : Next) → is_unreadable paper ≡ b → next_at paper 1 ≡ next
-      → cond b (OpenRefused Unreadable) (setup_in (byte paper 0) next) ≡ Setup version start end → Opening paper end
+      → cond b (Err Unreadable) (setup_in (byte paper 0) next) ≡ Ok (record { version = version; start = start; end = end }) → Opening paper end
   by true next u n e = absurd (let z : ◌≡◌ {A = ℕ} 0 1 = cc in omega arith)
   by false PaperEnd u n e = absurd (let z : ◌≡◌ {A = ℕ} 0 1 = cc in omega arith)
   by false Fault u n e = absurd (let z : ◌≡◌ {A = ℕ} 0 1 = cc in omega arith)
@@ -200,29 +196,29 @@ pub begins : (paper : List ℕ) → Beginning paper (begun_of paper)
 unfolding begun_of base_begun past_begun
 begins paper = by (open_paper paper) refl where
   by_answer : (shape : Shape) (base cycles family : List ℕ) (end : ℕ) → Opening paper end
-      → (answer : SetupAnswer) → (read_setup base cycles family shape.unnamed).answer ≡ answer
+      → (answer : Result Unit Refusal) → (read_setup base cycles family shape.unnamed).answer ≡ answer
       → Beginning paper (base_begun shape base cycles family end)
-  by_answer shape base cycles family end o Done e = accepted (ap set_up_event e) o
-  by_answer shape base cycles family end o (SetupRefused refusal) e = refused refusal (ap set_up_event e)
+  by_answer shape base cycles family end o (Ok done) e = accepted (ap set_up_event e) o
+  by_answer shape base cycles family end o (Err refusal) e = refused refusal (ap set_up_event e)
 
-  by-log : (judged : Judged) (good : Bool) (end : ℕ) (begun : Begun) → Beginning paper begun → Beginning paper (logged_begun judged good end begun)
-  by-log Sound good end begun b = b
-  by-log Wrong good end begun b = refused BadSetup refl
-  by-log TableFault good end begun b = refused (cond good PastData BadSetup) refl
+  by-log : (judged : Result Unit Fault) (good : Bool) (end : ℕ) (begun : Begun) → Beginning paper begun → Beginning paper (logged_begun judged good end begun)
+  by-log (Ok done) good end begun b = b
+  by-log (Err Wrong) good end begun b = refused BadSetup refl
+  by-log (Err TableFault) good end begun b = refused (cond good PastData BadSetup) refl
 
-  by_shape : (body : List ℕ) (place end : ℕ) → Opening paper end → (read : ReadShape) → Beginning paper (shaped_begun body place end read)
-  by_shape body place end o (ShapeRefused refusal) = refused refusal refl
-  by_shape body place end o (ShapeTaken shape) =
+  by_shape : (body : List ℕ) (place end : ℕ) → Opening paper end → (read : Result Shape Refusal) → Beginning paper (shaped_begun body place end read)
+  by_shape body place end o (Err refusal) = refused refusal refl
+  by_shape body place end o (Ok shape) =
       let base = base_part shape body in
       let cycles = cycles_part shape.dating body in
       let family = family_part shape.family body in
       by-log (log_judged shape body) (is_accepted base cycles family shape.unnamed) end (base_begun (shape_at place shape) base cycles family end)
       (by_answer (shape_at place shape) base cycles family end o (read_setup base cycles family shape.unnamed).answer refl)
 
-  by : (opened : Opened) → open_paper paper ≡ opened → Beginning paper (opened_begun paper opened)
-  by (OpenRefused refusal) e = refused refusal refl
-  by (Setup version start end) e =
-      unfold setup_begun in by_shape (part paper start end) start end (opening paper version start end e) (shape_of version (part paper start end))
+  by : (opened : Result Opened Refusal) → open_paper paper ≡ opened → Beginning paper (opened_begun paper opened)
+  by (Err refusal) e = refused refusal refl
+  by (Ok opened) e =
+      unfold setup_begun in by_shape (part paper opened.start opened.end) opened.start opened.end (opening paper opened.version opened.start opened.end e) (shape_of opened.version (part paper opened.start opened.end))
 
 -- a set-up that is taken
 pub set_up_in : (paper : List ℕ) → (begun_of paper).event ≡ SetUp → Opening paper (begun_of paper).at

@@ -1,5 +1,5 @@
 -- The lines of a whole paper as one text, and the room that it is written into (document 01, "A sitting in full").
-use Rattle.std.specs.Prelude.{cond, List, [], ℕ, ◌+◌, length}
+use Rattle.std.specs.Prelude.{cond, List, [], ℕ, ◌+◌, length, None, Option, Some}
 use Rattle.std.proofs.lemmas.List.Edits.{sets}
 unfoldable pub use Rattle.text.specs.Text.{joined}
 use Rattle.refusal.specs.Refusal.{refusal_number}
@@ -11,8 +11,6 @@ use Rattle.records.specs.declared.Event.TheVariants.{SetUp, End, Refused, Answer
 use Rattle.conversation.specs.Events.{events_from, words_left}
 use Rattle.lines.specs.Lines.{refusal_line}
 use Rattle.lines.specs.Sitting.{lines_of, sitting_lines}
-use Rattle.paper_room.specs.declared.Transcript.{Transcript}
-use Rattle.paper_room.specs.declared.Transcript.TheVariants.{Whole, NoRoom}
 pub use Rattle.paper_room.specs.PaperRoom.{room_for, has_room}
 
 -- what is printed of a paper, with the words that it was lent
@@ -38,9 +36,9 @@ set_up_number End = 0
 set_up_number (Answered said answer) = 0
 
 -- where the text ends, or that there is no room
-unfoldable pub transcribed : (words paper room : List ℕ) (at : ℕ) → Transcript
+unfoldable pub transcribed : (words paper room : List ℕ) (at : ℕ) → Option ℕ
 transcribed words paper room at =
-    cond (has_room (length room) at (length paper)) (Whole (at + length (transcript_of words paper))) NoRoom
+    cond (has_room (length room) at (length paper)) (Some (at + length (transcript_of words paper))) None
 
 -- the room holds the text from the place on, and all else stays; where there is no room all stays, and so do the words
 unfoldable pub room_after : (words paper room : List ℕ) (at : ℕ) → List ℕ

@@ -7,7 +7,6 @@ ghost use Rattle.rules.specs.Rules.{rules_of};
 ghost use Rattle.conversation.specs.Events.{words_from, words_left};
 ghost use Rattle.transcript.specs.Transcript.{last_line, set_up_number, rest_of, transcript_of, room_for, transcribed, room_after, words_after};
 
-use paper_room::Transcript;
 use records::Event;
 use rules::Words;
 use shape::Shape;
@@ -84,13 +83,13 @@ fn put_paper(paper: &[u8], words: &mut Words, room: &mut [u8], at: usize) -> usi
 }
 
 // The lines of a paper, from a place of the room on.
-pub fn transcribe(paper: &[u8], words: &mut Words, room: &mut [u8], at: usize) -> Transcript
+pub fn transcribe(paper: &[u8], words: &mut Words, room: &mut [u8], at: usize) -> Option<usize>
     ensures { (result ≡ transcribed words.old paper.now room.old at) × (room.new ≡ room_after words.old paper.now room.old at) × (words.new ≡ words_after words.old paper.now room.old at) }
 {
     if !paper_room::has_room(room.len(), at, paper.len()) {
-        return Transcript::NoRoom;
+        return None;
     }
-    Transcript::Whole {
+    Some {
         end: put_paper(paper, words, room, at),
     }
 }

@@ -13,8 +13,6 @@ use Rattle.wire.specs.Wire.{byte}
 use Rattle.wire.proofs.Pairs.{both}
 use Rattle.object.specs.Object.{head_right, is_constructed, object_size, value_of, first_fault, read_object, read_list, is_root, is_template, read_template}
 use Rattle.cursor.specs.Cursor.{commands_of}
-use Rattle.object.specs.declared.Reading.{Reading}
-use Rattle.object.specs.declared.Reading.TheVariants.{Sound, Malformed, TooDeep}
 use Rattle.head.proofs.Heads.{right_fits, head-some}
 use Rattle.object.proofs.Lists.{object-constructed, object-malformed, list-filler, list-object, not_malformed, not_deep}
 use Rattle.trees.specs.Tree.{Tag, short, long, Form, Objects, end, filler, primitive, constructed, tree, object_bytes, written, depth, commands}
@@ -22,6 +20,10 @@ use Rattle.trees.specs.Tree.{limit, Tagged, Bytes, Good, Written, Framed}
 use Rattle.trees.proofs.Octets.{written-bytes, drop_bytes}
 use Rattle.trees.proofs.There.{either-root, root_tagged, within, sound_if_proper, commands_in_order}
 use Rattle.trees.proofs.Heads.{value_length, value-bytes, First, first, bit_set, bit_clear}
+use Rattle.std.specs.Prelude.{Err, Ok, Result}
+use Rattle.object.specs.declared.Fault.{Fault}
+use Rattle.object.specs.declared.Fault.TheVariants.{Malformed}
+use Rattle.object.specs.declared.Fault.TheVariants.{TooDeep}
 
 -- ---- lists
 pub record Found (k : ℕ) (s : List ℕ) : Type 0 where
@@ -53,20 +55,20 @@ a_constructed k s o c r =
       is = ap₂ (object_bytes o.tag o.form) c.is r.is ∙ sym o.is;
     }
 
-both_sound : (a b : Reading) → first_fault a b ≡ Sound → (a ≡ Sound) × (b ≡ Sound)
-both_sound Sound b h = (refl, h)
-both_sound Malformed b h = absurd (not_malformed h)
-both_sound TooDeep b h = absurd (not_deep h)
+both_sound : (a b : Result Unit Fault) → first_fault a b ≡ Ok tt → (a ≡ Ok tt) × (b ≡ Ok tt)
+both_sound (Ok done) b h = (refl, h)
+both_sound (Err Malformed) b h = absurd (not_malformed h)
+both_sound (Err TooDeep) b h = absurd (not_deep h)
 
-right_if_sound : (f : List ℕ → Reading) (s : List ℕ) → read_object f s ≡ Sound → head_right s ≡ true
+right_if_sound : (f : List ℕ → Result Unit Fault) (s : List ℕ) → read_object f s ≡ Ok tt → head_right s ≡ true
 right_if_sound f s h = go (head_right s) refl
   where
     go : (b : Bool) → head_right s ≡ b → head_right s ≡ true
     go true e = e
     go false e = absurd (not_malformed (sym (object-malformed f s e) ∙ h))
 
-module _ (n : ℕ) (ih : (k : ℕ) (s : List ℕ) → length s ≤ n → Bytes s → read_list (suc k) s ≡ Sound → Found k s) where
-  by_bit : (k : ℕ) (s : List ℕ) → length s ≤ suc n → Bytes s → (byte s 0 ≡ 0 → ⊥) → head_right s ≡ true → read_object (read_list k) s ≡ Sound
+module _ (n : ℕ) (ih : (k : ℕ) (s : List ℕ) → length s ≤ n → Bytes s → read_list (suc k) s ≡ Ok tt → Found k s) where
+  by_bit : (k : ℕ) (s : List ℕ) → length s ≤ suc n → Bytes s → (byte s 0 ≡ 0 → ⊥) → head_right s ≡ true → read_object (read_list k) s ≡ Ok tt
       → Found k (drop (object_size s) s) → (t : Bool) → is_constructed (byte s 0) ≡ t → Found k s
   unfolding read_list
   by_bit zero s l h z f o r true b = absurd (not_deep (sym (object-constructed (read_list 0) s f b) ∙ o))
@@ -78,7 +80,7 @@ module _ (n : ℕ) (ih : (k : ℕ) (s : List ℕ) → length s ≤ n → Bytes s
       (ih k (value_of s) (omega arith) (value-bytes s h) (sym (object-constructed (read_list (suc k)) s f b) ∙ o)) r
   by_bit k s l h z f o r false b = a_primitive k s h (first 0 s h z f (bit_clear (byte s 0) b)) r
 
-  by_byte : (k b : ℕ) (s : List ℕ) → length s ≤ n → Bytes (b ∷ s) → read_list (suc k) (b ∷ s) ≡ Sound → (t : Bool) → eqb b 0 ≡ t → Found k (b ∷ s)
+  by_byte : (k b : ℕ) (s : List ℕ) → length s ≤ n → Bytes (b ∷ s) → read_list (suc k) (b ∷ s) ≡ Ok tt → (t : Bool) → eqb b 0 ≡ t → Found k (b ∷ s)
   unfolding Good depth written
   by_byte k b s l h e true t =
       let z = eqb-true b 0 t in
@@ -95,7 +97,7 @@ module _ (n : ℕ) (ih : (k : ℕ) (s : List ℕ) → length s ≤ n → Bytes s
       by_bit k u (omega arith) h z f (ap (λ m. read_object (read_list m) u) (sym j) ∙ w.0) r (is_constructed b) refl
 
 -- n bounds the length
-pub back : (n k : ℕ) (s : List ℕ) → length s ≤ n → Bytes s → read_list (suc k) s ≡ Sound → Found k s
+pub back : (n k : ℕ) (s : List ℕ) → length s ≤ n → Bytes s → read_list (suc k) s ≡ Ok tt → Found k s
 unfolding Good depth written
 back zero k [] l h e = record { objects = end; good = tt; shallow = omega arith; is = refl }
 back zero k (b ∷ s) l h e = absurd (omega arith)
@@ -129,11 +131,11 @@ frame_back s b a =
     let o = first 1 s b g.1 e.1 g.3 in
     frame_by s e.0 (ap (λ k. drop k s) m ∙ drop-length s) o.tag o.form o.tagged o.fits o.is
 
-pub without : (s : List ℕ) → is_template s ≡ false → read_template s ≡ Malformed
+pub without : (s : List ℕ) → is_template s ≡ false → read_template s ≡ Err Malformed
 unfolding read_template
 without s e = simp (e)
 
-template_if_sound : (s : List ℕ) → read_template s ≡ Sound → is_template s ≡ true
+template_if_sound : (s : List ℕ) → read_template s ≡ Ok tt → is_template s ≡ true
 template_if_sound s h = go (is_template s) refl
   where
     go : (t : Bool) → is_template s ≡ t → is_template s ≡ true
@@ -141,7 +143,7 @@ template_if_sound s h = go (is_template s) refl
     go false e = absurd (not_malformed (sym (without s e) ∙ h))
 
 -- THEOREM: bytes that are sound are what is written of a proper template
-pub written_if_sound : (s : List ℕ) → Bytes s → read_template s ≡ Sound → Written s
+pub written_if_sound : (s : List ℕ) → Bytes s → read_template s ≡ Ok tt → Written s
 unfolding Good depth written
 written_if_sound s b h =
     let a = template_if_sound s h in
@@ -160,7 +162,7 @@ written_if_sound s b h =
     }
 
 -- THEOREM, the other way: they are bytes, sound, and their commands are those of every proper template that they are written of
-pub sound_if_written : (s : List ℕ) (w : Written s) → Bytes s × (read_template s ≡ Sound) × (commands_of s ≡ commands (tree w.template))
+pub sound_if_written : (s : List ℕ) (w : Written s) → Bytes s × (read_template s ≡ Ok tt) × (commands_of s ≡ commands (tree w.template))
 sound_if_written s w =
     let t = w.template in (
       subst Bytes w.is (written-bytes (tree t) w.proper.good),

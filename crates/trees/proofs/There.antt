@@ -11,12 +11,13 @@ use lib.Dec.{ltb, eqb}
 use borrow.Author.Tests.{eq-eqb, eqb-true, eqb-false, ltb-true, ltb-false}
 use Rattle.object.specs.Object.{value_size, head_size, object_size, value_of, first_fault, read_behind, read_list, is_template, read_template}
 use Rattle.cursor.specs.Cursor.{places_behind, places_from, cut, commands_of}
-use Rattle.object.specs.declared.Reading.{Reading}
-use Rattle.object.specs.declared.Reading.TheVariants.{Sound, TooDeep}
 use Rattle.cursor.proofs.Places.{filler-first, constructed-first, command-first, other-first}
 use Rattle.trees.specs.Tree.{Tag, short, long, Form, Objects, end, filler, primitive, constructed, Template, tree, object_bytes, written, depth}
 use Rattle.trees.specs.Tree.{is86, if_command, commands, limit, Tagged, Good, Root, Proper}
 use Rattle.trees.proofs.Laid.{laid, behind, filler-list, primitive-list, constructed-list}
+use Rattle.std.specs.Prelude.{Err, Ok, Result}
+use Rattle.object.specs.declared.Fault.{Fault}
+use Rattle.object.specs.declared.Fault.TheVariants.{TooDeep}
 
 -- ---- good objects that are not too deep change nothing of what is behind them
 pub in_front : (k : ℕ) (i : Objects) (w : List ℕ) → Good i → depth i ≤ k → read_list (suc k) (written i ++ w) ≡ read_list (suc k) w
@@ -28,22 +29,22 @@ in_front k (primitive t f v r) w g d =
 in_front zero (constructed t f o r) w g d = absurd (omega arith)
 in_front (suc k) (constructed t f o r) w g d =
     let v = written o in
-    let s : read_list (suc k) v ≡ Sound = ap (read_list (suc k)) (sym (append-nil v)) ∙ in_front k o [] g.2 (omega arith) in
+    let s : read_list (suc k) v ≡ (Ok tt) = ap (read_list (suc k)) (sym (append-nil v)) ∙ in_front k o [] g.2 (omega arith) in
     ap (read_list (suc (suc k))) (behind t f v (written r) w)
     ∙ constructed-list (suc k) t f v (written r ++ w) g.0 g.1
     ∙ ap₂ first_fault s (in_front (suc k) r w g.3 (omega arith))
 
-pub there : (k : ℕ) (i : Objects) → Good i → depth i ≤ k → read_list (suc k) (written i) ≡ Sound
+pub there : (k : ℕ) (i : Objects) → Good i → depth i ≤ k → read_list (suc k) (written i) ≡ Ok tt
 unfolding read_list read_behind
 there k i g d = ap (read_list (suc k)) (sym (append-nil (written i))) ∙ in_front k i [] g d
 
 -- ---- objects that are too deep, wherever among them the depth is passed
-by-depth : (a b : Reading) (m n k : ℕ) → (k < m → a ≡ TooDeep) → (m ≤ k → a ≡ Sound) → (suc k < n → b ≡ TooDeep) → suc k < max (1 + m) n
-    → (t : Bool) → ltb k m ≡ t → first_fault a b ≡ TooDeep
+by-depth : (a b : Result Unit Fault) (m n k : ℕ) → (k < m → a ≡ Err TooDeep) → (m ≤ k → a ≡ Ok tt) → (suc k < n → b ≡ Err TooDeep) → suc k < max (1 + m) n
+    → (t : Bool) → ltb k m ≡ t → first_fault a b ≡ Err TooDeep
 by-depth a b m n k f g h d true e = ap (λ x. first_fault x b) (f (ltb-true k m e))
 by-depth a b m n k f g h d false e = let l = ltb-false k m e in ap₂ first_fault (g l) (h (omega arith))
 
-deep : (k : ℕ) (i : Objects) → Good i → k < depth i → read_list (suc k) (written i) ≡ TooDeep
+deep : (k : ℕ) (i : Objects) → Good i → k < depth i → read_list (suc k) (written i) ≡ Err TooDeep
 unfolding Good depth written read_list
 deep k end g d = absurd (omega arith)
 deep k (filler r) g d = filler-list k (written r) ∙ deep k r g d
@@ -161,14 +162,14 @@ template-list t e g =
     within (object_bytes (short t.tag) t.form v []) f.0 ∙ ap (read_list 4) f.1
 
 -- THEOREM: a proper template is sound
-pub sound_if_proper : (t : Template) → Proper t → read_template (written (tree t)) ≡ Sound
+pub sound_if_proper : (t : Template) → Proper t → read_template (written (tree t)) ≡ Ok tt
 unfolding Good depth
 sound_if_proper t p =
     let d = p.shallow in
     template-list t p.root p.good ∙ there 3 t.list p.good.2 (omega arith)
 
 -- THEOREM: one that would be proper, were it not deeper than 4, is too deep
-pub deep_if_deeper : (t : Template) → Root t.tag → Good (tree t) → 4 < depth (tree t) → read_template (written (tree t)) ≡ TooDeep
+pub deep_if_deeper : (t : Template) → Root t.tag → Good (tree t) → 4 < depth (tree t) → read_template (written (tree t)) ≡ Err TooDeep
 unfolding Good depth
 deep_if_deeper t e g d = template-list t e g ∙ deep 3 t.list g.2 (omega arith)
 

@@ -3,7 +3,7 @@
 // A row is the data, then the profile and the entries visited, or 12.
 #![tactic(auto)]
 
-use selection::Selection;
+use selection::Selected;
 use slot::Slots;
 
 // What standard output does not take is left out.
@@ -27,15 +27,15 @@ fn show_bytes(rt: &impl Print, bytes: &[u8]) {
     }
 }
 
-fn show_selection(rt: &impl Print, selection: Selection) {
+fn show_selection(rt: &impl Print, selection: Option<Selected>) {
     match selection {
-        Selection::Selected { profile, visits } => {
+        Some(Selected { profile, visits }) => {
             put_byte(rt, profile);
             put(rt, b" ");
             let _ = rt.print(wide(visits));
             put(rt, b"\n");
         }
-        Selection::NotSelected => {
+        None => {
             put(rt, b"12\n");
         }
     }

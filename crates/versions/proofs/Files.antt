@@ -10,22 +10,14 @@ use lib.Dec.{lit≤, eqb, ltb, leb}
 use lib.ListN.{length, take, drop, length-append, length-drop, get_or-append}
 use lib.Seq.{take_all, get_or-drop, get_or-append-add, get_or-append_seam, drop-append-add, take-append_seam}
 use Rattle.wire.specs.Wire.{byte}
-use Rattle.log_tail.specs.declared.Judged.TheVariants.{Sound}
 use Rattle.log_tail.specs.LogTail.{behind_table, second_table, judged}
 use Rattle.bodies.specs.Bodies.{first_length}
 use Rattle.rules.specs.declared.Values.{Values}
 use Rattle.slot.specs.declared.Slots.{Slots}
-use Rattle.selection.specs.declared.Selection.{Selection}
 use Rattle.selection.specs.Selection.{is_file, selection_of}
-use Rattle.shape.specs.declared.Selecting.TheVariants.{On}
-use Rattle.shape.specs.declared.Dating.TheVariants.{Off as DatesOff, On as DatesOn}
 use Rattle.shape.specs.declared.Family.{Family}
 use Rattle.shape.specs.declared.Family.TheVariants.{Cpa, Cpace}
-use Rattle.shape.specs.declared.Logging.TheVariants.{Off as LogOff, On as LogOn}
 use Rattle.shape.specs.declared.Shape.{Shape}
-use Rattle.shape.specs.declared.Tails.{Tails}
-use Rattle.shape.specs.declared.Tails.TheVariants.{Ended, Wrong}
-use Rattle.shape.specs.declared.ReadShape.TheVariants.{Taken}
 use Rattle.shape.specs.Shape.{based, base_tail, entries_end, selects, selection_tail, follows, syllabus_tail, dates, dating_tail}
 use Rattle.shape.specs.Shape.{families, family_tail, scripts, scripting_tail, logs, table_end, log_end, logging_tail, log_part, behind, tails_of, shape_of, shape_at}
 use Rattle.shape.proofs.Files.{file-ends}
@@ -33,12 +25,17 @@ use Rattle.shape.proofs.Inside.{inside}
 use Rattle.paper.specs.Walk.{part}
 use Rattle.command.specs.Command.{is_cpace, start_selected, selecting_of, slots_of, command_in}
 use Rattle.command.specs.declared.Command.TheVariants.{Start as StartCommand}
-use Rattle.command.specs.declared.ReadCommand.TheVariants.{Taken as CommandTaken}
 use Rattle.begun.specs.declared.Begun.{Begun}
 use Rattle.begun.specs.Begun.{base_begun}
 use Rattle.opening.specs.Opening.{log_judged, setup_begun, begun_of}
 use Rattle.opening.proofs.Unlogged.{sound_off}
 use Rattle.versions.proofs.Papers.{Known, Reads, reads_of, paper_of, file-there, by-body, begun-is}
+use Rattle.std.specs.Prelude.{None, Ok, Option}
+use Rattle.selection.specs.declared.Selected.{Selected}
+use Rattle.shape.specs.Shape.{ended_at}
+use Rattle.shape.specs.Shape.{file}
+use Rattle.shape.specs.Shape.{span}
+use Rattle.shape.specs.declared.Tails.{Tails}
 
 -- a tail that is off, or on with so many bytes in all
 pub data Switched (size : ℕ) : (on : Bool) → List ℕ → Type 0 where
@@ -67,7 +64,7 @@ pub data Behind (p : ℕ) : (version : ℕ) → (cpace : Bool) → List ℕ → 
       → Behind p 6 cpace (syllabus ∷ dates ++ (family ++ scripting ∷ []))
   with_log_lem : (syllabus : ℕ) → syllabus ≤ 1 → {dated : Bool} {dates : List ℕ} → Switched (28 + 18 * p) dated dates
       → {cpace : Bool} {family : List ℕ} → Switched (9 + p) cpace family → (scripting : ℕ) → scripting ≤ 1
-      → {logs : Bool} {log : List ℕ} → Switched (log_long p log) logs log → (logs ≡ true → judged log p (first_long dated cpace) ≡ Sound)
+      → {logs : Bool} {log : List ℕ} → Switched (log_long p log) logs log → (logs ≡ true → judged log p (first_long dated cpace) ≡ Ok tt)
       → Behind p 7 cpace (syllabus ∷ dates ++ (family ++ scripting ∷ log))
 
 known_behind : {p version : ℕ} {cpace : Bool} {tails : List ℕ} → Behind p version cpace tails → Known version
@@ -97,11 +94,11 @@ abbrev pub Selects : (file : List ℕ) (entries : ℕ) (cpace : Bool) → Reads 
 Selects file entries cpace reads =
     (values : Values) (terminal : List ℕ) → Asks cpace terminal
     → reads values 2 terminal
-    ≡ CommandTaken (StartCommand (record { interface = cond cpace (byte terminal 0) 0; chosen = selection_of file entries terminal (slots_by cpace values) }))
+    ≡ Ok (StartCommand (record { interface = cond cpace (byte terminal 0) 0; chosen = selection_of file entries terminal (slots_by cpace values) }))
 
-started : (family : Family) (chosen : Selection) (terminal : List ℕ) → Asks (is_cpace family) terminal
+started : (family : Family) (chosen : Option Selected) (terminal : List ℕ) → Asks (is_cpace family) terminal
     → start_selected family chosen terminal
-    ≡ CommandTaken (StartCommand (record { interface = cond (is_cpace family) (byte terminal 0) 0; chosen = chosen }))
+    ≡ Ok (StartCommand (record { interface = cond (is_cpace family) (byte terminal 0) 0; chosen = chosen }))
 unfolding start_selected
 started Cpa chosen terminal asks = refl
 started (Cpace start end) chosen terminal asks = rw (ne_eqb (length terminal) 0 (omega arith))
@@ -115,7 +112,7 @@ size-on : {size : ℕ} {tail : List ℕ} → Switched size true tail → size �
 size-on (switched_on more e) = sym e
 
 first-long : (dated cpace : Bool) (from to start end : ℕ)
-    → first_length (cond dated (DatesOn from to) DatesOff) (cond cpace (Cpace start end) Cpa) ≡ first_long dated cpace
+    → first_length (cond dated (Some (span from to)) None) (cond cpace (Cpace start end) Cpa) ≡ first_long dated cpace
 first-long false false from to start end = refl
 first-long false true from to start end = refl
 first-long true false from to start end = refl
@@ -161,7 +158,7 @@ module _ (s : List ℕ) (sized : length s ≡ 52 + 107 * byte s 3 + 7 * byte s 4
     profiles : byte body 3 ≡ byte s 3
     profiles = get_or-append s (selecting-tail ++ behind) 0 3 (omega arith)
 
-    base-ends : base_tail body ≡ Ended (based (length s)) (length s)
+    base-ends : base_tail body ≡ ended_at (based (length s)) (length s)
     unfolding base_tail
     base-ends =
         let c : byte body 4 ≡ byte s 4 = get_or-append s (selecting-tail ++ behind) 0 4 (omega arith) in
@@ -172,7 +169,7 @@ module _ (s : List ℕ) (sized : length s ≡ 52 + 107 * byte s 3 + 7 * byte s 4
         eqb-true (entries_end body start entries) end
         (sym (file-ends body end (omega (arith, long)) entries start (omega arith)) ∙ ap (λ (f : List ℕ). is_file f entries) file-is ∙ good)
 
-    selection-ends : selection_tail body (based (length s)) (length s) ≡ Ended with_file end
+    selection-ends : selection_tail body (based (length s)) (length s) ≡ ended_at with_file end
     unfolding selection_tail
     selection-ends =
         let switch : byte body (length s) ≡ 1 = get_or-append_seam s 1 (entries ∷ file ++ behind) 0 in
@@ -184,11 +181,11 @@ module _ (s : List ℕ) (sized : length s ≡ 52 + 107 * byte s 3 + 7 * byte s 4
     -- one that begins at a place of what is behind
     switched_ends : {A : Type 0} (shaped : A → Shape) (when_off when_on : A) (i : ℕ) {size : ℕ} {on : Bool} {tail : List ℕ} → Switched size on tail
         → byte behind i ≡ byte tail 0 → i + length tail ≤ length behind
-        → cond (leb (length body) (end + i)) Wrong
-        (cond (eqb (byte body (end + i)) 0) (Ended (shaped when_off) (end + i + 1))
-        (cond (ltb 1 (byte body (end + i))) Wrong
-        (cond (ltb (length body) (end + i + size)) Wrong (Ended (shaped when_on) (end + i + size)))))
-        ≡ Ended (shaped (cond on when_on when_off)) (end + i + length tail)
+        → cond (leb (length body) (end + i)) None
+        (cond (eqb (byte body (end + i)) 0) (ended_at (shaped when_off) (end + i + 1))
+        (cond (ltb 1 (byte body (end + i))) None
+        (cond (ltb (length body) (end + i + size)) None (ended_at (shaped when_on) (end + i + size)))))
+        ≡ ended_at (shaped (cond on when_on when_off)) (end + i + length tail)
     switched_ends shaped when_off when_on i switched_off first fits =
         rw (behind-is i, first, lt-leb (length body) (end + i) (omega (arith, long)))
     switched_ends shaped when_off when_on i (switched_on more size) first fits =
@@ -197,13 +194,13 @@ module _ (s : List ℕ) (sized : length s ≡ 52 + 107 * byte s 3 + 7 * byte s 4
 
     -- one of one byte, 0 or 1, at a place of what is behind
     byte-ends : (sets : ℕ → Shape) (at i value : ℕ) → at ≡ end + i → value ≤ 1 → byte behind i ≡ value → i + 1 ≤ length behind
-        → cond (leb (length body) at) Wrong (cond (ltb 1 (byte body at)) Wrong (Ended (sets (byte body at)) (at + 1))) ≡ Ended (sets value) (at + 1)
+        → cond (leb (length body) at) None (cond (ltb 1 (byte body at)) None (ended_at (sets (byte body at)) (at + 1))) ≡ ended_at (sets value) (at + 1)
     byte-ends sets at i value place h first fits =
         let here : byte body at ≡ value = ap (byte body) place ∙ behind-is i ∙ first in
         rw (here, lt-leb (length body) at (omega (arith, long)), le-ltb 1 value h)
 
     syllabus-ends : (syllabus : ℕ) → syllabus ≤ 1 → byte behind 0 ≡ syllabus → 1 ≤ length behind
-        → syllabus_tail body with_file end ≡ Ended (follows with_file syllabus) (end + 1)
+        → syllabus_tail body with_file end ≡ ended_at (follows with_file syllabus) (end + 1)
     unfolding syllabus_tail
     syllabus-ends syllabus = byte-ends (follows with_file) end 0 syllabus (omega arith)
 
@@ -212,23 +209,23 @@ module _ (s : List ℕ) (sized : length s ≡ 52 + 107 * byte s 3 + 7 * byte s 4
       at = end + i
 
       abbrev dated-shape : Bool → Shape
-      dated-shape dated = dates shape (cond dated (DatesOn at (at + (28 + 18 * byte s 3))) DatesOff)
+      dated-shape dated = dates shape (cond dated (Some (span at (at + (28 + 18 * byte s 3)))) None)
 
       abbrev family-shape : Bool → Shape
       family-shape cpace = families shape (cond cpace (Cpace at (at + (9 + byte s 3))) Cpa)
 
       dates-end : {dated : Bool} {tail : List ℕ} → Switched (28 + 18 * byte s 3) dated tail → byte behind i ≡ byte tail 0 → i + length tail ≤ length behind
-          → dating_tail body shape at ≡ Ended (dated-shape dated) (at + length tail)
+          → dating_tail body shape at ≡ ended_at (dated-shape dated) (at + length tail)
       unfolding dating_tail
-      dates-end = rw profiles (switched_ends (dates shape) DatesOff (DatesOn at (at + (28 + 18 * byte s 3))) i)
+      dates-end = rw profiles (switched_ends (dates shape) None (Some (span at (at + (28 + 18 * byte s 3)))) i)
 
       family-ends : {cpace : Bool} {tail : List ℕ} → Switched (9 + byte s 3) cpace tail → byte behind i ≡ byte tail 0 → i + length tail ≤ length behind
-          → family_tail body shape at ≡ Ended (family-shape cpace) (at + length tail)
+          → family_tail body shape at ≡ ended_at (family-shape cpace) (at + length tail)
       unfolding family_tail
       family-ends = rw profiles (switched_ends (families shape) Cpa (Cpace at (at + (9 + byte s 3))) i)
 
       scripts-end : (scripting : ℕ) → scripting ≤ 1 → byte behind i ≡ scripting → i + 1 ≤ length behind
-          → scripting_tail body shape at ≡ Ended (scripts shape (eqb scripting 1)) (at + 1)
+          → scripting_tail body shape at ≡ ended_at (scripts shape (eqb scripting 1)) (at + 1)
       unfolding scripting_tail
       scripts-end scripting = byte-ends (λ b. scripts shape (eqb b 1)) at i scripting refl
 
@@ -238,7 +235,7 @@ module _ (s : List ℕ) (sized : length s ≡ 52 + 107 * byte s 3 + 7 * byte s 4
         p = byte s 3
 
         abbrev logged-shape : Bool → Shape
-        logged-shape on = cond on (logs shape (LogOn at (at + log_long p log))) shape
+        logged-shape on = cond on (logs shape (Some (span at (at + log_long p log)))) shape
 
         log-size : i + length log ≡ length behind
         log-size = ap (λ (l : List ℕ). i + length l) (sym there) ∙ omega (arith, length-drop i behind)
@@ -256,14 +253,14 @@ module _ (s : List ℕ) (sized : length s ≡ 52 + 107 * byte s 3 + 7 * byte s 4
             let place : at + 3 + byte body 3 ≡ at + (3 + p) = omega (arith, profiles) in
             ap (λ (k : ℕ). table_end body (table_end body k)) place ∙ ap (table_end body) (table-ends (3 + p)) ∙ table-ends (second_table log p)
 
-        logging_ends : {on : Bool} → Switched (log_long p log) on log → logging_tail body shape at ≡ Ended (logged-shape on) (at + length log)
+        logging_ends : {on : Bool} → Switched (log_long p log) on log → logging_tail body shape at ≡ ended_at (logged-shape on) (at + length log)
         unfolding logging_tail
         logging_ends sw =
             let first : byte behind i ≡ byte log 0 = ap (byte behind) (sym (add-zero i)) ∙ log-byte 0 in
-            rw log-ends (switched_ends (λ (sh : Shape). sh) shape (logs shape (LogOn at (at + log_long p log))) i sw first (omega (arith, log-size)))
+            rw log-ends (switched_ends (λ (sh : Shape). sh) shape (logs shape (Some (span at (at + log_long p log)))) i sw first (omega (arith, log-size)))
 
         -- its bytes in the body, and what is judged of them
-        log-there : log_long p log ≡ length log → log_part (LogOn at (at + log_long p log)) body ≡ log
+        log-there : log_long p log ≡ length log → log_part (Some (span at (at + log_long p log))) body ≡ log
         log-there size =
             let place : end + i ≡ length s + (length selecting-tail + i) = omega arith in
             let last : drop at body ≡ log =
@@ -274,8 +271,8 @@ module _ (s : List ℕ) (sized : length s ≡ 52 + 107 * byte s 3 + 7 * byte s 4
             let long : at + log_long p log - at ≡ length log = omega arith in
             ap₂ take long last ∙ take_all (length log) log (omega arith)
 
-        logged_sound : (on : Bool) → Switched (log_long p log) on log → shape.logging ≡ LogOff
-            → (on ≡ true → judged log p (first_length shape.dating shape.family) ≡ Sound) → log_judged (logged-shape on) body ≡ Sound
+        logged_sound : (on : Bool) → Switched (log_long p log) on log → shape.logging ≡ None
+            → (on ≡ true → judged log p (first_length shape.dating shape.family) ≡ Ok tt) → log_judged (logged-shape on) body ≡ Ok tt
         unfolding log_judged
         logged_sound false sw off sound = sound_off shape body off
         logged_sound true sw off sound = rw (log-there (size-on sw), profiles) (sound refl)
@@ -290,7 +287,7 @@ module _ (s : List ℕ) (sized : length s ≡ 52 + 107 * byte s 3 + 7 * byte s 4
         logged-family true = refl
 
     -- a Start is read by the file in the body
-    by-file : (shape : Shape) → shape.selecting ≡ On start end entries → Selects file entries (is_cpace shape.family) (reads_of shape body)
+    by-file : (shape : Shape) → shape.selecting ≡ Some (file start end entries) → Selects file entries (is_cpace shape.family) (reads_of shape body)
     unfolding command_in selecting_of
     by-file shape selecting values terminal asks =
         rw (selecting, file-there body start end (omega arith) (omega (arith, long)), file-is, slots_are shape.family)
@@ -300,14 +297,14 @@ module _ (s : List ℕ) (sized : length s ≡ 52 + 107 * byte s 3 + 7 * byte s 4
 
   record Takes (version : ℕ) (cpace : Bool) (behind : List ℕ) : Type 0 where
     shape : Shape
-    is : shape_of version (body behind) ≡ Taken shape
-    on : shape.selecting ≡ On start end entries
+    is : shape_of version (body behind) ≡ Ok shape
+    on : shape.selecting ≡ Some (file start end entries)
     family : is_cpace shape.family ≡ cpace
-    sound : log_judged shape (body behind) ≡ Sound
+    sound : log_judged shape (body behind) ≡ Ok tt
 
   -- tails that end with the body
-  ended : (version : ℕ) (behind : List ℕ) (shape : Shape) (at : ℕ) → tails_of version (body behind) ≡ Ended shape at → at ≡ length (body behind)
-      → shape_of version (body behind) ≡ Taken shape
+  ended : (version : ℕ) (behind : List ℕ) (shape : Shape) (at : ℕ) → tails_of version (body behind) ≡ ended_at shape at → at ≡ length (body behind)
+      → shape_of version (body behind) ≡ Ok shape
   unfolding shape_of
   ended version behind shape at e last = rw (e, eq-eqb at (length (body behind)) last)
 
@@ -334,7 +331,7 @@ module _ (s : List ℕ) (sized : length s ≡ 52 + 107 * byte s 3 + 7 * byte s 4
         let place : past-dates + i ≡ length (syllabus ∷ dates) + i = omega arith in
         ap (byte tails) place ∙ get_or-append-add (syllabus ∷ dates) more i 0
 
-    families-end : tails_of 5 (body tails) ≡ Ended with_families (end + past-dates + length family)
+    families-end : tails_of 5 (body tails) ≡ ended_at with_families (end + past-dates + length family)
     unfolding tails_of
     families-end =
         let place : end + 1 + length dates ≡ end + past-dates = omega arith in
@@ -350,11 +347,11 @@ module _ (s : List ℕ) (sized : length s ≡ 52 + 107 * byte s 3 + 7 * byte s 4
         )
 
     scripts_too : (scripting : ℕ) → scripting ≤ 1 → byte more (length family) ≡ scripting → length family + 1 ≤ length more
-        → tails_of 6 (body tails) ≡ Ended (scripts with_families (eqb scripting 1)) (end + (past-dates + length family) + 1)
+        → tails_of 6 (body tails) ≡ ended_at (scripts with_families (eqb scripting 1)) (end + (past-dates + length family) + 1)
     unfolding tails_of
     scripts_too scripting l here left =
         let place : end + past-dates + length family ≡ end + (past-dates + length family) = omega arith in
-        ap (λ (t : Tails). behind t (scripting_tail (body tails))) (families-end ∙ ap (Ended with_families) place)
+        ap (λ (t : Option Tails). behind t (scripting_tail (body tails))) (families-end ∙ ap ((λ at. ended_at with_families at)) place)
         ∙ scripts-end tails with_families (past-dates + length family) scripting l (behind-dates (length family) ∙ here) (omega (arith, tails-long))
 
     family_takes : length more ≡ length family → Takes 5 cpace tails
@@ -379,7 +376,7 @@ module _ (s : List ℕ) (sized : length s ≡ 52 + 107 * byte s 3 + 7 * byte s 4
 
     log_takes : (scripting : ℕ) → scripting ≤ 1 → byte more (length family) ≡ scripting → (log : List ℕ) → drop (length family + 1) more ≡ log
         → length family + 1 ≤ length more
-        → {logs : Bool} → Switched (log_long (byte s 3) log) logs log → (logs ≡ true → judged log (byte s 3) (first_long dated cpace) ≡ Sound)
+        → {logs : Bool} → Switched (log_long (byte s 3) log) logs log → (logs ≡ true → judged log (byte s 3) (first_long dated cpace) ≡ Ok tt)
         → Takes 7 cpace tails
     unfolding tails_of
     log_takes scripting l here log there left {logs} sw sound =
@@ -391,8 +388,8 @@ module _ (s : List ℕ) (sized : length s ≡ 52 + 107 * byte s 3 + 7 * byte s 4
         let place : end + (past-dates + length family) + 1 ≡ end + i = omega arith in
         let fits : i ≤ length tails = omega (arith, tails-long) in
         let size = log-size tails scripted i log behind-scripts fits in
-        let ends : tails_of 7 (body tails) ≡ Ended (logged-shape tails scripted i log behind-scripts fits logs) (end + i + length log) =
-        ap (λ (t : Tails). behind t (logging_tail (body tails))) (scripts_too scripting l here left ∙ ap (Ended scripted) place)
+        let ends : tails_of 7 (body tails) ≡ (ended_at (logged-shape tails scripted i log behind-scripts fits logs) (end + i + length log)) =
+        ap (λ (t : Option Tails). behind t (logging_tail (body tails))) (scripts_too scripting l here left ∙ ap ((λ at. ended_at scripted at)) place)
         ∙ logging_ends tails scripted i log behind-scripts fits sw in
         record {
           shape = logged-shape tails scripted i log behind-scripts fits logs;

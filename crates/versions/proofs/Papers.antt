@@ -14,26 +14,16 @@ use Rattle.refusal.specs.declared.Refusal.TheVariants.{Unreadable}
 use Rattle.rules.specs.declared.Values.{Values}
 use Rattle.rules.specs.Rules.{Rules, rules_of}
 use Rattle.setup.specs.Setup.{read_setup, words_after}
-use Rattle.shape.specs.declared.Selecting.{Selecting}
-use Rattle.shape.specs.declared.Selecting.TheVariants.{Off, On}
-use Rattle.shape.specs.declared.Dating.{Dating}
-use Rattle.shape.specs.declared.Dating.TheVariants.{Off as DatesOff, On as DatesOn}
 use Rattle.shape.specs.declared.Family.{Family}
 use Rattle.shape.specs.declared.Family.TheVariants.{Cpa, Cpace}
-use Rattle.shape.specs.declared.Logging.TheVariants.{Off as LogOff}
 use Rattle.shape.specs.declared.Shape.{Shape}
-use Rattle.shape.specs.declared.ReadShape.{ReadShape}
-use Rattle.shape.specs.declared.ReadShape.TheVariants.{Taken as ShapeTaken, Refused as ShapeRefused}
 use Rattle.shape.specs.Shape.{Lies, based, scripts, base_part, cycles_part, family_part, shape_of, selecting_at, dating_at, family_at, shape_at}
 use Rattle.shape.proofs.Inside.{inside}
 use Rattle.paper.specs.declared.Next.{Next}
 use Rattle.paper.specs.declared.Next.TheVariants.{Record, Fault, End}
-use Rattle.paper.specs.declared.Opened.TheVariants.{Setup}
 use Rattle.paper.specs.Paper.{end_at, next_at, latest, open_paper}
 use Rattle.paper.specs.Walk.{part, written}
 use Rattle.command.specs.Command.{start_of, first_of, command_of, start_selected, selecting_of, file_in, slots_of, read_by, command_in}
-use Rattle.command.specs.declared.ReadCommand.{ReadCommand}
-use Rattle.command.specs.declared.ReadCommand.TheVariants.{Taken as CommandTaken, Refused as CommandRefused}
 use Rattle.state.specs.declared.State.{State}
 use Rattle.fresh.specs.Fresh.{fresh_state}
 use Rattle.records.specs.declared.Event.{Event}
@@ -47,12 +37,17 @@ use Rattle.opening.specs.Opening.{setup_begun, begun_of, setup_words, words_begu
 use Rattle.opening.proofs.Unlogged.{sound_off}
 use Rattle.conversation.specs.Events.{following, events_from, events_of}
 use Rattle.conversation.proofs.Events.{settled}
+use Rattle.std.specs.Prelude.{Err, None, Ok, Option, Result, Some}
+use Rattle.command.specs.declared.Command.{Command}
+use Rattle.refusal.specs.declared.Refusal.{Refusal}
+use Rattle.shape.specs.declared.SelectionFile.{SelectionFile}
+use Rattle.shape.specs.declared.Span.{Span}
 
 -- ---- what stands in front of a record does not matter, but for the file
 
 -- what reads a record, by the card's present values
 abbrev pub Reads : Type 0
-Reads = (values : Values) (kind : ℕ) (body : List ℕ) → ReadCommand
+Reads = (values : Values) (kind : ℕ) (body : List ℕ) → Result Command Refusal
 
 abbrev pub reads_of : Shape → (paper : List ℕ) → Reads
 reads_of shape paper values = command_in shape values paper
@@ -145,15 +140,15 @@ module _ (front s : List ℕ) where
         → taken_of rules shape state all (from at) ≡ further_on (taken_by rules shape.scripting reads state s at (next_at s at))
     unfolding taken_of answered_by scripted_by
     taken-behind rules state at = rw (next-behind at) (by (next_at s at)) where
-      answered : (end : ℕ) (read : ReadCommand) → answered_by rules state (from end) read ≡ further_on (answered_by rules state end read)
-      answered end (CommandTaken command) = refl
-      answered end (CommandRefused refusal) = refl
+      answered : (end : ℕ) (read : Result Command Refusal) → answered_by rules state (from end) read ≡ further_on (answered_by rules state end read)
+      answered end (Ok command) = refl
+      answered end (Err refusal) = refl
 
       ran : (body : List ℕ) (end : ℕ) → scripted_by state body (from end) ≡ further_on (scripted_by state body end)
       ran [] end = refl
       ran (result ∷ template) end = refl
 
-      either : (script : Bool) (body : List ℕ) (end : ℕ) (read : ReadCommand)
+      either : (script : Bool) (body : List ℕ) (end : ℕ) (read : Result Command Refusal)
           → cond script (scripted_by state body (from end)) (answered_by rules state (from end) read)
           ≡ further_on (cond script (scripted_by state body end) (answered_by rules state end read))
       either true body end read = ran body end
@@ -226,31 +221,31 @@ events_with words rest parts syllabus unnamed =
     let state = fresh_state read.fresh in
     following (set_up_event read.answer) (events_by (length rest) rules parts.scripting parts.reads state rest 0)
 
-abbrev pub events_shaped : (words rest body : List ℕ) → ReadShape → List Event
-events_shaped words rest body (ShapeRefused refusal) = Refused refusal ∷ []
-events_shaped words rest body (ShapeTaken shape) = events_with words rest (parts_of shape body) shape.syllabus shape.unnamed
+abbrev pub events_shaped : (words rest body : List ℕ) → Result Shape Refusal → List Event
+events_shaped words rest body (Err refusal) = Refused refusal ∷ []
+events_shaped words rest body (Ok shape) = events_with words rest (parts_of shape body) shape.syllabus shape.unnamed
 
 -- the log of a body of a shape is off
-abbrev pub Unlogged : ReadShape → Type 0
-Unlogged (ShapeRefused refusal) = Unit
-Unlogged (ShapeTaken shape) = shape.logging ≡ LogOff
+abbrev pub Unlogged : Result Shape Refusal → Type 0
+Unlogged (Err refusal) = Unit
+Unlogged (Ok shape) = shape.logging ≡ None
 
 -- 01 to the latest
 abbrev pub Known : ℕ → Type 0
 Known version = (1 ≤ version) × (version ≤ latest)
 
 -- where its tails stand does not matter to a command, only whether they are there
-record SamePlaces (place : ℕ) (dating : Dating) (family : Family) : Type 0 where
+record SamePlaces (place : ℕ) (dating : Option Span) (family : Family) : Type 0 where
   command : command_of (dating_at place dating) (family_at place family) ≡ command_of dating family
   selecting : selecting_of (dating_at place dating) (family_at place family) ≡ selecting_of dating family
   slots : slots_of (family_at place family) ≡ slots_of family
 
-same_places : (place : ℕ) (dating : Dating) (family : Family) → SamePlaces place dating family
+same_places : (place : ℕ) (dating : Option Span) (family : Family) → SamePlaces place dating family
 unfolding command_of start_of first_of selecting_of start_selected slots_of
-same_places place DatesOff Cpa = record { command = refl; selecting = refl; slots = refl }
-same_places place DatesOff (Cpace start end) = record { command = refl; selecting = refl; slots = refl }
-same_places place (DatesOn from to) Cpa = record { command = refl; selecting = refl; slots = refl }
-same_places place (DatesOn from to) (Cpace start end) = record { command = refl; selecting = refl; slots = refl }
+same_places place None Cpa = record { command = refl; selecting = refl; slots = refl }
+same_places place None (Cpace start end) = record { command = refl; selecting = refl; slots = refl }
+same_places place (Some part) Cpa = record { command = refl; selecting = refl; slots = refl }
+same_places place (Some part) (Cpace start end) = record { command = refl; selecting = refl; slots = refl }
 
 -- a file that lies in a list
 pub file-there : (s : List ℕ) (start end : ℕ) → start ≤ end → end ≤ length s → file_in s start end ≡ part s start end
@@ -267,7 +262,7 @@ module _ (version : ℕ) (known : Known version) (body rest : List ℕ) (short :
   pub whole_length : length (paper_of version body rest) ≡ 4 + length body + length rest
   whole_length = length-append (front version body) rest ∙ ap (λ (n : ℕ). n + length rest) front_length
 
-  opened : open_paper (paper_of version body rest) ≡ Setup version 4 (4 + length body)
+  opened : open_paper (paper_of version body rest) ≡ Ok (record { version = version; start = 4; end = 4 + length body })
   unfolding open_paper next_at
   opened =
       let whole = whole_length in
@@ -299,19 +294,19 @@ module _ (version : ℕ) (known : Known version) (body rest : List ℕ) (short :
   pub by-body : (shape : Shape) → Lies shape.selecting (length body) → reads_of (shape_at 4 shape) (paper_of version body rest) ≡ reads_of shape body
   unfolding command_in
   by-body shape lies = λ i values. by shape.selecting lies (same_places 4 shape.dating shape.family) values i where
-    by : (selecting : Selecting) → Lies selecting (length body) → SamePlaces 4 shape.dating shape.family
+    by : (selecting : Option SelectionFile) → Lies selecting (length body) → SamePlaces 4 shape.dating shape.family
         → (values : Values)
         → read_by (selecting_at 4 selecting) (dating_at 4 shape.dating) (family_at 4 shape.family) (slots_of (family_at 4 shape.family) values) (paper_of version body rest)
         ≡ read_by selecting shape.dating shape.family (slots_of shape.family values) body
-    by Off l same values = same.command
-    by (On start end entries) l same values = λ i. same.selecting i (same.slots i values) (same-file start end l.0 l.1 i) entries
+    by None l same values = same.command
+    by (Some part) l same values = λ i. same.selecting i (same.slots i values) (same-file part.start part.end l.0 l.1 i) part.entries
 
   -- ITS EVENTS, BY ITS BODY'S SHAPE, where it has no log
-  pub events-are : (words : List ℕ) (read : ReadShape) → shape_of version body ≡ read → Unlogged read
+  pub events-are : (words : List ℕ) (read : Result Shape Refusal) → shape_of version body ≡ read → Unlogged read
       → events_of words (paper_of version body rest) ≡ events_shaped words rest body read
   unfolding events_of begun_of setup_begun base_begun words_begun setup_words
-  events-are words (ShapeRefused refusal) e off = rw (opened, its-body, e)
-  events-are words (ShapeTaken shape) e off =
+  events-are words (Err refusal) e off = rw (opened, its-body, e)
+  events-are words (Ok shape) e off =
       let parts = parts_of shape body in
       let rules = rules_of (words_after words parts.base parts.cycles parts.family shape.syllabus shape.unnamed) in
       let read = read_setup parts.base parts.cycles parts.family shape.unnamed in

@@ -9,19 +9,19 @@ use Rattle.wire.specs.Wire.{byte, number}
 use Rattle.layout.specs.Layout.{profile_from}
 use Rattle.ranges.specs.Ranges.{is_setup}
 use Rattle.ranges.proofs.Accepted.{Accepted, ProfileRanges, accepted, complete}
-use Rattle.shape.specs.declared.Dating.{Dating}
-use Rattle.shape.specs.declared.Dating.TheVariants.{Off as DatesOff, On as DatesOn}
 use Rattle.shape.specs.declared.Family.TheVariants.{Cpa}
 use Rattle.shape.specs.declared.Shape.{Shape}
-use Rattle.shape.specs.declared.ReadShape.TheVariants.{Taken}
 use Rattle.shape.specs.Shape.{base_length, based, base_tail, file_end, selection_tail, syllabus_tail, dates, dates_end, dating_tail}
 use Rattle.shape.specs.Shape.{behind, tails_of, shape_of}
 use Rattle.shape.proofs.Ends.{Ends, Read, behind-ends, whole_reads, end-ends, switched_ends, byte-ends}
+use Rattle.std.specs.Prelude.{None, Ok, Option, Some}
+use Rattle.shape.specs.Shape.{span}
+use Rattle.shape.specs.declared.Span.{Span}
 
 -- ---- shapes
 
 pub record Undated (shape : Shape) : Type 0 where
-  pub dating : shape.dating ≡ DatesOff
+  pub dating : shape.dating ≡ None
   pub family : shape.family ≡ Cpa
   pub unnamed : shape.unnamed ≡ 2 ^ 22
 
@@ -46,8 +46,8 @@ module _ (body : List ℕ) where
   dating-cpa : (shape : Shape) (at : ℕ) → Undated shape → Ends OfCpa (dating_tail body shape at)
   unfolding dating_tail
   dating-cpa shape at u =
-      let cpa : (dating : Dating) → OfCpa (dates shape dating) = λ dating. record { family = u.family; unnamed = refl } in
-      switched_ends body OfCpa at _ _ (dates_end body at) (cpa DatesOff) (cpa (DatesOn at (dates_end body at)))
+      let cpa : (dating : Option Span) → OfCpa (dates shape dating) = λ dating. record { family = u.family; unnamed = refl } in
+      switched_ends body OfCpa at _ _ (dates_end body at) (cpa None) (cpa (Some (span at (dates_end body at))))
 
   tails-undated : Ends Undated (tails_of 3 body)
   unfolding tails_of
@@ -60,12 +60,12 @@ module _ (body : List ℕ) where
   tails-cpa = behind-ends Undated OfCpa (tails_of 3 body) (dating_tail body) dating-cpa tails-undated
 
   -- A SHAPE OF VERSION 03
-  pub undated : (shape : Shape) → shape_of 3 body ≡ Taken shape → Undated shape
+  pub undated : (shape : Shape) → shape_of 3 body ≡ Ok shape → Undated shape
   unfolding shape_of
   undated shape e = subst (Read Undated) e (whole_reads body Undated (tails_of 3 body) tails-undated)
 
   -- A SHAPE OF VERSION 04
-  pub of_cpa : (shape : Shape) → shape_of 4 body ≡ Taken shape → OfCpa shape
+  pub of_cpa : (shape : Shape) → shape_of 4 body ≡ Ok shape → OfCpa shape
   unfolding shape_of
   of_cpa shape e = subst (Read OfCpa) e (whole_reads body OfCpa (tails_of 4 body) tails-cpa)
 

@@ -21,15 +21,9 @@ use Rattle.tails.specs.Tails.{are_cycles, is_family}
 use Rattle.setup.specs.declared.ReadSetup.{ReadSetup}
 use Rattle.setup.specs.Setup.{is_accepted, read_setup, words_after}
 use Rattle.setup.proofs.Faithful.{untouched}
-use Rattle.shape.specs.declared.Selecting.{Selecting}
-use Rattle.shape.specs.declared.Selecting.TheVariants.{Off, On}
-use Rattle.shape.specs.declared.Dating.{Dating}
-use Rattle.shape.specs.declared.Dating.TheVariants.{Off as DatesOff, On as DatesOn}
 use Rattle.shape.specs.declared.Family.{Family}
 use Rattle.shape.specs.declared.Family.TheVariants.{Cpa, Cpace}
 use Rattle.shape.specs.declared.Shape.{Shape}
-use Rattle.shape.specs.declared.ReadShape.{ReadShape}
-use Rattle.shape.specs.declared.ReadShape.TheVariants.{Taken, Refused}
 use Rattle.shape.specs.Shape.{Lies, Spans, Holds, based, base_tail, dates, families, tails_of, shape_of, base_part, cycles_part, family_part}
 use Rattle.shape.proofs.Inside.{Inside, inside}
 use Rattle.shape.proofs.Older.{selection-off, syllabus-off, dates-off, family-off, scripts-off, log-off}
@@ -47,6 +41,9 @@ use Rattle.paper.specs.Paper.{latest}
 use Rattle.versions.proofs.Papers.{Known, Unlogged, reads_of, paper_of, Parts, parts_of, events_with, events_shaped}
 use Rattle.versions.proofs.Papers.{part-before, file-there, whole_length, events-are, begun-is}
 use Rattle.versions.proofs.Undated.{undated, of_cpa, MasksBelow, below_more, accepted-below, same-judged}
+use Rattle.std.specs.Prelude.{Err, None, Ok, Option, Result, Some}
+use Rattle.shape.specs.declared.SelectionFile.{SelectionFile}
+use Rattle.shape.specs.declared.Span.{Span}
 
 -- ---- the byte 00 behind a body, in the next version
 
@@ -66,9 +63,9 @@ Older version = (1 ≤ version) × (version < latest)
 older_known : (version : ℕ) → Older version → Known version
 older_known version older = (older.0, omega (arith, older.1))
 
-older_unlogged : (version : ℕ) → Older version → (body : List ℕ) (read : ReadShape) → shape_of version body ≡ read → Unlogged read
-older_unlogged version older body (Refused refusal) e = tt
-older_unlogged version older body (Taken shape) e = unlogged-below body version older.1 shape e
+older_unlogged : (version : ℕ) → Older version → (body : List ℕ) (read : Result Shape Refusal) → shape_of version body ≡ read → Unlogged read
+older_unlogged version older body (Err refusal) e = tt
+older_unlogged version older body (Ok shape) e = unlogged-below body version older.1 shape e
 
 -- a shape, but for the mask bits that are named
 abbrev naming : Shape → (unnamed : ℕ) → Shape
@@ -85,25 +82,25 @@ naming shape unnamed =
     }
 
 -- the newer shape is the older one, but that other mask bits may be named where the base is judged alike
-data Alike (body : List ℕ) : ReadShape → ReadShape → Type 0 where
-  refused : (refusal : Refusal) → Alike body (Refused refusal) (Refused refusal)
+data Alike (body : List ℕ) : Result Shape Refusal → Result Shape Refusal → Type 0 where
+  refused : (refusal : Refusal) → Alike body (Err refusal) (Err refusal)
   taken : (shape : Shape) (unnamed : ℕ) → is_setup (base_part shape body) unnamed ≡ is_setup (base_part shape body) shape.unnamed
-      → Alike body (Taken (naming shape unnamed)) (Taken shape)
+      → Alike body (Ok (naming shape unnamed)) (Ok shape)
 
-the_same : (body : List ℕ) (later older : ReadShape) → later ≡ older → Alike body later older
-the_same body later (Refused refusal) e = rw e (refused refusal)
-the_same body later (Taken shape) e = rw e (taken shape shape.unnamed refl)
+the_same : (body : List ℕ) (later older : Result Shape Refusal) → later ≡ older → Alike body later older
+the_same body later (Err refusal) e = rw e (refused refusal)
+the_same body later (Ok shape) e = rw e (taken shape shape.unnamed refl)
 
 -- so it has no log where that has none
-alike_unlogged : {body : List ℕ} (later older : ReadShape) → Alike body later older → Unlogged older → Unlogged later
+alike_unlogged : {body : List ℕ} (later older : Result Shape Refusal) → Alike body later older → Unlogged older → Unlogged later
 alike_unlogged later older (refused refusal) off = tt
 alike_unlogged later older (taken shape unnamed same) off = off
 
 module _ (body : List ℕ) where
   -- what lies in the body lies at the same places of both
-  same-cycles : (dating : Dating) → Spans dating (length body) → cycles_part dating (newer body) ≡ cycles_part dating body
-  same-cycles DatesOff s = refl
-  same-cycles (DatesOn start end) s = part-before body (0 ∷ []) start end s.0 s.1
+  same-cycles : (dating : Option Span) → Spans dating (length body) → cycles_part dating (newer body) ≡ cycles_part dating body
+  same-cycles None s = refl
+  same-cycles (Some part) s = part-before body (0 ∷ []) part.start part.end s.0 s.1
 
   same-family : (family : Family) → Holds family (length body) → family_part family (newer body) ≡ family_part family body
   same-family Cpa s = refl
@@ -113,15 +110,15 @@ module _ (body : List ℕ) where
       → reads_of (naming shape unnamed) (newer body) ≡ reads_of shape body
   unfolding command_in
   same_reads shape unnamed lies = λ i values. by shape.selecting lies (slots_of shape.family values) i where
-    by : (selecting : Selecting) → Lies selecting (length body) → (slots : Slots)
+    by : (selecting : Option SelectionFile) → Lies selecting (length body) → (slots : Slots)
         → read_by selecting shape.dating shape.family slots (newer body) ≡ read_by selecting shape.dating shape.family slots body
-    by Off l slots = refl
-    by (On start end entries) l slots =
-        let same : file_in (newer body) start end ≡ file_in body start end =
-        file-there (newer body) start end l.0 (omega (arith, length-append body (0 ∷ []), l.1))
-        ∙ part-before body (0 ∷ []) start end l.0 l.1
-        ∙ sym (file-there body start end l.0 l.1) in
-        ap (λ (file : List ℕ). selecting_of shape.dating shape.family slots file entries) same
+    by None l slots = refl
+    by (Some part) l slots =
+        let same : file_in (newer body) part.start part.end ≡ file_in body part.start part.end =
+        file-there (newer body) part.start part.end l.0 (omega (arith, length-append body (0 ∷ []), l.1))
+        ∙ part-before body (0 ∷ []) part.start part.end l.0 l.1
+        ∙ sym (file-there body part.start part.end l.0 l.1) in
+        ap (λ (file : List ℕ). selecting_of shape.dating shape.family slots file part.entries) same
 
   same_base : (shape : Shape) → Inside shape (length body) → base_part shape (newer body) ≡ base_part shape body
   same_base shape lies = take-append-le shape.base body (0 ∷ []) lies.base
@@ -146,7 +143,7 @@ module _ (body : List ℕ) (older later : ℕ) (words rest : List ℕ) (alike : 
   -- THE EVENTS ARE THE SAME WHERE THE SHAPES ARE ALIKE
   events_as_older : events_shaped words rest (newer body) (shape_of later (newer body)) ≡ events_shaped words rest body (shape_of older body)
   events_as_older = by (shape_of later (newer body)) (shape_of older body) refl alike where
-    by : (now then : ReadShape) → shape_of older body ≡ then → Alike body now then
+    by : (now then : Result Shape Refusal) → shape_of older body ≡ then → Alike body now then
         → events_shaped words rest (newer body) now ≡ events_shaped words rest body then
     by now then e (refused refusal) = refl
     by now then e (taken shape unnamed same) =
@@ -183,13 +180,13 @@ record Adds (older later fewer more : ℕ) (b : List ℕ) : Type 0 where
   known : Older older
   known_later : Known later
   rises : fewer ≤ more
-  fewer_named : (shape : Shape) → shape_of older b ≡ Taken shape → shape.unnamed ≡ fewer
-  more-named : (shape : Shape) → shape_of older b ≡ Taken shape → shape_of later (newer b) ≡ Taken (naming shape more)
+  fewer_named : (shape : Shape) → shape_of older b ≡ Ok shape → shape.unnamed ≡ fewer
+  more-named : (shape : Shape) → shape_of older b ≡ Ok shape → shape_of later (newer b) ≡ Ok (naming shape more)
 
 module _ (older later fewer more : ℕ) (b : List ℕ) (adds : Adds older later fewer more b) (words rest : List ℕ)
     (short : length (paper_of later (newer b) rest) ≤ 65536) where
   -- with no bit that is only now named
-  masks_as_older : (shape : Shape) → shape_of older b ≡ Taken shape → MasksBelow (base_part shape b) fewer
+  masks_as_older : (shape : Shape) → shape_of older b ≡ Ok shape → MasksBelow (base_part shape b) fewer
       → sitting_lines words (paper_of later (newer b) rest) ≡ sitting_lines words (paper_of older b rest)
   masks_as_older shape e low =
       let base = base_part shape b in
@@ -208,7 +205,7 @@ module _ (older later fewer more : ℕ) (b : List ℕ) (adds : Adds older later 
     never : (refusal : Refusal) → EndRefused refusal ≡ SetUp → ⊥
     never refusal f = let z : ◌≡◌ {A = ℕ} 0 1 = cc in omega arith
 
-    by_parts : (shape : Shape) → shape_of older b ≡ Taken shape → (base cycles family : List ℕ) → base_part shape b ≡ base → (judged : Bool)
+    by_parts : (shape : Shape) → shape_of older b ≡ Ok shape → (base cycles family : List ℕ) → base_part shape b ≡ base → (judged : Bool)
         → is_accepted base cycles family shape.unnamed ≡ judged → set_up_event (read_setup base cycles family shape.unnamed).answer ≡ SetUp
         → sitting_lines words (paper_of later (newer b) rest) ≡ sitting_lines words (paper_of older b rest)
     by_parts shape f base cycles family is true good g =
@@ -219,10 +216,10 @@ module _ (older later fewer more : ℕ) (b : List ℕ) (adds : Adds older later 
     by_parts shape f base cycles family is false bad g =
         absurd (never _ (sym (ap (λ (r : ReadSetup). set_up_event r.answer) (untouched [] base cycles family 0 shape.unnamed bad).1) ∙ g))
 
-    by : (read : ReadShape) → shape_of older b ≡ read → (shaped_begun b 4 (4 + length b) read).event ≡ SetUp
+    by : (read : Result Shape Refusal) → shape_of older b ≡ read → (shaped_begun b 4 (4 + length b) read).event ≡ SetUp
         → sitting_lines words (paper_of later (newer b) rest) ≡ sitting_lines words (paper_of older b rest)
-    by (Refused refusal) f g = absurd (never refusal g)
-    by (Taken shape) f g =
+    by (Err refusal) f g = absurd (never refusal g)
+    by (Ok shape) f g =
         let parts = parts_of shape b in
         let unlogged = sound_below older adds.known.1 b shape f in
         by_parts shape f parts.base parts.cycles parts.family refl
@@ -237,13 +234,13 @@ dates-added b =
       known_later = (lit≤ tt, lit≤ tt);
       rises = lit≤ tt;
       fewer_named = λ shape e. (undated b shape e).unnamed;
-      more-named = λ shape e. dates-off b shape e ∙ ap (λ (dating : Dating). Taken (dates shape dating)) (sym (undated b shape e).dating);
+      more-named = λ shape e. dates-off b shape e ∙ ap (λ (dating : Option Span). Ok (dates shape dating)) (sym (undated b shape e).dating);
     }
 
 module _ (b : List ℕ) (words rest : List ℕ) (short : length (paper_of 4 (newer b) rest) ≤ 65536) where
   -- A VERSION 03 PAPER'S LINES ARE THOSE OF THE VERSION 04 PAPER WITH DATES OFF, if its body has a shape and its masks no bit from 22 on.
   -- Without a shape, what was cut off of a tail with dates may be the byte 00; bits 22 to 24 are refused in version 03 alone.
-  pub dates_off_read_as_older : (shape : Shape) → shape_of 3 b ≡ Taken shape → MasksBelow (base_part shape b) (2 ^ 22)
+  pub dates_off_read_as_older : (shape : Shape) → shape_of 3 b ≡ Ok shape → MasksBelow (base_part shape b) (2 ^ 22)
       → sitting_lines words (paper_of 4 (newer b) rest) ≡ sitting_lines words (paper_of 3 b rest)
   dates_off_read_as_older = masks_as_older 3 4 (2 ^ 22) (2 ^ 25) b (dates-added b) words rest short
 
@@ -261,13 +258,13 @@ family-added b =
       known_later = (lit≤ tt, lit≤ tt);
       rises = lit≤ tt;
       fewer_named = λ shape e. (of_cpa b shape e).unnamed;
-      more-named = λ shape e. family-off b shape e ∙ ap (λ (family : Family). Taken (families shape family)) (sym (of_cpa b shape e).family);
+      more-named = λ shape e. family-off b shape e ∙ ap (λ (family : Family). Ok (families shape family)) (sym (of_cpa b shape e).family);
     }
 
 module _ (b : List ℕ) (words rest : List ℕ) (short : length (paper_of 5 (newer b) rest) ≤ 65536) where
   -- A VERSION 04 PAPER'S LINES ARE THOSE OF THE VERSION 05 PAPER OF A CPA CARD, if its body has a shape and its masks no bit from 25 on.
   -- Without a shape, what was cut off of a CPACE card's tail may be the byte 00; bit 25 is refused in version 04 alone.
-  pub family_off_reads_as_older : (shape : Shape) → shape_of 4 b ≡ Taken shape → MasksBelow (base_part shape b) (2 ^ 25)
+  pub family_off_reads_as_older : (shape : Shape) → shape_of 4 b ≡ Ok shape → MasksBelow (base_part shape b) (2 ^ 25)
       → sitting_lines words (paper_of 5 (newer b) rest) ≡ sitting_lines words (paper_of 4 b rest)
   family_off_reads_as_older = masks_as_older 4 5 (2 ^ 25) (2 ^ 26) b (family-added b) words rest short
 
@@ -294,7 +291,7 @@ module _ (b : List ℕ) (words rest : List ℕ) where
 -- ---- a version 06 set-up with the log off behind it
 
 module _ (b : List ℕ) (words rest : List ℕ) (short : length (paper_of 7 (newer b) rest) ≤ 65536) where
-  module _ (shape : Shape) (e : shape_of 6 b ≡ Taken shape) where
+  module _ (shape : Shape) (e : shape_of 6 b ≡ Ok shape) where
     log_alike : Alike b (shape_of 7 (newer b)) (shape_of 6 b)
     log_alike = the_same b (shape_of 7 (newer b)) (shape_of 6 b) (log-off b shape e ∙ sym e)
 
@@ -314,20 +311,20 @@ module _ (b : List ℕ) (words rest : List ℕ) (short : length (paper_of 7 (new
     before : length (paper_of 6 b rest) ≤ 65536
     before = shorter 6 7 (lit≤ tt, lit≤ tt) b (0 ∷ []) rest short
 
-    by : (read : ReadShape) → shape_of 6 b ≡ read → (shaped_begun b 4 (4 + length b) read).event ≡ SetUp
+    by : (read : Result Shape Refusal) → shape_of 6 b ≡ read → (shaped_begun b 4 (4 + length b) read).event ≡ SetUp
         → sitting_lines words (paper_of 7 (newer b) rest) ≡ sitting_lines words (paper_of 6 b rest)
-    by (Refused refusal) f g = absurd (let z : ◌≡◌ {A = ℕ} 0 1 = cc in omega arith)
-    by (Taken shape) f g = log_off_reads_as_older shape f
+    by (Err refusal) f g = absurd (let z : ◌≡◌ {A = ℕ} 0 1 = cc in omega arith)
+    by (Ok shape) f g = log_off_reads_as_older shape f
 
 -- ---- the same set-up in all versions
 
 -- the shape of a base alone
-alone : (s : List ℕ) → length s ≡ 52 + 107 * byte s 3 + 7 * byte s 4 → shape_of 1 s ≡ Taken (based (length s))
+alone : (s : List ℕ) → length s ≡ 52 + 107 * byte s 3 + 7 * byte s 4 → shape_of 1 s ≡ Ok (based (length s))
 unfolding shape_of tails_of base_tail
 alone s sized = rw (← sized, le-ltb (length s) (length s) (omega arith), eq-eqb (length s) (length s) refl)
 
 -- the masks of the newer body are those of the older one
-still_below : (b : List ℕ) (shape : Shape) (version unnamed : ℕ) → shape_of version b ≡ Taken shape → MasksBelow (base_part shape b) unnamed
+still_below : (b : List ℕ) (shape : Shape) (version unnamed : ℕ) → shape_of version b ≡ Ok shape → MasksBelow (base_part shape b) unnamed
     → MasksBelow (base_part shape (newer b)) unnamed
 still_below b shape version unnamed e low = rw (same_base b shape (inside b version shape e)) low
 
@@ -345,22 +342,22 @@ module _ (words rest : List ℕ) where
       rw (← joined) (others long) ∙ one (shorter next later known (b ++ first) more rest long)
 
   -- A VERSION 02 PAPER'S LINES ARE THOSE OF THE VERSION 04 PAPER WITH SYLLABUS 0 AND DATES OFF
-  pub two_off_read_as_older : (b : List ℕ) → length (paper_of 4 (b ++ 0 ∷ 0 ∷ []) rest) ≤ 65536 → (shape : Shape) → shape_of 2 b ≡ Taken shape
+  pub two_off_read_as_older : (b : List ℕ) → length (paper_of 4 (b ++ 0 ∷ 0 ∷ []) rest) ≤ 65536 → (shape : Shape) → shape_of 2 b ≡ Ok shape
       → MasksBelow (base_part shape b) (2 ^ 22) → sitting_lines words (paper_of 4 (b ++ 0 ∷ 0 ∷ []) rest) ≡ sitting_lines words (paper_of 2 b rest)
   two_off_read_as_older b short shape e low =
       chain 2 3 4 (lit≤ tt, lit≤ tt) b (0 ∷ []) (0 ∷ []) (syllabus_0_reads_as_older b words rest)
       (λ long. dates_off_read_as_older (newer b) words rest long shape (syllabus-off b ∙ e) (still_below b shape 2 (2 ^ 22) e low)) short
 
   -- A VERSION 03 PAPER'S LINES ARE THOSE OF THE VERSION 05 PAPER WITH DATES OFF, OF A CPA CARD
-  pub last_two_off_read_as_older : (b : List ℕ) → length (paper_of 5 (b ++ 0 ∷ 0 ∷ []) rest) ≤ 65536 → (shape : Shape) → shape_of 3 b ≡ Taken shape
+  pub last_two_off_read_as_older : (b : List ℕ) → length (paper_of 5 (b ++ 0 ∷ 0 ∷ []) rest) ≤ 65536 → (shape : Shape) → shape_of 3 b ≡ Ok shape
       → MasksBelow (base_part shape b) (2 ^ 22) → sitting_lines words (paper_of 5 (b ++ 0 ∷ 0 ∷ []) rest) ≡ sitting_lines words (paper_of 3 b rest)
   last_two_off_read_as_older b short shape e low =
       let below = below_more _ (2 ^ 22) (2 ^ 25) (lit≤ tt) (still_below b shape 3 (2 ^ 22) e low) in
       chain 3 4 5 (lit≤ tt, lit≤ tt) b (0 ∷ []) (0 ∷ []) (λ fits. dates_off_read_as_older b words rest fits shape e low)
-      (λ long. family_off_reads_as_older (newer b) words rest long (dates shape DatesOff) (dates-off b shape e) below) short
+      (λ long. family_off_reads_as_older (newer b) words rest long (dates shape None) (dates-off b shape e) below) short
 
   -- A VERSION 02 PAPER'S LINES ARE THOSE OF THE VERSION 05 PAPER WITH SYLLABUS 0 AND DATES OFF, OF A CPA CARD
-  pub three_off_read_as_older : (b : List ℕ) → length (paper_of 5 (b ++ 0 ∷ 0 ∷ 0 ∷ []) rest) ≤ 65536 → (shape : Shape) → shape_of 2 b ≡ Taken shape
+  pub three_off_read_as_older : (b : List ℕ) → length (paper_of 5 (b ++ 0 ∷ 0 ∷ 0 ∷ []) rest) ≤ 65536 → (shape : Shape) → shape_of 2 b ≡ Ok shape
       → MasksBelow (base_part shape b) (2 ^ 22) → sitting_lines words (paper_of 5 (b ++ 0 ∷ 0 ∷ 0 ∷ []) rest) ≡ sitting_lines words (paper_of 2 b rest)
   three_off_read_as_older b short shape e low =
       chain 2 3 5 (lit≤ tt, lit≤ tt) b (0 ∷ []) (0 ∷ 0 ∷ []) (syllabus_0_reads_as_older b words rest)
@@ -380,7 +377,7 @@ module _ (words rest : List ℕ) where
         chain 1 2 3 (lit≤ tt, lit≤ tt) s (0 ∷ []) (0 ∷ []) off_reads_as_older (syllabus_0_reads_as_older (newer s) words rest)
 
     -- the shape and the masks of the version 02 paper
-    off-shape : shape_of 2 (newer s) ≡ Taken (based (length s))
+    off-shape : shape_of 2 (newer s) ≡ Ok (based (length s))
     off-shape = selection-off s sized ∙ alone s sized
 
     off-below : MasksBelow s (2 ^ 22) → MasksBelow (base_part (based (length s)) (newer s)) (2 ^ 22)
@@ -412,7 +409,7 @@ module _ (words rest : List ℕ) where
 
   module _ (b : List ℕ) where
     -- A VERSION 04 PAPER'S LINES ARE THOSE OF THE VERSION 06 PAPER OF A CPA CARD WITH SCRIPTS OFF
-    pub four_reads_as_six : length (paper_of 6 (b ++ 0 ∷ 0 ∷ []) rest) ≤ 65536 → (shape : Shape) → shape_of 4 b ≡ Taken shape
+    pub four_reads_as_six : length (paper_of 6 (b ++ 0 ∷ 0 ∷ []) rest) ≤ 65536 → (shape : Shape) → shape_of 4 b ≡ Ok shape
         → MasksBelow (base_part shape b) (2 ^ 25) → sitting_lines words (paper_of 6 (b ++ 0 ∷ 0 ∷ []) rest) ≡ sitting_lines words (paper_of 4 b rest)
     four_reads_as_six short shape e low = to_six 4 b (0 ∷ []) (λ fits. family_off_reads_as_older b words rest fits shape e low) short
 
@@ -422,12 +419,12 @@ module _ (words rest : List ℕ) where
     accepted_four_reads_as_six short e = to_six 4 b (0 ∷ []) (λ fits. accepted_cpa_reads_as_older b words rest fits e) short
 
     -- A VERSION 03 PAPER'S LINES ARE THOSE OF THE VERSION 06 PAPER WITH DATES AND SCRIPTS OFF, OF A CPA CARD
-    pub three_reads_as_six : length (paper_of 6 (b ++ 0 ∷ 0 ∷ 0 ∷ []) rest) ≤ 65536 → (shape : Shape) → shape_of 3 b ≡ Taken shape
+    pub three_reads_as_six : length (paper_of 6 (b ++ 0 ∷ 0 ∷ 0 ∷ []) rest) ≤ 65536 → (shape : Shape) → shape_of 3 b ≡ Ok shape
         → MasksBelow (base_part shape b) (2 ^ 22) → sitting_lines words (paper_of 6 (b ++ 0 ∷ 0 ∷ 0 ∷ []) rest) ≡ sitting_lines words (paper_of 3 b rest)
     three_reads_as_six short shape e low = to_six 3 b (0 ∷ 0 ∷ []) (λ fits. last_two_off_read_as_older words rest b fits shape e low) short
 
     -- A VERSION 02 PAPER'S LINES ARE THOSE OF THE VERSION 06 PAPER WITH SYLLABUS 0, DATES AND SCRIPTS OFF, OF A CPA CARD
-    pub two_reads_as_six : length (paper_of 6 (b ++ 0 ∷ 0 ∷ 0 ∷ 0 ∷ []) rest) ≤ 65536 → (shape : Shape) → shape_of 2 b ≡ Taken shape
+    pub two_reads_as_six : length (paper_of 6 (b ++ 0 ∷ 0 ∷ 0 ∷ 0 ∷ []) rest) ≤ 65536 → (shape : Shape) → shape_of 2 b ≡ Ok shape
         → MasksBelow (base_part shape b) (2 ^ 22)
         → sitting_lines words (paper_of 6 (b ++ 0 ∷ 0 ∷ 0 ∷ 0 ∷ []) rest) ≡ sitting_lines words (paper_of 2 b rest)
     two_reads_as_six short shape e low = to_six 2 b (0 ∷ 0 ∷ 0 ∷ []) (λ fits. three_off_read_as_older words rest b fits shape e low) short
@@ -442,30 +439,30 @@ module _ (words rest : List ℕ) where
 
 module _ (words rest : List ℕ) where
   -- A VERSION 05 PAPER'S LINES ARE THOSE OF THE VERSION 07 PAPER WITH SCRIPTS AND THE LOG OFF
-  pub five_reads_as_seven : (b : List ℕ) → length (paper_of 7 (b ++ 0 ∷ 0 ∷ []) rest) ≤ 65536 → (shape : Shape) → shape_of 5 b ≡ Taken shape
+  pub five_reads_as_seven : (b : List ℕ) → length (paper_of 7 (b ++ 0 ∷ 0 ∷ []) rest) ≤ 65536 → (shape : Shape) → shape_of 5 b ≡ Ok shape
       → sitting_lines words (paper_of 7 (b ++ 0 ∷ 0 ∷ []) rest) ≡ sitting_lines words (paper_of 5 b rest)
   five_reads_as_seven b short shape e =
       chain words rest 5 6 7 (lit≤ tt, lit≤ tt) b (0 ∷ []) (0 ∷ []) (scripts_off_reads_as_older b words rest)
       (λ long. log_off_reads_as_older (newer b) words rest long shape (scripts-off b ∙ e)) short
 
   -- A VERSION 04 PAPER'S ALSO OF A CPA CARD
-  pub four_reads_as_seven : (b : List ℕ) → length (paper_of 7 (b ++ 0 ∷ 0 ∷ 0 ∷ []) rest) ≤ 65536 → (shape : Shape) → shape_of 4 b ≡ Taken shape
+  pub four_reads_as_seven : (b : List ℕ) → length (paper_of 7 (b ++ 0 ∷ 0 ∷ 0 ∷ []) rest) ≤ 65536 → (shape : Shape) → shape_of 4 b ≡ Ok shape
       → MasksBelow (base_part shape b) (2 ^ 25) → sitting_lines words (paper_of 7 (b ++ 0 ∷ 0 ∷ 0 ∷ []) rest) ≡ sitting_lines words (paper_of 4 b rest)
   four_reads_as_seven b short shape e low =
       chain words rest 4 5 7 (lit≤ tt, lit≤ tt) b (0 ∷ []) (0 ∷ 0 ∷ []) (λ fits. family_off_reads_as_older b words rest fits shape e low)
       (λ long. five_reads_as_seven (newer b) long (families shape Cpa) (family-off b shape e)) short
 
   -- A VERSION 03 PAPER'S ALSO WITH DATES OFF
-  pub three_reads_as_seven : (b : List ℕ) → length (paper_of 7 (b ++ 0 ∷ 0 ∷ 0 ∷ 0 ∷ []) rest) ≤ 65536 → (shape : Shape) → shape_of 3 b ≡ Taken shape
+  pub three_reads_as_seven : (b : List ℕ) → length (paper_of 7 (b ++ 0 ∷ 0 ∷ 0 ∷ 0 ∷ []) rest) ≤ 65536 → (shape : Shape) → shape_of 3 b ≡ Ok shape
       → MasksBelow (base_part shape b) (2 ^ 22)
       → sitting_lines words (paper_of 7 (b ++ 0 ∷ 0 ∷ 0 ∷ 0 ∷ []) rest) ≡ sitting_lines words (paper_of 3 b rest)
   three_reads_as_seven b short shape e low =
       let below = below_more _ (2 ^ 22) (2 ^ 25) (lit≤ tt) (still_below b shape 3 (2 ^ 22) e low) in
       chain words rest 3 4 7 (lit≤ tt, lit≤ tt) b (0 ∷ []) (0 ∷ 0 ∷ 0 ∷ []) (λ fits. dates_off_read_as_older b words rest fits shape e low)
-      (λ long. four_reads_as_seven (newer b) long (dates shape DatesOff) (dates-off b shape e) below) short
+      (λ long. four_reads_as_seven (newer b) long (dates shape None) (dates-off b shape e) below) short
 
   -- A VERSION 02 PAPER'S ALSO WITH SYLLABUS 0
-  pub two_reads_as_seven : (b : List ℕ) → length (paper_of 7 (b ++ 0 ∷ 0 ∷ 0 ∷ 0 ∷ 0 ∷ []) rest) ≤ 65536 → (shape : Shape) → shape_of 2 b ≡ Taken shape
+  pub two_reads_as_seven : (b : List ℕ) → length (paper_of 7 (b ++ 0 ∷ 0 ∷ 0 ∷ 0 ∷ 0 ∷ []) rest) ≤ 65536 → (shape : Shape) → shape_of 2 b ≡ Ok shape
       → MasksBelow (base_part shape b) (2 ^ 22)
       → sitting_lines words (paper_of 7 (b ++ 0 ∷ 0 ∷ 0 ∷ 0 ∷ 0 ∷ []) rest) ≡ sitting_lines words (paper_of 2 b rest)
   two_reads_as_seven b short shape e low =

@@ -4,7 +4,7 @@ use mathlib.Core.List.{[], ◌∷◌}
 use Rattle.words.specs.Words.{word, all, is_number, value_from, is_hex, hex_said, hex_bytes, up_to, name_of, place_in, flags, read_flags}
 use Rattle.words.specs.Lex.{text_of, line_text, lines_of, step, lex, lines_in}
 use Rattle.words.specs.Number.{number_in}
-use Rattle.words.specs.declared.Number.TheVariants.{Is, Not}
+use Rattle.std.specs.Prelude.{None, Some}
 
 -- blanks in front and between, a comment behind a word and one alone, a line with nothing, and a last line without its line feed
 text-read : lines_in (word "  key \t0a#index\n# none\n\n end")
@@ -18,8 +18,8 @@ unfolding text_of line_text
 text-written = refl
 
 -- zeros in front are read, 2 ^ 64 is not, nor a sign
-numbers-read : (number_in (word "0042") ≡ Is 42) × (number_in (word "18446744073709551615") ≡ Is 18446744073709551615)
-    × (number_in (word "18446744073709551616") ≡ Not) × (number_in (word "+1") ≡ Not)
+numbers-read : (number_in (word "0042") ≡ Some 42) × (number_in (word "18446744073709551615") ≡ Some 18446744073709551615)
+    × (number_in (word "18446744073709551616") ≡ None) × (number_in (word "+1") ≡ None)
 unfolding number_in is_number all value_from
 numbers-read = (refl, refl, refl, refl)
 

@@ -56,13 +56,6 @@ pub fn put_hex(room: &mut [u8], at: usize, bytes: &[u8]) -> usize
     end
 }
 
-// The number that a word of decimal digits says, where it fits 64 bits.
-#[derive(Drop)]
-pub enum Number {
-    Is(u64),
-    Not,
-}
-
 fn is_digit(c: u8) -> bool
     ensures { result ≡ is_digit c }
 {
@@ -75,24 +68,24 @@ fn digit(c: u8) -> u64
     if c < b'0' { 0 } else { (c - b'0') as u64 }
 }
 
-pub fn number_in(word: &[u8]) -> Number
+pub fn number_in(word: &[u8]) -> Option<u64>
     ensures { result ≡ number_in word.now }
 {
     if word.len() == 0 {
-        return Number::Not;
+        return None;
     }
     let mut n = 0u64;
     for i in 0..word.len() {
         if !is_digit(word[i]) {
-            return Number::Not;
+            return None;
         }
         let d = digit(word[i]);
         if (18_446_744_073_709_551_615 - d) / 10 < n {
-            return Number::Not;
+            return None;
         }
         n = n * 10 + d;
     }
-    Number::Is(n)
+    Some(n)
 }
 
 pub fn same_word(a: &[u8], b: &[u8]) -> bool

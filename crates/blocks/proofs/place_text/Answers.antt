@@ -1,8 +1,8 @@
 use borrow.Author.Rules.{rules}
 use mathlib.Core.Path.{ap, ◌∙◌}
 use native.Mathlib.Omega.{arith}
-use Rattle.paper_room.specs.declared.Transcript.TheVariants.{Whole}
 use Rattle.blocks.proofs.Texts.{text-placed, text_stays}
+use Rattle.std.specs.Prelude.{Some}
 use Rattle.blocks.proofs.place_text.Goals as goal
 
 pub returns-then-room-at : goal.returns-then-room-at
@@ -21,4 +21,4 @@ returns c =
     let start = asked in
     let a = start.args in
     let placed = text-placed a.room.now a.text.now a.at (omega (arith, asked.if-room-at-2.false, asked.if-room-at.false)) in
-    (ap Whole put.put_text.ensures.0 ∙ placed.0, put.put_text.ensures.1 ∙ placed.1)
+    (ap Some put.put_text.ensures.0 ∙ placed.0, put.put_text.ensures.1 ∙ placed.1)

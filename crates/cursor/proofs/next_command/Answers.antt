@@ -6,13 +6,12 @@ use mathlib.Core.Bool.{true, false}
 use Prim.Native.Nat.{ℕ, ◌+◌, ◌-◌, ◌<◌}
 use lib.ListN.{length, take, drop}
 use Rattle.wire.specs.Wire.{byte}
-use Rattle.head.specs.declared.Head.{Head}
-use Rattle.head.specs.declared.Head.TheVariants.{Right}
 use Rattle.head.specs.Head.{head_of, is_constructed}
 use Rattle.cursor.specs.Cursor.{places_from, first_of, next_command}
-use Rattle.cursor.specs.declared.Next.TheVariants.{Command}
 use Rattle.head.proofs.Heads.{At, right_at, wrong_at}
 use Rattle.cursor.proofs.Places.{places_end, places_filler, places_wrong, places_constructed, places_command, places_other}
+use Rattle.std.specs.Prelude.{Option, Some}
+use Rattle.head.specs.declared.Head.{Head}
 use Rattle.cursor.proofs.next_command.Goals as goal
 
 -- an object at a place to which the way has led
@@ -23,8 +22,8 @@ record Object (s : List ℕ) (from at tag m n : ℕ) : Type 0 where
   no_filler : byte s at ≡ 0 → ⊥
   place : At s at m n
 
-object : (s : List ℕ) (from at tag m n : ℕ) (h : Head) → places_from s from ≡ places_from s at → at < length s → tag ≡ byte s at → (tag ≡ 0 → ⊥)
-    → h ≡ head_of (take (length s - at) (drop at s)) → h ≡ Right m n → Object s from at tag m n
+object : (s : List ℕ) (from at tag m n : ℕ) (h : Option Head) → places_from s from ≡ places_from s at → at < length s → tag ≡ byte s at → (tag ≡ 0 → ⊥)
+    → h ≡ head_of (take (length s - at) (drop at s)) → h ≡ Some (record { size = m; length = n }) → Object s from at tag m n
 object s from at tag m n h led there is some e r =
     record {
       led = led;
@@ -46,11 +45,11 @@ past-object {s} {at = at} o e f =
     ∙ places_other s at o.there o.no_filler h.right (ap is_constructed (sym o.tag_is) ∙ e) (λ z. f (o.tag_is ∙ z))
     ∙ ap₂ (λ m n. places_from s (at + (m + n))) (sym h.size) (sym h.value)
 
-to-command : {s : List ℕ} {from at tag m n : ℕ} → Object s from at tag m n → tag ≡ 0x86 → next_command s from ≡ Command (at + m) n
+to-command : {s : List ℕ} {from at tag m n : ℕ} → Object s from at tag m n → tag ≡ 0x86 → next_command s from ≡ Some (record { start = at + m; size = n })
 unfolding next_command
 to-command {s} {at = at} o e =
     let h = o.place.head in
-    ap first_of (o.led ∙ places_command s at o.there h.right (sym o.tag_is ∙ e)) ∙ ap₂ (λ x y. Command (at + x) y) (sym h.size) (sym h.value)
+    ap first_of (o.led ∙ places_command s at o.there h.right (sym o.tag_is ∙ e)) ∙ ap₂ (λ x y. (Some (record { start = at + x; size = y }))) (sym h.size) (sym h.value)
 
 pub loop-at-preserved-then-tag-eq0 : goal.loop-at-preserved-then-tag-eq0
 loop-at-preserved-then-tag-eq0 c =

@@ -8,7 +8,6 @@ use lib.ListN.{length}
 use Rattle.wire.specs.Wire.{byte}
 use Rattle.head.specs.Head.{is_constructed}
 use Rattle.cursor.specs.Cursor.{places_from, first_of, next_command}
-use Rattle.cursor.specs.declared.Next.TheVariants.{Command}
 use Rattle.head.proofs.Heads.{At, right_at, wrong_at}
 use Rattle.cursor.proofs.Places.{places_end, places_filler, places_wrong, places_constructed, places_command, places_other}
 use Rattle.cursor.proofs.next_command.Given as goal

@@ -4,8 +4,8 @@ use mathlib.Core.List.{List}
 use Prim.Native.Nat.{ℕ, ◌%◌, ◌≤◌, ◌<◌}
 use Rattle.wire.specs.Wire.{byte}
 use Rattle.head.specs.Head.{head_of, head_behind}
-use Rattle.head.specs.declared.Head.TheVariants.{Wrong}
 use Rattle.head.proofs.Heads.{tag_right_lem, tag_wrong}
+use Rattle.std.specs.Prelude.{None}
 use Rattle.head.proofs.read_head.Goals as goal
 
 short : (s : List ℕ) (b : ℕ) → b ≡ byte s 0 → (b % 32 ≡ 31 → ⊥) → head_of s ≡ head_behind s 1
@@ -15,7 +15,7 @@ module _ (s : List ℕ) (b c : ℕ) (e : b ≡ byte s 0) (g : c ≡ byte s 1) (h
   long : c < 0x80 → head_of s ≡ head_behind s 2
   long l = let p = eq-eqb (byte s 0 % 32) 31 (ap (λ n. n % 32) (sym e) ∙ h) in tag_right_lem s 2 (simp (p, ← g, lt-ltb c 0x80 l)) (simp (p))
 
-  longer : 0x80 ≤ c → head_of s ≡ Wrong
+  longer : 0x80 ≤ c → head_of s ≡ None
   longer l = let p = eq-eqb (byte s 0 % 32) 31 (ap (λ n. n % 32) (sym e) ∙ h) in tag_wrong s (simp (p, ← g, le-ltb c 0x80 l))
 
 pub returns-then-byte_at-ne31 : goal.returns-then-byte_at-ne31

@@ -4,15 +4,15 @@ use mathlib.Core.Path.{◌≡◌, refl, sym, ap, ap₂, ◌∙◌}
 use Prim.Native.Nat.{ℕ, ◌+◌, ◌-◌, ◌≤◌, ◌<◌}
 use lib.ListN.{length, take, drop}
 use Rattle.wire.specs.Wire.{byte}
-use Rattle.head.specs.declared.Head.{Head}
-use Rattle.head.specs.declared.Head.TheVariants.{Right}
 use Rattle.head.specs.Head.{is_constructed, value_size, head_of}
 use Rattle.object.specs.Object.{value_of, read_object, read_list}
-use Rattle.object.specs.declared.Reading.{Reading}
-use Rattle.object.specs.declared.Reading.TheVariants.{Sound, Malformed}
 use Rattle.head.proofs.Heads.{rest_all, part_length, rest_length, right_fits, head-some, is_right, At, right_at, wrong_at}
 use Rattle.object.proofs.Lists.{object-constructed, object-primitive, object-malformed, object_deep}
 use Rattle.object.proofs.Lists.{list-end, list_pass, list-fault, list-more, not_malformed}
+use Rattle.std.specs.Prelude.{Err, Ok, Option, Result, Some}
+use Rattle.head.specs.declared.Head.{Head}
+use Rattle.object.specs.declared.Fault.{Fault}
+use Rattle.object.specs.declared.Fault.TheVariants.{Malformed}
 use Rattle.object.proofs.+read_list_read_object.Goals as goal
 
 -- an object at a place of a list, to which the reader has come
@@ -24,8 +24,8 @@ record Object (s : List ℕ) (k at m n : ℕ) : Type 0 where
   place : At s at m n
   rest : length (take (length s - at) (drop at s)) ≡ length s - at
 
-met : {s : List ℕ} {k at m n b : ℕ} {h : Head} → 1 ≤ k → read_list k s ≡ read_list k (drop at s) → at < length s
-    → b ≡ byte s at → (b ≡ 0 → ⊥) → h ≡ head_of (take (length s - at) (drop at s)) → h ≡ Right m n → Object s k at m n
+met : {s : List ℕ} {k at m n b : ℕ} {h : Option Head} → 1 ≤ k → read_list k s ≡ read_list k (drop at s) → at < length s
+    → b ≡ byte s at → (b ≡ 0 → ⊥) → h ≡ head_of (take (length s - at) (drop at s)) → h ≡ Some (record { size = m; length = n }) → Object s k at m n
 met {s = s} {at = at} depths led there byte_is no_filler head_is right = record {
   depths = depths;
   led = led;
@@ -35,14 +35,14 @@ met {s = s} {at = at} depths led there byte_is no_filler head_is right = record 
   rest = rest_length s at there;
 }
 
-module _ {s : List ℕ} {k at m n : ℕ} (o : Object s k at m n) (r : Reading) (e : r ≡ read_object (read_list (k - 1)) (take (length s - at) (drop at s))) where
+module _ {s : List ℕ} {k at m n : ℕ} (o : Object s k at m n) (r : Result Unit Fault) (e : r ≡ read_object (read_list (k - 1)) (take (length s - at) (drop at s))) where
   is_read : r ≡ read_object (read_list (k - 1)) (drop at s)
   is_read = e ∙ ap (read_object (read_list (k - 1))) (rest_all s at)
 
-  faulty : (r ≡ Sound → ⊥) → r ≡ read_list k s
+  faulty : (r ≡ Ok tt → ⊥) → r ≡ read_list k s
   faulty f = list-fault k at s o.depths o.there o.no_filler r is_read f ∙ sym o.led
 
-  passed : r ≡ Sound → read_list k s ≡ read_list k (drop (at + (m + n)) s)
+  passed : r ≡ Ok tt → read_list k s ≡ read_list k (drop (at + (m + n)) s)
   passed f =
       o.led
       ∙ list-more k at s o.depths o.there o.no_filler r is_read f
@@ -66,7 +66,7 @@ read_list-returns-in_default t c =
     let k = c.args.depths in
     let at = c.loop-at.at in
     let w = wrong_at s at _ c.read_head.ensures c.in_default.is in
-    list-fault k at s c.requires c.loop-at-test.true (λ z. c.if-byte_at-eq0.false (c.byte_at.ensures ∙ z)) Malformed
+    list-fault k at s c.requires c.loop-at-test.true (λ z. c.if-byte_at-eq0.false (c.byte_at.ensures ∙ z)) (Err Malformed)
     (sym (object-malformed (read_list (k - 1)) (drop at s) w)) not_malformed
     ∙ sym c.loop-at.invariant
 

@@ -7,12 +7,12 @@ use Prim.Native.Nat.{ℕ, ◌+◌, ◌-◌}
 use lib.Dec.{eqb}
 use lib.ListN.{length, take, drop}
 use Rattle.wire.specs.Wire.{byte}
-use Rattle.head.specs.declared.Head.{Head}
-use Rattle.head.specs.declared.Head.TheVariants.{Right}
 use Rattle.head.specs.Head.{value_size, head_size, object_size, head_of}
 use Rattle.object.specs.Object.{value_of, is_root, is_template, read_list, read_template}
-use Rattle.object.specs.declared.Reading.TheVariants.{Malformed}
 use Rattle.head.proofs.Heads.{IsRight, is_right, is_wrong, right_fits}
+use Rattle.std.specs.Prelude.{Err, Option, Some}
+use Rattle.head.specs.declared.Head.{Head}
+use Rattle.object.specs.declared.Fault.TheVariants.{Malformed}
 use Rattle.object.proofs.read_template.Goals as goal
 
 either : (a b t : Bool) → (not a && not b) ≡ t → (a || b) ≡ not t
@@ -23,7 +23,7 @@ either false false t e = ap not e
 root : (s : List ℕ) (tag : ℕ) (t : Bool) → tag ≡ byte s 0 → (not (eqb tag 0x71) && not (eqb tag 0x72)) ≡ t → is_root (byte s 0) ≡ not t
 root s tag t e h = ap is_root (sym e) ∙ either (eqb tag 0x71) (eqb tag 0x72) t h
 
-refused : (s : List ℕ) → is_template s ≡ false → Malformed ≡ read_template s
+refused : (s : List ℕ) → is_template s ≡ false → (Err Malformed) ≡ read_template s
 unfolding read_template
 refused s e = simp (e)
 
@@ -32,7 +32,7 @@ record Rooted (s : List ℕ) (m n : ℕ) : Type 0 where
   is-root : is_root (byte s 0) ≡ true
   head : IsRight s m n
 
-rooted : {s : List ℕ} {m n tag : ℕ} {h : Head} → tag ≡ byte s 0 → (not (eqb tag 0x71) && not (eqb tag 0x72)) ≡ false → h ≡ head_of s → h ≡ Right m n → Rooted s m n
+rooted : {s : List ℕ} {m n tag : ℕ} {h : Option Head} → tag ≡ byte s 0 → (not (eqb tag 0x71) && not (eqb tag 0x72)) ≡ false → h ≡ head_of s → h ≡ Some (record { size = m; length = n }) → Rooted s m n
 rooted {s = s} tag_is one head_is right = record { is-root = root s _ false tag_is one; head = is_right s _ _ (sym head_is ∙ right) }
 
 pub returns-then-tag : goal.returns-then-tag

@@ -6,10 +6,10 @@ use Rattle.refusal.specs.declared.Refusal.TheVariants.{Unreadable}
 use Rattle.paper.specs.Paper.{open_paper, setup_in}
 use Rattle.paper.specs.declared.Next.{Next}
 use Rattle.paper.specs.declared.Next.TheVariants.{Record, Fault, End}
-use Rattle.paper.specs.declared.Opened.TheVariants.{Refused}
+use Rattle.std.specs.Prelude.{Err}
 use Rattle.paper.proofs.open_paper.Goals as goal
 
-no_record : (version : ℕ) (n : Next) → ((kind start end : ℕ) → n ≡ Record kind start end → ⊥) → setup_in version n ≡ Refused Unreadable
+no_record : (version : ℕ) (n : Next) → ((kind start end : ℕ) → n ≡ Record kind start end → ⊥) → setup_in version n ≡ Err Unreadable
 no_record version (Record kind start end) none = absurd (none kind start end refl)
 no_record version Fault none = refl
 no_record version End none = refl

@@ -4,13 +4,13 @@ use lib.ListN.{length}
 use mathlib.Core.Path.{◌≡◌, sym, ap, ◌∙◌}
 use Prim.Native.Nat.{ℕ}
 use native.Mathlib.Omega.{arith}
-use Rattle.paper_room.specs.declared.Transcript.TheVariants.{Whole}
 use Rattle.log_text.proofs.Stores.{placed_length}
 use Rattle.paper_text.specs.PaperText.{parts_put, room_put, words_put}
 use Rattle.paper_text.proofs.Text.{lines_length, lines-put, log-put}
+use Rattle.std.specs.Prelude.{Some}
 use Rattle.paper_text.proofs.put_parts.Goals as goal
 
-same_end : (m n : ℕ) → Whole m ≡ Whole n → m ≡ n
+same_end : (m n : ℕ) → Some m ≡ Some n → m ≡ n
 same_end m n e = cc
 
 pub returns-then-not-has_room : goal.returns-then-not-has_room

@@ -3,9 +3,9 @@ use Rattle.std.proofs.Common.{cond, ap, ◌∙◌}
 use Rattle.words.specs.Words.{same}
 use Rattle.lexing.specs.Places.{word_at}
 use Rattle.forms.specs.Form.{says, bytes_in}
-use Rattle.read_words.specs.declared.Said.TheVariants.{To, Not}
 use Rattle.read_forms.proofs.Laws.{after-begins}
 use Rattle.read_forms.proofs.Parts.{count-says, said_same, among_others, said-by}
+use Rattle.std.specs.Prelude.{None, Some}
 use Rattle.read_forms.proofs.read_part.Goals as goal
 
 pub read_named-requires : goal.read_named-requires
@@ -38,6 +38,6 @@ pub returns-in_default : goal.returns-in_default
 unfolding says bytes_in
 returns-in_default c =
     let a = c.args in
-    let is = c.read_same.ensures ∙ ap (λ v. cond (same a.word.now v) (To a.to) Not) c.word_at.ensures in
+    let is = c.read_same.ensures ∙ ap (λ v. cond (same a.word.now v) (Some a.to) None) c.word_at.ensures in
     let d = c.in_default in
     rw (said-by a.mark _ _ (among_others _ d.not-Names d.not-Number d.not-Bytes d.not-Date d.not-Code), is) (λ fine. said_same (same a.word.now (word_at a.grammar.now a.t)) _ a.to)

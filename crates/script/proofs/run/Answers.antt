@@ -3,15 +3,15 @@ use native.Mathlib.Omega.{arith}
 use mathlib.Core.List.{List}
 use mathlib.Core.Path.{◌≡◌, sym, ◌∙◌}
 use Prim.Native.Nat.{ℕ}
-use Rattle.cursor.specs.declared.Next.{Next}
-use Rattle.cursor.specs.declared.Next.TheVariants.{Command}
 use Rattle.cursor.specs.Cursor.{next_command}
 use Rattle.cursor.proofs.Cursor.{Step, next-command, next-end}
 use Rattle.script.proofs.Commands.{done-some, Going, starts, ends, fails, goes_on_lem}
+use Rattle.std.specs.Prelude.{Option, Some}
+use Rattle.cursor.specs.declared.Span.{Span}
 use Rattle.script.proofs.run.Goals as goal
 
 -- at a command: where it lies, and what is left behind it
-step : (s : List ℕ) (at start size : ℕ) (found : Next) → found ≡ next_command s at → found ≡ Command start size → Step s at start size
+step : (s : List ℕ) (at start size : ℕ) (found : Option Span) → found ≡ next_command s at → found ≡ Some (record { start = start; size = size }) → Step s at start size
 step s at start size found e is = next-command _ _ _ _ (sym e ∙ is)
 
 pub loop-start-init : goal.loop-start-init

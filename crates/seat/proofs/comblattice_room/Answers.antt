@@ -3,7 +3,6 @@ use mathlib.Core.Path.{◌≡◌, sym, ap, ◌∙◌}
 use mathlib.Core.List.{List}
 use Prim.Native.Nat.{ℕ}
 use Rattle.rules.specs.Rules.{rules_of}
-use Rattle.rooms.specs.declared.RoomLeft.{RoomLeft}
 use Rattle.rooms.specs.Rooms.{room_left as stored_room, room_number as stored_number}
 use Rattle.card_cells.specs.Seat.{words_in, card_in}
 use Rattle.seat.specs.Calls.{left_or, room_number, room_left}
