@@ -1,7 +1,6 @@
 -- The auditor's commands of a sound template are those of its tree, and so the card's. Assumes nothing.
 use mathlib.Core.Path.{◌≡◌, refl, sym, ap, ap₂, ◌∙◌}
 use mathlib.Core.List.{List, [], ◌++◌}
-use mathlib.Core.Option.{some}
 use mathlib.Core.Bool.{Bool, true, false}
 use Prim.Native.Nat.{ℕ, zero, suc, ◌+◌, ◌*◌, ◌/◌, ◌%◌, ◌≤◌, ◌<◌}
 use native.Mathlib.Nat.{le_refl}
@@ -15,15 +14,15 @@ use Rattle.trees.specs.Tree.{Tag, short, long, Form, plain, with81, with82, Obje
 use Rattle.trees.specs.Tree.{length_bytes, object_bytes, written, is86, if_command, commands, limit, Tagged, Good}
 use Rattle.trees.proofs.Back.{written_if_sound, sound_if_written}
 use Rattle.auditor.specs.Template.{parted, short_in, value_in, commands_by, commands_in, Bytes}
-use Rattle.std.specs.Prelude.{Ok}
+use Rattle.std.specs.Prelude.{Ok, Some}
 
 -- ---- a value behind its length, whatever is behind it
-parted-there : (v r : List ℕ) → parted (length v) (v ++ r) ≡ some (record { value = v; behind = r })
+parted-there : (v r : List ℕ) → parted (length v) (v ++ r) ≡ Some (record { value = v; behind = r })
 parted-there v r =
     let l = length-append v r in
     simp (le-leb (length v) (length (v ++ r)) (omega arith), take-append_seam v r, drop-append_seam v r)
 
-value_there : (f : Form) (v r : List ℕ) → length v < limit f → value_in (length_bytes f (length v) ++ (v ++ r)) ≡ some (record { value = v; behind = r })
+value_there : (f : Form) (v r : List ℕ) → length v < limit f → value_in (length_bytes f (length v) ++ (v ++ r)) ≡ Some (record { value = v; behind = r })
 unfolding value_in short_in
 value_there plain v r h = simp (ne_eqb (length v) 0x82 (λ z. omega arith), lt-ltb (length v) 0x80 h) (parted-there v r)
 value_there with81 v r h = parted-there v r

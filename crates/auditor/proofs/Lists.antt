@@ -1,7 +1,7 @@
 -- A list of elements writes what the card's reader says of it, where it fails too. Assumes nothing.
+use Rattle.std.specs.Prelude.{Option, None, Some}
 use mathlib.Core.Path.{◌≡◌, refl, sym, ap, ap₂, ◌∙◌}
 use mathlib.Core.List.{List, [], ◌∷◌}
-use mathlib.Core.Option.{Option, none, some}
 use mathlib.Core.Bool.{Bool, true, false, ◌&&◌, cond, and-false}
 use Prim.Native.Nat.{ℕ, zero, suc, ◌+◌, ◌/◌, ◌≤◌, ◌<◌}
 use native.Mathlib.Omega.{arith}
@@ -31,13 +31,13 @@ abbrev pub behind : List ℕ → List ℕ
 behind s = drop (length_size s 0 + length_at s 0) s
 
 parted-at : (k n : ℕ) (s : List ℕ) → k ≤ length s
-    → parted n (drop k s) ≡ cond (leb (k + n) (length s)) (some (record { value = take n (drop k s); behind = drop (k + n) s })) none
+    → parted n (drop k s) ≡ cond (leb (k + n) (length s)) (Some (record { value = take n (drop k s); behind = drop (k + n) s })) None
 parted-at k n s h =
     let l = length-drop k s in
     simp (same-order n (length (drop k s)) (k + n) (length s) (λ e. omega arith) (λ e. omega arith), drop-drop n k s)
 
 short-by : (n : ℕ) (s : List ℕ) (p q : Bool) → ltb n 0x80 ≡ p → eqb n 0x81 ≡ q
-    → short_in (n ∷ s) ≡ cond (fits (n ∷ s)) (some (record { value = value (n ∷ s); behind = behind (n ∷ s) })) none
+    → short_in (n ∷ s) ≡ cond (fits (n ∷ s)) (Some (record { value = value (n ∷ s); behind = behind (n ∷ s) })) None
 unfolding short_in length_size length_at
 short-by n s true q x y =
     let z = ne_eqb n 0x81 (λ e. omega (arith, ltb-true n 0x80 x)) in
@@ -46,7 +46,7 @@ short-by n [] false true x y = simp (x, y)
 short-by n (m ∷ s) false true x y = simp (x, y) (parted-at 2 m (n ∷ m ∷ s) (omega arith))
 short-by n s false false x y = simp (x, y)
 
-pub short_as : (s : List ℕ) → short_in s ≡ cond (fits s) (some (record { value = value s; behind = behind s })) none
+pub short_as : (s : List ℕ) → short_in s ≡ cond (fits s) (Some (record { value = value s; behind = behind s })) None
 unfolding short_in length_size length_at
 short_as [] = refl
 short_as (n ∷ s) = short-by n s (ltb n 0x80) (eqb n 0x81) refl refl
@@ -63,7 +63,7 @@ module _ (b t : ℕ) (r : List ℕ) where
   value_as : take (length_at r 0) (drop (2 + length_size r 0) (b ∷ t ∷ r)) ≡ value r
   value_as = ap (take (length_at r 0)) (sym (drop-drop (length_size r 0) 2 (b ∷ t ∷ r)))
 
-  meaning_as : (o : ℕ) → element_meaning o (b ∷ t ∷ r) ≡ cond (fits r) (meaning_of o (number (b ∷ t ∷ r) 0 2) (value r)) none
+  meaning_as : (o : ℕ) → element_meaning o (b ∷ t ∷ r) ≡ cond (fits r) (meaning_of o (number (b ∷ t ∷ r) 0 2) (value r)) None
   unfolding element_meaning head_size length_size length_at
   meaning_as o =
       let e = size_as in
@@ -77,20 +77,20 @@ not_one f tag l u h true e =
     absurd (h (omega (arith, leb-true f tag a, leb-true tag (f + 3) b)))
 not_one f tag l u h false e = e
 
-no_meaning : (o tag : ℕ) (v : List ℕ) → (tag / 256 ≡ 0xDF → ⊥) → meaning_of o tag v ≡ none
+no_meaning : (o tag : ℕ) (v : List ℕ) → (tag / 256 ≡ 0xDF → ⊥) → meaning_of o tag v ≡ None
 unfolding meaning_of
 no_meaning o tag v h =
     simp (not_one 0xDF01 tag (omega arith) (omega arith) h (is_one_of 0xDF01 tag) refl, not_one 0xDF11 tag (omega arith) (omega arith) h (is_one_of 0xDF11 tag) refl, and-false)
 
-none_else : (t : Bool) (m : Option Write) → m ≡ none → cond t m none ≡ none
+none_else : (t : Bool) (m : Option Write) → m ≡ None → cond t m None ≡ None
 none_else true m e = e
 none_else false m e = refl
 
-cut_short_lem : (o b : ℕ) → element_meaning o (b ∷ []) ≡ none
+cut_short_lem : (o b : ℕ) → element_meaning o (b ∷ []) ≡ None
 unfolding element_meaning element_size head_size length_size length_at
 cut_short_lem o b = refl
 
-no_element : (o b : ℕ) (s : List ℕ) → (b ≡ 0xDF → ⊥) → Bytes s → element_meaning o (b ∷ s) ≡ none
+no_element : (o b : ℕ) (s : List ℕ) → (b ≡ 0xDF → ⊥) → Bytes s → element_meaning o (b ∷ s) ≡ None
 no_element o b [] z h = cut_short_lem o b
 no_element o b (t ∷ r) z h =
     let n = two_at (b ∷ t ∷ r) 0 in
@@ -101,13 +101,13 @@ passes : (o b : ℕ) (s : List ℕ) → eqb b 0 ≡ true → writes_in o (b ∷ 
 unfolding writes_by
 passes o b s e = simp (e)
 
-fails : (o b : ℕ) (s : List ℕ) → (b ≡ 0 → ⊥) → element_meaning o (b ∷ s) ≡ none → writes_in o (b ∷ s) ≡ none
+fails : (o b : ℕ) (s : List ℕ) → (b ≡ 0 → ⊥) → element_meaning o (b ∷ s) ≡ None → writes_in o (b ∷ s) ≡ None
 fails o b s z m = list-element o b s z ∙ simp (m)
 
 then_before : (m : Option Write) (x : Option (List Write)) → and_then m x ≡ before m x
-then_before none x = refl
-then_before (some w) none = refl
-then_before (some w) (some ws) = refl
+then_before None x = refl
+then_before (Some w) None = refl
+then_before (Some w) (Some ws) = refl
 
 -- ---- a list; n bounds its length
 module _ (o : ℕ) (write : ℕ → List ℕ → Option Write) (row : (t : ℕ) (v : List ℕ) → write t v ≡ meaning_of o (0xDF00 + t) v) where
@@ -123,7 +123,7 @@ module _ (o : ℕ) (write : ℕ → List ℕ → Option Write) (row : (t : ℕ) 
         (ih (behind r) (omega arith) (drop_bytes (length_size r 0 + length_at r 0) r h) ∙ ap (writes_in o) (sym (rest_as 0xDF t r)))
         ∙ sym (list-element o 0xDF (t ∷ r) (λ z. omega arith)))
     element-same t r l h false e =
-        let m : element_meaning o (0xDF ∷ t ∷ r) ≡ none = meaning_as 0xDF t r o ∙ simp (e) in
+        let m : element_meaning o (0xDF ∷ t ∷ r) ≡ None = meaning_as 0xDF t r o ∙ simp (e) in
         simp (short_as r, e) (sym (fails o 0xDF (t ∷ r) (λ z. omega arith) m))
 
     by_byte : (b : ℕ) (s : List ℕ) → length s ≤ n → Bytes (b ∷ s) → (p q : Bool) → eqb b 0 ≡ p → eqb b 0xDF ≡ q → list_by write (suc n) (b ∷ s) ≡ writes_in o (b ∷ s)

@@ -1,7 +1,7 @@
 -- What is read of bytes: commands of bytes, and writes that are in range. Assumes nothing.
+use Rattle.std.specs.Prelude.{Some}
 use mathlib.Core.Path.{◌≡◌, ap, subst}
 use mathlib.Core.List.{List, [], ◌∷◌, map}
-use mathlib.Core.Option.{some}
 use Prim.Native.Nat.{ℕ}
 use lib.ListN.{drop}
 use Rattle.cursor.specs.Cursor.{Place, places_from, cut, commands_of}
@@ -38,7 +38,7 @@ all_in_range o [] h = tt
 all_in_range o (filler ∷ is) h = all_in_range o is h
 all_in_range o (element f w ∷ is) h = (one_in_range o w h.0, all_in_range o is h.1)
 
-pub writes_in_range : (c : List ℕ) → Bytes c → (ws : List Write) → writes_of c ≡ some ws → InRange ws
+pub writes_in_range : (c : List ℕ) → Bytes c → (ws : List Write) → writes_of c ≡ Some ws → InRange ws
 unfolding is_valid
 writes_in_range c h ws e =
     let s = from-proper c h (ap is_some e) in

@@ -1,7 +1,7 @@
 -- What an element writes, as the auditor reads it, is what it means by the card's table. Assumes nothing.
+use Rattle.std.specs.Prelude.{None, Some}
 use mathlib.Core.Path.{◌≡◌, refl, sym, ap, ap₂, ◌∙◌}
 use mathlib.Core.List.{List}
-use mathlib.Core.Option.{none, some}
 use mathlib.Core.Bool.{Bool, true, false, ◌&&◌, cond, and_assoc, and-true}
 use Prim.Native.Nat.{ℕ, ◌+◌, ◌-◌, ◌≤◌}
 use native.Mathlib.Omega.{arith}
@@ -51,7 +51,7 @@ is_six v e = eqb-true (length v) 6 (both (eqb (length v) 6) (are_digits (digits_
 
 -- ---- a row of the table, by the length of the value
 module _ (slot : ℕ) (v : List ℕ) where
-  value_row : (t : Bool) → eqb (length v) 6 ≡ t → cond (is_amount v) (some (Value slot (amount_in v))) none ≡ value_written slot v
+  value_row : (t : Bool) → eqb (length v) 6 ≡ t → cond (is_amount v) (Some (Value slot (amount_in v))) None ≡ value_written slot v
   unfolding value_written
   value_row true e =
       let w = sym (whole 6 v (eqb-true (length v) 6 e)) in
@@ -65,7 +65,7 @@ module _ (slot : ℕ) (v : List ℕ) where
   not_twelve h false e = simp (e)
 
   limits-row : (t : Bool) → eqb (length v) 12 ≡ t
-      → cond (is_amount (take 6 v) && is_amount (drop 6 v)) (some (AccumulatorLimits slot (amount_in (take 6 v)) (amount_in (drop 6 v)))) none ≡ limits_written slot v
+      → cond (is_amount (take 6 v) && is_amount (drop 6 v)) (Some (AccumulatorLimits slot (amount_in (take 6 v)) (amount_in (drop 6 v)))) None ≡ limits_written slot v
   unfolding limits_written
   limits-row true e =
       let w = sym (whole 12 v (eqb-true (length v) 12 e)) in

@@ -1,6 +1,6 @@
 -- `same-commands` and `same_writes`, computed for a few templates and commands: what both readers read of each. They follow from the two; said
 -- apart, they show of a card that reads otherwise that the statement itself is false of it. Assumes nothing.
-use mathlib.Core.Option.{Option, none, some}
+use Rattle.std.specs.Prelude.{Option, None, Some}
 use mathlib.Core.List.{List, [], ◌∷◌, ◌++◌, map}
 use mathlib.Core.Bool.{Bool, true, false, ◌&&◌}
 use Prim.Native.Nat.{ℕ}
@@ -38,8 +38,8 @@ numbers (AccumulatorLimits slot lower upper) = 2 ∷ slot ∷ lower.0 ∷ upper.
 numbers (CounterLimits slot lower upper) = 3 ∷ slot ∷ lower ∷ upper ∷ []
 
 abbrev told : Option (List Write) → List (List ℕ)
-told none = (0 ∷ []) ∷ []
-told (some ws) = map numbers ws
+told None = (0 ∷ []) ∷ []
+told (Some ws) = map numbers ws
 
 -- by the auditor, and by the card
 abbrev reads : (template : List ℕ) → (commands : List (List ℕ)) → Bool
@@ -49,10 +49,10 @@ abbrev both : (command : List ℕ) → Option (List Write) → Bool
 both c ws = alike (told (writes_in c)) (told ws) && alike (told (writes_of c)) (told ws)
 
 abbrev writes : (command : List ℕ) → List Write → Bool
-writes c ws = both c (some ws)
+writes c ws = both c (Some ws)
 
 abbrev fails : (command : List ℕ) → Bool
-fails c = both c none
+fails c = both c None
 
 -- 128 fillers and a MAC
 abbrev blank : List ℕ

@@ -1,7 +1,7 @@
 -- A command writes what the card's reader says of it, where it fails too. Assumes nothing.
+use Rattle.std.specs.Prelude.{Option, None}
 use mathlib.Core.Path.{◌≡◌, refl, sym, ap, ◌∙◌}
 use mathlib.Core.List.{List, [], ◌∷◌}
-use mathlib.Core.Option.{Option, none}
 use mathlib.Core.Bool.{Bool, true, false, ◌&&◌, cond, and_assoc, and-true, and-false}
 use Prim.Native.Nat.{ℕ, ◌+◌, ◌<◌}
 use native.Mathlib.Nat.{le_refl, add-zero}
@@ -22,18 +22,18 @@ use Rattle.auditor.proofs.Rows.{same-equal, accumulator-row, counter-row}
 use Rattle.auditor.proofs.Lists.{fits, value, behind, short_as, list_same}
 
 -- two tests, one behind the other
-nested : (t u : Bool) (m : Option (List Write)) → cond t (cond u m none) none ≡ cond (t && u) m none
+nested : (t u : Bool) (m : Option (List Write)) → cond t (cond u m None) None ≡ cond (t && u) m None
 nested true u m = refl
 nested false u m = refl
 
 -- ---- a command that is too short for its MAC
-no_data : (write : ℕ → List ℕ → Option Write) (s : List ℕ) → length s < 2 → data_in write s ≡ none
+no_data : (write : ℕ → List ℕ → Option Write) (s : List ℕ) → length s < 2 → data_in write s ≡ None
 unfolding data_in begins
 no_data write [] h = refl
 no_data write (lc ∷ []) h = simp (and-false)
 no_data write (lc ∷ b ∷ s) h = absurd (omega arith)
 
-neither : (t u : Bool) → cond {A = Option (List Write)} t none (cond u none none) ≡ none
+neither : (t u : Bool) → cond {A = Option (List Write)} t None (cond u None None) ≡ None
 neither true u = refl
 neither false true = refl
 neither false false = refl
@@ -100,17 +100,17 @@ module _ (a b p q l x : ℕ) (s : List ℕ) where
 
   -- the bytes behind P1 P2, of an object whose elements are read alike
   module _ (h : Bytes s) (o : ℕ) (write : ℕ → List ℕ → Option Write) (row : (t : ℕ) (v : List ℕ) → write t v ≡ meaning_of o (0xDF00 + t) v) where
-    list_as : (t : Bool) → fits s ≡ t → from_list write (short_in s) ≡ cond (fits s && is_mac (behind s)) (card_writes o (elements_of whole)) none
+    list_as : (t : Bool) → fits s ≡ t → from_list write (short_in s) ≡ cond (fits s && is_mac (behind s)) (card_writes o (elements_of whole)) None
     list_as true e =
         let v = value-bytes s h in
-        simp (short_as s, e) (ap (λ w. cond (is_mac (behind s)) w none) (list_same o write row (length (value s)) (value s) (le_refl _) v ∙ ap (card_writes o) (sym (elements_as e))))
+        simp (short_as s, e) (ap (λ w. cond (is_mac (behind s)) w None) (list_same o write row (length (value s)) (value s) (le_refl _) v ∙ ap (card_writes o) (sym (elements_as e))))
     list_as false e = simp (short_as s, e)
 
-    data_as : data_in write (l ∷ x ∷ s) ≡ cond (eqb (length whole) (5 + l) && is_secured whole) (card_writes o (elements_of whole)) none
+    data_as : data_in write (l ∷ x ∷ s) ≡ cond (eqb (length whole) (5 + l) && is_secured whole) (card_writes o (elements_of whole)) None
     unfolding data_in begins
     data_as =
         let r = secured_by (leb (length_size s 0 + length_at s 0) (length s)) refl in
-        ap (λ w. cond (eqb l (length (x ∷ s)) && (eqb x 0x81 && true)) w none) (list_as (fits s) refl)
+        ap (λ w. cond (eqb l (length (x ∷ s)) && (eqb x 0x81 && true)) w None) (list_as (fits s) refl)
         ∙ nested (eqb l (length (x ∷ s)) && (eqb x 0x81 && true)) (fits s && is_mac (behind s)) (card_writes o (elements_of whole))
         ∙ simp (lc_as, r, and-true, and_assoc)
 
@@ -132,10 +132,10 @@ module _ (a b p q l x : ℕ) (s : List ℕ) where
     counters = object-by 0x35 (omega arith) (h 3) (eqb p 0xBF) refl
 
     data_of : (o : ℕ) (write : ℕ → List ℕ → Option Write) → ((t : ℕ) (v : List ℕ) → write t v ≡ meaning_of o (0xDF00 + t) v) → eqb (object_of whole) o ≡ true
-        → data_in write (l ∷ x ∷ s) ≡ cond (eqb (length whole) (5 + l) && is_secured whole) (card_writes (object_of whole) (elements_of whole)) none
+        → data_in write (l ∷ x ∷ s) ≡ cond (eqb (length whole) (5 + l) && is_secured whole) (card_writes (object_of whole) (elements_of whole)) None
     data_of o write row e =
         data_as (drop_bytes 6 whole h) o write row
-        ∙ ap (λ n. cond (eqb (length whole) (5 + l) && is_secured whole) (card_writes n (elements_of whole)) none) (sym (eqb-true (object_of whole) o e))
+        ∙ ap (λ n. cond (eqb (length whole) (5 + l) && is_secured whole) (card_writes n (elements_of whole)) None) (sym (eqb-true (object_of whole) o e))
 
     by_bytes : (t u v w z : Bool) → eqb a 0x0C ≡ t → eqb b 0xDA ≡ u → eqb p 0xBF ≡ v → eqb q 0x30 ≡ w → eqb q 0x35 ≡ z → writes_in whole ≡ writes_of whole
     unfolding writes_in writes_of is_put_data begins

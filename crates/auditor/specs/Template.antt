@@ -1,7 +1,6 @@
 -- An auditor's reader of an issuer script's template: its commands (EMV Book 3 Annex B), and what each of them writes (request Twelve; CPA 18.8, Tables
 -- 18-6 and J-1). It takes bytes apart from the front, and counts no places.
-use Rattle.std.specs.Prelude.{ℕ, zero, suc, ◌+◌, ◌-◌, ◌*◌, ◌/◌, ◌%◌, ◌≤◌, ◌<◌, List, [], ◌∷◌, ◌++◌, Bool, true, false, ◌&&◌, cond, length, take, drop, get_or, ltb, leb, eqb}
-use Rattle.std.proofs.Math.Option.{Option, none, some}
+use Rattle.std.specs.Prelude.{ℕ, zero, suc, ◌+◌, ◌-◌, ◌*◌, ◌/◌, ◌%◌, ◌≤◌, ◌<◌, List, [], ◌∷◌, ◌++◌, Bool, true, false, ◌&&◌, cond, length, take, drop, get_or, ltb, leb, eqb, Option, None, Some}
 use Rattle.wire.specs.Wire.{byte}
 use Rattle.money.specs.declared.AccumulatorAmount.{AccumulatorAmount}
 use Rattle.element.specs.declared.Write.{Write}
@@ -14,26 +13,26 @@ pub record Parted : Type 0 where
 
 -- of n bytes; none where there are fewer
 abbrev pub parted : (n : ℕ) → List ℕ → Option Parted
-parted n s = cond (leb n (length s)) (some (record { value = take n s; behind = drop n s })) none
+parted n s = cond (leb n (length s)) (Some (record { value = take n s; behind = drop n s })) None
 
 -- of as many as the next byte says, as the next two say
 abbrev pub by_one : List ℕ → Option Parted
-by_one [] = none
+by_one [] = None
 by_one (n ∷ s) = parted n s
 
 abbrev pub by_two : List ℕ → Option Parted
-by_two [] = none
-by_two (m ∷ []) = none
+by_two [] = None
+by_two (m ∷ []) = None
 by_two (m ∷ n ∷ s) = parted (m * 256 + n) s
 
 -- the length is 00 to 7F; or 81, and one byte says it
 unfoldable pub short_in : List ℕ → Option Parted
-short_in [] = none
-short_in (n ∷ s) = cond (ltb n 0x80) (parted n s) (cond (eqb n 0x81) (by_one s) none)
+short_in [] = None
+short_in (n ∷ s) = cond (ltb n 0x80) (parted n s) (cond (eqb n 0x81) (by_one s) None)
 
 -- or, in a template, 82, and two bytes say it
 unfoldable pub value_in : List ℕ → Option Parted
-value_in [] = none
+value_in [] = None
 value_in (n ∷ s) = cond (eqb n 0x82) (by_two s) (short_in (n ∷ s))
 
 -- THE COMMANDS of a template. A tag has a second byte where the low five bits of the first are all ones
@@ -42,8 +41,8 @@ behind_tag b s = cond (eqb (b % 32) 31) (drop 1 s) s
 
 -- of an object whose tag begins with b, and of what is behind it: bit 6 says constructed, which holds a list; a primitive 86 is a command
 abbrev pub from_object : (list : List ℕ → List (List ℕ)) → (first : ℕ) → Option Parted → List (List ℕ)
-from_object list b none = []
-from_object list b (some p) = cond (eqb (b / 32 % 2) 1) (list p.value) (cond (eqb b 0x86) (p.value ∷ []) []) ++ list p.behind
+from_object list b None = []
+from_object list b (Some p) = cond (eqb (b / 32 % 2) 1) (list p.value) (cond (eqb b 0x86) (p.value ∷ []) []) ++ list p.behind
 
 -- of a list of objects, of at most n bytes; a filler 00 is passed over
 unfoldable pub commands_by : (n : ℕ) → List ℕ → List (List ℕ)
@@ -84,37 +83,37 @@ is_slot first tag = leb first tag && ltb tag (first + 4)
 -- under BF30: DF01 to DF04, the value of an accumulator; DF11 to DF14, its limits, lower and upper, 6 bytes each
 unfoldable pub of_accumulator : (tag : ℕ) → List ℕ → Option Write
 of_accumulator tag v =
-    cond (is_slot 0x01 tag && is_amount v) (some (Value (tag - 0x01) (amount_in v)))
-    (cond (is_slot 0x11 tag && is_amount (take 6 v) && is_amount (drop 6 v)) (some (AccumulatorLimits (tag - 0x11) (amount_in (take 6 v)) (amount_in (drop 6 v))))
-    none)
+    cond (is_slot 0x01 tag && is_amount v) (Some (Value (tag - 0x01) (amount_in v)))
+    (cond (is_slot 0x11 tag && is_amount (take 6 v) && is_amount (drop 6 v)) (Some (AccumulatorLimits (tag - 0x11) (amount_in (take 6 v)) (amount_in (drop 6 v))))
+    None)
 
 -- under BF35: DF11 to DF14, the limits of a counter, lower and upper, a byte each
 unfoldable pub of_counter : (tag : ℕ) → List ℕ → Option Write
-of_counter tag v = cond (is_slot 0x11 tag && eqb (length v) 2) (some (CounterLimits (tag - 0x11) (byte v 0) (byte v 1))) none
+of_counter tag v = cond (is_slot 0x11 tag && eqb (length v) 2) (Some (CounterLimits (tag - 0x11) (byte v 0) (byte v 1))) None
 
 -- A LIST of elements: what they write, in order; none where one fails
 abbrev pub and_then : Option Write → Option (List Write) → Option (List Write)
-and_then none ws = none
-and_then (some w) none = none
-and_then (some w) (some ws) = some (w ∷ ws)
+and_then None ws = None
+and_then (Some w) None = None
+and_then (Some w) (Some ws) = Some (w ∷ ws)
 
 abbrev pub from_value : (write : List ℕ → Option Write) → (list : List ℕ → Option (List Write)) → Option Parted → Option (List Write)
-from_value write list none = none
-from_value write list (some p) = and_then (write p.value) (list p.behind)
+from_value write list None = None
+from_value write list (Some p) = and_then (write p.value) (list p.behind)
 
 -- behind DF, the first byte of the tag
 abbrev pub from_tag : (write : ℕ → List ℕ → Option Write) → (list : List ℕ → Option (List Write)) → List ℕ → Option (List Write)
-from_tag write list [] = none
+from_tag write list [] = None
 from_tag write list (tag ∷ s) = from_value (write tag) list (short_in s)
 
 -- a list of at most n bytes; a filler 00 is passed over
 unfoldable pub list_by : (write : ℕ → List ℕ → Option Write) → (n : ℕ) → List ℕ → Option (List Write)
-list_by write zero s = some []
-list_by write (suc n) [] = some []
+list_by write zero s = Some []
+list_by write (suc n) [] = Some []
 list_by write (suc n) (b ∷ s) =
     let passed = list_by write n s in
     let read = from_tag write (list_by write n) s in
-    cond (eqb b 0x00) passed (cond (eqb b 0xDF) read none)
+    cond (eqb b 0x00) passed (cond (eqb b 0xDF) read None)
 
 -- A COMMAND. Whether bytes begin so
 unfoldable pub begins : (first : List ℕ) → List ℕ → Bool
@@ -127,20 +126,20 @@ abbrev pub is_mac : List ℕ → Bool
 is_mac s = begins (0x8E ∷ 0x04 ∷ []) s && eqb (length s) 6
 
 abbrev pub from_list : (write : ℕ → List ℕ → Option Write) → Option Parted → Option (List Write)
-from_list write none = none
-from_list write (some p) = cond (is_mac p.behind) (list_by write (length p.value) p.value) none
+from_list write None = None
+from_list write (Some p) = cond (is_mac p.behind) (list_by write (length p.value) p.value) None
 
 -- behind P1 P2: Lc, and Lc bytes: 81, a length and the list; the MAC
 unfoldable pub data_in : (write : ℕ → List ℕ → Option Write) → List ℕ → Option (List Write)
-data_in write [] = none
-data_in write (lc ∷ s) = cond (eqb lc (length s) && begins (0x81 ∷ []) s) (from_list write (short_in (drop 1 s))) none
+data_in write [] = None
+data_in write (lc ∷ s) = cond (eqb lc (length s) && begins (0x81 ∷ []) s) (from_list write (short_in (drop 1 s))) None
 
 -- 0C DA, BF30 or BF35: what the command writes, none where it fails
 unfoldable pub writes_in : List ℕ → Option (List Write)
 writes_in c =
     cond (begins (0x0C ∷ 0xDA ∷ 0xBF ∷ 0x30 ∷ []) c) (data_in of_accumulator (drop 4 c))
     (cond (begins (0x0C ∷ 0xDA ∷ 0xBF ∷ 0x35 ∷ []) c) (data_in of_counter (drop 4 c))
-    none)
+    None)
 
 -- WHAT THE LAWS SAY: bytes, and commands of bytes
 abbrev pub Bytes : List ℕ → Type 0

@@ -17,6 +17,7 @@ use Rattle.command.specs.declared.First.{First}
 use Rattle.command.specs.declared.Second.{Second}
 use Rattle.command.specs.declared.Command.TheVariants.{Start as StartCommand, First as FirstCommand, Second as SecondCommand}
 use Rattle.calendar.specs.declared.Date.{Date}
+use Rattle.command.specs.declared.Command.{Command}
 use Rattle.refusal.specs.declared.Refusal.{Refusal}
 use Rattle.selection.specs.declared.Selected.{Selected}
 use Rattle.shape.specs.declared.SelectionFile.{SelectionFile}

@@ -1,7 +1,6 @@
 -- All that a sitting computes by: to unfold `computed` is to unfold the definitions of the card and those of the auditor. Assumes nothing.
 use mathlib.Core.Bool.{Bool}
 use mathlib.Core.List.{List}
-use mathlib.Core.Option.{Option}
 use Prim.Native.Nat.{ℕ}
 use Rattle.wire.specs.Wire.{number}
 use Rattle.calendar.specs.declared.Date.{Date}
@@ -59,7 +58,7 @@ use Rattle.demands.specs.Scripts.{Trial, trial, remembered}
 use Rattle.demands.specs.Audit.{place_of, converted, named, dealing, in_force, ledger, audited}
 use Rattle.demands.specs.Past.{past, atc_by}
 use Rattle.demands.specs.Due.{due}
-use Rattle.std.specs.Prelude.{Result}
+use Rattle.std.specs.Prelude.{Result, Option}
 use Rattle.object.specs.declared.Fault.{Fault}
 
 -- the ranges of a set-up's base and of its tails, and the calendar

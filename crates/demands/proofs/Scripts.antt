@@ -2,7 +2,6 @@
 use mathlib.Core.Path.{◌≡◌, refl, sym, ap, ap₂, ◌∙◌, subst}
 use mathlib.Core.Bool.{Bool, true, false, cond, not, ◌&&◌, or-true, or-false}
 use mathlib.Core.List.{List, [], ◌∷◌, ◌++◌}
-use mathlib.Core.Option.{Option, none, some}
 use Prim.Native.Nat.{ℕ, ◌+◌, ◌%◌, ◌<◌}
 use native.Mathlib.Omega.{arith}
 use lib.Dec.{eqb, lit<}
@@ -42,7 +41,7 @@ use Rattle.demands.specs.Conversation.{Exchange, IsSpoken, is_accepted}
 use Rattle.demands.specs.Scripts.{Trial, first_tried, trial, Remembered, trial_of, with_trial, clears, remembered_by, remembered, wrote_by}
 use Rattle.demands.proofs.Dated.{same-scripts}
 use Rattle.demands.proofs.Step.{Did, refused_it, started_it, took_first, took_second, took_script}
-use Rattle.std.specs.Prelude.{Ok}
+use Rattle.std.specs.Prelude.{Ok, Option, None, Some}
 
 -- the card's byte says what is remembered
 pub record Keeps (memory : Remembered) (scripts : Scripts) : Type 0 where
@@ -102,23 +101,23 @@ fails_keeps {memory} {scripts} keeps =
       below = keeps.below;
     }
 
-not_some : {ws : List Write} → none ≡ some ws → ⊥
+not_some : {ws : List Write} → None ≡ Some ws → ⊥
 not_some e = let z : ◌≡◌ {A = ℕ} 0 1 = cc in absurd (omega arith)
 
 module _ (verified : Bool) where
   next_agree : (cs : List (List ℕ)) (memory : Remembered) (scripts : Scripts) → Keeps memory scripts
-      → (o : Option (List Write)) → ((ws : List Write) → o ≡ some ws → InRange ws)
+      → (o : Option (List Write)) → ((ws : List Write) → o ≡ Some ws → InRange ws)
       → ((then : Remembered) → Keeps then (one_done scripts) → Agree then (trial (verified && not then.here) cs) (tried verified cs (one_done scripts)))
       → Agree memory (first_tried o (trial (verified && not memory.here) cs)) (tried_next (tried verified cs) scripts o)
   unfolding InRange
-  next_agree cs memory scripts keeps none ranges rest =
+  next_agree cs memory scripts keeps None ranges rest =
       let below = keeps.below in
       record {
         writes = refl;
         keeps = again (fails_keeps keeps) (omega arith) (sym (or-true memory.failed)) (sym (or-true memory.here));
         in_range_lem = tt;
       }
-  next_agree cs memory scripts keeps (some ws) ranges rest =
+  next_agree cs memory scripts keeps (Some ws) ranges rest =
       let then : Remembered = record { count = (memory.count + 1) % 16; failed = memory.failed; here = memory.here } in
       let more = rest then (done_keeps keeps) in
       record {
@@ -139,12 +138,12 @@ module _ (verified : Bool) where
       }
   agree (c ∷ cs) bytes memory scripts keeps =
       let may : Bool = verified && not memory.here in
-      let is : cond (verified && not (has_failed_here scripts)) (writes_of c) none ≡ cond may (writes_in c) none =
+      let is : cond (verified && not (has_failed_here scripts)) (writes_of c) None ≡ cond may (writes_in c) None =
       simp (keeps.says.here, same_writes_lem c bytes.0) in
-      subst (λ o. Agree memory (first_tried (cond may (writes_in c) none) (trial may cs)) (tried_next (tried verified cs) scripts o)) (sym is)
-      (next_agree cs memory scripts keeps (cond may (writes_in c) none) (in_range_lem may) (λ then k. agree cs bytes.1 then (one_done scripts) k))
+      subst (λ o. Agree memory (first_tried (cond may (writes_in c) None) (trial may cs)) (tried_next (tried verified cs) scripts o)) (sym is)
+      (next_agree cs memory scripts keeps (cond may (writes_in c) None) (in_range_lem may) (λ then k. agree cs bytes.1 then (one_done scripts) k))
     where
-      in_range_lem : (b : Bool) (ws : List Write) → cond b (writes_in c) none ≡ some ws → InRange ws
+      in_range_lem : (b : Bool) (ws : List Write) → cond b (writes_in c) None ≡ Some ws → InRange ws
       in_range_lem true ws e = writes_in_range c bytes.0 ws (sym (same_writes_lem c bytes.0) ∙ e)
       in_range_lem false ws e = absurd (not_some e)
 

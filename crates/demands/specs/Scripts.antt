@@ -1,7 +1,6 @@
 -- What an auditor reads off the conversation of issuer scripts (request Twelve; CPA 18.8 and 20), by a reader of templates of its own, and no card:
 -- which of a template's commands were done, what they wrote, and what the card then remembers.
-use Rattle.std.specs.Prelude.{ℕ, suc, ◌+◌, ◌%◌, Bool, true, false, cond, not, ◌&&◌, ◌||◌, List, [], ◌∷◌, ◌++◌, eqb}
-use Rattle.std.proofs.Math.Option.{Option, none, some}
+use Rattle.std.specs.Prelude.{ℕ, suc, ◌+◌, ◌%◌, Bool, true, false, cond, not, ◌&&◌, ◌||◌, List, [], ◌∷◌, ◌++◌, eqb, Option, None, Some}
 use Rattle.element.specs.declared.Write.{Write}
 use Rattle.auditor.specs.Template.{commands_in, writes_in}
 use Rattle.command.specs.declared.Second.{Second}
@@ -18,13 +17,13 @@ pub record Trial : Type 0 where
 
 -- a command that fails ends it, one that is done goes before the rest
 abbrev pub first_tried : Option (List Write) → (rest : Trial) → Trial
-first_tried none rest = record { done = 0; fails = true; writes = [] }
-first_tried (some ws) rest = record { done = suc rest.done; fails = rest.fails; writes = ws ++ rest.writes }
+first_tried None rest = record { done = 0; fails = true; writes = [] }
+first_tried (Some ws) rest = record { done = suc rest.done; fails = rest.fails; writes = ws ++ rest.writes }
 
 -- where they are not allowed, the first fails
 unfoldable pub trial : (allowed : Bool) → List (List ℕ) → Trial
 trial allowed [] = record { done = 0; fails = false; writes = [] }
-trial allowed (command ∷ commands) = first_tried (cond allowed (writes_in command) none) (trial allowed commands)
+trial allowed (command ∷ commands) = first_tried (cond allowed (writes_in command) None) (trial allowed commands)
 
 -- WHAT A CARD REMEMBERS: how many were done, modulo 16; that one failed; that one failed since the last accepted Start
 pub record Remembered : Type 0 where

@@ -1,7 +1,6 @@
 -- Laws of the definitions, as the code goes through the bytes. Assumes nothing.
 use mathlib.Core.Path.{◌≡◌, refl, sym, ap, ap₂, ◌∙◌}
 use mathlib.Core.List.{List}
-use mathlib.Core.Option.{Option, none, some}
 use mathlib.Core.Bool.{Bool, true, false, ◌&&◌, cond}
 use Prim.Native.Nat.{ℕ, ◌+◌, ◌-◌, ◌≤◌, ◌<◌}
 use native.Mathlib.Omega.{arith}
@@ -11,8 +10,8 @@ use borrow.Author.Tests.{ltb-true, ltb-false, leb-true}
 use Rattle.wire.specs.Wire.{byte, number}
 use Rattle.wire.proofs.Pairs.{both}
 use Rattle.element.specs.declared.Write.{Write}
-use Rattle.element.specs.Element.{as_meaning, is_length, length_size, length_at, is_one_of, meaning_of, head_size, element_size, element_meaning}
-use Rattle.std.specs.Prelude.{None, Some}
+use Rattle.element.specs.Element.{is_length, length_size, length_at, is_one_of, meaning_of, head_size, element_size, element_meaning}
+use Rattle.std.specs.Prelude.{None, Some, Option}
 
 -- ---- a part of a list
 -- the part from a to e, by the size that it has
@@ -27,7 +26,7 @@ stands s at h = by (ltb at (length s)) refl where
   by false e = let z : byte s at ≡ 0 = get_or-eq_default s 0 (ltb-false at (length s) e) in absurd (omega arith)
 
 -- ---- a test that something passed
-pub tested : {A : Type 0} (t : Bool) (m : Option A) (w : A) → cond t m none ≡ some w → (t ≡ true) × (m ≡ some w)
+pub tested : {A : Type 0} (t : Bool) (m : Option A) (w : A) → cond t m None ≡ Some w → (t ≡ true) × (m ≡ Some w)
 tested true m w e = (refl, e)
 tested false m w e = let z : ◌≡◌ {A = ℕ} 0 1 = cc in absurd (omega arith)
 
@@ -51,17 +50,8 @@ pub element-some : (s : List ℕ) → 3 ≤ element_size s
 unfolding element_size
 element-some s = omega (arith, head-some s)
 
--- what the code's answer says of a meaning
-pub meant : (m : Option Write) (w : Write) → as_meaning m ≡ Some w → m ≡ some w
-meant (some v) w e = let same : v ≡ w = cc in ap some same
-meant none w e = let z : ◌≡◌ {A = ℕ} 0 1 = cc in absurd (omega arith)
-
-pub fails : (m : Option Write) → as_meaning m ≡ None → m ≡ none
-fails (some v) e = let z : ◌≡◌ {A = ℕ} 0 1 = cc in absurd (omega arith)
-fails none e = refl
-
 -- an element that writes lies within the list
-pub element-fits : (o : ℕ) (s : List ℕ) (w : Write) → element_meaning o s ≡ some w → element_size s ≤ length s
+pub element-fits : (o : ℕ) (s : List ℕ) (w : Write) → element_meaning o s ≡ Some w → element_size s ≤ length s
 unfolding element_meaning
 element-fits o s w e =
     let m = meaning_of o (number s 0 2) (take (length_at s 2) (drop (head_size s) s)) in

@@ -2,7 +2,7 @@
 #![tactic(auto)]
 
 ghost use Rattle.std.specs.Prelude.{◌≡◌, ◌<◌, ◌≤◌};
-ghost use Rattle.element.specs.Element.{as_meaning, is_length, length_size, length_at, value_written, limits_written, counts_written};
+ghost use Rattle.element.specs.Element.{is_length, length_size, length_at, value_written, limits_written, counts_written};
 ghost use Rattle.element.specs.Element.{head_size, element_size};
 
 use digits::{are_pairs, pairs_value};
@@ -61,7 +61,7 @@ pub fn length_at(s: &[u8], at: usize) -> usize
 
 // Six bytes: an accumulator's value.
 pub fn value_written(slot: usize, value: &[u8]) -> Option<Write>
-    ensures { result ≡ as_meaning (value_written slot value.now) }
+    ensures { result ≡ value_written slot value.now }
 {
     if (value.len() == 6) & are_pairs(value, 0) {
         return Some(Write::Value {
@@ -74,7 +74,7 @@ pub fn value_written(slot: usize, value: &[u8]) -> Option<Write>
 
 // Twelve bytes: an accumulator's lower limit and its upper.
 pub fn limits_written(slot: usize, value: &[u8]) -> Option<Write>
-    ensures { result ≡ as_meaning (limits_written slot value.now) }
+    ensures { result ≡ limits_written slot value.now }
 {
     if (value.len() == 12) & are_pairs(value, 0) & are_pairs(value, 6) {
         return Some(Write::AccumulatorLimits {
@@ -88,7 +88,7 @@ pub fn limits_written(slot: usize, value: &[u8]) -> Option<Write>
 
 // Two bytes: a counter's lower limit and its upper.
 pub fn counts_written(slot: usize, value: &[u8]) -> Option<Write>
-    ensures { result ≡ as_meaning (counts_written slot value.now) }
+    ensures { result ≡ counts_written slot value.now }
 {
     if value.len() == 2 {
         return Some(Write::CounterLimits {

@@ -1,6 +1,7 @@
 -- The head of the object with which s begins (EMV Book 3 Annex B): its tag and its length.
 use Rattle.std.specs.Prelude.{ℕ, ◌+◌, ◌*◌, ◌/◌, ◌%◌, List, Bool, ◌&&◌, ◌||◌, not, cond, length, ltb, leb, eqb, None, Option, Some}
 use Rattle.wire.specs.Wire.{byte}
+use Rattle.head.specs.declared.Head.{Head}
 
 -- the tag: two bytes where the low five bits of the first are all ones, else one
 abbrev pub tag_size : List ℕ → ℕ

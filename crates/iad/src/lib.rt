@@ -109,7 +109,7 @@ pub fn bytes_of(iad: Iad) -> [u8; LENGTH]
     ensures { (result ≡ written iad (replicate 32 0)) × (length result ≡ 32) }
 {
     let mut room = [0u8; LENGTH];
-    write(iad, &mut room);
+    let _ = write(iad, &mut room);
     room
 }
 

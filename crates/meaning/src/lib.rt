@@ -2,7 +2,7 @@
 #![tactic(auto)]
 
 ghost use Rattle.std.specs.Prelude.{◌≡◌, ◌<◌};
-ghost use Rattle.element.specs.Element.{as_meaning, is_one_of, meaning_of, element_meaning};
+ghost use Rattle.element.specs.Element.{is_one_of, meaning_of, element_meaning};
 
 use element::{ACCUMULATORS, COUNTERS};
 use wire::{byte_at, u16_at};
@@ -17,7 +17,7 @@ fn is_one_of(first: u16, tag: u16) -> bool
 
 // What an element writes, by P1 P2 and its tag.
 fn meaning_of(object: u16, tag: u16, value: &[u8]) -> Option<Write>
-    ensures { result ≡ as_meaning (meaning_of object tag value.now) }
+    ensures { result ≡ meaning_of object tag value.now }
 {
     if (object == ACCUMULATORS) & is_one_of(0xDF01, tag) {
         return element::value_written((tag - 0xDF01) as usize, value);
@@ -33,7 +33,7 @@ fn meaning_of(object: u16, tag: u16, value: &[u8]) -> Option<Write>
 
 // What the element writes with which a list begins. It must end within the list.
 pub fn element_meaning(object: u16, list: &[u8]) -> Option<Write>
-    ensures { result ≡ as_meaning (element_meaning object list.now) }
+    ensures { result ≡ element_meaning object list.now }
 {
     let size = element::element_size(list);
     if element::is_length(byte_at(list, 2)) & (size <= list.len()) {

@@ -1,7 +1,7 @@
 -- From element to element: each answer is the first of the writes left, and the others are those from its end on. Assumes nothing.
+use Rattle.std.specs.Prelude.{Option, None, Some}
 use mathlib.Core.Path.{◌≡◌, refl, sym, ap, subst, ◌∙◌}
 use mathlib.Core.List.{List, [], ◌∷◌}
-use mathlib.Core.Option.{Option, none, some}
 use mathlib.Core.Bool.{Bool, true, false, ◌&&◌, cond}
 use Prim.Native.Nat.{ℕ, zero, suc, ◌+◌, ◌-◌, ◌≤◌, ◌<◌}
 use native.Mathlib.Omega.{arith}
@@ -31,9 +31,9 @@ behind o b s =
 
 -- ---- the writes from a place of the list u on, by what the next element is told to be; and where that ends
 abbrev pub after : (o : ℕ) → List ℕ → Next → Option (List Write)
-after o u (Element w e) = before (some w) (writes_in o (drop e u))
-after o u End = some []
-after o u Fault = none
+after o u (Element w e) = before (Some w) (writes_in o (drop e u))
+after o u End = Some []
+after o u Fault = None
 
 abbrev pub Within : List ℕ → ℕ → Next → Type 0
 Within u at (Element w e) = (at < e) × (e ≤ length u)
@@ -44,9 +44,9 @@ pub record Left (o : ℕ) (u : List ℕ) (at : ℕ) (s : List ℕ) (n : Next) : 
   pub is : writes_in o s ≡ after o u n
   pub within : Within u at n
 
-some-before : (w : Write) (ws : Option (List Write)) → is_some (before (some w) ws) ≡ is_some ws
-some-before w none = refl
-some-before w (some ws) = refl
+some-before : (w : Write) (ws : Option (List Write)) → is_some (before (Some w) ws) ≡ is_some ws
+some-before w None = refl
+some-before w (Some ws) = refl
 
 module _ (o : ℕ) (u : List ℕ) where
   earlier : (at : ℕ) (n : Next) → Within u (at + 1) n → Within u at n
@@ -58,16 +58,16 @@ module _ (o : ℕ) (u : List ℕ) where
   here : (at b : ℕ) (s : List ℕ) → drop at u ≡ b ∷ s → eqb b 0 ≡ false → (m : Option Write) → element_meaning o (b ∷ s) ≡ m
       → Left o u at (b ∷ s) (told m (at + element_size (b ∷ s)))
   unfolding writes_by
-  here at b s d z (some w) e =
+  here at b s d z (Some w) e =
       let n = element_size (b ∷ s) in
       let l = element-some (b ∷ s) in
       let f = element-fits o (b ∷ s) w e in
       let r : drop n (b ∷ s) ≡ drop (at + n) u = ap (drop n) (sym d) ∙ drop-drop n at u in
       record {
-        is = simp (z, e) (ap (before (some w)) (behind o b s ∙ ap (writes_in o) r));
+        is = simp (z, e) (ap (before (Some w)) (behind o b s ∙ ap (writes_in o) r));
         within = (omega arith, omega (arith, ap length d, length-drop at u));
       }
-  here at b s d z none e = record { is = simp (z, e); within = tt }
+  here at b s d z None e = record { is = simp (z, e); within = tt }
 
   by_first : (at b : ℕ) (s : List ℕ) → drop at u ≡ b ∷ s → Left o u (at + 1) s (next_by o (at + 1) s) → (t : Bool) → eqb b 0 ≡ t
       → Left o u at (b ∷ s) (next_by o at (b ∷ s))
@@ -96,8 +96,8 @@ abbrev writes_from : List ℕ → (at : ℕ) → Option (List Write)
 writes_from c at = writes_in (object_of c) (drop at (elements_of c))
 
 abbrev or_none : Option (List Write) → List Write
-or_none none = []
-or_none (some ws) = ws
+or_none None = []
+or_none (Some ws) = ws
 
 unfoldable pub left : List ℕ → (at : ℕ) → List Write
 left c at = or_none (writes_from c at)
@@ -106,21 +106,21 @@ unfoldable pub AllWrite : List ℕ → (at : ℕ) → Type 0
 AllWrite c at = is_some (writes_from c at) ≡ true
 
 -- at the start they are the command's
-first_of : (t : Bool) (ws : Option (List Write)) → is_some (cond t ws none) ≡ true → (is_some ws ≡ true) × (cond t ws none ≡ some (or_none ws))
-first_of true none h = let z : ◌≡◌ {A = ℕ} 0 1 = cc in absurd (omega arith)
-first_of true (some ws) h = (refl, refl)
+first_of : (t : Bool) (ws : Option (List Write)) → is_some (cond t ws None) ≡ true → (is_some ws ≡ true) × (cond t ws None ≡ Some (or_none ws))
+first_of true None h = let z : ◌≡◌ {A = ℕ} 0 1 = cc in absurd (omega arith)
+first_of true (Some ws) h = (refl, refl)
 first_of false ws h = let z : ◌≡◌ {A = ℕ} 0 1 = cc in absurd (omega arith)
 
-pub at-start : (c : List ℕ) → is_valid c ≡ true → AllWrite c 0 × (writes_of c ≡ some (left c 0))
+pub at-start : (c : List ℕ) → is_valid c ≡ true → AllWrite c 0 × (writes_of c ≡ Some (left c 0))
 unfolding is_valid writes_of left AllWrite
 at-start c h = first_of (is_put_data c && is_secured c) (writes_from c 0) h
 
 -- a command that is not valid writes nothing
-none_of : (ws : Option (List Write)) → is_some ws ≡ false → ws ≡ none
-none_of none h = refl
-none_of (some ws) h = let z : ◌≡◌ {A = ℕ} 0 1 = cc in absurd (omega arith)
+none_of : (ws : Option (List Write)) → is_some ws ≡ false → ws ≡ None
+none_of None h = refl
+none_of (Some ws) h = let z : ◌≡◌ {A = ℕ} 0 1 = cc in absurd (omega arith)
 
-pub not_valid : (c : List ℕ) → is_valid c ≡ false → writes_of c ≡ none
+pub not_valid : (c : List ℕ) → is_valid c ≡ false → writes_of c ≡ None
 unfolding is_valid
 not_valid c h = none_of (writes_of c) h
 
@@ -130,9 +130,9 @@ pub record Step (c : List ℕ) (at : ℕ) (w : Write) (end : ℕ) : Type 0 where
   pub later : at < end
   pub within : end ≤ length (elements_of c)
 
-first-left : (w : Write) (ws : Option (List Write)) → is_some ws ≡ true → or_none (before (some w) ws) ≡ w ∷ or_none ws
-first-left w none h = let z : ◌≡◌ {A = ℕ} 0 1 = cc in absurd (omega arith)
-first-left w (some ws) h = refl
+first-left : (w : Write) (ws : Option (List Write)) → is_some ws ≡ true → or_none (before (Some w) ws) ≡ w ∷ or_none ws
+first-left w None h = let z : ◌≡◌ {A = ℕ} 0 1 = cc in absurd (omega arith)
+first-left w (Some ws) h = refl
 
 module _ (c : List ℕ) (at : ℕ) where
   pub next_write_lem : (w : Write) (end : ℕ) → AllWrite c at → next_write c at ≡ Element w end → Step c at w end

@@ -1,6 +1,5 @@
 -- The PUT DATA command of an issuer script, and what it writes (request Twelve; CPA 18.8, Tables 18-6 and J-1). A command that fails writes nothing.
-use Rattle.std.specs.Prelude.{Bool, true, false, cond, ◌&&◌, List, [], ◌∷◌, ℕ, zero, suc, ◌+◌, ◌-◌, length, take, drop, leb, eqb}
-use Rattle.std.proofs.Math.Option.{Option, none, some}
+use Rattle.std.specs.Prelude.{Bool, true, false, cond, ◌&&◌, List, [], ◌∷◌, ℕ, zero, suc, ◌+◌, ◌-◌, length, take, drop, leb, eqb, Option, None, Some}
 use Rattle.element.specs.declared.Write.{Write}
 use Rattle.element.specs.Element.{length_at, element_size, element_meaning}
 pub use Rattle.frame.specs.Frame.{object_of}
@@ -10,13 +9,13 @@ use Rattle.put_data.specs.declared.Next.TheVariants.{Element, End, Fault}
 
 -- THE WRITES of a list of elements, to its end and in their order: none where an element fails
 abbrev pub before : Option Write → Option (List Write) → Option (List Write)
-before none ws = none
-before (some w) none = none
-before (some w) (some ws) = some (w ∷ ws)
+before None ws = None
+before (Some w) None = None
+before (Some w) (Some ws) = Some (w ∷ ws)
 
 -- a filler 00 is passed over, and so are the n bytes of an element that has been read
 unfoldable pub writes_by : (object n : ℕ) → List ℕ → Option (List Write)
-writes_by object n [] = some []
+writes_by object n [] = Some []
 writes_by object (suc n) (b ∷ s) = writes_by object n s
 writes_by object zero (b ∷ s) =
     cond (eqb b 0)
@@ -32,19 +31,19 @@ elements_of c = cond (leb (mac_place c) (length c)) (take (length_at c 6) (drop 
 
 -- WHAT A COMMAND WRITES: none where it fails
 unfoldable pub writes_of : List ℕ → Option (List Write)
-writes_of c = cond (is_put_data c && is_secured c) (writes_in (object_of c) (elements_of c)) none
+writes_of c = cond (is_put_data c && is_secured c) (writes_in (object_of c) (elements_of c)) None
 
 abbrev pub is_some : Option (List Write) → Bool
-is_some none = false
-is_some (some ws) = true
+is_some None = false
+is_some (Some ws) = true
 
 unfoldable pub is_valid : List ℕ → Bool
 is_valid c = is_some (writes_of c)
 
 -- AS THE CODE ANSWERS IT, from element to element: the first behind fillers, and where it ends; s lies at a place
 abbrev pub told : Option Write → (end : ℕ) → Next
-told (some w) end = Element w end
-told none end = Fault
+told (Some w) end = Element w end
+told None end = Fault
 
 unfoldable pub next_by : (object at : ℕ) → List ℕ → Next
 next_by object at [] = End

@@ -1,7 +1,7 @@
 -- A valid command is written of a proper one. Assumes nothing.
+use Rattle.std.specs.Prelude.{Some}
 use mathlib.Core.Path.{◌≡◌, refl, sym, ap, ◌∙◌, subst}
 use mathlib.Core.List.{List, [], ◌∷◌, ◌++◌}
-use mathlib.Core.Option.{some}
 use mathlib.Core.Bool.{Bool, true, false, ◌&&◌, ◌||◌, cond}
 use Prim.Native.Nat.{ℕ, suc, ◌+◌, ◌*◌, ◌≤◌, ◌<◌}
 use native.Mathlib.Omega.{arith}
@@ -155,7 +155,7 @@ elements-bytes c h =
     cond_bytes (leb (mac_place c) (length c)) v (take-bytes (length_at c 6) (drop (list_place c) c) (drop_bytes (list_place c) c h))
 
 -- bytes that write something are written of a proper command
-spelled_back : (c : List ℕ) (ws : List Write) → Bytes c → writes_of c ≡ some ws → Spelled c
+spelled_back : (c : List ℕ) (ws : List Write) → Bytes c → writes_of c ≡ Some ws → Spelled c
 unfolding writes_of
 spelled_back c ws h e =
     let (t, x) = tested (is_put_data c && is_secured c) (writes_in (object_of c) (elements_of c)) ws e in
@@ -169,9 +169,9 @@ spelled_back c ws h e =
 pub from-proper : (c : List ℕ) → Bytes c → is_valid c ≡ true → Spelled c
 from-proper c h v = spelled_back c (left c 0) h (at-start c v).1
 
-pub proper_valid : (c : List ℕ) (s : Spelled c) → Bytes c × (is_valid c ≡ true) × (writes_of c ≡ some (list_writes s.command.list))
+pub proper_valid : (c : List ℕ) (s : Spelled c) → Bytes c × (is_valid c ≡ true) × (writes_of c ≡ Some (list_writes s.command.list))
 unfolding is_valid
 proper_valid c s =
     let p = s.command in
-    let w : writes_of c ≡ some (list_writes p.list) = ap writes_of (sym s.is) ∙ writes-there p s.proper in
+    let w : writes_of c ≡ Some (list_writes p.list) = ap writes_of (sym s.is) ∙ writes-there p s.proper in
     (subst Bytes s.is (bytes-there p s.proper), ap is_some w, w)

@@ -1,7 +1,7 @@
 -- A list that is written of elements and fillers writes what they say, in order. Assumes nothing.
+use Rattle.std.specs.Prelude.{Some}
 use mathlib.Core.Path.{◌≡◌, refl, ap, ap₂, ◌∙◌}
 use mathlib.Core.List.{List, [], ◌∷◌, ◌++◌, append_assoc}
-use mathlib.Core.Option.{some}
 use mathlib.Core.Bool.{true}
 use Prim.Native.Nat.{ℕ, ◌+◌, ◌<◌}
 use native.Mathlib.Omega.{arith}
@@ -70,7 +70,7 @@ pub list-element : (o b : ℕ) (s : List ℕ) → (b ≡ 0 → ⊥)
 unfolding writes_by
 list-element o b s h = simp (ne_eqb b 0 h) (ap (before (element_meaning o (b ∷ s))) (behind o b s))
 
-pub there-list : (o : Object) (is : List Item) → AreOf o is → writes_in (number_of o) (list_bytes is) ≡ some (list_writes is)
+pub there-list : (o : Object) (is : List Item) → AreOf o is → writes_in (number_of o) (list_bytes is) ≡ Some (list_writes is)
 unfolding AreOf list_bytes list_writes writes_by
 there-list o [] h = refl
 there-list o (filler ∷ is) h = there-list o is h

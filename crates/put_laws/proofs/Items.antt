@@ -1,7 +1,7 @@
 -- A list of which every element writes something is written of elements and fillers. Assumes nothing.
+use Rattle.std.specs.Prelude.{Option, None, Some}
 use mathlib.Core.Path.{◌≡◌, refl, sym, ap, ap₂, ◌∙◌}
 use mathlib.Core.List.{List, [], ◌∷◌, ◌++◌, append_assoc}
-use mathlib.Core.Option.{Option, none, some}
 use mathlib.Core.Bool.{Bool, true, false, ◌&&◌}
 use Prim.Native.Nat.{ℕ, zero, suc, ◌+◌, ◌*◌, ◌≤◌, ◌<◌}
 use native.Mathlib.Omega.{arith}
@@ -32,7 +32,7 @@ record ElementIs (o : Object) (s : List ℕ) (w : Write) : Type 0 where
 two_bytes : (o : Object) (w : Write) (a b : ℕ) → IsOf o w → b < 256 → a * 256 + b ≡ 0xDF00 + tag_byte w → (a ≡ 0xDF) × (b ≡ tag_byte w)
 two_bytes o w a b g h e = let t = tag_small o w g in (omega arith, omega arith)
 
-element_back : (o : Object) (s : List ℕ) (w : Write) → Bytes s → element_meaning (number_of o) s ≡ some w → ElementIs o s w
+element_back : (o : Object) (s : List ℕ) (w : Write) → Bytes s → element_meaning (number_of o) s ≡ Some w → ElementIs o s w
 unfolding element_meaning element_size head_size spell
 element_back o s w h e =
     let n = length_at s 2 in
@@ -65,16 +65,16 @@ pub record Found (o : Object) (s : List ℕ) : Type 0 where
 record Both (m : Option Write) (x : Option (List Write)) : Type 0 where
   write : Write
   rest : List Write
-  is : m ≡ some write
-  others : x ≡ some rest
+  is : m ≡ Some write
+  others : x ≡ Some rest
 
-both_some : (m : Option Write) (x : Option (List Write)) (ws : List Write) → before m x ≡ some ws → Both m x
-both_some none x ws e = let z : ◌≡◌ {A = ℕ} 0 1 = cc in absurd (omega arith)
-both_some (some w) none ws e = let z : ◌≡◌ {A = ℕ} 0 1 = cc in absurd (omega arith)
-both_some (some w) (some us) ws e = record { write = w; rest = us; is = refl; others = refl }
+both_some : (m : Option Write) (x : Option (List Write)) (ws : List Write) → before m x ≡ Some ws → Both m x
+both_some None x ws e = let z : ◌≡◌ {A = ℕ} 0 1 = cc in absurd (omega arith)
+both_some (Some w) None ws e = let z : ◌≡◌ {A = ℕ} 0 1 = cc in absurd (omega arith)
+both_some (Some w) (Some us) ws e = record { write = w; rest = us; is = refl; others = refl }
 
-module _ (o : Object) (n : ℕ) (ih : (s : List ℕ) (ws : List Write) → length s ≤ n → Bytes s → writes_in (number_of o) s ≡ some ws → Found o s) where
-  by_first : (b : ℕ) (s : List ℕ) (ws : List Write) → length s ≤ n → Bytes (b ∷ s) → writes_in (number_of o) (b ∷ s) ≡ some ws → (t : Bool) → eqb b 0 ≡ t
+module _ (o : Object) (n : ℕ) (ih : (s : List ℕ) (ws : List Write) → length s ≤ n → Bytes s → writes_in (number_of o) s ≡ Some ws → Found o s) where
+  by_first : (b : ℕ) (s : List ℕ) (ws : List Write) → length s ≤ n → Bytes (b ∷ s) → writes_in (number_of o) (b ∷ s) ≡ Some ws → (t : Bool) → eqb b 0 ≡ t
       → Found o (b ∷ s)
   unfolding AreOf list_bytes writes_by
   by_first b s ws l h e true t =
@@ -92,7 +92,7 @@ module _ (o : Object) (n : ℕ) (ih : (s : List ℕ) (ws : List Write) → lengt
         is = ap (λ x. item_bytes (element a.form m.write) ++ x) r.is ∙ a.is;
       }
 
-pub list_back : (o : Object) (n : ℕ) (s : List ℕ) (ws : List Write) → length s ≤ n → Bytes s → writes_in (number_of o) s ≡ some ws → Found o s
+pub list_back : (o : Object) (n : ℕ) (s : List ℕ) (ws : List Write) → length s ≤ n → Bytes s → writes_in (number_of o) s ≡ Some ws → Found o s
 unfolding AreOf list_bytes
 list_back o zero [] ws l h e = record { items = []; are = tt; is = refl }
 list_back o zero (b ∷ s) ws l h e = absurd (omega arith)

@@ -1,7 +1,7 @@
 -- The rows of the table: what is written of an element means it, and what means it is written so. Assumes nothing.
+use Rattle.std.specs.Prelude.{Option, None, Some}
 use mathlib.Core.Path.{◌≡◌, refl, ap, ap₂, ◌∙◌, subst}
 use mathlib.Core.List.{List, ◌++◌}
-use mathlib.Core.Option.{Option, none, some}
 use mathlib.Core.Bool.{Bool, true, false, ◌&&◌, cond}
 use Prim.Native.Nat.{ℕ, ◌+◌, ◌-◌, ◌≤◌, ◌<◌}
 use native.Mathlib.Omega.{arith}
@@ -45,20 +45,20 @@ not_a_value slot tag e = simp (le-leb 0xDF01 tag (omega arith), lt-leb tag 0xDF0
 amount_of_lem : (a : AccumulatorAmount) (n : ℕ) → n ≡ a.0 → ◌≡◌ {A = AccumulatorAmount} (record { 0 = n }) a
 amount_of_lem a n e = ap (λ (k : ℕ). record { 0 = k }) e
 
-pub row : (o : Object) (w : Write) (tag : ℕ) → IsOf o w → tag ≡ 0xDF00 + tag_byte w → meaning_of (number_of o) tag (value_bytes w) ≡ some w
+pub row : (o : Object) (w : Write) (tag : ℕ) → IsOf o w → tag ≡ 0xDF00 + tag_byte w → meaning_of (number_of o) tag (value_bytes w) ≡ Some w
 unfolding meaning_of value_written limits_written counts_written
 row accumulators (Value slot a) tag h e =
     let s : slot < 4 = omega (arith, h.0) in
     let f : tag ≡ 0xDF01 + slot = omega arith in
     let l : length (pairs_of a.0 6) ≡ 6 = unfold pairs_of in refl in
     simp (of_four 0xDF01 slot tag f s, of_slot 0xDF01 slot tag f s, l, are-pairs a.0)
-    (ap (λ b. some (Value slot b)) (amount_of_lem a _ (amount a.0 (omega (arith, h.1)))))
+    (ap (λ b. Some (Value slot b)) (amount_of_lem a _ (amount a.0 (omega (arith, h.1)))))
 row accumulators (AccumulatorLimits slot a b) tag h e =
     let s : slot < 4 = omega (arith, h.0) in
     let f : tag ≡ 0xDF11 + slot = omega arith in
     let l : length (pairs_of a.0 6 ++ pairs_of b.0 6) ≡ 12 = unfold pairs_of in refl in
     simp (not_a_value slot tag f, of_four 0xDF11 slot tag f s, of_slot 0xDF11 slot tag f s, l, are-first a.0 b.0, are-second a.0 b.0)
-    (ap₂ (λ x y. some (AccumulatorLimits slot x y)) (amount_of_lem a _ (first a.0 b.0 (omega (arith, h.1)))) (amount_of_lem b _ (second a.0 b.0 (omega (arith, h.2)))))
+    (ap₂ (λ x y. Some (AccumulatorLimits slot x y)) (amount_of_lem a _ (first a.0 b.0 (omega (arith, h.1)))) (amount_of_lem b _ (second a.0 b.0 (omega (arith, h.2)))))
 row accumulators (CounterLimits slot a b) tag h e = absurd h
 row counters (Value slot a) tag h e = absurd h
 row counters (AccumulatorLimits slot a b) tag h e = absurd h
@@ -68,10 +68,10 @@ row counters (CounterLimits slot a b) tag h e =
     simp (of_four 0xDF11 slot tag f s, of_slot 0xDF11 slot tag f s)
 
 -- ---- and back
-taken : (t : Bool) (x w : Write) → cond t (some x) none ≡ some w → (t ≡ true) × (x ≡ w)
-taken t x w e = let (p, q) = tested t (some x) w e in (p, cc)
+taken : (t : Bool) (x w : Write) → cond t (Some x) None ≡ Some w → (t ≡ true) × (x ≡ w)
+taken t x w e = let (p, q) = tested t (Some x) w e in (p, cc)
 
-no_write : (w : Write) → ◌≡◌ {A = Option Write} none (some w) → ⊥
+no_write : (w : Write) → ◌≡◌ {A = Option Write} None (Some w) → ⊥
 no_write w e = let z : ◌≡◌ {A = ℕ} 0 1 = cc in omega arith
 
 pub record Row (o : Object) (tag : ℕ) (v : List ℕ) (w : Write) : Type 0 where
@@ -90,7 +90,7 @@ module _ (first tag : ℕ) (h : is_one_of first tag ≡ true) where
   not_behind = leb-true tag (first + 3) (both (leb first tag) (leb tag (first + 3)) h).1
 
 module _ (tag : ℕ) (v : List ℕ) (w : Write) where
-  value_back : is_one_of 0xDF01 tag ≡ true → value_written (tag - 0xDF01) v ≡ some w → Row accumulators tag v w
+  value_back : is_one_of 0xDF01 tag ≡ true → value_written (tag - 0xDF01) v ≡ Some w → Row accumulators tag v w
   unfolding value_written
   value_back h e =
       let a = not_before 0xDF01 tag h in
@@ -104,7 +104,7 @@ module _ (tag : ℕ) (v : List ℕ) (w : Write) where
         value = pairs_back v 0 p ∙ whole 6 v (eqb-true (length v) 6 l);
       })
 
-  limits_back : is_one_of 0xDF11 tag ≡ true → limits_written (tag - 0xDF11) v ≡ some w → Row accumulators tag v w
+  limits_back : is_one_of 0xDF11 tag ≡ true → limits_written (tag - 0xDF11) v ≡ Some w → Row accumulators tag v w
   unfolding limits_written
   limits_back h e =
       let a = not_before 0xDF11 tag h in
@@ -119,7 +119,7 @@ module _ (tag : ℕ) (v : List ℕ) (w : Write) where
         value = ap₂ ◌++◌ (pairs_back v 0 p) (pairs_back v 6 q) ∙ whole 12 v (eqb-true (length v) 12 l);
       })
 
-  counts_back : Bytes v → is_one_of 0xDF11 tag ≡ true → counts_written (tag - 0xDF11) v ≡ some w → Row counters tag v w
+  counts_back : Bytes v → is_one_of 0xDF11 tag ≡ true → counts_written (tag - 0xDF11) v ≡ Some w → Row counters tag v w
   unfolding counts_written
   counts_back g h e =
       let a = not_before 0xDF11 tag h in
@@ -130,7 +130,7 @@ module _ (tag : ℕ) (v : List ℕ) (w : Write) where
       subst (Row counters tag v) x
       (record { is_of_lem = (omega arith, omega arith, omega arith); tag_is = omega arith; value = whole 2 v (eqb-true (length v) 2 l) })
 
-  by_tests : (o : Object) → Bytes v → (p q : Bool) → is_one_of 0xDF01 tag ≡ p → is_one_of 0xDF11 tag ≡ q → meaning_of (number_of o) tag v ≡ some w → Row o tag v w
+  by_tests : (o : Object) → Bytes v → (p q : Bool) → is_one_of 0xDF01 tag ≡ p → is_one_of 0xDF11 tag ≡ q → meaning_of (number_of o) tag v ≡ Some w → Row o tag v w
   unfolding meaning_of
   by_tests accumulators g true q x y e = value_back x (simp (x) at e)
   by_tests accumulators g false true x y e = limits_back y (simp (x, y) at e)
@@ -138,5 +138,5 @@ module _ (tag : ℕ) (v : List ℕ) (w : Write) where
   by_tests counters g p true x y e = counts_back g y (simp (y) at e)
   by_tests counters g p false x y e = absurd (no_write w (simp (y) at e))
 
-  pub row_back : (o : Object) → Bytes v → meaning_of (number_of o) tag v ≡ some w → Row o tag v w
+  pub row_back : (o : Object) → Bytes v → meaning_of (number_of o) tag v ≡ Some w → Row o tag v w
   row_back o g e = by_tests o g (is_one_of 0xDF01 tag) (is_one_of 0xDF11 tag) refl refl e

@@ -1,7 +1,7 @@
 -- `proper-valid` and `from-proper`, computed for a few commands: what each writes, or that it fails. They follow from the two; said apart, they
 -- show of a card that reads commands otherwise that the statement itself is false of it. Assumes nothing.
+use Rattle.std.specs.Prelude.{Option, None, Some}
 use mathlib.Core.Path.{refl}
-use mathlib.Core.Option.{Option, none, some}
 use mathlib.Core.List.{List, [], ◌∷◌, ◌++◌}
 use mathlib.Core.Bool.{Bool, true, false, not, ◌&&◌}
 use Prim.Native.Nat.{ℕ, ◌+◌}
@@ -41,8 +41,8 @@ abbrev same_writes : List Write → List Write → Bool
 same_writes vs ws = same (all_numbers vs) (all_numbers ws)
 
 abbrev told : Option (List Write) → List Write → Bool
-told none ws = false
-told (some vs) ws = same_writes vs ws
+told None ws = false
+told (Some vs) ws = same_writes vs ws
 
 abbrev next_numbers : Next → List ℕ
 next_numbers (Element w end) = 1 ∷ end ∷ numbers w

@@ -1,7 +1,7 @@
 -- What is written of a proper command writes what its elements say. Assumes nothing.
+use Rattle.std.specs.Prelude.{Some}
 use mathlib.Core.Path.{◌≡◌, refl, ap, ap₂, ◌∙◌}
 use mathlib.Core.List.{List, ◌∷◌, ◌++◌}
-use mathlib.Core.Option.{some}
 use mathlib.Core.Bool.{true, ◌||◌}
 use Prim.Native.Nat.{ℕ, ◌+◌, ◌≤◌, ◌<◌}
 use native.Mathlib.Omega.{arith}
@@ -90,7 +90,7 @@ framed o lc f v mac h four l =
     }
 
 -- THEOREM: a command that is written of a proper one writes what its elements say, in order
-pub writes-there : (p : Command) → Proper p → writes_of (written p) ≡ some (list_writes p.list)
+pub writes-there : (p : Command) → Proper p → writes_of (written p) ≡ Some (list_writes p.list)
 unfolding written writes_of
 writes-there p h =
     let a = framed p.object (length (data_bytes p)) p.form (list_bytes p.list) p.mac h.fits h.four (omega arith) in

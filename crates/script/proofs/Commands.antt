@@ -1,8 +1,8 @@
 -- From command to command: what is still tried from a place of a template on. Assumes nothing.
+use Rattle.std.specs.Prelude.{Option, None, Some}
 use mathlib.Core.Path.{◌≡◌, refl, sym, ap, ap₂, ◌∙◌}
 use mathlib.Core.List.{List, [], map}
 use mathlib.Core.Bool.{Bool, true, false, ◌&&◌, not, cond}
-use mathlib.Core.Option.{Option, none, some}
 use Prim.Native.Nat.{ℕ, ◌+◌, ◌-◌}
 use native.Mathlib.Omega.{arith}
 use lib.ListN.{take, drop}
@@ -17,21 +17,21 @@ use Rattle.script.specs.Script.{has_failed_here, done, given, one_done, one_fail
 use Rattle.script.proofs.Writes.{Left, Alike, at_first, passed, at_last}
 
 -- ---- a command that is done, and one that fails
-some_of : (b : Bool) (ws : Option (List Write)) → is_some (cond b ws none) ≡ true → (is_some ws ≡ true) × (cond b ws none ≡ some (given ws))
-some_of true none h = let z : ◌≡◌ {A = ℕ} 0 1 = cc in absurd (omega arith)
-some_of true (some ws) h = (refl, refl)
+some_of : (b : Bool) (ws : Option (List Write)) → is_some (cond b ws None) ≡ true → (is_some ws ≡ true) × (cond b ws None ≡ Some (given ws))
+some_of true None h = let z : ◌≡◌ {A = ℕ} 0 1 = cc in absurd (omega arith)
+some_of true (Some ws) h = (refl, refl)
 some_of false ws h = let z : ◌≡◌ {A = ℕ} 0 1 = cc in absurd (omega arith)
 
-none_of : (ws : Option (List Write)) → is_some ws ≡ false → ws ≡ none
-none_of none h = refl
-none_of (some ws) h = let z : ◌≡◌ {A = ℕ} 0 1 = cc in absurd (omega arith)
+none_of : (ws : Option (List Write)) → is_some ws ≡ false → ws ≡ None
+none_of None h = refl
+none_of (Some ws) h = let z : ◌≡◌ {A = ℕ} 0 1 = cc in absurd (omega arith)
 
 module _ (verified : Bool) (scripts : Scripts) (c : List ℕ) where
-  pub done-some : is_some (done verified scripts c) ≡ true → (is_valid c ≡ true) × (done verified scripts c ≡ some (given (writes_of c)))
+  pub done-some : is_some (done verified scripts c) ≡ true → (is_valid c ≡ true) × (done verified scripts c ≡ Some (given (writes_of c)))
   unfolding done is_valid
   done-some h = some_of (verified && not (has_failed_here scripts)) (writes_of c) h
 
-  pub done_none : is_some (done verified scripts c) ≡ false → done verified scripts c ≡ none
+  pub done_none : is_some (done verified scripts c) ≡ false → done verified scripts c ≡ None
   done_none h = none_of (done verified scripts c) h
 
 -- ---- those from a place on

@@ -1,8 +1,8 @@
 -- Commands up to the first that fails: what they write, and what the card keeps of them. Assumes nothing.
+use Rattle.std.specs.Prelude.{Option, None, Some}
 use mathlib.Core.Path.{◌≡◌, refl, sym, ap, ◌∙◌}
 use mathlib.Core.List.{List, [], ◌∷◌, ◌++◌, flatten, append_assoc, append-nil}
 use mathlib.Core.Bool.{Bool, true, false, ◌&&◌, not, cond}
-use mathlib.Core.Option.{Option, none, some}
 use Prim.Native.Nat.{ℕ, suc, ◌+◌, ◌%◌, ◌<◌}
 use native.Mathlib.Nat.{mod-eq_of_lt, mod-add-mod, mod-lt, add-zero}
 use native.Mathlib.Omega.{arith}
@@ -20,19 +20,19 @@ module _ (scripts : Scripts) (c : List ℕ) where
   unfolding done
   does h = simp (h)
 
-  pub not_verified : done false scripts c ≡ none
+  pub not_verified : done false scripts c ≡ None
   unfolding done
   not_verified = refl
 
-  pub failed-before : (verified : Bool) → has_failed_here scripts ≡ true → done verified scripts c ≡ none
+  pub failed-before : (verified : Bool) → has_failed_here scripts ≡ true → done verified scripts c ≡ None
   unfolding done
   failed-before true h = simp (h)
   failed-before false h = refl
 
-  pub only_if : (verified : Bool) (ws : List Write) → done verified scripts c ≡ some ws → (verified ≡ true) × (has_failed_here scripts ≡ false) × (writes_of c ≡ some ws)
+  pub only_if : (verified : Bool) (ws : List Write) → done verified scripts c ≡ Some ws → (verified ≡ true) × (has_failed_here scripts ≡ false) × (writes_of c ≡ Some ws)
   unfolding done
   only_if verified ws e = by verified (has_failed_here scripts) e where
-    by : (v h : Bool) → cond (v && not h) (writes_of c) none ≡ some ws → (v ≡ true) × (h ≡ false) × (writes_of c ≡ some ws)
+    by : (v h : Bool) → cond (v && not h) (writes_of c) None ≡ Some ws → (v ≡ true) × (h ≡ false) × (writes_of c ≡ Some ws)
     by true false k = (refl, refl, k)
     by true true k = let z : ◌≡◌ {A = ℕ} 0 1 = cc in absurd (omega arith)
     by false h k = let z : ◌≡◌ {A = ℕ} 0 1 = cc in absurd (omega arith)
@@ -47,32 +47,32 @@ no_command verified scripts = refl
 
 -- the next one is done: its writes, and the rest; it fails: nothing but the flags
 module _ (verified : Bool) (scripts : Scripts) (c : List ℕ) (cs : List (List ℕ)) where
-  pub when_done : (ws : List Write) → done verified scripts c ≡ some ws → tried verified (c ∷ cs) scripts ≡ behind ws (tried verified cs (one_done scripts))
+  pub when_done : (ws : List Write) → done verified scripts c ≡ Some ws → tried verified (c ∷ cs) scripts ≡ behind ws (tried verified cs (one_done scripts))
   unfolding tried
   when_done ws e = ap (tried_next (tried verified cs) scripts) e
 
-  pub when_failed_lem : done verified scripts c ≡ none → tried verified (c ∷ cs) scripts ≡ nothing (one_failed scripts)
+  pub when_failed_lem : done verified scripts c ≡ None → tried verified (c ∷ cs) scripts ≡ nothing (one_failed scripts)
   unfolding tried
   when_failed_lem e = ap (tried_next (tried verified cs) scripts) e
 
 -- ---- THE FIRST THAT FAILS: so many valid commands, and what each of them writes
 pub data Valid : List (List ℕ) → List (List Write) → Type 0 where
   end : Valid [] []
-  next : {c : List ℕ} {ws : List Write} {cs : List (List ℕ)} {wss : List (List Write)} → writes_of c ≡ some ws → Valid cs wss → Valid (c ∷ cs) (ws ∷ wss)
+  next : {c : List ℕ} {ws : List Write} {cs : List (List ℕ)} {wss : List (List Write)} → writes_of c ≡ Some ws → Valid cs wss → Valid (c ∷ cs) (ws ∷ wss)
 
 -- all commands are valid, or so many and then one that is not
 pub data Parted : List (List ℕ) → Type 0 where
   all : {cs : List (List ℕ)} (wss : List (List Write)) → Valid cs wss → Parted cs
   until : {cs : List (List ℕ)} (front : List (List ℕ)) (wss : List (List Write)) (c : List ℕ) (rest : List (List ℕ))
-      → cs ≡ front ++ (c ∷ rest) → Valid front wss → writes_of c ≡ none → Parted cs
+      → cs ≡ front ++ (c ∷ rest) → Valid front wss → writes_of c ≡ None → Parted cs
 
 pub parted : (cs : List (List ℕ)) → Parted cs
 parted [] = all [] end
 parted (c ∷ cs) = by (writes_of c) refl (parted cs) where
   by : (ws : Option (List Write)) → writes_of c ≡ ws → Parted cs → Parted (c ∷ cs)
-  by none e p = until [] [] c cs refl end e
-  by (some ws) e (all wss v) = all (ws ∷ wss) (next e v)
-  by (some ws) e (until front wss d rest i v f) = until (c ∷ front) (ws ∷ wss) d rest (ap (λ l. c ∷ l) i) (next e v) f
+  by None e p = until [] [] c cs refl end e
+  by (Some ws) e (all wss v) = all (ws ∷ wss) (next e v)
+  by (Some ws) e (until front wss d rest i v f) = until (c ∷ front) (ws ∷ wss) d rest (ap (λ l. c ∷ l) i) (next e v) f
 
 -- n more are done
 unfoldable pub many_done : ℕ → Scripts → Scripts
@@ -131,7 +131,7 @@ module _ {front : List (List ℕ)} {wss : List (List Write)} (valid : Valid fron
       ∙ ap (λ ws. record { writes = ws; scripts = after }) (append-nil (flatten wss))
 
   -- one fails: what the others wrote stays, and whatever is behind it is not tried
-  pub first-fails : (c : List ℕ) (rest : List (List ℕ)) → writes_of c ≡ none
+  pub first-fails : (c : List ℕ) (rest : List (List ℕ)) → writes_of c ≡ None
       → tried true (front ++ (c ∷ rest)) scripts ≡ record { writes = flatten wss; scripts = one_failed (many_done (length wss) scripts) }
   first-fails c rest e =
       let before = many_done (length wss) scripts in
@@ -143,8 +143,8 @@ module _ {front : List (List ℕ)} {wss : List (List Write)} (valid : Valid fron
 -- the count stays below 16
 next-below : (rest : Scripts → Tried) → ((k : Scripts) → count_of k < 16 → count_of (rest k).scripts < 16) → (scripts : Scripts) → count_of scripts < 16
     → (ws : Option (List Write)) → count_of (tried_next rest scripts ws).scripts < 16
-next-below rest more scripts h (some ws) = more (one_done scripts) (done_below scripts)
-next-below rest more scripts h none = rw (failed-says scripts).count h
+next-below rest more scripts h (Some ws) = more (one_done scripts) (done_below scripts)
+next-below rest more scripts h None = rw (failed-says scripts).count h
 
 pub count-below : (verified : Bool) (cs : List (List ℕ)) (scripts : Scripts) → count_of scripts < 16 → count_of (tried verified cs scripts).scripts < 16
 unfolding tried

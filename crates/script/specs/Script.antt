@@ -1,7 +1,6 @@
 -- What the template of an issuer script does to a card (request Twelve; CPA 18.8 and 20): its commands are tried in order until one fails.
-use Rattle.std.specs.Prelude.{ℕ, Bool, ◌&&◌, not, cond}
+use Rattle.std.specs.Prelude.{ℕ, Bool, ◌&&◌, not, cond, Option, None, Some}
 use mathlib.Core.List.{List, [], ◌∷◌, ◌++◌, foldl}
-use Rattle.std.proofs.Math.Option.{Option, none, some}
 use Rattle.rules.specs.declared.Values.{Values}
 use Rattle.rules.specs.Rules.{Rules}
 use Rattle.cursor.specs.Cursor.{commands_of}
@@ -27,12 +26,12 @@ words_after words ws = foldl words_with words ws
 -- A COMMAND: what it writes where it is done; none where it fails, which it does too if the secure messaging result is not "verified", or if one
 -- has already failed since the last accepted Start
 unfoldable pub done : (verified : Bool) → Scripts → List ℕ → Option (List Write)
-done verified scripts command = cond (verified && not (has_failed_here scripts)) (writes_of command) none
+done verified scripts command = cond (verified && not (has_failed_here scripts)) (writes_of command) None
 
 -- the writes of one that does not fail
 abbrev pub given : Option (List Write) → List Write
-given none = []
-given (some ws) = ws
+given None = []
+given (Some ws) = ws
 
 -- THE COMMANDS in order until one fails, the rest not tried: what those done write, which stays, and what the card keeps of scripts
 pub record Tried : Type 0 where
@@ -44,8 +43,8 @@ behind ws t = record { writes = ws ++ t.writes; scripts = t.scripts }
 
 -- the next command, and the rest where it is done
 abbrev pub tried_next : (rest : Scripts → Tried) → Scripts → Option (List Write) → Tried
-tried_next rest scripts (some ws) = behind ws (rest (one_done scripts))
-tried_next rest scripts none = record { writes = []; scripts = one_failed scripts }
+tried_next rest scripts (Some ws) = behind ws (rest (one_done scripts))
+tried_next rest scripts None = record { writes = []; scripts = one_failed scripts }
 
 unfoldable pub tried : (verified : Bool) → List (List ℕ) → Scripts → Tried
 tried verified [] scripts = record { writes = []; scripts = scripts }

@@ -7,9 +7,9 @@ pub returns-in_default : goal.returns-in_default
 returns-in_default c = rw c.in_default.is (simp either)
 
 pub returns-then-version-lt-DATES : goal.returns-then-version-lt-DATES
-returns-then-version-lt-DATES c = rw (c.in-Ended.is, lt-ltb _ 4 c.if-version-lt-DATES.true)
+returns-then-version-lt-DATES c = rw (c.in-Some.is, lt-ltb _ 4 c.if-version-lt-DATES.true)
 
 pub returns : goal.returns
 returns c =
     let later = c in
-    rw (later.in-Ended.is, le-ltb _ 4 later.if-version-lt-DATES.false) c.read_dating.ensures
+    rw (later.in-Some.is, le-ltb _ 4 later.if-version-lt-DATES.false) c.read_dating.ensures

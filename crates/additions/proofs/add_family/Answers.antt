@@ -7,9 +7,9 @@ pub returns-in_default : goal.returns-in_default
 returns-in_default c = rw c.in_default.is (simp either)
 
 pub returns-then-version-lt-FAMILY : goal.returns-then-version-lt-FAMILY
-returns-then-version-lt-FAMILY c = rw (c.in-Ended.is, lt-ltb _ 5 c.if-version-lt-FAMILY.true)
+returns-then-version-lt-FAMILY c = rw (c.in-Some.is, lt-ltb _ 5 c.if-version-lt-FAMILY.true)
 
 pub returns : goal.returns
 returns c =
     let later = c in
-    rw (later.in-Ended.is, le-ltb _ 5 later.if-version-lt-FAMILY.false) c.read_family.ensures
+    rw (later.in-Some.is, le-ltb _ 5 later.if-version-lt-FAMILY.false) c.read_family.ensures

@@ -7,9 +7,9 @@ pub returns-in_default : goal.returns-in_default
 returns-in_default c = rw c.in_default.is (simp either)
 
 pub returns-then-version-lt-LOG : goal.returns-then-version-lt-LOG
-returns-then-version-lt-LOG c = rw (c.in-Ended.is, lt-ltb _ 7 c.if-version-lt-LOG.true)
+returns-then-version-lt-LOG c = rw (c.in-Some.is, lt-ltb _ 7 c.if-version-lt-LOG.true)
 
 pub returns : goal.returns
 returns c =
     let later = c in
-    rw (later.in-Ended.is, le-ltb _ 7 later.if-version-lt-LOG.false) c.read_logging.ensures
+    rw (later.in-Some.is, le-ltb _ 7 later.if-version-lt-LOG.false) c.read_logging.ensures

@@ -7,9 +7,9 @@ pub returns-in_default : goal.returns-in_default
 returns-in_default c = rw c.in_default.is (simp either)
 
 pub returns-then-version-lt-SCRIPTS : goal.returns-then-version-lt-SCRIPTS
-returns-then-version-lt-SCRIPTS c = rw (c.in-Ended.is, lt-ltb _ 6 c.if-version-lt-SCRIPTS.true)
+returns-then-version-lt-SCRIPTS c = rw (c.in-Some.is, lt-ltb _ 6 c.if-version-lt-SCRIPTS.true)
 
 pub returns : goal.returns
 returns c =
     let later = c in
-    rw (later.in-Ended.is, le-ltb _ 6 later.if-version-lt-SCRIPTS.false) c.read_scripting.ensures
+    rw (later.in-Some.is, le-ltb _ 6 later.if-version-lt-SCRIPTS.false) c.read_scripting.ensures

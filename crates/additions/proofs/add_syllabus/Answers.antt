@@ -7,9 +7,9 @@ pub returns-in_default : goal.returns-in_default
 returns-in_default c = rw c.in_default.is (simp either)
 
 pub returns-then-version-lt-SYLLABUS : goal.returns-then-version-lt-SYLLABUS
-returns-then-version-lt-SYLLABUS c = rw (c.in-Ended.is, lt-ltb _ 3 c.if-version-lt-SYLLABUS.true)
+returns-then-version-lt-SYLLABUS c = rw (c.in-Some.is, lt-ltb _ 3 c.if-version-lt-SYLLABUS.true)
 
 pub returns : goal.returns
 returns c =
     let later = c in
-    rw (later.in-Ended.is, le-ltb _ 3 later.if-version-lt-SYLLABUS.false) c.read_syllabus.ensures
+    rw (later.in-Some.is, le-ltb _ 3 later.if-version-lt-SYLLABUS.false) c.read_syllabus.ensures

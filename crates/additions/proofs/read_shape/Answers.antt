@@ -12,10 +12,10 @@ pub returns-then-at-body : goal.returns-then-at-body
 unfolding shape_of
 returns-then-at-body c =
     let shape = c in
-    rw (sym shape.read_tails.ensures ∙ shape.in-Ended.is, eq-eqb _ _ c.if-at-body.true)
+    rw (sym shape.read_tails.ensures ∙ shape.in-Some.is, eq-eqb _ _ c.if-at-body.true)
 
 pub returns : goal.returns
 unfolding shape_of
 returns c =
     let shape = c in
-    rw (sym shape.read_tails.ensures ∙ shape.in-Ended.is, ne_eqb _ _ c.if-at-body.false)
+    rw (sym shape.read_tails.ensures ∙ shape.in-Some.is, ne_eqb _ _ c.if-at-body.false)

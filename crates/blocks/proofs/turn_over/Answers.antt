@@ -1,8 +1,8 @@
 use borrow.Author.Rules.{rules}
 use Rattle.blocks.proofs.turn_over.Goals as goal
 
-pub returns-in-Whole : goal.returns-in-Whole
-returns-in-Whole c = rw c.in-Whole.is
+pub returns-in-Some : goal.returns-in-Some
+returns-in-Some c = rw c.in-Some.is
 
-pub returns-in-NoRoom : goal.returns-in-NoRoom
-returns-in-NoRoom c = rw c.in-NoRoom.is
+pub returns-in-None : goal.returns-in-None
+returns-in-None c = rw c.in-None.is

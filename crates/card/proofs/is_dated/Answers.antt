@@ -1,8 +1,8 @@
 use borrow.Author.Rules.{rules}
 use Rattle.card.proofs.is_dated.Goals as goal
 
-pub returns-in-Undated : goal.returns-in-Undated
-returns-in-Undated c = simp c.in-Undated.is
+pub returns-in-None : goal.returns-in-None
+returns-in-None c = simp c.in-None.is
 
-pub returns-in-On : goal.returns-in-On
-returns-in-On c = simp (c.in-On.is, c.is_day.ensures)
+pub returns-in-Some : goal.returns-in-Some
+returns-in-Some c = simp (c.in-Some.is, c.is_day.ensures)

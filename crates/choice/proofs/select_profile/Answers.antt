@@ -6,12 +6,12 @@ use Rattle.choice.proofs.select_profile.Goals as goal
 pub returns-then-start-end : goal.returns-then-start-end
 returns-then-start-end c =
     let tested = c in
-    simp (tested.in-On.is, tested.if-start-end.true, c.select.ensures)
+    simp (tested.in-Some.is, tested.if-start-end.true, c.select.ensures)
 
-pub returns-in-Off : goal.returns-in-Off
-returns-in-Off c = simp c.in-Off.is
+pub returns-in-None : goal.returns-in-None
+returns-in-None c = simp c.in-None.is
 
 pub returns-else-start-end : goal.returns-else-start-end
 returns-else-start-end c =
     let tested = c in
-    simp (tested.in-On.is, tested.if-start-end.false, c.select-in-On.ensures)
+    simp (tested.in-Some.is, tested.if-start-end.false, c.select-in-Some.ensures)

@@ -71,64 +71,64 @@ returns-in_default c =
 pub overflow_add-at-then-is_constructed : goal.overflow_add-at-then-is_constructed
 overflow_add-at-then-is_constructed c =
     let o =
-    object c.args.template.now c.args.from c.loop-at.at c.byte_at-tag.result c.in-Right.size c.in-Right.length c.read_head.result
-    c.loop-at.invariant c.loop-at-test.true c.byte_at-tag.ensures c.if-tag-eq0.false c.read_head.ensures c.in-Right.is in
+    object c.args.template.now c.args.from c.loop-at.at c.byte_at-tag.result c.in-Some.size c.in-Some.length c.read_head.result
+    c.loop-at.invariant c.loop-at-test.true c.byte_at-tag.ensures c.if-tag-eq0.false c.read_head.ensures c.in-Some.is in
     omega (arith, o.place.within)
 
 pub loop-at-smaller-then-is_constructed : goal.loop-at-smaller-then-is_constructed
 loop-at-smaller-then-is_constructed c =
     let o =
-    object c.args.template.now c.args.from c.loop-at.at c.byte_at-tag.result c.in-Right.size c.in-Right.length c.read_head.result
-    c.loop-at.invariant c.loop-at-test.true c.byte_at-tag.ensures c.if-tag-eq0.false c.read_head.ensures c.in-Right.is in
+    object c.args.template.now c.args.from c.loop-at.at c.byte_at-tag.result c.in-Some.size c.in-Some.length c.read_head.result
+    c.loop-at.invariant c.loop-at-test.true c.byte_at-tag.ensures c.if-tag-eq0.false c.read_head.ensures c.in-Some.is in
     omega (arith, o.there, o.place.some, o.place.within)
 
 pub loop-at-preserved-then-is_constructed : goal.loop-at-preserved-then-is_constructed
 loop-at-preserved-then-is_constructed c =
     let o =
-    object c.args.template.now c.args.from c.loop-at.at c.byte_at-tag.result c.in-Right.size c.in-Right.length c.read_head.result
-    c.loop-at.invariant c.loop-at-test.true c.byte_at-tag.ensures c.if-tag-eq0.false c.read_head.ensures c.in-Right.is in
+    object c.args.template.now c.args.from c.loop-at.at c.byte_at-tag.result c.in-Some.size c.in-Some.length c.read_head.result
+    c.loop-at.invariant c.loop-at-test.true c.byte_at-tag.ensures c.if-tag-eq0.false c.read_head.ensures c.in-Some.is in
     past_head o (sym c.is_constructed.ensures ∙ c.if-is_constructed.true)
 
 pub overflow_add-result : goal.overflow_add-result
 overflow_add-result c =
     let o =
-    object c.args.template.now c.args.from c.loop-at.at c.byte_at-tag.result c.in-Right.size c.in-Right.length c.read_head.result
-    c.loop-at.invariant c.loop-at-test.true c.byte_at-tag.ensures c.if-tag-eq0.false c.read_head.ensures c.in-Right.is in
+    object c.args.template.now c.args.from c.loop-at.at c.byte_at-tag.result c.in-Some.size c.in-Some.length c.read_head.result
+    c.loop-at.invariant c.loop-at-test.true c.byte_at-tag.ensures c.if-tag-eq0.false c.read_head.ensures c.in-Some.is in
     omega (arith, o.place.within)
 
 pub returns-then-tag : goal.returns-then-tag
 returns-then-tag c =
     let o =
-    object c.args.template.now c.args.from c.loop-at.at c.byte_at-tag.result c.in-Right.size c.in-Right.length c.read_head.result
-    c.loop-at.invariant c.loop-at-test.true c.byte_at-tag.ensures c.if-tag-eq0.false c.read_head.ensures c.in-Right.is in
+    object c.args.template.now c.args.from c.loop-at.at c.byte_at-tag.result c.in-Some.size c.in-Some.length c.read_head.result
+    c.loop-at.invariant c.loop-at-test.true c.byte_at-tag.ensures c.if-tag-eq0.false c.read_head.ensures c.in-Some.is in
     sym (to-command o c.if-tag.true)
 
 pub overflow_add-at-in-loop-at : goal.overflow_add-at-in-loop-at
 overflow_add-at-in-loop-at c =
     let o =
-    object c.args.template.now c.args.from c.loop-at.at c.byte_at-tag.result c.in-Right.size c.in-Right.length c.read_head.result
-    c.loop-at.invariant c.loop-at-test.true c.byte_at-tag.ensures c.if-tag-eq0.false c.read_head.ensures c.in-Right.is in
+    object c.args.template.now c.args.from c.loop-at.at c.byte_at-tag.result c.in-Some.size c.in-Some.length c.read_head.result
+    c.loop-at.invariant c.loop-at-test.true c.byte_at-tag.ensures c.if-tag-eq0.false c.read_head.ensures c.in-Some.is in
     omega (arith, o.place.within)
 
 pub overflow_add-at-in-loop-at-2 : goal.overflow_add-at-in-loop-at-2
 overflow_add-at-in-loop-at-2 c =
     let o =
-    object c.args.template.now c.args.from c.loop-at.at c.byte_at-tag.result c.in-Right.size c.in-Right.length c.read_head.result
-    c.loop-at.invariant c.loop-at-test.true c.byte_at-tag.ensures c.if-tag-eq0.false c.read_head.ensures c.in-Right.is in
+    object c.args.template.now c.args.from c.loop-at.at c.byte_at-tag.result c.in-Some.size c.in-Some.length c.read_head.result
+    c.loop-at.invariant c.loop-at-test.true c.byte_at-tag.ensures c.if-tag-eq0.false c.read_head.ensures c.in-Some.is in
     omega (arith, o.place.within)
 
 pub loop-at-smaller : goal.loop-at-smaller
 loop-at-smaller c =
     let o =
-    object c.args.template.now c.args.from c.loop-at.at c.byte_at-tag.result c.in-Right.size c.in-Right.length c.read_head.result
-    c.loop-at.invariant c.loop-at-test.true c.byte_at-tag.ensures c.if-tag-eq0.false c.read_head.ensures c.in-Right.is in
+    object c.args.template.now c.args.from c.loop-at.at c.byte_at-tag.result c.in-Some.size c.in-Some.length c.read_head.result
+    c.loop-at.invariant c.loop-at-test.true c.byte_at-tag.ensures c.if-tag-eq0.false c.read_head.ensures c.in-Some.is in
     omega (arith, o.there, o.place.some, o.place.within)
 
 pub loop-at-preserved : goal.loop-at-preserved
 loop-at-preserved c =
     let o =
-    object c.args.template.now c.args.from c.loop-at.at c.byte_at-tag.result c.in-Right.size c.in-Right.length c.read_head.result
-    c.loop-at.invariant c.loop-at-test.true c.byte_at-tag.ensures c.if-tag-eq0.false c.read_head.ensures c.in-Right.is in
+    object c.args.template.now c.args.from c.loop-at.at c.byte_at-tag.result c.in-Some.size c.in-Some.length c.read_head.result
+    c.loop-at.invariant c.loop-at-test.true c.byte_at-tag.ensures c.if-tag-eq0.false c.read_head.ensures c.in-Some.is in
     past-object o (sym c.is_constructed.ensures ∙ c.if-is_constructed.false) c.if-tag.false
 
 pub returns : goal.returns

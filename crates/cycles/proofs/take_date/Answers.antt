@@ -11,11 +11,11 @@ unfolding dated
 returns-then-is_before c =
     let asked = c in
     let told = asked in
-    simp (told.in-On.is, ← asked.is_before.ensures, c.if-is_before.true)
+    simp (told.in-Some.is, ← asked.is_before.ensures, c.if-is_before.true)
 
 pub returns : goal.returns
 unfolding dated
 returns c =
     let asked = c in
     let told = asked in
-    simp (told.in-On.is, ← asked.is_before.ensures, c.if-is_before.false, c.advance.ensures)
+    simp (told.in-Some.is, ← asked.is_before.ensures, c.if-is_before.false, c.advance.ensures)

@@ -10,10 +10,10 @@ pub returns-then-is_before : goal.returns-then-is_before
 unfolding timing_of
 returns-then-is_before c =
     let told = c in
-    simp (told.in-On.is, ← c.is_before.ensures, c.if-is_before.true)
+    simp (told.in-Some.is, ← c.is_before.ensures, c.if-is_before.true)
 
 pub returns : goal.returns
 unfolding timing_of
 returns c =
     let told = c in
-    simp (told.in-On.is, ← c.is_before.ensures, c.if-is_before.false)
+    simp (told.in-Some.is, ← c.is_before.ensures, c.if-is_before.false)

@@ -14,15 +14,15 @@ pub returns-then-room-lt-NEW_LENGTH : goal.returns-then-room-lt-NEW_LENGTH
 unfolding import_record imported
 returns-then-room-lt-NEW_LENGTH c =
     let right = eq-eqb _ _ c.if-old-ne-OLD_LENGTH.false in
-    let is = sym (c.take_over-taken.ensures ∙ ap take_over c.old_record.ensures) ∙ c.in-Record.is in
+    let is = sym (c.take_over-taken.ensures ∙ ap take_over c.old_record.ensures) ∙ c.in-Ok.is in
     let small = lt-ltb _ _ c.if-room-lt-NEW_LENGTH.true in
     (simp (right, is, small), simp (right, is, small))
 
-pub returns-in-Refused : goal.returns-in-Refused
+pub returns-in-Err : goal.returns-in-Err
 unfolding import_record imported
-returns-in-Refused c =
+returns-in-Err c =
     let right = eq-eqb _ _ c.if-old-ne-OLD_LENGTH.false in
-    let is = sym (c.take_over-taken.ensures ∙ ap take_over c.old_record.ensures) ∙ c.in-Refused.is in
+    let is = sym (c.take_over-taken.ensures ∙ ap take_over c.old_record.ensures) ∙ c.in-Err.is in
     (simp (right, is), simp (right, is))
 
 pub copy_from_slice-requires : goal.copy_from_slice-requires
@@ -34,7 +34,7 @@ pub returns-else-room-lt-NEW_LENGTH : goal.returns-else-room-lt-NEW_LENGTH
 unfolding import_record imported new_bytes bytes_of
 returns-else-room-lt-NEW_LENGTH c =
     let right = eq-eqb _ _ c.if-old-ne-OLD_LENGTH.false in
-    let is = sym (c.take_over-taken.ensures ∙ ap take_over c.old_record.ensures) ∙ c.in-Record.is in
+    let is = sym (c.take_over-taken.ensures ∙ ap take_over c.old_record.ensures) ∙ c.in-Ok.is in
     let large = le-ltb _ _ c.if-room-lt-NEW_LENGTH.false in
     let bytes = c.copy_from_slice.ensures.after ∙ c.encode-bytes.ensures in
     (simp (right, is, large), simp (right, is, large, bytes))

@@ -7,14 +7,14 @@ pub returns-then-not-are_currencies : goal.returns-then-not-are_currencies
 unfolding take_over
 returns-then-not-are_currencies c = simp (sym c.are_currencies.ensures ∙ c.if-not-are_currencies.true)
 
-pub returns-in-Pair : goal.returns-in-Pair
+pub returns-in-Some : goal.returns-in-Some
 unfolding take_over
-returns-in-Pair c =
+returns-in-Some c =
     let codes = sym c.are_currencies.ensures ∙ c.if-not-are_currencies.false in
-    simp (codes, sym c.rate_of-found.ensures ∙ c.in-Pair.is, c.with_mta.ensures)
+    simp (codes, sym c.rate_of-found.ensures ∙ c.in-Some.is, c.with_mta.ensures)
 
-pub returns-in-NoPair : goal.returns-in-NoPair
+pub returns-in-None : goal.returns-in-None
 unfolding take_over
-returns-in-NoPair c =
+returns-in-None c =
     let codes = sym c.are_currencies.ensures ∙ c.if-not-are_currencies.false in
-    simp (codes, sym c.rate_of-found.ensures ∙ c.in-NoPair.is)
+    simp (codes, sym c.rate_of-found.ensures ∙ c.in-None.is)

@@ -20,4 +20,4 @@ returns c =
     let a = read.args in
     let paper = a.paper.now in
     let rest = take_all (length paper - a.at) (drop a.at paper) (omega (arith, length-drop a.at paper)) in
-    rw (← read.reply_in.ensures, ← rest) (simp met.in-Given.is (simp heard.heard.ensures at c.watch.ensures))
+    rw (← read.reply_in.ensures, ← rest) (simp met.in-Some.is (simp heard.heard.ensures at c.watch.ensures))

@@ -2,7 +2,7 @@ use mathlib.Core.Path.{ap₂, ◌∙◌}
 use native.Mathlib.Omega.{arith}
 use lib.ListN.{length}
 use borrow.Author.Rules.{rules}
-use Rattle.element.specs.Element.{as_meaning, meaning_of, element_size, element_meaning}
+use Rattle.element.specs.Element.{meaning_of, element_size, element_meaning}
 use Rattle.element.proofs.Laws.{and_fits, part}
 use Rattle.meaning.proofs.element_meaning.Goals as goal
 
@@ -31,7 +31,7 @@ returns-then-is_length-size c =
     let size = sized.element_size-size.ensures.0 in
     simp (rw (tested.is_length.ensures, tested.byte_at.ensures, size) at head.if-is_length-size.true)
     (c.meaning_of.ensures
-    ∙ ap₂ (λ t v. as_meaning (meaning_of a.object t v))
+    ∙ ap₂ (λ t v. meaning_of a.object t v)
     c.u16_at.ensures
     (part a.list.now _ _ _ _ head.head_size-head.ensures.0 size))
 

@@ -50,7 +50,7 @@ returns-in_default c =
 
 pub overflow_add-size : goal.overflow_add-size
 overflow_add-size c =
-    let r = rooted c.byte_at-tag.ensures c.if-tag.false c.read_head.ensures c.in-Right.is in
+    let r = rooted c.byte_at-tag.ensures c.if-tag.false c.read_head.ensures c.in-Some.is in
     let i = r.head in
     omega (arith, i.size, i.value, right_fits _ i.right)
 
@@ -58,7 +58,7 @@ pub returns-then-size-length : goal.returns-then-size-length
 unfolding is_template
 returns-then-size-length c =
     let s = c.args.template.now in
-    let r = rooted c.byte_at-tag.ensures c.if-tag.false c.read_head.ensures c.in-Right.is in
+    let r = rooted c.byte_at-tag.ensures c.if-tag.false c.read_head.ensures c.in-Some.is in
     let n = ap₂ ◌+◌ r.head.size r.head.value in
     refused s (simp (r.is-root, r.head.right, ne_eqb (object_size s) (length s) (λ z. c.if-size-length.true (n ∙ z))))
 
@@ -66,7 +66,7 @@ pub returns : goal.returns
 unfolding is_template read_template value_of
 returns c =
     let s = c.args.template.now in
-    let r = rooted c.byte_at-tag.ensures c.if-tag.false c.read_head.ensures c.in-Right.is in
+    let r = rooted c.byte_at-tag.ensures c.if-tag.false c.read_head.ensures c.in-Some.is in
     let m = r.head.size in
     let n = r.head.value in
     let e = c.if-size-length.false in

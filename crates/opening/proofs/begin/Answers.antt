@@ -8,39 +8,39 @@ use Rattle.opening.proofs.begin.Goals as goal
 pub slice_bounds-take_setup-count : goal.slice_bounds-take_setup-count
 slice_bounds-take_setup-count c =
     let read = c in
-    (setup-inside read.args.paper.now _ _ _ (sym read.open_paper.ensures ∙ c.in-Setup.is)).0
+    (setup-inside read.args.paper.now _ _ _ (sym read.open_paper.ensures ∙ c.in-Ok.is)).0
 
 pub slice_bounds-take_setup-start : goal.slice_bounds-take_setup-start
 slice_bounds-take_setup-start c =
     let read = c in
-    (setup-inside read.args.paper.now _ _ _ (sym read.open_paper.ensures ∙ c.in-Setup.is)).0
+    (setup-inside read.args.paper.now _ _ _ (sym read.open_paper.ensures ∙ c.in-Ok.is)).0
 
 pub slice_bounds-take_setup-end : goal.slice_bounds-take_setup-end
 slice_bounds-take_setup-end c =
     let read = c in
-    (setup-inside read.args.paper.now _ _ _ (sym read.open_paper.ensures ∙ c.in-Setup.is)).1
+    (setup-inside read.args.paper.now _ _ _ (sym read.open_paper.ensures ∙ c.in-Ok.is)).1
 
 pub take_setup-requires : goal.take_setup-requires
 take_setup-requires c =
     let version = c in
     let read = version in
     let s = read.args.paper.now in
-    let lies = setup-inside s _ _ _ (sym read.open_paper.ensures ∙ version.in-Setup.is) in
+    let lies = setup-inside s _ _ _ (sym read.open_paper.ensures ∙ version.in-Ok.is) in
     let size = part_length s _ _ lies.0 lies.1 in
     omega (arith, lies.0, lies.1)
 
-pub returns-in-Refused : goal.returns-in-Refused
+pub returns-in-Err : goal.returns-in-Err
 unfolding begun_of words_begun
-returns-in-Refused c =
+returns-in-Err c =
     let refusal = c in
-    let opened = sym refusal.open_paper.ensures ∙ refusal.in-Refused.is in
+    let opened = sym refusal.open_paper.ensures ∙ refusal.in-Err.is in
     (simp (opened, c.refuse.ensures), simp opened)
 
-pub returns-in-Setup : goal.returns-in-Setup
+pub returns-in-Ok : goal.returns-in-Ok
 unfolding begun_of words_begun
-returns-in-Setup c =
+returns-in-Ok c =
     let part = c in
     let version = part in
-    let opened = sym version.open_paper.ensures ∙ version.in-Setup.is in
+    let opened = sym version.open_paper.ensures ∙ version.in-Ok.is in
     let taken = c.take_setup.ensures in
     (simp (opened, taken.0), simp (opened, taken.1))

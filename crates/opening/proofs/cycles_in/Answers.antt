@@ -4,20 +4,20 @@ use Rattle.opening.proofs.cycles_in.Goals as goal
 pub slice_bounds-result-count : goal.slice_bounds-result-count
 slice_bounds-result-count c =
     let start = c in
-    (rw c.in-On.is at start.requires).0
+    (rw c.in-Some.is at start.requires).0
 
 pub slice_bounds-result-start : goal.slice_bounds-result-start
 slice_bounds-result-start c =
     let start = c in
-    (rw c.in-On.is at start.requires).0
+    (rw c.in-Some.is at start.requires).0
 
-pub slice_bounds-result-end-in-On : goal.slice_bounds-result-end-in-On
-slice_bounds-result-end-in-On c =
+pub slice_bounds-result-end-in-Some : goal.slice_bounds-result-end-in-Some
+slice_bounds-result-end-in-Some c =
     let start = c in
-    (rw c.in-On.is at start.requires).1
+    (rw c.in-Some.is at start.requires).1
 
-pub returns-in-Off : goal.returns-in-Off
-returns-in-Off c = simp c.in-Off.is
+pub returns-in-None : goal.returns-in-None
+returns-in-None c = simp c.in-None.is
 
-pub returns-in-On : goal.returns-in-On
-returns-in-On c = simp c.in-On.is
+pub returns-in-Some : goal.returns-in-Some
+returns-in-Some c = simp c.in-Some.is

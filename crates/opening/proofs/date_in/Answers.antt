@@ -5,17 +5,17 @@ use Rattle.opening.proofs.date_in.Goals as goal
 pub overflow_add-result : goal.overflow_add-result
 overflow_add-result c =
     let pre = c.requires in
-    let tail = rw c.in-On.is at pre.0 in
+    let tail = rw c.in-Some.is at pre.0 in
     omega (arith, tail.0, tail.1, pre.1)
 
-pub overflow_add-result-in-On : goal.overflow_add-result-in-On
-overflow_add-result-in-On c =
+pub overflow_add-result-in-Some : goal.overflow_add-result-in-Some
+overflow_add-result-in-Some c =
     let pre = c.requires in
-    let tail = rw c.in-On.is at pre.0 in
+    let tail = rw c.in-Some.is at pre.0 in
     omega (arith, tail.0, tail.1, pre.1)
 
-pub returns-in-Off : goal.returns-in-Off
-returns-in-Off c = simp c.in-Off.is
+pub returns-in-None : goal.returns-in-None
+returns-in-None c = simp c.in-None.is
 
-pub returns-in-On : goal.returns-in-On
-returns-in-On c = simp c.in-On.is
+pub returns-in-Some : goal.returns-in-Some
+returns-in-Some c = simp c.in-Some.is

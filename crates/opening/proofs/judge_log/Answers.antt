@@ -10,17 +10,17 @@ pub slice_bounds-judge-count : goal.slice_bounds-judge-count
 slice_bounds-judge-count c =
     let told = c in
     let start = told in
-    (rw told.in-On.is at start.requires).0
+    (rw told.in-Some.is at start.requires).0
 
 pub slice_bounds-judge-end : goal.slice_bounds-judge-end
 slice_bounds-judge-end c =
     let told = c in
     let start = told in
-    (rw told.in-On.is at start.requires).1
+    (rw told.in-Some.is at start.requires).1
 
 pub returns : goal.returns
 unfolding log_judged
 returns c =
     let first = c in
     let told = first in
-    simp (c.judge.ensures, c.byte_at.ensures, first.first_length-first.ensures, told.in-On.is)
+    simp (c.judge.ensures, c.byte_at.ensures, first.first_length-first.ensures, told.in-Some.is)

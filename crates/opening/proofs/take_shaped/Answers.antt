@@ -31,18 +31,18 @@ slice_bounds-refuse_log-end c =
     let start = place in
     sym (length-take-le _ start.args.body.now start.requires.0.base)
 
-pub returns-in-Wrong : goal.returns-in-Wrong
-returns-in-Wrong c =
+pub returns-in-Err : goal.returns-in-Err
+returns-in-Err c =
     let told = c in
-    let wrong = sym told.judge_log.ensures ∙ told.in-Wrong.is in
+    let wrong = sym told.judge_log.ensures ∙ told.in-Err.is in
     (simp (wrong, c.refuse.ensures), simp wrong)
 
-pub returns-in-PastData : goal.returns-in-PastData
-returns-in-PastData c =
+pub returns-in-Err : goal.returns-in-Err
+returns-in-Err c =
     let told = c in
     let judge = told in
     let controls = judge in
-    let past = sym judge.judge_log.ensures ∙ told.in-PastData.is in
+    let past = sym judge.judge_log.ensures ∙ told.in-Err.is in
     let dates = controls.cycles_in-cycles.ensures in
     let family = controls.controls_in-controls.ensures in
     (simp (past, c.refuse_log.ensures, dates, family), simp past)

@@ -14,15 +14,15 @@ pub bounds-room-end : goal.bounds-room-end
 bounds-room-end c =
     let a = c.args in
     let e = c.put_text.ensures in
-    rw e.1 (page a.words.now a.paper.now a.room.now a.at _ (sym e.0 ∙ c.in-Whole.is)
-    (ends_in a.at _ _ _ e.3 c.in-Whole.is)).0
+    rw e.1 (page a.words.now a.paper.now a.room.now a.at _ (sym e.0 ∙ c.in-Some.is)
+    (ends_in a.at _ _ _ e.3 c.in-Some.is)).0
 
 pub overflow_add-result : goal.overflow_add-result
 overflow_add-result c =
     let a = c.args in
     let e = c.put_text.ensures in
-    let p = page a.words.now a.paper.now a.room.now a.at _ (sym e.0 ∙ c.in-Whole.is)
-    (ends_in a.at _ _ _ e.3 c.in-Whole.is) in
+    let p = page a.words.now a.paper.now a.room.now a.at _ (sym e.0 ∙ c.in-Some.is)
+    (ends_in a.at _ _ _ e.3 c.in-Some.is) in
     omega (arith, p.3, c.well_formed)
 
 pub shape_of-room : goal.shape_of-room
@@ -34,6 +34,6 @@ pub returns : goal.returns
 returns c =
     let a = c.args in
     let e = c.put_text.ensures in
-    let p = page a.words.now a.paper.now a.room.now a.at _ (sym e.0 ∙ c.in-Whole.is)
-    (ends_in a.at _ _ _ e.3 c.in-Whole.is) in
+    let p = page a.words.now a.paper.now a.room.now a.at _ (sym e.0 ∙ c.in-Some.is)
+    (ends_in a.at _ _ _ e.3 c.in-Some.is) in
     (p.1, rw e.1 p.2, e.2)

@@ -2,15 +2,15 @@ use borrow.Author.Rules.{rules}
 use Rattle.paper_log.specs.Log.{log_of}
 use Rattle.paper_log.proofs.log_of.Goals as goal
 
-pub returns-in-Off : goal.returns-in-Off
+pub returns-in-None : goal.returns-in-None
 unfolding log_of
-returns-in-Off c =
+returns-in-None c =
     let none = c in
-    simp (none.in-Off.is, c.form_of.ensures, none.no_logging.ensures)
+    simp (none.in-None.is, c.form_of.ensures, none.no_logging.ensures)
 
-pub returns-in-On : goal.returns-in-On
+pub returns-in-Some : goal.returns-in-Some
 unfolding log_of
-returns-in-On c =
+returns-in-Some c =
     let what = c in
     let tail = what in
-    simp (tail.in-On.is, c.form_of-in-On.ensures, what.logging_in.ensures, tail.tail_at.ensures.0)
+    simp (tail.in-Some.is, c.form_of-in-Some.ensures, what.logging_in.ensures, tail.tail_at.ensures.0)

@@ -55,7 +55,7 @@ returns c =
     let a = until-a.args in
     let fits = sym asked.has_room.ensures ∙ asked.if-not-has_room.false in
     let lines = lines-put a.words.now a.paper.now a.room.now a.at fits in
-    let whole = sym (put.transcribe.ensures.0 ∙ lines.0) ∙ told.in-Whole.is in
+    let whole = sym (put.transcribe.ensures.0 ∙ lines.0) ∙ told.in-Some.is in
     let e = log.put_log.ensures in
     let text =
     log-put a.words.now a.paper.now a.room.now a.at fits (sym (same_end _ _ whole)) (put.transcribe.ensures.1 ∙ lines.1) e.0 e.1 e.2 in

@@ -5,18 +5,18 @@ use Rattle.element.proofs.Laws.{meant, fails}
 use Rattle.put_data.proofs.Laws.{rest_all}
 use Rattle.put_data.proofs.element_at.Goals as goal
 
-pub returns-in-Writes : goal.returns-in-Writes
-returns-in-Writes c =
+pub returns-in-Some : goal.returns-in-Some
+returns-in-Some c =
     let arm = c in
     let made = arm in
     let a = made.args in
     let all = rest_all a.list.now a.at in
-    let write = meant (element_meaning a.object _) _ (sym made.element_meaning.ensures ∙ arm.in-Writes.is) in
+    let write = meant (element_meaning a.object _) _ (sym made.element_meaning.ensures ∙ arm.in-Some.is) in
     simp (rw all at write, c.element_size.ensures.0, all)
 
-pub returns-in-Fails : goal.returns-in-Fails
-returns-in-Fails c =
+pub returns-in-None : goal.returns-in-None
+returns-in-None c =
     let made = c in
     let a = made.args in
     let all = rest_all a.list.now a.at in
-    simp (rw all at (fails (element_meaning a.object _) (sym made.element_meaning.ensures ∙ c.in-Fails.is)))
+    simp (rw all at (fails (element_meaning a.object _) (sym made.element_meaning.ensures ∙ c.in-None.is)))

@@ -15,7 +15,7 @@ returns-in_default c =
 pub returns-then-n-lt256 : goal.returns-then-n-lt256
 unfolding Told
 returns-then-n-lt256 c =
-    let is = sym c.number_in.ensures ∙ c.in-Is.is in
+    let is = sym c.number_in.ensures ∙ c.in-Some.is in
     λ fine.
     let (says, said) = named-is _ fine _ _ is c.if-n-lt256.true in
     (says, rw said c.put_byte.ensures)
@@ -23,5 +23,5 @@ returns-then-n-lt256 c =
 pub returns : goal.returns
 unfolding Told
 returns c =
-    let is = sym c.number_in.ensures ∙ c.in-Is.is in
+    let is = sym c.number_in.ensures ∙ c.in-Some.is in
     λ fine. (named-over _ fine _ _ is c.if-n-lt256.false, search rules)

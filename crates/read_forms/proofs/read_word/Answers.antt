@@ -34,5 +34,5 @@ returns c =
     let here = c.next_word-word.ensures in
     let there = a_word text a.at (ap (ends_line text) (sym here) ∙ sym c.ends_line.ensures ∙ c.if-ends_line.false) in
     λ fine want.
-    let said = rw (c.in-To.is, c.word_at.ensures, here) at (c.read_part.ensures fine) in
+    let said = rw (c.in-Some.is, c.word_at.ensures, here) at (c.read_part.ensures fine) in
     rw (c.word_end.ensures ∙ ap (word_end text) here) (word_read _ text a.at _ there said.0 said.1)

@@ -14,11 +14,11 @@ pub returns-then-fits_bytes : goal.returns-then-fits_bytes
 unfolding Told
 returns-then-fits_bytes c =
     let a = c.args in
-    let is = sym c.number_in.ensures ∙ c.in-Is.is in
+    let is = sym c.number_in.ensures ∙ c.in-Some.is in
     (count-is a.word.now a.count _ is ∙ sym c.fits_bytes.ensures ∙ c.if-fits_bytes.true, rw (number_is a.word.now _ is).1 c.put_number.ensures)
 
 pub returns : goal.returns
 unfolding Told
 returns c =
-    let is = sym c.number_in.ensures ∙ c.in-Is.is in
+    let is = sym c.number_in.ensures ∙ c.in-Some.is in
     (count-is _ _ _ is ∙ sym c.fits_bytes.ensures ∙ c.if-fits_bytes.false, search rules)

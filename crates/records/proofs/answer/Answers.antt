@@ -6,6 +6,6 @@ pub returns-in-Refused : goal.returns-in-Refused
 unfolding answered_by
 returns-in-Refused c = simp c.in-Refused.is
 
-pub returns-in-Taken : goal.returns-in-Taken
+pub returns-in-Ok : goal.returns-in-Ok
 unfolding answered_by
-returns-in-Taken c = simp (c.in-Taken.is, c.step-outcome.ensures)
+returns-in-Ok c = simp (c.in-Ok.is, c.step-outcome.ensures)

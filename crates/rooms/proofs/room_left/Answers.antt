@@ -23,7 +23,7 @@ pub returns-then-accumulator : goal.returns-then-accumulator
 unfolding room_left
 returns-then-accumulator c =
     let met = c in
-    simp (sym met.find_profile.ensures ∙ met.in-At.is, c.if-accumulator.true)
+    simp (sym met.find_profile.ensures ∙ met.in-Some.is, c.if-accumulator.true)
 
 pub overflow_sub-accumulator : goal.overflow_sub-accumulator
 overflow_sub-accumulator c =
@@ -41,7 +41,7 @@ unfolding room_left
 returns c =
     let tested = c in
     let met = tested in
-    simp (sym met.find_profile.ensures ∙ met.in-At.is, tested.if-accumulator.false, c.cell-at.ensures.0)
+    simp (sym met.find_profile.ensures ∙ met.in-Some.is, tested.if-accumulator.false, c.cell-at.ensures.0)
 
 pub offset_bounds-rooms-at : goal.offset_bounds-rooms-at
 offset_bounds-rooms-at c = omega arith

@@ -9,9 +9,9 @@ returns-in_default c = sym (no_run _ _ _ (uncounted _ _ _ c.count_records.ensure
 pub returns-then-room-count : goal.returns-then-room-count
 returns-then-room-count c =
     let told = c in
-    sym (no_room _ _ _ (sym told.count_records.ensures ∙ told.in-Records.is) c.if-room-count.true)
+    sym (no_room _ _ _ (sym told.count_records.ensures ∙ told.in-Some.is) c.if-room-count.true)
 
 pub returns : goal.returns
 returns c =
     let told = c in
-    sym (has_room_lem _ _ _ (sym told.count_records.ensures ∙ told.in-Records.is) c.if-room-count.false)
+    sym (has_room_lem _ _ _ (sym told.count_records.ensures ∙ told.in-Some.is) c.if-room-count.false)

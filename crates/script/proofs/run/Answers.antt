@@ -24,10 +24,10 @@ returns-in_default c =
     ends _ _ _ _ _ _ _ _ _ l.invariant (next-end _ _ (sym asked.next_command.ensures ∙ c.in_default.is))
 
 pub overflow_add-end : goal.overflow_add-end
-overflow_add-end c = let h = step _ _ _ _ _ c.next_command.ensures c.in-Command.is in omega (arith, h.within)
+overflow_add-end c = let h = step _ _ _ _ _ c.next_command.ensures c.in-Some.is in omega (arith, h.within)
 
 pub slice_bounds-command-end : goal.slice_bounds-command-end
-slice_bounds-command-end c = let h = step _ _ _ _ _ c.next_command.ensures c.in-Command.is in omega (arith, h.within)
+slice_bounds-command-end c = let h = step _ _ _ _ _ c.next_command.ensures c.in-Some.is in omega (arith, h.within)
 
 pub returns-then-not-is_done : goal.returns-then-not-is_done
 returns-then-not-is_done c =
@@ -35,7 +35,7 @@ returns-then-not-is_done c =
     let told = asked in
     let next = told in
     let failed = sym asked.is_done.ensures ∙ c.if-not-is_done.true in
-    simp c.with_failure.ensures (fails _ _ _ _ _ _ _ _ _ next.loop-start.invariant _ _ (step _ _ _ _ _ c.next_command.ensures c.in-Command.is) failed)
+    simp c.with_failure.ensures (fails _ _ _ _ _ _ _ _ _ next.loop-start.invariant _ _ (step _ _ _ _ _ c.next_command.ensures c.in-Some.is) failed)
 
 pub write_elements-values-requires : goal.write_elements-values-requires
 write_elements-values-requires c =
@@ -45,7 +45,7 @@ write_elements-values-requires c =
 pub loop-start-smaller : goal.loop-start-smaller
 loop-start-smaller c =
     let branch = c in
-    let h = step _ _ _ _ _ c.next_command.ensures c.in-Command.is in
+    let h = step _ _ _ _ _ c.next_command.ensures c.in-Some.is in
     omega (arith, h.later, h.within)
 
 pub loop-start-preserved : goal.loop-start-preserved
@@ -56,4 +56,4 @@ loop-start-preserved c =
     let next = told in
     let is-done = sym asked.is_done.ensures ∙ branch.if-not-is_done.false in
     simp c.with_done-scripts.ensures
-    (goes_on_lem _ _ _ _ _ _ _ _ _ next.loop-start.invariant _ _ (step _ _ _ _ _ c.next_command.ensures c.in-Command.is) is-done _ _ c.write_elements-values.ensures)
+    (goes_on_lem _ _ _ _ _ _ _ _ _ next.loop-start.invariant _ _ (step _ _ _ _ _ c.next_command.ensures c.in-Some.is) is-done _ _ c.write_elements-values.ensures)

@@ -9,14 +9,14 @@ pub returns-then-res-gt1 : goal.returns-then-res-gt1
 unfolding script_taken template_writes
 returns-then-res-gt1 c = let above = lt-ltb _ _ c.if-res-gt1.true in (simp (above, c.refuse.ensures), simp (above), simp (above))
 
-pub returns-in-Sound : goal.returns-in-Sound
+pub returns-in-Ok : goal.returns-in-Ok
 unfolding script_taken template_writes words_run rules_run
-returns-in-Sound c =
+returns-in-Ok c =
     let told = c in
     let read = told in
     let ran = c.run_script.ensures in
     let within = le-ltb _ _ read.if-res-gt1.false in
-    let sound = sym read.read_template.ensures ∙ told.in-Sound.is in
+    let sound = sym read.read_template.ensures ∙ told.in-Ok.is in
     (simp (within, sound, ran.0), simp (within, sound) ran.1, simp (within, sound) ran.2)
 
 pub returns-in-Malformed : goal.returns-in-Malformed

@@ -1,8 +1,8 @@
 use borrow.Author.Rules.{rules}
 use Rattle.shape_seat.proofs.dating_cells.Goals as goal
 
-pub returns-in-Off : goal.returns-in-Off
-returns-in-Off c = simp c.in-Off.is
+pub returns-in-None : goal.returns-in-None
+returns-in-None c = simp c.in-None.is
 
-pub returns-in-On : goal.returns-in-On
-returns-in-On c = simp c.in-On.is
+pub returns-in-Some : goal.returns-in-Some
+returns-in-Some c = simp c.in-Some.is

@@ -13,8 +13,8 @@ returns-in-NotSelected c =
     let told = c in
     simp (le-ltb _ _ told.if-start-gt1.false, told.in-NotSelected.is, c.refuse-in-NotSelected.ensures)
 
-pub returns-in-Selected : goal.returns-in-Selected
+pub returns-in-Some : goal.returns-in-Some
 unfolding start_step opening_step
-returns-in-Selected c =
+returns-in-Some c =
     let told = c in
-    simp (le-ltb _ _ told.if-start-gt1.false, told.in-Selected.is, c.open_profile.ensures)
+    simp (le-ltb _ _ told.if-start-gt1.false, told.in-Some.is, c.open_profile.ensures)

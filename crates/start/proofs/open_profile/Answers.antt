@@ -13,7 +13,7 @@ unfolding opening_step
 returns-then-state-eq65535 c =
     let tested = c in
     let found = tested in
-    let is = sym found.find_profile.ensures ∙ found.in-At.is in
+    let is = sym found.find_profile.ensures ∙ found.in-Some.is in
     simp (is, eq-eqb _ _ tested.if-state-eq65535.true, c.refuse-then-state-eq65535.ensures)
 
 pub returns : goal.returns
@@ -22,5 +22,5 @@ returns c =
     let kept = c in
     let tested = kept in
     let found = tested in
-    let is = sym found.find_profile.ensures ∙ found.in-At.is in
+    let is = sym found.find_profile.ensures ∙ found.in-Some.is in
     simp (is, ne_eqb _ _ tested.if-state-eq65535.false, c.started-scripts.ensures)
