@@ -58,4 +58,3 @@ element_meaning object s =
     cond (is_length (byte s 2) && leb (element_size s) (length s))
     (meaning_of object (number s 0 2) (take (length_at s 2) (drop (head_size s) s)))
     None
-

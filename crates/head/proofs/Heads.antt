@@ -46,33 +46,41 @@ unfolding head_size
 head-some s = omega (arith, some_size (eqb (byte s 0 % 32) 31) 2 1 (omega arith) (omega arith))
 
 -- ---- a head that was read
+abbrev size_in : Option Head → ℕ
+size_in (Some h) = h.size
+size_in None = 0
+
+abbrev length_in : Option Head → ℕ
+length_in (Some h) = h.length
+length_in None = 0
+
 pub record IsRight (s : List ℕ) (m n : ℕ) : Type 0 where
   pub right : head_right s ≡ true
   pub size : m ≡ head_size s
   pub value : n ≡ value_size s
 
-no_head : (m n : ℕ) → None ≡ Some (record { size = m; length = n }) → ⊥
-no_head m n e = let z : ◌≡◌ {A = ℕ} 0 1 = cc in omega arith
+no_head : (h : Head) → ◌≡◌ {A = Option Head} None (Some h) → ⊥
+no_head h e = let z : ◌≡◌ {A = ℕ} 0 1 = cc in omega arith
 
 pub is_right : (s : List ℕ) (m n : ℕ) → head_of s ≡ Some (record { size = m; length = n }) → IsRight s m n
 unfolding head_of
 is_right s m n e = go (head_right s) refl
   where
-    sizes : (x y : ℕ) → (Some (record { size = x; length = y })) ≡ Some (record { size = m; length = n }) → (m ≡ x) × (n ≡ y)
-    sizes x y h = (cc, cc)
+    sizes : (x y : ℕ) → ◌≡◌ {A = Option Head} (Some (record { size = x; length = y })) (Some (record { size = m; length = n })) → (m ≡ x) × (n ≡ y)
+    sizes x y h = (ap size_in (sym h), ap length_in (sym h))
 
     go : (t : Bool) → head_right s ≡ t → IsRight s m n
     go true t =
         let h = sizes (head_size s) (value_size s) (sym (ap (λ (b : Bool). cond b (Some (record { size = head_size s; length = value_size s })) None) t) ∙ e) in
         record { right = t; size = h.0; value = h.1 }
-    go false t = absurd (no_head m n (sym (ap (λ (b : Bool). cond b (Some (record { size = head_size s; length = value_size s })) None) t) ∙ e))
+    go false t = absurd (no_head (record { size = m; length = n }) (sym (ap (λ (b : Bool). cond b (Some (record { size = head_size s; length = value_size s })) None) t) ∙ e))
 
 pub is_wrong : (s : List ℕ) → head_of s ≡ None → head_right s ≡ false
 unfolding head_of
 is_wrong s e = go (head_right s) refl
   where
     go : (t : Bool) → head_right s ≡ t → head_right s ≡ false
-    go true t = absurd (no_head (head_size s) (value_size s) (sym e ∙ ap (λ (b : Bool). cond b (Some (record { size = head_size s; length = value_size s })) None) t))
+    go true t = absurd (no_head (record { size = head_size s; length = value_size s }) (sym e ∙ ap (λ (b : Bool). cond b (Some (record { size = head_size s; length = value_size s })) None) t))
     go false t = t
 
 -- an object at a place, whose head was read of the rest of the bytes
