@@ -48,11 +48,11 @@ module _ (file : List ℕ) (n : ℕ) (d : List ℕ) (slots : Slots) where
 follow-counts : (a : Action) (f : ℕ → Option Selected) (v : ℕ → List ℕ) → ((m p n : ℕ) → f m ≡ Some (record { profile = p; visits = n }) → length (v m) ≡ n)
     → (p n : ℕ) → follow a f ≡ Some (record { profile = p; visits = n }) → suc (length (map suc (onward a v))) ≡ n
 unfolding follow
-follow-counts (Profile q) f v h p n e = cc
+follow-counts (Profile q) f v h p n e = ap visits_of e
 follow-counts (Move m) f v h p n e = more (f m) refl e
   where
     more : (s : Option Selected) → f m ≡ s → one_more s ≡ Some (record { profile = p; visits = n }) → suc (length (map suc (v m))) ≡ n
-    more (Some chosen) g i = let z : chosen.visits + 1 ≡ n = cc in omega (arith, length-map (v m) suc, h m chosen.profile chosen.visits g)
+    more (Some chosen) g i = let z : chosen.visits + 1 ≡ n = ap visits_of i in omega (arith, length-map (v m) suc, h m chosen.profile chosen.visits g)
     more None g i = let z : ◌≡◌ {A = ℕ} 0 1 = cc in absurd (omega arith)
 follow-counts Refused f v h p n e = let z : ◌≡◌ {A = ℕ} 0 1 = cc in absurd (omega arith)
 
