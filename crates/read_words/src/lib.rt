@@ -7,7 +7,6 @@ ghost use Rattle.words.specs.Put.{Put};
 ghost use Rattle.forms.specs.Form.{bytes, date, code, big_endian, is_letter, is_date, date_digits};
 ghost use Rattle.read_words.specs.Told.{Told, Says, is_count};
 
-
 pub fn put_zeros(room: &mut [u8], at: usize, count: usize) -> usize
     ensures { Put room.old at (replicate count 0) result room.new }
 {
@@ -138,7 +137,7 @@ pub fn read_date(word: &[u8], room: &mut [u8], to: usize) -> Option<usize>
 
 // The word itself, which says no byte.
 pub fn read_same(word: &[u8], said: &[u8], to: usize) -> Option<usize>
-    ensures { result ≡ cond (same word.now said.now) (Option<usize>.To to) Option<usize>.Not }
+    ensures { result ≡ cond (same word.now said.now) (Some to) None }
 {
     if words::same_word(word, said) {
         return Some(to);
