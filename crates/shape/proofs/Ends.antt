@@ -9,7 +9,7 @@ use Rattle.refusal.specs.declared.Refusal.TheVariants.{BadSetup}
 use Rattle.shape.specs.declared.Shape.{Shape}
 use Rattle.shape.specs.Shape.{behind, since, whole}
 use Rattle.shape.proofs.Either.{choose}
-use Rattle.std.specs.Prelude.{Err, None, Ok, Option, Result}
+use Rattle.std.specs.Prelude.{Err, None, Ok, Option, Result, Some}
 use Rattle.refusal.specs.declared.Refusal.{Refusal}
 use Rattle.shape.specs.Shape.{ended_at}
 use Rattle.shape.specs.declared.Tails.{Tails}

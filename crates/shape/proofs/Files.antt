@@ -8,7 +8,7 @@ use native.Mathlib.Omega.{arith}
 use borrow.Author.Tests.{lt-ltb, le-ltb, ltb-true, ltb-false, leb-true, leb-false, eq-eqb, ne_eqb, eqb-true, eqb-false}
 use lib.Dec.{eqb, ltb, leb}
 use lib.ListN.{length, take, drop, length-drop}
-use lib.Seq.{length-take-le, take-nil, drop-nil, get_or-take, get_or-drop, drop-drop}
+use lib.Seq.{length-take-le, take-nil, get_or-take, get_or-drop, drop-drop}
 use Rattle.wire.specs.Wire.{byte}
 use Rattle.selection.specs.Selection.{is_file}
 use Rattle.shape.specs.Shape.{entries_end}

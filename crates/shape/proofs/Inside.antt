@@ -1,6 +1,5 @@
 -- A shape that was read lies in its body: its base, its file, and its tails with dates, with a family and with a log. Assumes nothing.
 use mathlib.Core.Path.{◌≡◌, subst}
-use mathlib.Core.Bool.{Bool, true, false}
 use mathlib.Core.List.{List}
 use Prim.Native.Nat.{ℕ, zero, suc, ◌+◌, ◌≤◌}
 use native.Mathlib.Omega.{arith}
@@ -13,7 +12,7 @@ use Rattle.shape.specs.declared.Family.TheVariants.{Cpa, Cpace}
 use Rattle.shape.specs.declared.Shape.{Shape}
 use Rattle.shape.specs.Shape.{Lies, Spans, Holds, Keeps, base_length, based, base_tail, entries_end, file_end, selects, selection_tail, follows, syllabus_tail}
 use Rattle.shape.specs.Shape.{dates, dates_end, dating_tail, families, family_end, family_tail, scripts, scripting_tail}
-use Rattle.shape.specs.Shape.{logs, log_end, logging_tail, behind, since, tails_of, whole, shape_of}
+use Rattle.shape.specs.Shape.{logs, log_end, logging_tail, since, tails_of, whole, shape_of}
 use Rattle.shape.proofs.Either.{choose}
 use Rattle.std.specs.Prelude.{Err, None, Ok, Option, Result, Some}
 use Rattle.refusal.specs.declared.Refusal.{Refusal}

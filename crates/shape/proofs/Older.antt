@@ -2,9 +2,9 @@
 use mathlib.Core.Path.{◌≡◌, refl, ap, subst, ◌∙◌}
 use mathlib.Core.Bool.{Bool, true, false, cond}
 use mathlib.Core.List.{List, [], ◌∷◌, ◌++◌}
-use Prim.Native.Nat.{ℕ, zero, suc, ◌+◌, ◌≤◌, ◌<◌}
+use Prim.Native.Nat.{ℕ, zero, suc, ◌+◌}
 use native.Mathlib.Omega.{arith}
-use borrow.Author.Tests.{lt-ltb, le-ltb, ltb-true, ltb-false, le-leb, lt-leb, leb-true, leb-false, eq-eqb, ne_eqb, eqb-true, eqb-false}
+use borrow.Author.Tests.{le-ltb, ltb-true, ltb-false, le-leb, lt-leb, leb-true, leb-false, eq-eqb, ne_eqb, eqb-true, eqb-false}
 use lib.Dec.{eqb, ltb, leb, lit≤}
 use lib.ListN.{length, length-append, get_or-eq_default}
 use lib.Seq.{get_or-append_seam}
@@ -17,7 +17,7 @@ use Rattle.shape.specs.Shape.{dates, dates_end, dating_tail, families, family_en
 use Rattle.shape.specs.Shape.{logs, log_end, logging_tail, behind, tails_of, whole, shape_of}
 use Rattle.shape.proofs.Ends.{Ends, behind-ends, end-ends, switched_ends}
 use Rattle.shape.proofs.Scripting.{off-before}
-use Rattle.std.specs.Prelude.{Err, None, Ok, Option}
+use Rattle.std.specs.Prelude.{Err, None, Ok, Option, Some}
 use Rattle.shape.specs.Shape.{ended_at}
 use Rattle.shape.specs.Shape.{span}
 use Rattle.shape.specs.declared.Tails.{Tails}
@@ -88,7 +88,9 @@ module _ (body : List ℕ) where
   taken-ended None shape e = cc
   taken-ended (Some tails) shape e = by (eqb tails.at (length body)) refl e where
     by : (b : Bool) → eqb tails.at (length body) ≡ b → cond b (Ok tails.shape) (Err BadSetup) ≡ Ok shape → (Some tails) ≡ ended_at shape (length body)
-    by true h e = let here = eqb-true tails.at (length body) h in cc
+    by true h e =
+        let said : tails.shape ≡ shape = cc in
+        ap (λ (s : Shape). ended_at s tails.at) said ∙ ap (ended_at shape) (eqb-true tails.at (length body) h)
     by false h e = cc
 
   -- a tail with a switch: off, it ends behind the switch; on, as it says

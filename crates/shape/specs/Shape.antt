@@ -1,7 +1,7 @@
 -- The shape of a paper: what its version adds to a set-up's body, read front to back (docs/PAPERS.md, "How a version adds"; document 02, Three,
 -- Nine, Five, Thirteen, Twelve and Eight). The base of document 01, 52 + 107p + 7c bytes, then a tail for each addition, in the order of the versions, to
 -- the body's end.
-use Rattle.std.specs.Prelude.{ℕ, zero, suc, ◌+◌, ◌-◌, ◌*◌, ◌^◌, ◌≤◌, Bool, false, cond, List, [], eqb, ltb, leb, length, take, drop, Err, None, Ok, Option, Result}
+use Rattle.std.specs.Prelude.{ℕ, zero, suc, ◌+◌, ◌-◌, ◌*◌, ◌^◌, ◌≤◌, Bool, false, cond, List, [], eqb, ltb, leb, length, take, drop, Err, None, Ok, Option, Result, Some}
 use Rattle.wire.specs.Wire.{byte}
 pub use Rattle.layout.specs.Layout.{base_length, cycles_length, family_length}
 use Rattle.refusal.specs.declared.Refusal.TheVariants.{BadSetup}

@@ -47,4 +47,3 @@ pub struct Tails {
     pub shape: Shape,
     pub at: usize,
 }
-
