@@ -9,6 +9,7 @@ use borrow.Author.Tests.{ltb-true, ltb-false, leb-true, leb-false, le-leb}
 use Rattle.rate.specs.Rate.{rounds_to, digits_of, digits_at, shift_at, has_digits, place, pair_at, rate_of}
 use Rattle.rate.proofs.Search.{First, is-first}
 use Rattle.rate.proofs.Names.{InRange, Names, passes, rounds}
+use Rattle.rate.specs.declared.Pair.{Pair}
 use Rattle.std.specs.Prelude.{None, Some}
 
 -- the place of a shift in the order of trial; shift_at leads there and back
@@ -47,8 +48,15 @@ not_passed rate digits shift n h =
     no_pair rate digits shift (leb-false (digits_at rate shift) 9999 none) n
 
 -- ---- what the answer tells of the place
-differ : (digits shift : ℕ) → (Some (record { digits = digits; shift = shift })) ≡ None → ⊥
-differ digits shift e = let z : ◌≡◌ {A = ℕ} 0 1 = cc in omega arith
+some_same : {a b : Pair} → Some a ≡ Some b → a ≡ b
+some_same {a} {b} e = cc
+
+-- the pair at the first place
+abbrev first : Float → Pair
+first rate = record { digits = digits_at rate (shift_at (place rate)); shift = shift_at (place rate) }
+
+differ : (pair : Pair) → Some pair ≡ None → ⊥
+differ pair e = cc
 
 record Told (rate : Float) (digits shift : ℕ) : Type 0 where
   early : place rate < 13
@@ -58,19 +66,22 @@ record Told (rate : Float) (digits shift : ℕ) : Type 0 where
 told : (rate : Float) (digits shift : ℕ) → rate_of rate ≡ Some (record { digits = digits; shift = shift }) → Told rate digits shift
 unfolding rate_of
 told rate digits shift = by (ltb (place rate) 13) refl where
-  by : (b : Bool) → ltb (place rate) 13 ≡ b → pair_at rate (place rate) ≡ Some (record { digits = digits; shift = shift }) → Told rate digits shift
+  given : Pair
+  given = record { digits = digits; shift = shift }
+
+  by : (b : Bool) → ltb (place rate) 13 ≡ b → pair_at rate (place rate) ≡ Some given → Told rate digits shift
   by true e h =
-      let is : (Some (record { digits = digits; shift = shift })) ≡ (Some (record { digits = digits_at rate (shift_at (place rate)); shift = shift_at (place rate) })) = sym h ∙ simp e in
-      let s : shift ≡ shift_at (place rate) = cc in
-      let d : digits ≡ digits_at rate (shift_at (place rate)) = cc in
+      let is : given ≡ first rate = some_same (sym h ∙ simp e) in
+      let s : shift ≡ shift_at (place rate) = ap (λ (p : Pair). p.shift) is in
+      let d : digits ≡ digits_at rate (shift_at (place rate)) = ap (λ (p : Pair). p.digits) is in
       record { early = ltb-true (place rate) 13 e; first-digits = d ∙ ap (λ (t : ℕ). digits_at rate t) (sym s); first-place = s }
-  by false e h = absurd (differ digits shift (sym h ∙ simp e))
+  by false e h = absurd (differ given (sym h ∙ simp e))
 
 none_told : (rate : Float) → rate_of rate ≡ None → 13 ≤ place rate
 unfolding rate_of
 none_told rate = by (ltb (place rate) 13) refl where
   by : (b : Bool) → ltb (place rate) 13 ≡ b → pair_at rate (place rate) ≡ None → 13 ≤ place rate
-  by true e h = absurd (differ (digits_at rate (shift_at (place rate))) (shift_at (place rate)) (sym (simp e) ∙ h))
+  by true e h = absurd (differ (first rate) (sym (simp e) ∙ h))
   by false e h = ltb-false (place rate) 13 e
 
 -- ---- the theorems, over the shift's byte

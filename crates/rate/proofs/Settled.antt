@@ -29,7 +29,10 @@ ends_in_zero : (d' d u : ℕ) → d' * 10 ^ suc u ≡ d → d % 10 ≡ 0
 ends_in_zero d' d u e =
     ap (λ (z : ℕ). z % 10) (sym e ∙ ap (λ (z : ℕ). d' * z) (pow-suc 10 u) ∙ sym (mul_assoc d' (10 ^ u) 10)) ∙ mul-mod_left (d' * 10 ^ u) 10
 
-same-pair : (d' d t u : ℕ) → (0 < u → d % 10 ≡ 0 → ⊥) → d' * 10 ^ u ≡ d → (Some (record { digits = d'; shift = u + t })) ≡ Some (record { digits = d; shift = t })
+abbrev pair : ℕ → ℕ → Option Pair
+pair digits shift = Some (record { digits = digits; shift = shift })
+
+same-pair : (d' d t u : ℕ) → (0 < u → d % 10 ≡ 0 → ⊥) → d' * 10 ^ u ≡ d → pair d' (u + t) ≡ pair d t
 same-pair d' d t zero c e =
     let f : d' ≡ d = sym (mul-one d') ∙ e in
     let g : 0 + t ≡ t = omega arith in
@@ -37,30 +40,30 @@ same-pair d' d t zero c e =
 same-pair d' d t (suc u) c e = absurd (c (omega arith) (ends_in_zero d' d u e))
 
 module _ (rate : Float) (held : T (fits binary64 rate)) where
-  pub settled : (digits e : ℕ) → Quotient rate digits e → (e ≡ 0) ⊎ (digits % 10 ≡ 0 → ⊥) → rate_of rate ≡ Some (record { digits = digits; shift = 9 - e })
+  pub settled : (digits e : ℕ) → Quotient rate digits e → (e ≡ 0) ⊎ (digits % 10 ≡ 0 → ⊥) → rate_of rate ≡ pair digits (9 - e)
   settled digits e q bare = by (rate_of rate) refl where
     named : Names rate digits (9 - e)
     named = quotient-names rate digits e q
 
-    by : (found : Option Pair) → rate_of rate ≡ found → rate_of rate ≡ Some (record { digits = digits; shift = 9 - e })
+    by : (found : Option Pair) → rate_of rate ≡ found → rate_of rate ≡ pair digits (9 - e)
     by None h = absurd (refused rate h digits (9 - e) named)
-    by (Some pair) h =
-        let n = taken rate held pair.digits pair.shift h in
+    by (Some found) h =
+        let n = taken rate held found.digits found.shift h in
         let bound = q.bound in
-        let place = shift_at pair.shift in
-        let first : place ≤ e = rw (place-quotient e bound) at (earliest rate pair.digits pair.shift h digits (9 - e) named) in
-        let back = (placed pair.shift n.range.bound).back in
+        let place = shift_at found.shift in
+        let first : place ≤ e = rw (place-quotient e bound) at (earliest rate found.digits found.shift h digits (9 - e) named) in
+        let back = (placed found.shift n.range.bound).back in
         let here : shift_at place ≡ 9 - place = simp (le-leb place 9 (omega arith)) in
         let u = e - place in
-        let there : u + (9 - e) ≡ shift = omega arith in
-        let same : pair.digits * 10 ^ u ≡ digits =
-        cut pair.digits digits u (9 - e) (ap (λ (z : ℕ). pair.digits * 10 ^ z) there ∙ one-decimal rate pair.digits pair.shift digits (9 - e) n named) in
-        h ∙ ap (λ (z : ℕ). (Some (record { digits = pair.digits; shift = z }))) (sym there)
-        ∙ same-pair pair.digits digits (9 - e) u (λ some z. elim bare [ inl none ↦ (let never : ⊥ = omega arith in never) | inr ends ↦ ends z ]) same
+        let there : u + (9 - e) ≡ found.shift = omega arith in
+        let same : found.digits * 10 ^ u ≡ digits =
+        cut found.digits digits u (9 - e) (ap (λ (z : ℕ). found.digits * 10 ^ z) there ∙ one-decimal rate found.digits found.shift digits (9 - e) n named) in
+        h ∙ ap (λ (z : ℕ). pair found.digits z) (sym there)
+        ∙ same-pair found.digits digits (9 - e) u (λ some z. elim bare [ inl none ↦ (let never : ⊥ = omega arith in never) | inr ends ↦ ends z ]) same
 
 -- ---- worked examples, each by one rounding
 abbrev example : ℕ → ℕ → ℕ → Type 0
-example bits digits shift = rate_of (of_bits binary64 bits) ≡ Some (record { digits = digits; shift = shift })
+example bits digits shift = rate_of (of_bits binary64 bits) ≡ pair digits shift
 
 by_rounding : (bits digits e : ℕ) → Quotient (of_bits binary64 bits) digits e → (e ≡ 0) ⊎ (digits % 10 ≡ 0 → ⊥) → example bits digits (9 - e)
 by_rounding bits = settled (of_bits binary64 bits) (of_bits-fits binary64 bits)
