@@ -15,12 +15,15 @@ whole-taken n h =
     let b = unsigned_back binary64 64 n (in_float_lem n h) (omega arith) in
     simp (is_true (in_unsigned binary64 64 (of_int binary64 (pos n))) b.0, b.1, le-leb n max h)
 
+abbrev amount_of : ℕ → Option AccumulatorAmount
+amount_of n = Some (record { 0 = n })
+
 -- the number of an amount
 abbrev inside : Option AccumulatorAmount → ℕ
 inside (Some amount) = amount.0
 inside None = 0
 
-pick : (a b : Bool) (k n : ℕ) → cond (a && b) (Some (record { 0 = k })) None ≡ Some (record { 0 = n })
+pick : (a b : Bool) (k n : ℕ) → cond (a && b) (amount_of k) None ≡ amount_of n
     → (a ≡ true) × (b ≡ true) × (k ≡ n)
 pick true true k n e = (refl, refl, ap inside e)
 pick true false k n e = let z : ◌≡◌ {A = ℕ} 0 1 = cc in absurd (omega arith)

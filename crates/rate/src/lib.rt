@@ -14,16 +14,11 @@ pub struct Pair {
     pub shift: u8,
 }
 
-// The power worked out by repeated multiplication.
 fn power_of_ten(exponent: u8) -> u32
     requires { exponent ≤ 9 }
     ensures { result ≡ 10 ^ exponent }
 {
-    let mut power: u32 = 1;
-    for i in 0..exponent {
-        power *= 10;
-    }
-    power
+    10u32.pow(exponent as u32)
 }
 
 // The first digits that, times one power and divided by the other, round to the rate.
@@ -32,14 +27,12 @@ fn digits_of(rate: f64, times: u32, over: u32) -> u16
     ensures { result ≡ digits_of rate times over }
 {
     let power = over as f64;
-    let mut digits: u16 = 1;
-    while digits <= LAST {
+    for digits in 1..=LAST {
         if (digits as u32 * times) as f64 / power == rate {
             return digits;
         }
-        digits += 1;
     }
-    digits
+    LAST + 1
 }
 
 // The first digits that round to the rate at a shift.

@@ -1,5 +1,5 @@
 use borrow.Author.Rules.{rules}
-use mathlib.Core.Path.{refl, sym, ◌∙◌}
+use mathlib.Core.Path.{◌≡◌, refl, sym, ◌∙◌}
 use native.Mathlib.Nat.{mul-le-mul}
 use native.Mathlib.Omega.{arith}
 use mir.Facts.{Fits-le, Fits-lit}
@@ -27,4 +27,5 @@ loop-digits-preserved c =
 pub returns : goal.returns
 returns c =
     let l = c.loop-digits in
-    sym (l.invariant.2 ∙ ended _ 10000 l.digits (search rules))
+    let last : l.digits ≡ 10000 = omega arith in
+    sym (l.invariant.2 ∙ ended _ 10000 l.digits (search rules) ∙ last)

@@ -7,6 +7,3 @@ use Rattle.rate.proofs.digits_of.Given as goal
 abbrev pub invariant-loop-digits : goal.invariant-loop-digits
 invariant-loop-digits l =
     (1 ≤ l.digits) × (l.digits ≤ 10000) × (digits_of l.rate l.times l.over ≡ first (rounds_to l.rate l.times l.over) (10000 - l.digits) l.digits)
-
-abbrev pub decreases-loop-digits : goal.decreases-loop-digits
-decreases-loop-digits l = 10000 - l.digits

@@ -6,6 +6,3 @@ use Rattle.rate.proofs.rate_of.Given as goal
 
 abbrev pub invariant-loop-place : goal.invariant-loop-place
 invariant-loop-place l = (l.place ≤ 13) × (place l.rate ≡ first (has_digits l.rate) (13 - l.place) l.place)
-
-abbrev pub decreases-loop-place : goal.decreases-loop-place
-decreases-loop-place l = 13 - l.place
