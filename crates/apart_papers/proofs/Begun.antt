@@ -16,7 +16,7 @@ use Rattle.purchase.specs.Meter.{Meter, accumulator, counter, cyclic}
 use Rattle.log_tail.specs.LogTail.{judged}
 use Rattle.bodies.specs.Bodies.{first_length}
 use Rattle.shape.specs.declared.Shape.{Shape}
-use Rattle.shape.specs.Shape.{base_part, cycles_part, family_part, shape_of, shape_at, selecting_at, logging_at}
+use Rattle.shape.specs.Shape.{base_part, tail_part, family_part, shape_of, shape_at, selecting_at, span_at}
 use Rattle.paper.specs.declared.Next.TheVariants.{Record, Fault, End}
 use Rattle.paper.specs.Paper.{end_at, is_fault_at, next_at, is_unreadable, setup_in, open_paper}
 use Rattle.paper.specs.Walk.{part}
@@ -152,7 +152,7 @@ module _ (x : Meter) (is : IsSwitch x) (words s t : List ℕ) (same : SameSetups
 
   module _ (shape : Shape) (l : Late shape) where
     abbrev cycles : List ℕ
-    cycles = cycles_part shape.dating s
+    cycles = tail_part shape.dating s
 
     abbrev family : List ℕ
     family = family_part shape.family s
@@ -173,7 +173,7 @@ module _ (x : Meter) (is : IsSwitch x) (words s t : List ℕ) (same : SameSetups
     file-late None h = tt
     file-late (Some part) h = omega arith
 
-    log-late : (logging : Option Span) → LateLogging logging → LateLog (logging_at 4 logging)
+    log-late : (logging : Option Span) → LateLogging logging → LateLog (span_at 4 logging)
     log-late None h = tt
     log-late (Some part) h = omega arith
 

@@ -14,7 +14,7 @@ use Rattle.shape.specs.declared.Shape.{Shape}
 use Rattle.shape.specs.Shape.{base_length, based, base_tail, entries_end, file_end, selects, selection_tail, follows, syllabus_tail, dates, dates_end, dating_tail}
 use Rattle.shape.specs.Shape.{families, family_end, family_tail, scripts, scripting_tail, logs, table_end, log_end, logging_tail}
 use Rattle.shape.specs.Shape.{behind, since, tails_of, whole, shape_of}
-use Rattle.shape.specs.Shape.{cycles_part, family_part, log_part}
+use Rattle.shape.specs.Shape.{tail_part, family_part}
 use Rattle.apart_papers.proofs.Bytes.{Shared, late_drop}
 use Rattle.std.specs.Prelude.{Err, None, Ok, Option}
 use Rattle.shape.specs.Shape.{ended_at}
@@ -231,7 +231,7 @@ module _ (s t : List ℕ) (share : Shared s t) (version : ℕ) where
     by (Some tails) l e = by_end (eqb tails.at (length s)) tails.shape l.0 e
 
   -- its parts behind the base
-  pub cycles-same : (dating : Option Span) → LateDating dating → cycles_part dating s ≡ cycles_part dating t
+  pub cycles-same : (dating : Option Span) → LateDating dating → tail_part dating s ≡ tail_part dating t
   cycles-same None l = refl
   cycles-same (Some part) l = ap (take (part.end - part.start)) (late_drop s t share part.start l)
 
@@ -239,6 +239,6 @@ module _ (s t : List ℕ) (share : Shared s t) (version : ℕ) where
   family-same Cpa l = refl
   family-same (Cpace start end) l = ap (take (end - start)) (late_drop s t share start l)
 
-  pub log-part-same : (logging : Option Span) → LateLogging logging → log_part logging s ≡ log_part logging t
+  pub log-part-same : (logging : Option Span) → LateLogging logging → tail_part logging s ≡ tail_part logging t
   log-part-same None l = refl
   log-part-same (Some part) l = ap (take (part.end - part.start)) (late_drop s t share part.start l)

@@ -40,7 +40,7 @@ use Rattle.records.specs.declared.Event.TheVariants.{SetUp, End, Refused as EndR
 use Rattle.records.specs.Records.{answered_by, scripted_by, is_script, record_taken}
 use Rattle.script.specs.Script.{rules_after}
 use Rattle.setup.specs.Setup.{is_accepted, read_setup}
-use Rattle.shape.specs.Shape.{base_part, cycles_part, family_part, shape_of, shape_at}
+use Rattle.shape.specs.Shape.{base_part, tail_part, family_part, shape_of, shape_at}
 use Rattle.begun.specs.declared.Begun.{Begun}
 use Rattle.begun.specs.Begun.{set_up_event, base_begun, past_begun}
 use Rattle.opening.specs.Opening.{log_judged, logged_begun, shaped_begun, setup_begun, opened_begun, begun_of, words_begun}
@@ -253,7 +253,7 @@ unfolding base_begun
 shaped_paid body place end (Err refusal) = tt
 shaped_paid body place end (Ok shape) =
     let base = base_part shape body in
-    let cycles = cycles_part shape.dating body in
+    let cycles = tail_part shape.dating body in
     let family = family_part shape.family body in
     logged_paid (log_judged shape body) (is_accepted base cycles family shape.unnamed) end (base_begun (shape_at place shape) base cycles family end)
     (answer_paid (read_setup base cycles family (shape_at place shape).unnamed).answer)

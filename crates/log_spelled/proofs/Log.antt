@@ -12,7 +12,7 @@ use Rattle.wire.specs.Wire.{byte}
 use Rattle.rules.specs.Word.{word_count}
 use Rattle.rules.specs.Rules.{Rules, rules_of}
 use Rattle.shape.specs.declared.Shape.{Shape}
-use Rattle.shape.specs.Shape.{dating_at, family_at, log_part, logging_at, shape_at}
+use Rattle.shape.specs.Shape.{span_at, family_at, tail_part, shape_at}
 use Rattle.bodies.specs.Bodies.{is_cpace}
 use Rattle.begun.specs.Begun.{base_begun}
 use Rattle.opening.specs.Opening.{setup_begun, setup_words, begun_of, words_begun}
@@ -81,7 +81,7 @@ none-logs profile = by (eqb 0 profile) where
 
 -- ---- where the tail of a log that is on lies, in the body and in the paper
 
-dated-read : (dates : Dates) (at : ℕ) → is_dated (dating_at 4 (dating dates at)) ≡ has_dates dates
+dated-read : (dates : Dates) (at : ℕ) → is_dated (span_at 4 (dating dates at)) ≡ has_dates dates
 dated-read undated at = refl
 dated-read (dated cycles) at = refl
 
@@ -90,7 +90,7 @@ cpace-read cpa at = refl
 cpace-read (cpace controls) at = refl
 
 module _ (paper body rest : List ℕ) (behind-head : drop 4 paper ≡ body ++ rest) (long : length paper ≡ 4 + length body + length rest) where
-  tail-there : (at : ℕ) (fields : Fields) → log_part (logging_from (logged fields) at) body ≡ log_bytes fields
+  tail-there : (at : ℕ) (fields : Fields) → tail_part (logging_from (logged fields) at) body ≡ log_bytes fields
       → tail_at paper (4 + at) (4 + (at + length (log_bytes fields))) ≡ log_bytes fields
   tail-there at fields said =
       let n = length (log_bytes fields) in
@@ -179,7 +179,7 @@ module _ (words paper : List ℕ) (lent : length words ≡ word_count) (a : Acce
     by None = said (read None) refl
     by (Some part) = said (read (Some part)) refl
 
-  logs-said : (logs : Logs) → log_part (logging_from logs at) a.body ≡ log_said logs → LogsSaid x logs paper (read (logging_at 4 (logging_from logs at)))
+  logs-said : (logs : Logs) → tail_part (logging_from logs at) a.body ≡ log_said logs → LogsSaid x logs paper (read (span_at 4 (logging_from logs at)))
   logs-said unlogged said = record { no_slot = refl; no_profile_lem = none-logs }
   logs-said (logged fields) said =
       let there = tail-there paper a.body a.rest behind-head long at fields said in
@@ -197,8 +197,8 @@ module _ (words paper : List ℕ) (lent : length words ≡ word_count) (a : Acce
   pub log-said : LogSaid x tail paper (log_of (rules_of (words_begun words paper)) (begun_of paper).shape paper)
   unfolding log_of
   log-said =
-      let part : log_part (logging_from (logs_of tail) at) a.body ≡ log_said (logs_of tail) =
-      subst (λ (s : List ℕ). log_part (logging_from (logs_of tail) at) s ≡ log_said (logs_of tail)) i.spelled
+      let part : tail_part (logging_from (logs_of tail) at) a.body ≡ log_said (logs_of tail) =
+      subst (λ (s : List ℕ). tail_part (logging_from (logs_of tail) at) s ≡ log_said (logs_of tail)) i.spelled
       (reads_whole x tail i.fits i.fine).log in
       rw (rules-there, shape-there)
-      (record { form = form-said (logging_at 4 (logging_from (logs_of tail) at)); logs = logs-said (logs_of tail) part })
+      (record { form = form-said (span_at 4 (logging_from (logs_of tail) at)); logs = logs-said (logs_of tail) part })

@@ -6,7 +6,7 @@ use Rattle.setup.specs.Setup.{is_accepted, words_after}
 use Rattle.log_tail.specs.LogTail.{judged}
 use Rattle.bodies.specs.Bodies.{first_length}
 use Rattle.shape.specs.declared.Shape.{Shape}
-use Rattle.shape.specs.Shape.{base_part, cycles_part, family_part, log_part, shape_of, shape_at}
+use Rattle.shape.specs.Shape.{base_part, tail_part, family_part, shape_of, shape_at}
 use Rattle.paper.specs.Paper.{open_paper}
 use Rattle.paper.specs.Walk.{part}
 use Rattle.begun.specs.declared.Begun.{Begun}
@@ -21,7 +21,7 @@ use Rattle.shape.specs.declared.Span.{Span}
 -- the log, where it is on (document 02, Eight): the ranges of its tail, and whether a table reaches past its data
 abbrev pub log_found : Option Span → Shape → (body : List ℕ) → Result Unit Fault
 log_found None shape body = Ok tt
-log_found (Some part) shape body = judged (log_part (Some part) body) (byte body 3) (first_length shape.dating shape.family)
+log_found (Some part) shape body = judged (tail_part (Some part) body) (byte body 3) (first_length shape.dating shape.family)
 
 unfoldable pub log_judged : Shape → (body : List ℕ) → Result Unit Fault
 log_judged shape body = log_found shape.logging shape body
@@ -37,7 +37,7 @@ abbrev pub shaped_begun : (body : List ℕ) (place end : ℕ) → Result Shape R
 shaped_begun body place end (Err refusal) = refused_at refusal end
 shaped_begun body place end (Ok shape) =
     let base = base_part shape body in
-    let cycles = cycles_part shape.dating body in
+    let cycles = tail_part shape.dating body in
     let family = family_part shape.family body in
     logged_begun (log_judged shape body) (is_accepted base cycles family shape.unnamed) end (base_begun (shape_at place shape) base cycles family end)
 
@@ -61,7 +61,7 @@ abbrev pub shaped_words : (words body : List ℕ) → Result Shape Refusal → L
 shaped_words words body (Err refusal) = words
 shaped_words words body (Ok shape) =
     logged_words (log_judged shape body) words
-    (words_after words (base_part shape body) (cycles_part shape.dating body) (family_part shape.family body) shape.syllabus shape.unnamed)
+    (words_after words (base_part shape body) (tail_part shape.dating body) (family_part shape.family body) shape.syllabus shape.unnamed)
 
 unfoldable pub setup_words : (words : List ℕ) (version : ℕ) (body : List ℕ) → List ℕ
 setup_words words version body = shaped_words words body (shape_of version body)

@@ -2,7 +2,7 @@
 #![tactic(auto)]
 
 ghost use Rattle.std.specs.Prelude.{◌≡◌, ◌+◌, ◌<◌, ◌^◌, length, Ok};
-ghost use Rattle.shape.specs.Shape.{cycles_part, family_part, Lies, Spans, Holds, Keeps, selecting_at, dating_at, family_at, logging_at, shape_at};
+ghost use Rattle.shape.specs.Shape.{tail_part, family_part, Lies, Spans, Holds, selecting_at, span_at, family_at, shape_at};
 ghost use Rattle.shape.proofs.Inside.{Inside};
 ghost use Rattle.opening.specs.Opening.{log_judged, shaped_begun, shaped_words, setup_begun, setup_words, begun_of, words_begun};
 
@@ -35,7 +35,7 @@ fn select_in(selecting: Option<SelectionFile>, place: usize, bytes: usize) -> Op
 // The places of the tail with dates likewise.
 fn date_in(dating: Option<Span>, place: usize, bytes: usize) -> Option<Span>
     requires { Spans dating bytes × (place + bytes < 2 ^ 63) }
-    ensures { result ≡ dating_at place dating }
+    ensures { result ≡ span_at place dating }
 {
     match dating {
         None => None,
@@ -62,8 +62,8 @@ fn family_in(family: Family, place: usize, bytes: usize) -> Family
 
 // And those of the log's tail.
 fn log_at(logging: Option<Span>, place: usize, bytes: usize) -> Option<Span>
-    requires { Keeps logging bytes × (place + bytes < 2 ^ 63) }
-    ensures { result ≡ logging_at place logging }
+    requires { Spans logging bytes × (place + bytes < 2 ^ 63) }
+    ensures { result ≡ span_at place logging }
 {
     match logging {
         None => None,
@@ -102,7 +102,7 @@ fn place_in(shape: Shape, place: usize, bytes: usize) -> Shape
 // The tail with dates, no byte where they are off.
 fn cycles_in(dating: Option<Span>, body: &[u8]) -> &[u8]
     requires { Spans dating (length body.now) }
-    ensures { result.now ≡ cycles_part dating body.now }
+    ensures { result.now ≡ tail_part dating body.now }
 {
     match dating {
         None => &body[..0],
@@ -123,7 +123,7 @@ fn controls_in(family: Family, body: &[u8]) -> &[u8]
 
 // The log's settings and tables, where it is on; First's data is as long as the shape says.
 fn judge_log(shape: Shape, body: &[u8]) -> Result<(), Fault>
-    requires { Keeps shape.logging (length body.now) }
+    requires { Spans shape.logging (length body.now) }
     ensures { result ≡ log_judged shape body.now }
 {
     let logging = shape.logging;

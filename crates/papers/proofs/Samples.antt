@@ -14,7 +14,7 @@ use Rattle.setup.specs.Setup.{rules_in, fresh_in}
 use Rattle.shape.specs.declared.Shape.{Shape}
 use Rattle.shape.specs.declared.Family.TheVariants.{Cpa, Cpace}
 use Rattle.shape.specs.Shape.{based, scripts, base_tail, selection_tail, syllabus_tail, dating_tail, family_tail, scripting_tail, tails_of, shape_of}
-use Rattle.shape.specs.Shape.{cycles_part, family_part}
+use Rattle.shape.specs.Shape.{tail_part, family_part}
 use Rattle.paper.specs.Paper.{next_at, open_paper}
 use Rattle.command.specs.declared.Command.TheVariants.{Start, First, Second}
 use Rattle.command.specs.Command.{start_of, first_of, command_of, command_in}
@@ -93,7 +93,7 @@ abbrev last_day : (cycles : List ℕ) → ℕ
 last_day cycles = byte cycles 3
 
 abbrev last_read : Result Shape Refusal → ℕ
-last_read (Ok shape) = last_day (cycles_part shape.dating dating)
+last_read (Ok shape) = last_day (tail_part shape.dating dating)
 last_read (Err refusal) = 9
 
 -- `events-are`: the day of a First's date

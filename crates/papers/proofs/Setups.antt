@@ -15,7 +15,7 @@ use Rattle.auditor.specs.Template.{InRange}
 use Rattle.log_tail.specs.LogTail.{judged}
 use Rattle.bodies.specs.Bodies.{first_length}
 use Rattle.shape.specs.declared.Shape.{Shape}
-use Rattle.shape.specs.Shape.{base_part, cycles_part, family_part, log_part, shape_of, shape_at}
+use Rattle.shape.specs.Shape.{base_part, tail_part, family_part, shape_of, shape_at}
 use Rattle.records.specs.declared.Event.TheVariants.{SetUp}
 use Rattle.begun.specs.Begun.{base_begun}
 use Rattle.opening.specs.Opening.{log_found, log_judged, begun_of, setup_begun, setup_words, words_begun}
@@ -103,7 +103,7 @@ setup_said base tail =
 pub log-judged : (shape : Shape) (body : List ℕ) → log_judged shape body ≡ log_whole shape body
 unfolding log_judged
 log-judged shape body = by shape.logging where
-  by : (logging : Option Span) → log_found logging shape body ≡ judged (log_part logging body) (byte body 3) (first_length shape.dating shape.family)
+  by : (logging : Option Span) → log_found logging shape body ≡ judged (tail_part logging body) (byte body 3) (first_length shape.dating shape.family)
   by None = sym ((sound_exactly (byte body 3) T.unlogged tt (first_length shape.dating shape.family)).1 (tt, tt))
   by (Some part) = refl
 
@@ -126,7 +126,7 @@ module _ (version : ℕ) (body : List ℕ) (i : IsInRange version body) where
   base-is : base_part shape body ≡ base
   base-is = rw (← i.spelled) says.base-is
 
-  cycles-are : cycles_part shape.dating body ≡ cycles
+  cycles-are : tail_part shape.dating body ≡ cycles
   cycles-are = rw (← i.spelled) says.cycles
 
   controls-are : family_part shape.family body ≡ controls

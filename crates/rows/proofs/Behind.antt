@@ -13,8 +13,8 @@ use Rattle.wire.specs.Wire.{byte}
 use Rattle.selection.specs.Selection.{is_file}
 use Rattle.shape.specs.declared.Family.TheVariants.{Cpa}
 use Rattle.shape.specs.declared.Shape.{Shape}
-use Rattle.shape.specs.Shape.{based, base_tail, entries_end, selection_tail, follows, syllabus_tail, dates, dating_tail, cycles_part, families, family_tail}
-use Rattle.shape.specs.Shape.{family_part, scripts, scripting_tail, logs, log_end, logging_tail, log_part, behind, tails_of, whole, shape_of}
+use Rattle.shape.specs.Shape.{based, base_tail, entries_end, selection_tail, follows, syllabus_tail, dates, dating_tail, tail_part, families, family_tail}
+use Rattle.shape.specs.Shape.{family_part, scripts, scripting_tail, logs, log_end, logging_tail, tail_part, behind, tails_of, whole, shape_of}
 use Rattle.shape.proofs.Files.{file-ends}
 use Rattle.rows.specs.Rows.{Dates, undated, dated, cycles_bytes, Families, cpa, cpace, controls_bytes}
 use Rattle.rows.specs.Tails.{Choosing, off, on, file_bytes, choosing_bytes, dates_bytes, families_bytes, scripts_byte}
@@ -231,7 +231,7 @@ module _ (base : List ℕ) (c : Choosing) (y : ℕ) (rest : List ℕ) where
       let end : at + (28 + 18 * byte body 3) ≡ at + length t = omega arith in
       rw (switch, end, lt-leb (length body) at (omega arith), le-ltb (length body) (at + length t) (omega arith))
 
-  cycles-there : (d : Dates) → cycles_part (dating d (dates_at base c)) (with_dates_lem d) ≡ cycles_bytes d
+  cycles-there : (d : Dates) → tail_part (dating d (dates_at base c)) (with_dates_lem d) ≡ cycles_bytes d
   cycles-there undated = refl
   cycles-there (dated d) =
       let t = cycles_bytes (dated d) in
@@ -508,7 +508,7 @@ module _ (base : List ℕ) (c : Choosing) (y : ℕ) (d : Dates) (f : Families) (
         ∙ rw (eq-eqb (log-at scripting l fine-log + length (logs_bytes l)) (length body) (omega (arith, log_length_is scripting l fine-log)))
 
     log-there : (l : Logs) (fine-log : FineLogs (byte base 3) l)
-        → log_part (logging_from l (log-at scripting l fine-log)) (log-body scripting l fine-log) ≡ log_said l
+        → tail_part (logging_from l (log-at scripting l fine-log)) (log-body scripting l fine-log) ≡ log_said l
     log-there unlogged fine-log = refl
     log-there (logged l) fine-log =
         let body = log-body scripting (logged l) fine-log in

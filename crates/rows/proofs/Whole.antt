@@ -15,7 +15,7 @@ use Rattle.setup.proofs.Faithful.{Bytes}
 use Rattle.log_tail.specs.LogTail.{judged}
 use Rattle.bodies.specs.Bodies.{first_length}
 use Rattle.shape.specs.declared.Shape.{Shape}
-use Rattle.shape.specs.Shape.{base_part, cycles_part, family_part, shape_of, shape_number}
+use Rattle.shape.specs.Shape.{base_part, tail_part, family_part, shape_of, shape_number}
 use Rattle.rows.specs.Rows.{Setup, Fits, setup_row, body, Dates, undated, dated, cycles_bytes, Families, cpa, cpace, controls_bytes}
 use Rattle.rows.specs.Said.{fresh_said, Says}
 use Rattle.rows.specs.InRange.{InRange, DatesRange, FamiliesRange, LogsRange, first_long}
@@ -161,7 +161,7 @@ module _ (version : ℕ) (s : List ℕ) (bytes : Bytes s) (least : 1 ≤ version
   record Kept (t : IsSpelled version s) (shape : Shape) : Type 0 where
     shape_is : shape_said t.base t.tail ≡ shape
     base-is : base_part shape s ≡ t.base
-    cycles-is : cycles_part shape.dating s ≡ cycles_bytes (dates_of t.tail)
+    cycles-is : tail_part shape.dating s ≡ cycles_bytes (dates_of t.tail)
     family-is : family_part shape.family s ≡ controls_bytes (families_of t.tail)
 
   kept : (t : IsSpelled version s) (shape : Shape) → shape_of version s ≡ Ok shape → Kept t shape
@@ -191,7 +191,7 @@ module _ (version : ℕ) (s : List ℕ) (bytes : Bytes s) (least : 1 ≤ version
       let named : shape.unnamed ≡ unnamed = ap (λ (sh : Shape). sh.unnamed) (sym k.shape_is) in
       let number : setup_number (read_setup t.base days family unnamed).answer ≡ 0 =
       same_read (λ b c u. setup_number (read_setup b c u unnamed).answer) (sym k.base-is) (sym k.cycles-is) (sym k.family-is)
-      ∙ ap (λ n. setup_number (read_setup (base_part shape s) (cycles_part shape.dating s) (family_part shape.family s) n).answer) (sym named)
+      ∙ ap (λ n. setup_number (read_setup (base_part shape s) (tail_part shape.dating s) (family_part shape.family s) n).answer) (sym named)
       ∙ taken.base in
       let good = (all-accepted t.base days family unnamed).1 ((setup-taken t.base days family unnamed).0 number) in
       let small : Bytes t.base = record { below = subst (λ (b : List ℕ). (i : ℕ) → byte b i < 256) k.base-is (small-take s bytes.below shape.base) } in

@@ -5,7 +5,7 @@ use Rattle.wire.specs.Wire.{byte}
 use Rattle.shape.specs.declared.Family.{Family}
 use Rattle.shape.specs.declared.Family.TheVariants.{Cpa, Cpace}
 use Rattle.shape.specs.declared.Shape.{Shape}
-use Rattle.shape.specs.Shape.{base_part, cycles_part, family_part, log_part, shape_of}
+use Rattle.shape.specs.Shape.{base_part, tail_part, family_part, shape_of}
 use Rattle.rows.specs.Rows.{Fits, Dates, undated, dated, cycles_row, cycles_bytes, Families, cpa, cpace, controls_row, controls_bytes}
 use Rattle.shape.specs.Shape.{file}
 use Rattle.shape.specs.Shape.{span}
@@ -275,9 +275,9 @@ pub record TailSays (base : List ℕ) (tail : Tail) (body : List ℕ) : Type 0 w
   pub read : shape_of (version_of tail) body ≡ Ok (shape_said base tail)
   pub base-is : base_part (shape_said base tail) body ≡ base
   pub file : file_in (selecting (choosing_of tail) (length base)) body ≡ file_of (choosing_of tail)
-  pub cycles : cycles_part (shape_said base tail).dating body ≡ cycles_bytes (dates_of tail)
+  pub cycles : tail_part (shape_said base tail).dating body ≡ cycles_bytes (dates_of tail)
   pub family : family_part (shape_said base tail).family body ≡ controls_bytes (families_of tail)
-  pub log : log_part (shape_said base tail).logging body ≡ log_said (logs_of tail)
+  pub log : tail_part (shape_said base tail).logging body ≡ log_said (logs_of tail)
 
 -- a body is a base and the tail of its version
 pub record IsSpelled (version : ℕ) (body : List ℕ) : Type 0 where

@@ -8,7 +8,7 @@ use Rattle.setup.specs.Setup.{read_setup, words_after, setup_number}
 use Rattle.log_tail.specs.LogTail.{judged}
 use Rattle.bodies.specs.Bodies.{first_length}
 use Rattle.shape.specs.declared.Shape.{Shape}
-use Rattle.shape.specs.Shape.{base_part, cycles_part, family_part, log_part, shape_of}
+use Rattle.shape.specs.Shape.{base_part, tail_part, family_part, shape_of}
 use Rattle.rows.specs.Rows.{Setup, Fits, setup_row, body}
 use Rattle.rows.specs.InRange.{InRange, DatesRange, FamiliesRange, LogsRange, first_long, LogsWithin}
 use Rattle.rows.specs.Said.{rules_said, fresh_said}
@@ -47,15 +47,15 @@ pub record IsPast (version : ℕ) (s : List ℕ) : Type 0 where
 
 -- what is read of a body of this shape: its base, and its tails of versions 04 and 05
 abbrev pub read_whole : Shape → (s : List ℕ) → ReadSetup
-read_whole shape s = read_setup (base_part shape s) (cycles_part shape.dating s) (family_part shape.family s) shape.unnamed
+read_whole shape s = read_setup (base_part shape s) (tail_part shape.dating s) (family_part shape.family s) shape.unnamed
 
 abbrev pub words_whole : (words : List ℕ) → Shape → (s : List ℕ) → List ℕ
 words_whole words shape s =
-    words_after words (base_part shape s) (cycles_part shape.dating s) (family_part shape.family s) shape.syllabus shape.unnamed
+    words_after words (base_part shape s) (tail_part shape.dating s) (family_part shape.family s) shape.syllabus shape.unnamed
 
 -- and of its log: where it is off it has no byte
 abbrev pub log_whole : Shape → (s : List ℕ) → Result Unit Fault
-log_whole shape s = judged (log_part shape.logging s) (byte s 3) (first_length shape.dating shape.family)
+log_whole shape s = judged (tail_part shape.logging s) (byte s 3) (first_length shape.dating shape.family)
 
 -- its base and its tails are taken, where its shape is this, and its log is found to be so
 pub record IsTaken (found : Result Unit Fault) (version : ℕ) (s : List ℕ) : Type 0 where

@@ -14,7 +14,7 @@ use Rattle.refusal.specs.declared.Refusal.TheVariants.{Unreadable}
 use Rattle.rules.specs.Rules.{Rules, rules_of}
 use Rattle.setup.specs.Setup.{is_accepted, read_setup}
 use Rattle.shape.specs.declared.Shape.{Shape}
-use Rattle.shape.specs.Shape.{Lies, base_part, cycles_part, family_part, selecting_at, shape_of, shape_at}
+use Rattle.shape.specs.Shape.{Lies, base_part, tail_part, family_part, selecting_at, shape_of, shape_at}
 use Rattle.shape.proofs.Inside as Inside
 use Rattle.paper.specs.declared.Next.{Next}
 use Rattle.paper.specs.declared.Next.TheVariants.{Record, Fault, End}
@@ -128,7 +128,7 @@ module _ (p : List ℕ) (version start end : ℕ) (o : Opens p version start end
     by (Ok shape) s e =
         let body = part p start end in
         let base = base_part shape body in
-        let cycles = cycles_part shape.dating body in
+        let cycles = tail_part shape.dating body in
         let family = family_part shape.family body in
         by-log (log_judged shape body) (is_accepted base cycles family shape.unnamed) (base_begun (shape_at start shape) base cycles family end)
         (record {

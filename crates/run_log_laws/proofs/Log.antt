@@ -10,7 +10,7 @@ use lib.Seq.{take-append-le, drop-append-le}
 use Rattle.rules.specs.Rules.{Rules}
 use Rattle.setup.specs.Setup.{is_accepted}
 use Rattle.shape.specs.declared.Shape.{Shape}
-use Rattle.shape.specs.Shape.{Keeps, base_part, cycles_part, family_part, logging_at, shape_of, shape_at}
+use Rattle.shape.specs.Shape.{Spans, base_part, tail_part, family_part, span_at, shape_of, shape_at}
 use Rattle.shape.proofs.Inside as Inside
 use Rattle.paper.specs.Walk.{part}
 use Rattle.paper.proofs.Walk.{inside}
@@ -39,27 +39,27 @@ module _ (p : List ℕ) (version start end : ℕ) (o : Opens p version start end
       let size = part_length p start end (omega (arith, i.start_is, i.holds)) i.fits in
       omega (arith, size, i.start_is, i.holds, i.fits)
 
-  keeps_at : (logging : Option Span) → Keeps logging (length body) → Keeps (logging_at start logging) (length p)
+  keeps_at : (logging : Option Span) → Spans logging (length body) → Spans (span_at start logging) (length p)
   keeps_at None keeps = tt
   keeps_at (Some part) keeps = (omega (arith, keeps.0), omega (arith, keeps.1, body_in_lem))
 
-  pub tail_in : (begun_of p).event ≡ SetUp → Keeps (begun_of p).shape.logging (length p)
+  pub tail_in : (begun_of p).event ≡ SetUp → Spans (begun_of p).shape.logging (length p)
   unfolding begun_of setup_begun base_begun past_begun
   tail_in e =
-      subst (λ opened. (opened_begun p opened).event ≡ SetUp → Keeps (opened_begun p opened).shape.logging (length p)) (sym o.is)
+      subst (λ opened. (opened_begun p opened).event ≡ SetUp → Spans (opened_begun p opened).shape.logging (length p)) (sym o.is)
       (by (shape_of version body) refl) e where
-        by-log : (judged : Result Unit Fault) (good : Bool) (begun : Begun) → Keeps begun.shape.logging (length p)
-            → (logged_begun judged good end begun).event ≡ SetUp → Keeps (logged_begun judged good end begun).shape.logging (length p)
+        by-log : (judged : Result Unit Fault) (good : Bool) (begun : Begun) → Spans begun.shape.logging (length p)
+            → (logged_begun judged good end begun).event ≡ SetUp → Spans (logged_begun judged good end begun).shape.logging (length p)
         by-log (Ok done) good begun keeps e = keeps
         by-log (Err Wrong) good begun keeps e = absurd (let z : ◌≡◌ {A = ℕ} 0 1 = cc in omega arith)
         by-log (Err PastData) good begun keeps e = absurd (let z : ◌≡◌ {A = ℕ} 0 1 = cc in omega arith)
 
         by : (read : Result Shape Refusal) → shape_of version body ≡ read → (shaped_begun body start end read).event ≡ SetUp
-            → Keeps (shaped_begun body start end read).shape.logging (length p)
+            → Spans (shaped_begun body start end read).shape.logging (length p)
         by (Err refusal) s e = absurd (let z : ◌≡◌ {A = ℕ} 0 1 = cc in omega arith)
         by (Ok shape) s e =
             let base = base_part shape body in
-            let cycles = cycles_part shape.dating body in
+            let cycles = tail_part shape.dating body in
             let family = family_part shape.family body in
             by-log (log_judged shape body) (is_accepted base cycles family shape.unnamed) (base_begun (shape_at start shape) base cycles family end)
             (keeps_at shape.logging (Inside.inside body version shape s).log)
@@ -77,9 +77,9 @@ module _ (p r : List ℕ) where
       ap (take (end - start)) (drop-append-le start p r (omega arith)) ∙ take-append-le (end - start) (drop start p) r (omega (arith, rest)) in
       rw (in_order, here, there, same)
 
-  pub logging_same : (rules : Rules) (shape : Shape) → Keeps shape.logging (length p) → (log_of rules shape (p ++ r)).logging ≡ (log_of rules shape p).logging
+  pub logging_same : (rules : Rules) (shape : Shape) → Spans shape.logging (length p) → (log_of rules shape (p ++ r)).logging ≡ (log_of rules shape p).logging
   unfolding log_of
   logging_same rules shape = by shape.logging where
-    by : (logging : Option Span) → Keeps logging (length p) → (tailed rules shape (p ++ r) logging).logging ≡ (tailed rules shape p logging).logging
+    by : (logging : Option Span) → Spans logging (length p) → (tailed rules shape (p ++ r) logging).logging ≡ (tailed rules shape p logging).logging
     by None keeps = refl
     by (Some part) keeps = ap (logging_in rules) (tail_stays part.start part.end keeps.0 keeps.1)

@@ -10,7 +10,7 @@ use Rattle.wire.specs.Wire.{byte}
 use Rattle.refusal.specs.declared.Refusal.TheVariants.{BadSetup}
 use Rattle.shape.specs.declared.Family.TheVariants.{Cpa, Cpace}
 use Rattle.shape.specs.declared.Shape.{Shape}
-use Rattle.shape.specs.Shape.{Lies, Spans, Holds, Keeps, base_length, based, base_tail, entries_end, file_end, selects, selection_tail, follows, syllabus_tail}
+use Rattle.shape.specs.Shape.{Lies, Spans, Holds, base_length, based, base_tail, entries_end, file_end, selects, selection_tail, follows, syllabus_tail}
 use Rattle.shape.specs.Shape.{dates, dates_end, dating_tail, families, family_end, family_tail, scripts, scripting_tail}
 use Rattle.shape.specs.Shape.{logs, log_end, logging_tail, since, tails_of, whole, shape_of}
 use Rattle.shape.proofs.Either.{choose}
@@ -31,7 +31,7 @@ pub record Inside (shape : Shape) (bytes : ℕ) : Type 0 where
   pub file : Lies shape.selecting bytes
   pub tail : Spans shape.dating bytes
   pub family : Holds shape.family bytes
-  pub log : Keeps shape.logging bytes
+  pub log : Spans shape.logging bytes
 
 abbrev Within : ℕ → Option Tails → Type 0
 Within bytes None = Unit

@@ -54,17 +54,7 @@ abbrev pub file_end : List ℕ → (at : ℕ) → ℕ
 file_end body at = entries_end body (at + 2) (byte body (at + 1))
 
 abbrev pub selects : Shape → (start end entries : ℕ) → Shape
-selects shape start end entries =
-    record {
-      base = shape.base;
-      selecting = Some (file start end entries);
-      syllabus = shape.syllabus;
-      dating = shape.dating;
-      family = shape.family;
-      scripting = shape.scripting;
-      logging = shape.logging;
-      unnamed = shape.unnamed;
-    }
+selects shape start end entries = record shape { selecting = Some (file start end entries) }
 
 unfoldable pub selection_tail : List ℕ → Shape → (at : ℕ) → Option Tails
 selection_tail body shape at =
@@ -75,17 +65,7 @@ selection_tail body shape at =
 
 -- VERSION 03, the syllabus: 0 or 1
 abbrev pub follows : Shape → (syllabus : ℕ) → Shape
-follows shape syllabus =
-    record {
-      base = shape.base;
-      selecting = shape.selecting;
-      syllabus = syllabus;
-      dating = shape.dating;
-      family = shape.family;
-      scripting = shape.scripting;
-      logging = shape.logging;
-      unnamed = shape.unnamed;
-    }
+follows shape syllabus = record shape { syllabus = syllabus }
 
 unfoldable pub syllabus_tail : List ℕ → Shape → (at : ℕ) → Option Tails
 syllabus_tail body shape at =
@@ -94,17 +74,7 @@ syllabus_tail body shape at =
 -- VERSION 04, dates: 0 off; 1 on, and then the last date, the cyclic accumulators and their rules, 28 + 18p bytes in all; on or off, mask
 -- bits 0 to 24 are named
 abbrev pub dates : Shape → Option Span → Shape
-dates shape dating =
-    record {
-      base = shape.base;
-      selecting = shape.selecting;
-      syllabus = shape.syllabus;
-      dating = dating;
-      family = shape.family;
-      scripting = shape.scripting;
-      logging = shape.logging;
-      unnamed = 2 ^ 25;
-    }
+dates shape dating = record shape { dating = dating; unnamed = 2 ^ 25 }
 
 abbrev pub dates_end : List ℕ → (at : ℕ) → ℕ
 dates_end body at = at + cycles_length body
@@ -119,17 +89,7 @@ dating_tail body shape at =
 -- VERSION 05, the card family: 0 CPA; 1 CPACE, and then the controls and the cashback checks, 9 + p bytes in all; whichever it is, mask bits 0 to
 -- 25 are named
 abbrev pub families : Shape → Family → Shape
-families shape family =
-    record {
-      base = shape.base;
-      selecting = shape.selecting;
-      syllabus = shape.syllabus;
-      dating = shape.dating;
-      family = family;
-      scripting = shape.scripting;
-      logging = shape.logging;
-      unnamed = 2 ^ 26;
-    }
+families shape family = record shape { family = family; unnamed = 2 ^ 26 }
 
 abbrev pub family_end : List ℕ → (at : ℕ) → ℕ
 family_end body at = at + family_length body
@@ -143,17 +103,7 @@ family_tail body shape at =
 
 -- VERSION 06, scripts: 0 off, 1 on
 abbrev pub scripts : Shape → (scripting : Bool) → Shape
-scripts shape scripting =
-    record {
-      base = shape.base;
-      selecting = shape.selecting;
-      syllabus = shape.syllabus;
-      dating = shape.dating;
-      family = shape.family;
-      scripting = scripting;
-      logging = shape.logging;
-      unnamed = shape.unnamed;
-    }
+scripts shape scripting = record shape { scripting = scripting }
 
 unfoldable pub scripting_tail : List ℕ → Shape → (at : ℕ) → Option Tails
 scripting_tail body shape at =
@@ -162,17 +112,7 @@ scripting_tail body shape at =
 -- VERSION 07, the log: 0 off; 1 on, the ring's size, the switches, a byte for each profile, and two tables, each the number of its entries and 3
 -- bytes for each
 abbrev pub logs : Shape → Option Span → Shape
-logs shape logging =
-    record {
-      base = shape.base;
-      selecting = shape.selecting;
-      syllabus = shape.syllabus;
-      dating = shape.dating;
-      family = shape.family;
-      scripting = shape.scripting;
-      logging = logging;
-      unnamed = shape.unnamed;
-    }
+logs shape logging = record shape { logging = logging }
 
 abbrev pub table_end : List ℕ → (at : ℕ) → ℕ
 table_end body at = at + 1 + 3 * byte body at
@@ -216,20 +156,15 @@ shape_of version body = whole body (tails_of version body)
 abbrev pub base_part : Shape → (body : List ℕ) → List ℕ
 base_part shape body = take shape.base body
 
--- the tail of version 04 where dates are on, no byte where they are off
-abbrev pub cycles_part : Option Span → (body : List ℕ) → List ℕ
-cycles_part None body = []
-cycles_part (Some part) body = take (part.end - part.start) (drop part.start body)
+-- the tail of version 04 where dates are on, that of version 07 where the log is on; no byte where they are off
+abbrev pub tail_part : Option Span → (body : List ℕ) → List ℕ
+tail_part None body = []
+tail_part (Some part) body = take (part.end - part.start) (drop part.start body)
 
 -- the tail of version 05 of a CPACE card, no byte of a CPA one
 abbrev pub family_part : Family → (body : List ℕ) → List ℕ
 family_part Cpa body = []
 family_part (Cpace start end) body = take (end - start) (drop start body)
-
--- the tail of version 07 where the log is on, no byte where it is off
-abbrev pub log_part : Option Span → (body : List ℕ) → List ℕ
-log_part None body = []
-log_part (Some part) body = take (part.end - part.start) (drop part.start body)
 
 -- the tail lies in so many bytes
 abbrev pub Spans : Option Span → (bytes : ℕ) → Type 0
@@ -239,10 +174,6 @@ Spans (Some part) bytes = (part.start ≤ part.end) × (part.end ≤ bytes)
 abbrev pub Holds : Family → (bytes : ℕ) → Type 0
 Holds Cpa bytes = Unit
 Holds (Cpace start end) bytes = (start ≤ end) × (end ≤ bytes)
-
-abbrev pub Keeps : Option Span → (bytes : ℕ) → Type 0
-Keeps None bytes = Unit
-Keeps (Some part) bytes = (part.start ≤ part.end) × (part.end ≤ bytes)
 
 -- the file lies in so many bytes
 abbrev pub Lies : Option SelectionFile → (bytes : ℕ) → Type 0
@@ -254,30 +185,16 @@ abbrev pub selecting_at : (place : ℕ) → Option SelectionFile → Option Sele
 selecting_at place None = None
 selecting_at place (Some part) = Some (file (place + part.start) (place + part.end) part.entries)
 
-abbrev pub dating_at : (place : ℕ) → Option Span → Option Span
-dating_at place None = None
-dating_at place (Some part) = Some (span (place + part.start) (place + part.end))
+abbrev pub span_at : (place : ℕ) → Option Span → Option Span
+span_at place None = None
+span_at place (Some part) = Some (span (place + part.start) (place + part.end))
 
 abbrev pub family_at : (place : ℕ) → Family → Family
 family_at place Cpa = Cpa
 family_at place (Cpace start end) = Cpace (place + start) (place + end)
 
-abbrev pub logging_at : (place : ℕ) → Option Span → Option Span
-logging_at place None = None
-logging_at place (Some part) = Some (span (place + part.start) (place + part.end))
-
 abbrev pub shape_at : (place : ℕ) → Shape → Shape
-shape_at place shape =
-    record {
-      base = shape.base;
-      selecting = selecting_at place shape.selecting;
-      syllabus = shape.syllabus;
-      dating = dating_at place shape.dating;
-      family = family_at place shape.family;
-      scripting = shape.scripting;
-      logging = logging_at place shape.logging;
-      unnamed = shape.unnamed;
-    }
+shape_at place shape = record shape { selecting = selecting_at place shape.selecting; dating = span_at place shape.dating; family = family_at place shape.family; logging = span_at place shape.logging }
 
 abbrev pub shape_number : Result Shape Refusal → ℕ
 shape_number (Ok shape) = 0

@@ -21,6 +21,7 @@ pub struct Span {
 }
 
 // The card family. The tail with a CPACE card's controls and cashback checks stands from start up to end.
+// CPA is a family and not the absence of one, so this is no Option.
 #[derive(Clone, Copy)]
 pub enum Family {
     Cpa,

@@ -19,7 +19,7 @@ use Rattle.refusal.specs.Refusal.{refusal_number}
 use Rattle.shape.specs.declared.Family.{Family}
 use Rattle.shape.specs.declared.Family.TheVariants.{Cpa, Cpace}
 use Rattle.shape.specs.declared.Shape.{Shape}
-use Rattle.shape.specs.Shape.{base_part, cycles_part, family_part, tails_of, whole, shape_of, shape_at, selecting_at, dating_at, family_at, shape_number}
+use Rattle.shape.specs.Shape.{base_part, tail_part, family_part, tails_of, whole, shape_of, shape_at, selecting_at, span_at, family_at, shape_number}
 use Rattle.shape.specs.Shape as Sh
 use Rattle.shape.proofs.Inside.{inside}
 use Rattle.paper.specs.Paper.{open_paper}
@@ -85,7 +85,7 @@ shape_ways version body = by (tails_of version body) where
   by (Some tails) = by_end tails.shape (eqb tails.at (length body))
 
 abbrev accepts : Shape → (body : List ℕ) → Bool
-accepts shape body = is_accepted (base_part shape body) (cycles_part shape.dating body) (family_part shape.family body) shape.unnamed
+accepts shape body = is_accepted (base_part shape body) (tail_part shape.dating body) (family_part shape.family body) shape.unnamed
 
 -- EVERY SET-UP IS TAKEN OR NOT
 pub set_up_or_not : (version : ℕ) (body : List ℕ) → ((shape : Shape) × SetUp version body shape) ⊎ (NotSetUp version body ⊎ PastSetUp version body)
@@ -106,7 +106,7 @@ set_up_or_not version body = by (shape_ways version body) where
   by (shape-taken shape e) = by-base shape e (accepts shape body) refl
   by (shape_one e) = inr (inl (no_shape e))
 
-pub bytes-cycles : (dating : Option Span) (body : List ℕ) → Bytes body → Bytes (cycles_part dating body)
+pub bytes-cycles : (dating : Option Span) (body : List ℕ) → Bytes body → Bytes (tail_part dating body)
 bytes-cycles None body h = tt
 bytes-cycles (Some part) body h = bytes_take (part.end - part.start) (drop part.start body) (bytes_drop part.start body h)
 
@@ -126,7 +126,7 @@ module _ (words s : List ℕ) (version : ℕ) (body rest : List ℕ) (o : Opens 
     base = base_part shape body
 
     abbrev tail : List ℕ
-    tail = cycles_part shape.dating body
+    tail = tail_part shape.dating body
 
     abbrev controls : List ℕ
     controls = family_part shape.family body
@@ -151,7 +151,7 @@ module _ (words s : List ℕ) (version : ℕ) (body rest : List ℕ) (o : Opens 
           ∙ rw (behind-head, drop-append-le part.start body rest (omega (arith, i.0, i.1))) (take-append-le (part.end - part.start) (drop part.start body) rest left) in
           rw file
 
-    same-dates : (dating : Option Span) → dates_in (dating_at 4 dating) ≡ dates_in dating
+    same-dates : (dating : Option Span) → dates_in (span_at 4 dating) ≡ dates_in dating
     same-dates None = refl
     same-dates (Some part) = refl
 
@@ -235,7 +235,7 @@ pub not_begun : (version : ℕ) (body : List ℕ) (place end : ℕ) → NotSetUp
 not_begun version body place end (no_shape e) = refused-shape body place end (shape_of version body) e
 not_begun version body place end (no_base shape t e) =
     let base = base_part shape body in
-    let cycles = cycles_part shape.dating body in
+    let cycles = tail_part shape.dating body in
     let family = family_part shape.family body in
     rw t
     (refused-logged (log_judged shape body) (accepts shape body) end (base_begun (shape_at place shape) base cycles family end)
@@ -247,7 +247,7 @@ pub past-begun : (version : ℕ) (body : List ℕ) (place end : ℕ) → PastSet
 unfolding past_begun
 past-begun version body place end p =
     let shape = p.shape in
-    rw (p.shape_is, p.log, is-accepted (base_part shape body) (cycles_part shape.dating body) (family_part shape.family body) shape.unnamed p.base)
+    rw (p.shape_is, p.log, is-accepted (base_part shape body) (tail_part shape.dating body) (family_part shape.family body) shape.unnamed p.base)
 
 -- AND ONE WHOSE SET-UP IS REFUSED THE ONE LINE 0 1
 pub one_line : (words s : List ℕ) (version : ℕ) (body rest : List ℕ) → Opens s version body rest → NotSetUp version body

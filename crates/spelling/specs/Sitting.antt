@@ -9,7 +9,7 @@ use Rattle.refusal.specs.declared.Refusal.{Refusal}
 use Rattle.refusal.specs.declared.Refusal.TheVariants.{Unreadable}
 use Rattle.refusal.specs.Refusal.{refusal_number}
 use Rattle.shape.specs.declared.Shape.{Shape}
-use Rattle.shape.specs.Shape.{base_part, cycles_part, family_part, shape_of, shape_number}
+use Rattle.shape.specs.Shape.{base_part, tail_part, family_part, shape_of, shape_number}
 use Rattle.paper.specs.declared.Next.{Next}
 use Rattle.paper.specs.declared.Next.TheVariants.{Record, Fault, End}
 use Rattle.paper.specs.Paper.{next_at, next_number}
@@ -87,7 +87,7 @@ pub record Spelled (manner : Manner) (slots : Slots) (s : List ℕ) (at : ℕ) (
 
 -- a set-up's base, read with the tails of versions 04 and 05
 abbrev pub setup_from : Shape → (body : List ℕ) → ReadSetup
-setup_from shape body = read_setup (base_part shape body) (cycles_part shape.dating body) (family_part shape.family body) shape.unnamed
+setup_from shape body = read_setup (base_part shape body) (tail_part shape.dating body) (family_part shape.family body) shape.unnamed
 
 -- the set-up is taken: its shape, its base with those tails, and its log
 pub record SetUp (version : ℕ) (body : List ℕ) (shape : Shape) : Type 0 where
@@ -162,10 +162,10 @@ last_lines (faulty fault) number = refusal_line number 9 ∷ []
 -- the rules and the fresh card of a set-up
 abbrev pub rules_from : Shape → (body : List ℕ) → Rules
 rules_from shape body =
-    rules_in (base_part shape body) (cycles_part shape.dating body) (family_part shape.family body) shape.syllabus
+    rules_in (base_part shape body) (tail_part shape.dating body) (family_part shape.family body) shape.syllabus
 
 abbrev pub card_from : Shape → (body : List ℕ) → State
-card_from shape body = fresh_state (fresh_in (base_part shape body) (cycles_part shape.dating body))
+card_from shape body = fresh_state (fresh_in (base_part shape body) (tail_part shape.dating body))
 
 -- the lines of a paper whose set-up is taken: the set-up's, those of the conversation, and perhaps the one of refusal 9
 abbrev pub sitting_of : Shape → (body : List ℕ) {manner : Manner} (xs : List Sent) {rest : List ℕ} → Ends manner rest → List (List ℕ)

@@ -16,7 +16,7 @@ use Rattle.load_parts.proofs.Stores.{all}
 use Rattle.setup.specs.Setup.{is_accepted, words_after}
 use Rattle.setup.proofs.Faithful.{untouched}
 use Rattle.shape.specs.declared.Shape.{Shape}
-use Rattle.shape.specs.Shape.{base_part, cycles_part, family_part, shape_of, shape_at}
+use Rattle.shape.specs.Shape.{base_part, tail_part, family_part, shape_of, shape_at}
 use Rattle.paper.specs.Paper.{open_paper}
 use Rattle.paper.specs.Walk.{part}
 use Rattle.state.specs.declared.State.{State}
@@ -63,7 +63,7 @@ begun_length words paper = by (open_paper paper) where
   by_shape body (Err refusal) = refl
   by_shape body (Ok shape) =
       let base = base_part shape body in
-      let cycles = cycles_part shape.dating body in
+      let cycles = tail_part shape.dating body in
       let family = family_part shape.family body in
       by-log (log_judged shape body) (words_after words base cycles family shape.syllabus shape.unnamed)
       (stored_length words base cycles family shape.syllabus shape.unnamed)
@@ -131,7 +131,7 @@ module _ (words words' paper : List ℕ) (lent : length words ≡ word_count) (l
     by_shape body place end (Err refusal) e = absurd (not_both refusal e)
     by_shape body place end (Ok shape) e =
         let base = base_part shape body in
-        let cycles = cycles_part shape.dating body in
+        let cycles = tail_part shape.dating body in
         let family = family_part shape.family body in
         let good = is_accepted base cycles family shape.unnamed in
         by-log (log_judged shape body) good end (base_begun (shape_at place shape) base cycles family end)

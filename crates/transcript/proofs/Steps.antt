@@ -15,7 +15,7 @@ use Rattle.refusal.specs.Refusal.{refusal_number}
 use Rattle.rules.specs.Rules.{Rules, rules_of}
 use Rattle.setup.specs.Setup.{is_accepted, read_setup}
 use Rattle.shape.specs.declared.Shape.{Shape}
-use Rattle.shape.specs.Shape.{base_part, cycles_part, family_part, shape_of, shape_at}
+use Rattle.shape.specs.Shape.{base_part, tail_part, family_part, shape_of, shape_at}
 use Rattle.paper.specs.declared.Next.{Next}
 use Rattle.paper.specs.declared.Next.TheVariants.{Record, Fault, End as PaperEnd}
 use Rattle.paper.specs.Paper.{latest, next_at, setup_in, is_unreadable, open_paper}
@@ -210,7 +210,7 @@ begins paper = by (open_paper paper) refl where
   by_shape body place end o (Err refusal) = refused refusal refl
   by_shape body place end o (Ok shape) =
       let base = base_part shape body in
-      let cycles = cycles_part shape.dating body in
+      let cycles = tail_part shape.dating body in
       let family = family_part shape.family body in
       by-log (log_judged shape body) (is_accepted base cycles family shape.unnamed) end (base_begun (shape_at place shape) base cycles family end)
       (by_answer (shape_at place shape) base cycles family end o (read_setup base cycles family shape.unnamed).answer refl)

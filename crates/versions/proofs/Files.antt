@@ -19,7 +19,7 @@ use Rattle.shape.specs.declared.Family.{Family}
 use Rattle.shape.specs.declared.Family.TheVariants.{Cpa, Cpace}
 use Rattle.shape.specs.declared.Shape.{Shape}
 use Rattle.shape.specs.Shape.{based, base_tail, entries_end, selects, selection_tail, follows, syllabus_tail, dates, dating_tail}
-use Rattle.shape.specs.Shape.{families, family_tail, scripts, scripting_tail, logs, table_end, log_end, logging_tail, log_part, behind, tails_of, shape_of, shape_at}
+use Rattle.shape.specs.Shape.{families, family_tail, scripts, scripting_tail, logs, table_end, log_end, logging_tail, tail_part, behind, tails_of, shape_of, shape_at}
 use Rattle.shape.proofs.Files.{file-ends}
 use Rattle.shape.proofs.Inside.{inside}
 use Rattle.paper.specs.Walk.{part}
@@ -260,7 +260,7 @@ module _ (s : List ℕ) (sized : length s ≡ 52 + 107 * byte s 3 + 7 * byte s 4
             rw log-ends (switched_ends (λ (sh : Shape). sh) shape (logs shape (Some (span at (at + log_long p log)))) i sw first (omega (arith, log-size)))
 
         -- its bytes in the body, and what is judged of them
-        log-there : log_long p log ≡ length log → log_part (Some (span at (at + log_long p log))) body ≡ log
+        log-there : log_long p log ≡ length log → tail_part (Some (span at (at + log_long p log))) body ≡ log
         log-there size =
             let place : end + i ≡ length s + (length selecting-tail + i) = omega arith in
             let last : drop at body ≡ log =

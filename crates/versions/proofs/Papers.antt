@@ -17,7 +17,7 @@ use Rattle.setup.specs.Setup.{read_setup, words_after}
 use Rattle.shape.specs.declared.Family.{Family}
 use Rattle.shape.specs.declared.Family.TheVariants.{Cpa, Cpace}
 use Rattle.shape.specs.declared.Shape.{Shape}
-use Rattle.shape.specs.Shape.{Lies, based, scripts, base_part, cycles_part, family_part, shape_of, selecting_at, dating_at, family_at, shape_at}
+use Rattle.shape.specs.Shape.{Lies, based, scripts, base_part, tail_part, family_part, shape_of, selecting_at, span_at, family_at, shape_at}
 use Rattle.shape.proofs.Inside.{inside}
 use Rattle.paper.specs.declared.Next.{Next}
 use Rattle.paper.specs.declared.Next.TheVariants.{Record, Fault, End}
@@ -207,7 +207,7 @@ abbrev pub parts_of : Shape → (body : List ℕ) → Parts
 parts_of shape body =
     record {
       base = base_part shape body;
-      cycles = cycles_part shape.dating body;
+      cycles = tail_part shape.dating body;
       family = family_part shape.family body;
       scripting = shape.scripting;
       reads = reads_of shape body;
@@ -236,8 +236,8 @@ Known version = (1 ≤ version) × (version ≤ latest)
 
 -- where its tails stand does not matter to a command, only whether they are there
 record SamePlaces (place : ℕ) (dating : Option Span) (family : Family) : Type 0 where
-  command : command_of (dating_at place dating) (family_at place family) ≡ command_of dating family
-  selecting : selecting_of (dating_at place dating) (family_at place family) ≡ selecting_of dating family
+  command : command_of (span_at place dating) (family_at place family) ≡ command_of dating family
+  selecting : selecting_of (span_at place dating) (family_at place family) ≡ selecting_of dating family
   slots : slots_of (family_at place family) ≡ slots_of family
 
 same_places : (place : ℕ) (dating : Option Span) (family : Family) → SamePlaces place dating family
@@ -296,7 +296,7 @@ module _ (version : ℕ) (known : Known version) (body rest : List ℕ) (short :
   by-body shape lies = λ i values. by shape.selecting lies (same_places 4 shape.dating shape.family) values i where
     by : (selecting : Option SelectionFile) → Lies selecting (length body) → SamePlaces 4 shape.dating shape.family
         → (values : Values)
-        → read_by (selecting_at 4 selecting) (dating_at 4 shape.dating) (family_at 4 shape.family) (slots_of (family_at 4 shape.family) values) (paper_of version body rest)
+        → read_by (selecting_at 4 selecting) (span_at 4 shape.dating) (family_at 4 shape.family) (slots_of (family_at 4 shape.family) values) (paper_of version body rest)
         ≡ read_by selecting shape.dating shape.family (slots_of shape.family values) body
     by None l same values = same.command
     by (Some part) l same values = λ i. same.selecting i (same.slots i values) (same-file part.start part.end l.0 l.1 i) part.entries

@@ -24,7 +24,7 @@ use Rattle.setup.proofs.Faithful.{untouched}
 use Rattle.shape.specs.declared.Family.{Family}
 use Rattle.shape.specs.declared.Family.TheVariants.{Cpa, Cpace}
 use Rattle.shape.specs.declared.Shape.{Shape}
-use Rattle.shape.specs.Shape.{Lies, Spans, Holds, based, base_tail, dates, families, tails_of, shape_of, base_part, cycles_part, family_part}
+use Rattle.shape.specs.Shape.{Lies, Spans, Holds, based, base_tail, dates, families, tails_of, shape_of, base_part, tail_part, family_part}
 use Rattle.shape.proofs.Inside.{Inside, inside}
 use Rattle.shape.proofs.Older.{selection-off, syllabus-off, dates-off, family-off, scripts-off, log-off}
 use Rattle.shape.proofs.Scripting.{unlogged-below}
@@ -98,7 +98,7 @@ alike_unlogged later older (taken shape unnamed same) off = off
 
 module _ (body : List ℕ) where
   -- what lies in the body lies at the same places of both
-  same-cycles : (dating : Option Span) → Spans dating (length body) → cycles_part dating (newer body) ≡ cycles_part dating body
+  same-cycles : (dating : Option Span) → Spans dating (length body) → tail_part dating (newer body) ≡ tail_part dating body
   same-cycles None s = refl
   same-cycles (Some part) s = part-before body (0 ∷ []) part.start part.end s.0 s.1
 
