@@ -66,14 +66,8 @@ fn are_currencies(from: u16, to: u16) -> bool
 fn with_mta(conversion: Rate, mta: f64) -> Result<NewRecord, Refusal>
     ensures { result ≡ with_mta conversion (mta_of mta) }
 {
-    let answer = mta::mta_of(mta);
-    match answer {
-        Some(mta) => {
-            let record = NewRecord { mta, conversion };
-            Ok(record)
-        }
-        None => Err(Refusal::BadMta),
-    }
+    let mta = mta::mta_of(mta).ok_or(Refusal::BadMta)?;
+    Ok(NewRecord { mta, conversion })
 }
 
 // The new record of an old one: the codes are tested first, then the rate, then the MTA.
@@ -83,19 +77,14 @@ pub fn take_over(old: OldRecord) -> Result<NewRecord, Refusal>
     if !are_currencies(old.from, old.to) {
         return Err(Refusal::OutOfRange);
     }
-    let found = rate::rate_of(old.rate);
-    match found {
-        Some(Pair { digits, shift }) => {
-            let conversion = Rate {
-                from: old.from,
-                to: old.to,
-                digits,
-                shift,
-            };
-            with_mta(conversion, old.mta)
-        }
-        None => Err(Refusal::BadRate),
-    }
+    let Pair { digits, shift } = rate::rate_of(old.rate).ok_or(Refusal::BadRate)?;
+    let conversion = Rate {
+        from: old.from,
+        to: old.to,
+        digits,
+        shift,
+    };
+    with_mta(conversion, old.mta)
 }
 
 // The bytes of a new record: a conversion (7), an MTA (8).
@@ -131,16 +120,10 @@ pub fn import_record(old: &[u8], room: &mut [u8]) -> Result<(), Refusal>
     if old.len() != OLD_LENGTH {
         return Err(Refusal::Unreadable);
     }
-    let taken = take_over(old_record(old));
-    match taken {
-        Err(refusal) => Err(refusal),
-        Ok(new) => {
-            if room.len() < NEW_LENGTH {
-                return Err(Refusal::RoomTooSmall);
-            }
-            let bytes = encode(new);
-            room[..NEW_LENGTH].copy_from_slice(&bytes);
-            Ok(())
-        }
+    let new = take_over(old_record(old))?;
+    if room.len() < NEW_LENGTH {
+        return Err(Refusal::RoomTooSmall);
     }
+    room[..NEW_LENGTH].copy_from_slice(&encode(new));
+    Ok(())
 }
