@@ -23,7 +23,7 @@ const PROFILES: usize = 3;
 const ENTRY: usize = 3;
 
 // A stretch of First's data (source 0) or Second's (1). The data's first byte has position 1; with
-// position 0 nothing is logged.
+// position 0 nothing is logged. The source is the paper's byte, since `judge` refuses other sources.
 #[derive(Drop)]
 pub struct Entry {
     pub source: u8,
@@ -77,9 +77,10 @@ fn table_of(tail: &[u8], profiles: u8, second: bool) -> usize
     ensures { (result ≡ table_of tail.now profiles second) × (result ≤ 1024) }
 {
     if second {
-        return second_table(tail, profiles);
+        second_table(tail, profiles)
+    } else {
+        first_table(profiles)
     }
-    first_table(profiles)
 }
 
 // Entry i + 1 of the table at a place.
@@ -113,10 +114,7 @@ pub fn entry_at(tail: &[u8], profiles: u8, second: bool, i: u8) -> Entry
 fn data_length(entry: Entry, first: usize) -> usize
     ensures { result ≡ data_of entry first }
 {
-    if entry.source == 0 {
-        return first;
-    }
-    SECOND
+    if entry.source == 0 { first } else { SECOND }
 }
 
 // Whether an entry reaches past its source.
@@ -134,12 +132,7 @@ pub fn reaches_past(entry: Entry, first: usize) -> bool
 fn are_flags(tail: &[u8], profiles: u8) -> bool
     ensures { result ≡ are_flags tail.now profiles }
 {
-    for i in 0..profiles {
-        if 1 < wire::byte_at(tail, PROFILES + i as usize) {
-            return false;
-        }
-    }
-    true
+    (0..profiles).all(|i| wire::byte_at(tail, PROFILES + i as usize) <= 1)
 }
 
 // Whether the sources of a table go up to a number at most.
@@ -148,13 +141,7 @@ fn are_sources(tail: &[u8], table: usize, highest: u8) -> bool
     ensures { result ≡ are_sources tail.now table highest }
 {
     let entries = wire::byte_at(tail, table);
-    for i in 0..entries {
-        let entry = read_entry(tail, table, i as usize);
-        if highest < entry.source {
-            return false;
-        }
-    }
-    true
+    (0..entries).all(|i| read_entry(tail, table, i as usize).source <= highest)
 }
 
 // Whether no entry of a table reaches past its source.
@@ -163,13 +150,7 @@ fn are_within(tail: &[u8], table: usize, first: usize) -> bool
     ensures { result ≡ are_within tail.now table first }
 {
     let entries = wire::byte_at(tail, table);
-    for i in 0..entries {
-        let entry = read_entry(tail, table, i as usize);
-        if reaches_past(entry, first) {
-            return false;
-        }
-    }
-    true
+    (0..entries).all(|i| !reaches_past(read_entry(tail, table, i as usize), first))
 }
 
 // Whether every field of a tail of so many profiles is in range.
@@ -198,8 +179,8 @@ pub fn judge(tail: &[u8], profiles: u8, first: usize) -> Result<(), Fault>
     if !is_in_range(tail, profiles) {
         return Err(Fault::Wrong);
     }
-    if is_within(tail, profiles, first) {
-        return Ok(());
+    if !is_within(tail, profiles, first) {
+        return Err(Fault::PastData);
     }
-    Err(Fault::PastData)
+    Ok(())
 }

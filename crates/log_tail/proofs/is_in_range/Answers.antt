@@ -1,4 +1,3 @@
-use borrow.Author.Rules.{rules}
 use Rattle.log_tail.specs.LogTail.{is_in_range}
 use Rattle.log_tail.proofs.is_in_range.Goals as goal
 

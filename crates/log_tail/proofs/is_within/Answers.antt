@@ -1,4 +1,3 @@
-use borrow.Author.Rules.{rules}
 use Rattle.log_tail.specs.LogTail.{is_within}
 use Rattle.log_tail.proofs.is_within.Goals as goal
 

@@ -1,4 +1,3 @@
-use borrow.Author.Rules.{rules}
 use mathlib.Core.Path.{sym, ◌∙◌}
 use Rattle.log_tail.specs.LogTail.{judged}
 use Rattle.log_tail.proofs.judge.Goals as goal
@@ -7,14 +6,14 @@ pub returns-then-not-is_in_range : goal.returns-then-not-is_in_range
 unfolding judged
 returns-then-not-is_in_range c = simp (sym c.is_in_range.ensures ∙ c.if-not-is_in_range.true)
 
-pub returns-then-is_within : goal.returns-then-is_within
+pub returns-then-not-is_within : goal.returns-then-not-is_within
 unfolding judged
-returns-then-is_within c =
+returns-then-not-is_within c =
     let range = c in
-    simp (sym range.is_in_range.ensures ∙ range.if-not-is_in_range.false, sym c.is_within.ensures ∙ c.if-is_within.true)
+    simp (sym range.is_in_range.ensures ∙ range.if-not-is_in_range.false, sym c.is_within.ensures ∙ c.if-not-is_within.true)
 
 pub returns : goal.returns
 unfolding judged
 returns c =
     let range = c in
-    simp (sym range.is_in_range.ensures ∙ range.if-not-is_in_range.false, sym c.is_within.ensures ∙ c.if-is_within.false)
+    simp (sym range.is_in_range.ensures ∙ range.if-not-is_in_range.false, sym c.is_within.ensures ∙ c.if-not-is_within.false)

@@ -1,4 +1,3 @@
-use borrow.Author.Rules.{rules}
 use borrow.Author.Tests.{eq-eqb, ne_eqb}
 use Rattle.log_tail.specs.LogTail.{reaches_past}
 use Rattle.log_tail.proofs.reaches_past.Goals as goal

@@ -1,4 +1,3 @@
-use borrow.Author.Rules.{rules}
 use Rattle.log_tail.specs.LogTail.{entry_in}
 use Rattle.log_tail.proofs.read_entry.Goals as goal
 

@@ -1,5 +1,4 @@
 -- The number that is read is the record's length, so the branches are those of the definition.
-use borrow.Author.Rules.{rules}
 use borrow.Author.Tests.{le-leb, lt-leb}
 use Rattle.paper.specs.Paper.{next_at}
 use Rattle.paper.proofs.next_at.Goals as goal

@@ -1,5 +1,4 @@
 -- What `next_at` found says where to go on.
-use borrow.Author.Rules.{rules}
 use Rattle.paper.specs.Paper.{place_after}
 use Rattle.paper.proofs.place_after.Goals as goal
 
