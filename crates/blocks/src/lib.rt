@@ -6,7 +6,6 @@ ghost use Rattle.std.specs.Prelude.{◌≡◌, [], ◌+◌, ◌≤◌, length};
 ghost use Rattle.std.proofs.lemmas.List.Edits.{sets};
 ghost use Rattle.blocks.specs.Blocks.{placed_text, text_room, waiting, turned_over, passing, said_by, room_by, front_of, front_room, last_text};
 
-
 const LONGEST_PAPER: usize = 65_536;
 
 // What is wanted next: a further turn, more bytes of the stack, or room.
@@ -34,30 +33,14 @@ pub enum Front {
     Paper { end: usize },
 }
 
-// A text from a place of the room on.
-fn put_text(room: &mut [u8], at: usize, text: &[u8]) -> usize
-    requires { at + length text.now ≤ length room.old }
-    ensures { (result ≡ at + length text.now) × (room.new ≡ sets room.old at text.now) }
-{
-    for i in 0..text.len() {
-        room[at + i] = text[i];
-    }
-    at + text.len()
-}
-
-// The same, or that there is no room for it.
+// A text from a place of the room on, or that there is no room for it.
 fn place_text(room: &mut [u8], at: usize, text: &[u8]) -> Option<usize>
     ensures { (result ≡ placed_text (length room.old) at text.now) × (room.new ≡ text_room room.old at text.now) }
 {
-    if room.len() < at {
+    if room.len() < at || room.len() - at < text.len() {
         return None;
     }
-    if room.len() - at < text.len() {
-        return None;
-    }
-    Some {
-        end: put_text(room, at, text),
-    }
+    Some(text::put(room, at, text))
 }
 
 // Nothing can be done before more bytes are at hand.

@@ -7,7 +7,6 @@ ghost use Rattle.hex_digits.specs.Hex.{hex};
 ghost use Rattle.text.specs.Stored.{Stored};
 ghost use Rattle.imports.specs.Imports.{numeral, record_line, records_in, lines_in, answered, room_after};
 
-
 const OLD_LENGTH: usize = 20;
 
 // The most bytes that a line has.
@@ -25,10 +24,7 @@ fn put_text(room: &mut [u8], at: usize, text: &[u8]) -> usize
     requires { at + length text.now ≤ length room.old }
     ensures { Stored room.old at text.now (length text.now) result room.new }
 {
-    for i in 0..text.len() {
-        room[at + i] = text[i];
-    }
-    at + text.len()
+    text::put(room, at, text)
 }
 
 // A number in decimal.
@@ -45,9 +41,9 @@ fn hex_of(bytes: &[u8]) -> [u8; 30]
     ensures { (result ≡ hex bytes.now) × (length result ≡ 30) }
 {
     let mut text = [0u8; 30];
-    for i in 0..15 {
-        text[2 * i] = hex_digits::upper_digit(bytes[i]);
-        text[2 * i + 1] = hex_digits::lower_digit(bytes[i]);
+    for (i, byte) in bytes.iter().enumerate() {
+        text[2 * i] = hex_digits::upper_digit(*byte);
+        text[2 * i + 1] = hex_digits::lower_digit(*byte);
     }
     text
 }
@@ -113,11 +109,7 @@ pub fn answer(input: &[u8], number: u64, room: &mut [u8]) -> Option<Answered>
     if room.len() / LONGEST < records {
         return None;
     }
-    if 18_446_744_073_709_551_615 - number < records as u64 {
-        return None;
-    }
-    Some(Answered {
-        end: put_records(room, number, input, records),
-        next: number + records as u64,
-    })
+    let next = number.checked_add(records as u64)?;
+    let end = put_records(room, number, input, records);
+    Some(Answered { end, next })
 }

@@ -1,4 +1,3 @@
-use borrow.Author.Rules.{rules}
 use Rattle.blocks.proofs.finish.Goals as goal
 
 pub returns-then-left-skip : goal.returns-then-left-skip

@@ -1,4 +1,3 @@
-use borrow.Author.Rules.{rules}
 use Rattle.blocks.proofs.turn_over.Goals as goal
 
 pub returns-in-Some : goal.returns-in-Some
