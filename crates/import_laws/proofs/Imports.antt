@@ -44,7 +44,7 @@ fields-are old = rw (eight_is old 4, eight_is old 12, two_is old 0, two_is old 2
 
 module _ (old room : List ℕ) where
   abbrev Answers : Result Unit Refusal → Type 0
-  Answers (Ok done) = (m : ℕ) → Cause old room m → ⊥
+  Answers (Ok written) = (m : ℕ) → Cause old room m → ⊥
   Answers (Err refusal) = FirstOf (Cause old room) (refusal_number refusal)
 
   module _ (right : length old ≡ 20) where
@@ -74,7 +74,7 @@ module _ (old room : List ℕ) where
   answers = rw (fields-are old) (by_length (eqb (length old) 20) refl)
 
   number_by : (answer : Result Unit Refusal) → Answers answer → Numbered (Cause old room) (imported_number answer)
-  number_by (Ok done) none = done refl none
+  number_by (Ok written) none = done refl none
   number_by (Err refusal) first = refused first.0 first.1
 
   -- THE NUMBER OF AN IMPORT IS THE FIRST THAT APPLIES, 0 WHERE NONE DOES
@@ -91,7 +91,7 @@ module _ (old room : List ℕ) where
   only-number = only its-place
 
   taken-by : (answer : Result Unit Refusal) → Answers answer → (answer ≡ Ok tt) ↔ ((m : ℕ) → Cause old room m → ⊥)
-  taken-by (Ok done) none = (λ e. none, λ f. refl)
+  taken-by (Ok written) none = (λ e. none, λ f. refl)
   taken-by (Err refusal) first = (
     (λ e. let z : ◌≡◌ {A = ℕ} 0 1 = cc in absurd (omega arith)),
     λ f. absurd (f (refusal_number refusal) first.0),
@@ -102,7 +102,7 @@ module _ (old room : List ℕ) where
   taken = taken-by (import_record old room) answers
 
   kept_by : (m : ℕ) → Cause old room m → (answer : Result Unit Refusal) → import_record old room ≡ answer → imported old room ≡ room
-  kept_by m c (Ok done) e = absurd (taken.0 e m c)
+  kept_by m c (Ok written) e = absurd (taken.0 e m c)
   kept_by m c (Err refusal) e = refusal_keeps old room refusal e
 
   -- A RECORD WITH A CAUSE LEAVES THE ROOM'S BYTES

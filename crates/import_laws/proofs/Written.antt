@@ -115,12 +115,15 @@ module _ (old room : List ℕ) where
   unfolding imported
   room_is new h t = rw (h, t)
 
-  differ : (refusal : Refusal) → Err refusal ≡ Ok tt → ⊥
-  differ refusal e = let z : ◌≡◌ {A = ℕ} 0 1 = cc in omega arith
+  abbrev no_refusal : Result Unit Refusal
+  no_refusal = Ok tt
+
+  differ : (refusal : Refusal) → Err refusal ≡ no_refusal → ⊥
+  differ refusal e = cc
 
   module _ (done : import_record old room ≡ Ok tt) where
     by_room : (new : NewRecord) → take_over (old_record old) ≡ Ok new → (small : Bool) → ltb (length room) 15 ≡ small
-        → cond small (Err RoomTooSmall) (Ok tt) ≡ Ok tt → Read old room
+        → cond small (Err RoomTooSmall) no_refusal ≡ no_refusal → Read old room
     by_room new t true e h = absurd (differ RoomTooSmall h)
     by_room new t false e h =
         let rest = drop 15 room in
