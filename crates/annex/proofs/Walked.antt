@@ -11,7 +11,7 @@ use Rattle.slot.specs.declared.Slots.{Slots}
 use Rattle.entry.specs.Entry.{action_of, action_taken}
 use Rattle.entry.specs.declared.Action.{Action}
 use Rattle.entry.specs.declared.Action.TheVariants.{Profile, Move, Refused}
-use Rattle.selection.specs.Selection.{first_entry, follow, one_more, selection_of, selection_number, skipped}
+use Rattle.selection.specs.Selection.{first_entry, follow, one_more, selection_of, selection_number, profile_of, visits_of, skipped}
 use Rattle.selection.proofs.Moves.{Visit, none, step, moves-on}
 use Rattle.annex.specs.Annex.{Bytes, place, Acts, passed, failed, Leads, Moves, Walks, names, moves, Stops}
 use Rattle.annex.specs.Annex.{profile_zero, move_zero, past_the_end, profile_7_f, empty-file, ill_formed, lacks_data, onward}
@@ -137,8 +137,8 @@ module _ (file : List ℕ) (entries : ℕ) (slots : Slots) (d : List ℕ) (fs : 
       by : Way 0 → selection_of file entries d slots ≡ Some (record { profile = p; visits = v }) → Walks file entries slots d 0 p v
       by (leads q u w) e =
           let s : selection_of file entries d slots ≡ (Some (record { profile = q; visits = u })) = sym begins ∙ walk-selects w in
-          let i : q ≡ p = cc in
-          let j : u ≡ v = cc in
+          let i : q ≡ p = ap profile_of (sym s ∙ e) in
+          let j : u ≡ v = ap visits_of (sym s ∙ e) in
           rw j at (rw i at w)
       by (stops s) e =
           let n : selection_of file entries d slots ≡ None = sym begins ∙ stop_refuses s in

@@ -16,7 +16,7 @@ use Rattle.shape.specs.Shape.{families, family_end, family_tail, scripts, script
 use Rattle.shape.specs.Shape.{behind, since, tails_of, whole, shape_of}
 use Rattle.shape.specs.Shape.{tail_part, family_part}
 use Rattle.apart_papers.proofs.Bytes.{Shared, late_drop}
-use Rattle.std.specs.Prelude.{Err, None, Ok, Option}
+use Rattle.std.specs.Prelude.{Err, None, Ok, Option, Some}
 use Rattle.shape.specs.Shape.{ended_at}
 use Rattle.shape.specs.Shape.{span}
 use Rattle.shape.specs.declared.SelectionFile.{SelectionFile}

@@ -26,7 +26,7 @@ use Rattle.rows.proofs.Entries.{file-read, Small, small_drop, small-take, more_t
 use Rattle.rows.proofs.Later.{Late, four, five, six, seven, late-settled}
 use Rattle.rows.proofs.LaterRefused.{late-refused}
 use Rattle.rows.proofs.Behind.{base-sized, some_bytes, length_kept, third-size, third_last, reads_tails}
-use Rattle.std.specs.Prelude.{Err, None, Ok, Option, Result}
+use Rattle.std.specs.Prelude.{Err, None, Ok, Option, Result, Some}
 use Rattle.refusal.specs.declared.Refusal.{Refusal}
 use Rattle.shape.specs.Shape.{ended_at}
 use Rattle.shape.specs.declared.Tails.{Tails}

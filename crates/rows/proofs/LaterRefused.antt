@@ -26,7 +26,7 @@ use Rattle.rows.proofs.Entries.{only_one}
 use Rattle.rows.proofs.Behind.{byte-kept, base-sized, some_bytes, choosing_end, chosen, selection-read}
 use Rattle.rows.proofs.Behind.{syllabus-byte, rest-size, syllabus-read, rest-there, rest-byte}
 use Rattle.rows.proofs.Later.{Late, four, five, six, seven, from-four}
-use Rattle.std.specs.Prelude.{None, Option, Result}
+use Rattle.std.specs.Prelude.{None, Option, Result, Some}
 use Rattle.refusal.specs.declared.Refusal.{Refusal}
 use Rattle.shape.specs.Shape.{ended_at}
 use Rattle.shape.specs.Shape.{span}

@@ -192,7 +192,7 @@ module _ (p : ℕ) (l : Logs) (fine : FineLogs p l) (first : ℕ) where
     λ e. let (r, w) = by (is_in_range (log_said l) p) (is_within (log_said l) p first) e in ((in_range_lem p l fine).0 r, (within p l fine first).0 w),
     λ (r, w). rw ((in_range_lem p l fine).1 r, (within p l fine first).1 w),
   ) where
-    by : (r w : Bool) → cond r (cond w (Ok tt) (Err PastData)) (Err Wrong) ≡ Ok tt → (r ≡ true) × (w ≡ true)
+    by : (r w : Bool) → cond r (cond w (Ok (tt {0})) (Err PastData)) (Err Wrong) ≡ Ok tt → (r ≡ true) × (w ≡ true)
     by true true e = (refl, refl)
     by true false e = absurd (let z : ◌≡◌ {A = ℕ} 0 1 = cc in omega arith)
     by false w e = absurd (let z : ◌≡◌ {A = ℕ} 0 1 = cc in omega arith)
@@ -205,11 +205,11 @@ module _ (p : ℕ) (l : Logs) (fine : FineLogs p l) (first : ℕ) where
         ((in_range_lem p l fine).0 r, λ i. let z : ◌≡◌ {A = ℕ} 0 1 = cc (w, (within p l fine first).1 i) in omega arith),
     λ (r, none_is). rw ((in_range_lem p l fine).1 r) (back (is_within (log_said l) p first) refl none_is),
   ) where
-    by : (r w : Bool) → cond r (cond w (Ok tt) (Err PastData)) (Err Wrong) ≡ Err PastData → (r ≡ true) × (w ≡ false)
+    by : (r w : Bool) → cond r (cond w (Ok (tt {0})) (Err PastData)) (Err Wrong) ≡ Err PastData → (r ≡ true) × (w ≡ false)
     by true true e = absurd (let z : ◌≡◌ {A = ℕ} 0 1 = cc in omega arith)
     by true false e = (refl, refl)
     by false w e = absurd (let z : ◌≡◌ {A = ℕ} 0 1 = cc in omega arith)
 
-    back : (w : Bool) → is_within (log_said l) p first ≡ w → (LogsWithin first l → ⊥) → cond w (Ok tt) (Err PastData) ≡ Err PastData
+    back : (w : Bool) → is_within (log_said l) p first ≡ w → (LogsWithin first l → ⊥) → cond w (Ok (tt {0})) (Err PastData) ≡ Err PastData
     back true e none_is = absurd (none_is ((within p l fine first).0 e))
     back false e none_is = refl

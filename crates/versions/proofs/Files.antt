@@ -30,7 +30,7 @@ use Rattle.begun.specs.Begun.{base_begun}
 use Rattle.opening.specs.Opening.{log_judged, setup_begun, begun_of}
 use Rattle.opening.proofs.Unlogged.{sound_off}
 use Rattle.versions.proofs.Papers.{Known, Reads, reads_of, paper_of, file-there, by-body, begun-is}
-use Rattle.std.specs.Prelude.{None, Ok, Option}
+use Rattle.std.specs.Prelude.{None, Ok, Option, Some}
 use Rattle.selection.specs.declared.Selected.{Selected}
 use Rattle.shape.specs.Shape.{ended_at}
 use Rattle.shape.specs.Shape.{file}
