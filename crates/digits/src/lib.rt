@@ -8,11 +8,7 @@ ghost use Rattle.digits.specs.Digits.{are_pairs, pairs_value};
 pub fn are_pairs(s: &[u8], at: u8) -> bool
     ensures { result ≡ are_pairs s.now at 6 }
 {
-    let mut all = true;
-    for i in 0..6 {
-        all = all & wire::is_pair(wire::byte_at(s, at as usize + i));
-    }
-    all
+    (0..6).all(|i| wire::is_pair(wire::byte_at(s, at as usize + i)))
 }
 
 // The amount that the digits at a place write.

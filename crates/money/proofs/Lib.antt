@@ -1,3 +1,4 @@
 pub mod Search
+pub mod Rounding
 pub mod Power
 pub mod Laws

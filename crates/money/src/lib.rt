@@ -44,20 +44,14 @@ pub enum Converted {
 pub fn stop(n: u64) -> u64
     ensures { result ≡ stopped n }
 {
-    if MAX < n { MAX } else { n }
+    n.min(MAX)
 }
 
 // The sum of two amounts, stopping at MAX.
 pub fn plus(value: AccumulatorAmount, more: AccumulatorAmount) -> AccumulatorAmount
     ensures { result.0 ≡ stopped (value.0 + more.0) }
 {
-    if MAX < value.0 {
-        return AccumulatorAmount(MAX);
-    }
-    if MAX - value.0 < more.0 {
-        return AccumulatorAmount(MAX);
-    }
-    AccumulatorAmount(value.0 + more.0)
+    AccumulatorAmount(stop(value.0.saturating_add(more.0)))
 }
 
 fn is_for(rate: Rate, from: u16, to: u16) -> bool
@@ -70,11 +64,9 @@ fn is_for(rate: Rate, from: u16, to: u16) -> bool
 fn rate_for(rates: Rates, from: u16, to: u16) -> Rate
     ensures { result ≡ rate_for rates.entries from to 0 5 }
 {
-    let entries = rates.entries;
-    for i in 0..5 {
-        let rate = entries[i];
-        if is_for(rate, from, to) {
-            return rate;
+    for rate in &rates.entries {
+        if is_for(*rate, from, to) {
+            return *rate;
         }
     }
     Rate {
@@ -94,13 +86,10 @@ fn is_rate(rate: Rate) -> bool
 
 // n / k, its fraction dropped or rounded up.
 fn divide(n: u64, k: u64, up: bool) -> u64
-    requires { (0 < k) × (n + k < 2 ^ 64) }
+    requires { 0 < k }
     ensures { result ≡ rounded up n k }
 {
-    if up {
-        return (n + (k - 1)) / k;
-    }
-    n / k
+    if up { n.div_ceil(k) } else { n / k }
 }
 
 // amount x d x 10^s, its fraction dropped or rounded up.
@@ -109,15 +98,8 @@ fn scale(amount: u64, rate: Rate, up: bool) -> u64
     ensures { result ≡ scaled up amount rate }
 {
     let product = amount * rate.digits as u64;
-    let exponent = if rate.shift < 9 {
-        9 - rate.shift
-    } else {
-        rate.shift - 9
-    };
-    let mut power: u64 = 1;
-    for _ in 0..exponent {
-        power *= 10;
-    }
+    let exponent = rate.shift.abs_diff(9);
+    let power = 10u64.pow(u32::from(exponent));
     if rate.shift < 9 {
         divide(product, power, up)
     } else {

@@ -1,19 +1,17 @@
-use mathlib.Core.Path.{◌≡◌, refl}
-use Prim.Native.Nat.{◌-◌, ◌≤◌}
-use native.Mathlib.Numerals.{add-one}
-use native.Mathlib.Omega.{arith}
+-- Six bytes, one after another.
 use borrow.Author.Rules.{rules}
+use borrow.Author.Tests.{tests}
+use mathlib.Core.Bool.{and_assoc, and-true}
+use mathlib.Core.Path.{refl, ◌∙◌}
+use Prim.Native.Nat.{◌+◌}
+use Rattle.std.proofs.lemmas.Iterator.{YieldsList-from_range}
+use Rattle.std.proofs.lemmas.Iterator.Search.{all_from_yields_List}
+use Rattle.wire.specs.Wire.{byte, is_pair}
 use Rattle.digits.specs.Digits.{are_pairs}
 use Rattle.digits.proofs.are_pairs.Goals as goal
 
-pub loop-i-init : goal.loop-i-init
-unfolding are_pairs
-loop-i-init c = (refl, search rules)
-
-pub loop-i-preserved : goal.loop-i-preserved
-unfolding are_pairs
-loop-i-preserved c =
-    (rw add-one (simp (c.is_pair-all.ensures, c.byte_at.ensures, c.loop-i.invariant.0)), search rules)
-
 pub returns : goal.returns
-returns c = let six : c.loop-i.i ≡ 6 = omega arith in rw six at c.loop-i.invariant.0
+unfolding are_pairs
+returns c =
+    let e = all_from_yields_List (λ k. is_pair (byte c.args.s.now (c.args.at + k))) _ _ c.all.result c.all.ensures.ran (YieldsList-from_range 0 6 6 (cc) refl) (λ x b q k. search (rules, tests)) in
+    e ∙ simp (and_assoc, and-true)

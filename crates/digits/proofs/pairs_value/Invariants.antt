@@ -1,12 +1,7 @@
 -- The loop's invariant: the amount is what the digits in the first i bytes write, and below 3 x 100^i, so that the next one fits.
-use mathlib.Core.Path.{◌≡◌, refl}
+use mathlib.Core.Path.{◌≡◌}
 use Prim.Native.Nat.{◌+◌, ◌-◌, ◌*◌, ◌^◌, ◌≤◌}
-use native.Mathlib.Nat.{pow-suc}
-use native.Mathlib.Numerals.{add-one}
-use native.Mathlib.Omega.{arith}
-use borrow.Author.Rules.{rules}
 use Rattle.digits.specs.Digits.{pairs_value}
-use Rattle.digits.proofs.Facts.{small}
 use Rattle.digits.proofs.pairs_value.Given as goal
 
 abbrev pub invariant-loop-i : goal.invariant-loop-i
