@@ -42,10 +42,7 @@ fn store(room: &mut [u8], at: usize, answer: Answer)
 pub fn put(room: &mut [u8], at: usize, answer: Answer)
     ensures { room.new ≡ placed room.old at (answer_bytes answer) }
 {
-    if room.len() < at {
-        return;
-    }
-    if room.len() - at < SIZE {
+    if room.len() < at || room.len() - at < SIZE {
         return;
     }
     store(room, at, answer);

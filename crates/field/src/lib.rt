@@ -22,7 +22,8 @@ fn stretch(s: &[u8], position: u8, length: u8) -> &[u8]
     &s[start..end]
 }
 
-// Source 0 is First's data, any other Second's.
+// Source 0 is First's data, any other Second's: it is the byte of the paper's table, and `field_of` of
+// specs/ promises for each.
 pub fn field<'a>(
     first: &'a [u8],
     second: &'a [u8],

@@ -46,10 +46,7 @@ pub fn none() -> Ring
 fn slots_of(size: u8) -> u64
     ensures { (result ≡ slots_of size) × (result ≤ most) }
 {
-    if size < MOST {
-        return size as u64;
-    }
-    MOST as u64
+    size.min(MOST) as u64
 }
 
 // The slot that a cell names. Behind the last one comes the first.
@@ -63,7 +60,7 @@ fn slot_named(next: u64, slots: u64) -> u64
 fn count_kept(count: u64, slots: u64) -> u64
     ensures { (result ≡ count_kept count slots) × (result ≤ slots) }
 {
-    if count < slots { count } else { slots }
+    count.min(slots)
 }
 
 // The slot of the record so many before the newest, the next one going into a slot.
@@ -72,9 +69,10 @@ fn slot_back(next: u64, slots: u64, back: u64) -> u64
     ensures { (result ≡ slot_back next slots back) × (result < slots) }
 {
     if back < next {
-        return next - 1 - back;
+        next - 1 - back
+    } else {
+        next + slots - 1 - back
     }
-    next + slots - 1 - back
 }
 
 // The record in a slot.

@@ -1,8 +1,6 @@
-use borrow.Author.Rules.{rules}
 use mathlib.Core.Path.{ap, ◌∙◌}
 use Prim.Native.Nat.{◌+◌}
 use native.Mathlib.Omega.{arith}
-use lib.ListN.{length}
 use lib.Seq.{sets, length-sets}
 use Rattle.text.specs.Text.{placed}
 use Rattle.text.proofs.Laws.{sets_on, placed_in_lem}

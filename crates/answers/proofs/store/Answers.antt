@@ -1,4 +1,3 @@
-use borrow.Author.Rules.{rules}
 use Rattle.answers.specs.Answers.{answer_bytes}
 use Rattle.answers.proofs.store.Goals as goal
 

@@ -1,6 +1,4 @@
-use borrow.Author.Rules.{rules}
 use borrow.Author.Tests.{eq-eqb, ne_eqb}
-use native.Mathlib.Omega.{arith}
 use Rattle.ring.specs.Ring.{added}
 use Rattle.ring.proofs.add.Goals as goal
 
@@ -13,6 +11,3 @@ unfolding added
 returns c =
     let other = c in
     rw (← other.slots_of-slots.ensures.0, ne_eqb _ _ other.if-slots-eq0.false) c.add_in.ensures
-
-pub add_in-requires : goal.add_in-requires
-add_in-requires c = omega arith

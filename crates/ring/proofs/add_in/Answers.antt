@@ -1,4 +1,3 @@
-use borrow.Author.Rules.{rules}
 use native.Mathlib.Omega.{arith}
 use Rattle.ring.specs.Ring.{added_in}
 use Rattle.ring.proofs.add_in.Goals as goal
@@ -13,12 +12,3 @@ unfolding added_in
 returns c =
     let kept = c in
     simp (c.put_record.ensures, kept.count_kept-others.ensures.0, kept.slot_named-slot.ensures.0)
-
-pub overflow_sub-slots : goal.overflow_sub-slots
-overflow_sub-slots c = omega arith
-
-pub overflow_add-ring : goal.overflow_add-ring
-overflow_add-ring c = omega arith
-
-pub overflow_add-ring-2 : goal.overflow_add-ring-2
-overflow_add-ring-2 c = omega arith

@@ -1,4 +1,3 @@
-use borrow.Author.Rules.{rules}
 use native.Mathlib.Omega.{arith}
 use Rattle.ring.specs.Ring.{count_in}
 use Rattle.ring.proofs.count.Goals as goal

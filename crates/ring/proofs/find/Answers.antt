@@ -1,4 +1,3 @@
-use borrow.Author.Rules.{rules}
 use borrow.Author.Tests.{eq-eqb, ne_eqb, lt-ltb, le-ltb}
 use native.Mathlib.Omega.{arith}
 use Rattle.ring.specs.Ring.{count_in, found}
@@ -37,9 +36,6 @@ returns c =
       c.slot_back.ensures.0,
       named.slot_named-next.ensures.0,
     ))
-
-pub overflow_sub-k : goal.overflow_sub-k
-overflow_sub-k c = omega arith
 
 pub record_in-requires : goal.record_in-requires
 record_in-requires c = omega (arith, c.slot_back.ensures.1)

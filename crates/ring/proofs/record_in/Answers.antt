@@ -1,4 +1,3 @@
-use native.Mathlib.Omega.{arith}
 use mathlib.Core.Path.{refl}
 use Rattle.ring.specs.Ring.{record_in}
 use Rattle.ring.proofs.record_in.Goals as goal
@@ -6,51 +5,3 @@ use Rattle.ring.proofs.record_in.Goals as goal
 pub returns : goal.returns
 unfolding record_in
 returns c = refl
-
-pub overflow_mul-at : goal.overflow_mul-at
-overflow_mul-at c = omega arith
-
-pub overflow_add-at : goal.overflow_add-at
-overflow_add-at c = omega arith
-
-pub offset_bounds-ring-at : goal.offset_bounds-ring-at
-offset_bounds-ring-at c = omega arith
-
-pub bounds-ring-at : goal.bounds-ring-at
-bounds-ring-at c = omega arith
-
-pub overflow_add-result : goal.overflow_add-result
-overflow_add-result c = omega arith
-
-pub offset_bounds-ring-at-2 : goal.offset_bounds-ring-at-2
-offset_bounds-ring-at-2 c = omega arith
-
-pub bounds-ring-at-2 : goal.bounds-ring-at-2
-bounds-ring-at-2 c = omega arith
-
-pub overflow_add-result-2 : goal.overflow_add-result-2
-overflow_add-result-2 c = omega arith
-
-pub offset_bounds-ring-at-3 : goal.offset_bounds-ring-at-3
-offset_bounds-ring-at-3 c = omega arith
-
-pub bounds-ring-at-3 : goal.bounds-ring-at-3
-bounds-ring-at-3 c = omega arith
-
-pub overflow_add-result-3 : goal.overflow_add-result-3
-overflow_add-result-3 c = omega arith
-
-pub offset_bounds-ring-at-4 : goal.offset_bounds-ring-at-4
-offset_bounds-ring-at-4 c = omega arith
-
-pub bounds-ring-at-4 : goal.bounds-ring-at-4
-bounds-ring-at-4 c = omega arith
-
-pub overflow_add-result-4 : goal.overflow_add-result-4
-overflow_add-result-4 c = omega arith
-
-pub offset_bounds-ring-at-5 : goal.offset_bounds-ring-at-5
-offset_bounds-ring-at-5 c = omega arith
-
-pub bounds-ring-at-5 : goal.bounds-ring-at-5
-bounds-ring-at-5 c = omega arith
