@@ -4,7 +4,7 @@ use mathlib.Core.Path.{◌≡◌, ap, subst}
 use mathlib.Core.List.{List, [], ◌∷◌, map}
 use Prim.Native.Nat.{ℕ}
 use lib.ListN.{drop}
-use Rattle.cursor.specs.Cursor.{Place, places_from, cut, commands_of}
+use Rattle.cursor.specs.Cursor.{places_from, cut, commands_of}
 use Rattle.trees.proofs.Octets.{drop_bytes, take-bytes}
 use Rattle.element.specs.declared.Write.{Write}
 use Rattle.element.specs.declared.Write.TheVariants.{Value, AccumulatorLimits, CounterLimits}
@@ -14,7 +14,7 @@ use Rattle.put_laws.proofs.Back.{from-proper, proper_valid}
 use Rattle.auditor.specs.Template.{Bytes, EachBytes, IsInRange, InRange}
 
 -- THEOREM: a command that lies in bytes is bytes
-cut-bytes : (s : List ℕ) → Bytes s → (ps : List Place) → EachBytes (map (cut s) ps)
+cut-bytes : (s : List ℕ) → Bytes s → (ps : List Span) → EachBytes (map (cut s) ps)
 unfolding cut EachBytes
 cut-bytes s h [] = tt
 cut-bytes s h (p ∷ ps) = (take-bytes p.size (drop p.start s) (drop_bytes p.start s h), cut-bytes s h ps)

@@ -3,13 +3,8 @@ use Rattle.std.specs.Prelude.{ℕ, zero, suc, ◌+◌, ◌-◌, List, [], ◌∷
 use Rattle.head.specs.Head.{head_size, value_size, object_size, head_right, is_constructed}
 use Rattle.cursor.specs.declared.Span.{Span}
 
--- where a value lies
-pub record Place : Type 0 where
-  pub start : ℕ
-  pub size : ℕ
-
 -- s stands at `at`, and n of its bytes are passed over: those of a filler, of a constructed object's head, of a primitive object
-unfoldable pub places_behind : (at n : ℕ) → List ℕ → List Place
+unfoldable pub places_behind : (at n : ℕ) → List ℕ → List Span
 places_behind at n [] = []
 places_behind at (suc n) (b ∷ s) = places_behind (at + 1) n s
 places_behind at zero (b ∷ s) =
@@ -24,10 +19,10 @@ places_behind at zero (b ∷ s) =
     [])
 
 -- those at or behind a place of s
-unfoldable pub places_from : List ℕ → (at : ℕ) → List Place
+unfoldable pub places_from : List ℕ → (at : ℕ) → List Span
 places_from s at = places_behind at 0 (drop at s)
 
-abbrev pub first_of : List Place → Option Span
+abbrev pub first_of : List Span → Option Span
 first_of [] = None
 first_of (p ∷ ps) = Some p
 
@@ -35,7 +30,7 @@ unfoldable pub next_command : List ℕ → (from : ℕ) → Option Span
 next_command s at = first_of (places_from s at)
 
 -- the commands themselves
-unfoldable pub cut : List ℕ → Place → List ℕ
+unfoldable pub cut : List ℕ → Span → List ℕ
 cut s p = take p.size (drop p.start s)
 
 unfoldable pub commands_of : List ℕ → List (List ℕ)

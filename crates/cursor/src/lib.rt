@@ -4,7 +4,7 @@
 ghost use Rattle.std.specs.Prelude.{◌≡◌};
 ghost use Rattle.cursor.specs.Cursor.{next_command};
 
-use head::{Head, is_constructed, read_head};
+use head::{is_constructed, read_head};
 use wire::byte_at;
 
 // A command is the value of an object 86.
@@ -23,23 +23,21 @@ pub fn next_command(template: &[u8], from: usize) -> Option<Span>
     while at < template.len() {
         let tag = byte_at(template, at);
         if tag == 0 {
-            at = at + 1;
+            at += 1;
             continue;
         }
-        let Some(Head { size, length }) = read_head(&template[at..]) else {
-            return None;
-        };
+        let head = read_head(&template[at..])?;
         if is_constructed(tag) {
-            at = at + size;
+            at += head.size;
             continue;
         }
         if tag == 0x86 {
             return Some(Span {
-                start: at + size,
-                size: length,
+                start: at + head.size,
+                size: head.length,
             });
         }
-        at = at + (size + length);
+        at += head.size + head.length;
     }
     None
 }

@@ -11,10 +11,20 @@ use Rattle.wire.specs.Wire.{byte}
 use Rattle.head.specs.Head.{head_right, is_constructed, object_size}
 use Rattle.object.specs.Object.{value_of, first_fault, read_object, read_behind, read_list, reading_number}
 use Rattle.head.proofs.Heads.{first_byte, rest_some, head-some}
-use Rattle.std.specs.Prelude.{Err, Ok, Result}
+use Rattle.std.specs.Prelude.{Err, None, Ok, Option, Result, Some}
+use Rattle.std.specs.Option.{ok_or}
+use Rattle.head.specs.declared.Head.{Head}
 use Rattle.object.specs.declared.Fault.{Fault}
-use Rattle.object.specs.declared.Fault.TheVariants.{Malformed}
-use Rattle.object.specs.declared.Fault.TheVariants.{TooDeep}
+use Rattle.object.specs.declared.Fault.TheVariants.{Malformed, TooDeep}
+
+-- ---- no head: what `ok_or` and `?` make of it
+abbrev fault_of : Result Head Fault → Fault
+fault_of (Err e) = e
+fault_of (Ok h) = Malformed
+
+pub without_head : (h : Option Head) (e : Fault) → ◌≡◌ {A = Result Head Fault} (Err e) (ok_or h Malformed) → e ≡ Malformed
+without_head None e p = ap fault_of p
+without_head (Some x) e p = ap fault_of p
 
 -- ---- one object
 pub object-constructed : (f : List ℕ → Result Unit Fault) (s : List ℕ) → head_right s ≡ true → is_constructed (byte s 0) ≡ true → read_object f s ≡ f (value_of s)
@@ -65,16 +75,13 @@ unfolding read_list read_behind
 list-end zero at s h e = absurd (omega arith)
 list-end (suc k) at s h e = ap (read_behind (read_list k) 0) (drop_of_length-le s e)
 
-pub not_malformed : (Err Malformed) ≡ Ok tt → ⊥
-not_malformed e = let z : ◌≡◌ {A = ℕ} 18 0 = ap reading_number e in omega arith
-
-pub not_deep : (Err TooDeep) ≡ Ok tt → ⊥
-not_deep e = let z : ◌≡◌ {A = ℕ} 19 0 = ap reading_number e in omega arith
+pub not_sound : (e : Fault) → ◌≡◌ {A = Result Unit Fault} (Err e) (Ok tt) → ⊥
+not_sound Malformed e = let z : ◌≡◌ {A = ℕ} 18 0 = ap reading_number e in omega arith
+not_sound TooDeep e = let z : ◌≡◌ {A = ℕ} 19 0 = ap reading_number e in omega arith
 
 pub first-fault : (a b : Result Unit Fault) → (a ≡ Ok tt → ⊥) → first_fault a b ≡ a
 first-fault (Ok done) b h = absurd (h refl)
-first-fault (Err Malformed) b h = refl
-first-fault (Err TooDeep) b h = refl
+first-fault (Err fault) b h = refl
 
 module _ (k at : ℕ) (s : List ℕ) (h : 1 ≤ k) (l : at < length s) where
   pub list_pass : byte s at ≡ 0 → read_list k (drop at s) ≡ read_list k (drop (at + 1) s)

@@ -3,8 +3,7 @@ use Rattle.std.specs.Prelude.{ℕ, zero, suc, ◌-◌, List, [], ◌∷◌, Bool
 use Rattle.wire.specs.Wire.{byte}
 pub use Rattle.head.specs.Head.{tag_size, tag_right, length_right, lead, object_size, is_constructed}
 use Rattle.object.specs.declared.Fault.{Fault}
-use Rattle.object.specs.declared.Fault.TheVariants.{Malformed}
-use Rattle.object.specs.declared.Fault.TheVariants.{TooDeep}
+use Rattle.object.specs.declared.Fault.TheVariants.{Malformed, TooDeep}
 unfoldable pub use Rattle.head.specs.Head.{length_size, length_at, head_size, value_size, head_formed, head_right}
 
 -- the value of the object with which s begins
@@ -14,8 +13,7 @@ value_of s = take (value_size s) (drop (head_size s) s)
 -- THE READING: the first fault in reading order, and of an object its head before its depth
 abbrev pub first_fault : Result Unit Fault → Result Unit Fault → Result Unit Fault
 first_fault (Ok done) r = r
-first_fault (Err Malformed) r = Err Malformed
-first_fault (Err TooDeep) r = Err TooDeep
+first_fault (Err fault) r = Err fault
 
 -- of the object with which s begins; `inside` reads the list in a constructed one
 unfoldable pub read_object : (inside : List ℕ → Result Unit Fault) → List ℕ → Result Unit Fault

@@ -10,16 +10,19 @@ ghost use Rattle.head.specs.Head.{head_of};
 use head::{Head, is_constructed, read_head};
 use wire::byte_at;
 
+// The first fault of a template, in reading order.
 #[derive(Clone, Copy)]
 pub enum Fault {
+    // Refusal 18: a malformed object, or bytes that are not one template.
     Malformed,
+    // Refusal 19: an object constructed at a depth above 4.
     TooDeep,
 }
 
 // The object with which the bytes begin, its head being right; `depths` more may be opened.
 #[cycle(read_list_read_object)]
-fn read_object(s: &[u8], size: usize, length: usize, depths: usize) -> Result<(), Fault>
-    requires { head_of s.now ≡ Some (record { size = size; length = length }) }
+fn read_object(s: &[u8], head: Head, depths: usize) -> Result<(), Fault>
+    requires { head_of s.now ≡ Some head }
     ensures { result ≡ read_object (read_list depths) s.now }
 {
     if !is_constructed(byte_at(s, 0)) {
@@ -28,7 +31,7 @@ fn read_object(s: &[u8], size: usize, length: usize, depths: usize) -> Result<()
     if depths == 0 {
         return Err(Fault::TooDeep);
     }
-    read_list(&s[size..size + length], depths)
+    read_list(&s[head.size..head.size + head.length], depths)
 }
 
 // A list of objects, with fillers 00 between them; `depths` may be opened, its own among them.
@@ -40,22 +43,18 @@ fn read_list(s: &[u8], depths: usize) -> Result<(), Fault>
     let mut at = 0;
     while at < s.len() {
         if byte_at(s, at) == 0 {
-            at = at + 1;
+            at += 1;
             continue;
         }
-        let Some(Head { size, length }) = read_head(&s[at..]) else {
-            return Err(Fault::Malformed);
-        };
-        let reading = read_object(&s[at..], size, length, depths - 1);
-        let Ok(()) = reading else {
-            return reading;
-        };
-        at = at + (size + length);
+        let head = read_head(&s[at..]).ok_or(Fault::Malformed)?;
+        read_object(&s[at..], head, depths - 1)?;
+        at += head.size + head.length;
     }
     Ok(())
 }
 
-// A template is one object 71 or 72 that ends where the bytes end.
+// Whether a template is one object 71 or 72 that ends where the bytes end, with every object in it
+// well formed and not too deep.
 pub fn read_template(template: &[u8]) -> Result<(), Fault>
     ensures { result ≡ read_template template.now }
 {
@@ -63,11 +62,9 @@ pub fn read_template(template: &[u8]) -> Result<(), Fault>
     if (tag != 0x71) & (tag != 0x72) {
         return Err(Fault::Malformed);
     }
-    let Some(Head { size, length }) = read_head(template) else {
-        return Err(Fault::Malformed);
-    };
-    if size + length != template.len() {
+    let head = read_head(template).ok_or(Fault::Malformed)?;
+    if head.size + head.length != template.len() {
         return Err(Fault::Malformed);
     }
-    read_list(&template[size..], 4)
+    read_list(&template[head.size..], 4)
 }
