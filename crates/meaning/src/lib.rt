@@ -4,7 +4,7 @@
 ghost use Rattle.std.specs.Prelude.{◌≡◌, ◌<◌};
 ghost use Rattle.element.specs.Element.{is_one_of, meaning_of, element_meaning};
 
-use element::{ACCUMULATORS, COUNTERS};
+use element::{ACCUMULATORS, COUNTERS, Write};
 use wire::{byte_at, u16_at};
 
 // Whether a tag is one of the four from the first on.

@@ -12,7 +12,7 @@ use meaning::element_meaning;
 use wire::u16_at;
 
 // What comes next among the elements: one of them, and where it ends; their end; or something that
-// fails the command.
+// fails the command. Three ways, which every caller tells apart: a Result of an Option is no plainer.
 #[derive(Drop)]
 pub enum Next {
     Element { write: Write, end: usize },
@@ -39,12 +39,10 @@ fn element_at(object: u16, list: &[u8], at: usize) -> Next
 fn next_element(object: u16, list: &[u8], from: usize) -> Next
     ensures { result ≡ next_in object list.now from }
 {
-    let mut at = from;
-    while at < list.len() {
+    for at in from..list.len() {
         if list[at] != 0 {
             return element_at(object, list, at);
         }
-        at += 1;
     }
     Next::End
 }

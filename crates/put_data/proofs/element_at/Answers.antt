@@ -1,7 +1,6 @@
 use mathlib.Core.Path.{sym, ◌∙◌}
 use borrow.Author.Rules.{rules}
 use Rattle.element.specs.Element.{element_meaning}
-use Rattle.element.proofs.Laws.{meant, fails}
 use Rattle.put_data.proofs.Laws.{rest_all}
 use Rattle.put_data.proofs.element_at.Goals as goal
 
@@ -11,7 +10,7 @@ returns-in-Some c =
     let made = arm in
     let a = made.args in
     let all = rest_all a.list.now a.at in
-    let write = meant (element_meaning a.object _) _ (sym made.element_meaning.ensures ∙ arm.in-Some.is) in
+    let write = sym made.element_meaning.ensures ∙ arm.in-Some.is in
     simp (rw all at write, c.element_size.ensures.0, all)
 
 pub returns-in-None : goal.returns-in-None
@@ -19,4 +18,4 @@ returns-in-None c =
     let made = c in
     let a = made.args in
     let all = rest_all a.list.now a.at in
-    simp (rw all at (fails (element_meaning a.object _) (sym made.element_meaning.ensures ∙ c.in-None.is)))
+    simp (rw all at (sym made.element_meaning.ensures ∙ c.in-None.is))
