@@ -8,14 +8,7 @@ ghost use Rattle.pieces.specs.Pieces.{place_of, before, behind, behind_place};
 fn place_of(text: &[u8], mark: u8) -> usize
     ensures { (result ≡ place_of mark text.now) × (result ≤ length text.now) }
 {
-    let mut at: usize = 0;
-    while at < text.len() {
-        if text[at] == mark {
-            return at;
-        }
-        at += 1;
-    }
-    at
+    text.iter().position(|c| *c == mark).unwrap_or(text.len())
 }
 
 // The text up to the first mark, or all of it.

@@ -4,8 +4,12 @@ use mathlib.Core.List.{List, [], ◌∷◌, ◌++◌}
 use Prim.Native.Nat.{ℕ, suc, ◌+◌, ◌≤◌, ◌<◌}
 use native.Mathlib.Nat.{add-zero, add-suc, suc-add}
 use borrow.Author.Tests.{le-leb, lt-leb}
-use lib.ListN.{length, set}
-use lib.Seq.{sets}
+use lib.ListN.{length, set, take, drop}
+use native.Mathlib.Omega.{arith}
+use lib.Seq.{sets, take_all}
+use borrow.Rule.Slice.PartMut.{put_mid}
+use Rattle.std.proofs.lemmas.List.Edits.{sets-eq}
+use Rattle.std.proofs.lemmas.Slice.{put_mid-paste}
 use Rattle.text.specs.Text.{placed, place_behind}
 
 -- two texts, one behind the other, are one
@@ -24,3 +28,10 @@ pub not_placed : (room text : List ℕ) (at : ℕ) → length room < at + length
     → (placed room at text ≡ room) × (place_behind (length room) at text ≡ at)
 unfolding placed place_behind
 not_placed room text at h = rw (lt-leb (at + length text) (length room) h) (refl, refl)
+
+-- a text copied over a part of the room
+pub copied : (room part text : List ℕ) (at k : ℕ) → part ≡ text → k ≡ length text → at + length text ≤ length room → put_mid at k room part ≡ sets room at text
+copied room part text at k e n h =
+    put_mid-paste at k room part text (length text) e (sym n) refl
+    ∙ ap (λ (t : List ℕ). take at room ++ t ++ drop (at + length text) room) (take_all (length text) text (omega arith))
+    ∙ sym (sets-eq text room at h)

@@ -1,15 +1,24 @@
--- Bytes read pair by pair of hex digits, and words compared byte by byte. Assumes nothing.
+-- Bytes read pair by pair of hex digits. Assumes nothing.
 use mathlib.Core.Path.{◌≡◌, refl, sym, ap, ◌∙◌}
 use mathlib.Core.Bool.{Bool, true, false, ◌&&◌}
-use mathlib.Core.List.{List, [], ◌∷◌}
-use Prim.Native.Nat.{ℕ, zero, suc, ◌+◌, ◌*◌, ◌/◌, ◌≤◌, ◌<◌}
+use mathlib.Core.List.{List, [], ◌∷◌, ◌++◌}
+use Prim.Native.Nat.{ℕ, zero, suc, ◌+◌, ◌*◌, ◌/◌, ◌%◌, ◌≤◌, ◌<◌}
+use Rattle.std.specs.List.{list_all}
 use native.Mathlib.Omega.{arith}
-use borrow.Author.Tests.{leb-true, ne_eqb, eq-eqb, eqb-true, eqb-false}
-use lib.Dec.{leb, eqb}
-use lib.ListN.{length, drop, get_or, drop_of_length-le}
-use Rattle.words.specs.Words.{same, is_digit, is_hex_digit, hex_value, is_hex, hex_bytes}
+use borrow.Author.Tests.{leb-true}
+use lib.Dec.{leb}
+use lib.ListN.{length, drop, get_or, length-drop}
+use Rattle.words.specs.Words.{is_digit, is_hex_digit, hex_value, is_hex, hex_bytes}
 use Rattle.words.proofs.Tests.{both}
 use Rattle.words.proofs.Reading.{on}
+
+and_assoc : (a b c : Bool) → (a && b && c) ≡ (a && (b && c))
+and_assoc true b c = refl
+and_assoc false b c = refl
+
+and_false : (a : Bool) → (a && false) ≡ false
+and_false true = refl
+and_false false = refl
 
 -- ---- digits
 
@@ -39,38 +48,18 @@ kinds c h =
 
 -- ---- pairs
 
-module _ (w : List ℕ) (i : ℕ) (more : i + 1 < length w) where
-  two : drop i w ≡ get_or w i 0 ∷ get_or w (i + 1) 0 ∷ drop (i + 2) w
-  two =
-      let next : i + 1 + 1 ≡ i + 2 = omega arith in
-      on w i (omega arith) ∙ ap (λ s. get_or w i 0 ∷ s) (on w (i + 1) more ∙ ap (λ (n : ℕ). get_or w (i + 1) 0 ∷ drop n w) next)
-
-  module _ (c d : ℕ) (first : c ≡ get_or w i 0) (second : d ≡ get_or w (i + 1) 0) where
-    pub bad_first : is_hex_digit c ≡ false → is_hex (drop i w) ≡ false
-    unfolding is_hex
-    bad_first p = ap is_hex two ∙ rw (← first, p)
-
-    pub bad_second : is_hex_digit d ≡ false → is_hex (drop i w) ≡ false
-    unfolding is_hex
-    bad_second p = ap is_hex two ∙ rw (← second, p) (neither (is_hex_digit (get_or w i 0)) _) where
-      neither : (t u : Bool) → (t && false && u) ≡ false
-      neither true u = refl
-      neither false u = refl
-
-    pub good : is_hex_digit c ≡ true → is_hex_digit d ≡ true → is_hex (drop i w) ≡ is_hex (drop (i + 2) w)
-    unfolding is_hex
-    good p q = ap is_hex two ∙ rw (← first, ← second, p, q)
-
--- the end: no byte is left, or one
-pub ended : (w : List ℕ) (i : ℕ) → i ≤ length w → length w ≤ i + 1 → eqb i (length w) ≡ is_hex (drop i w)
+-- all of an even number of digits, and no odd number
+pub all-hex : (w : List ℕ) → length w % 2 ≡ 0 → list_all is_hex_digit w ≡ is_hex w
 unfolding is_hex
-ended w i h k = by (eqb i (length w)) refl where
-  by : (t : Bool) → eqb i (length w) ≡ t → t ≡ is_hex (drop i w)
-  by true e = let is = eqb-true i (length w) e in rw (drop_of_length-le w {i = i} (omega arith))
-  by false e =
-      let not : i ≡ length w → ⊥ = eqb-false i (length w) e in
-      let less : i < length w = omega (arith, not) in
-      rw (on w i less, drop_of_length-le w {i = i + 1} k)
+all-hex [] h = refl
+all-hex (c ∷ []) h = absurd (omega arith)
+all-hex (c ∷ d ∷ s) h = rw (all-hex s (omega arith)) (sym (and_assoc (is_hex_digit c) (is_hex_digit d) (is_hex s)))
+
+pub odd-hex : (w : List ℕ) → (length w % 2 ≡ 0 → ⊥) → is_hex w ≡ false
+unfolding is_hex
+odd-hex [] h = absurd (h refl)
+odd-hex (c ∷ []) h = refl
+odd-hex (c ∷ d ∷ s) h = rw (odd-hex s (λ e. h (omega arith))) (and_false (is_hex_digit c && is_hex_digit d))
 
 -- ---- the pair of a place
 
@@ -100,23 +89,21 @@ pairs [] = refl
 pairs (c ∷ []) = refl
 pairs (c ∷ d ∷ s) = let more = pairs s in omega arith
 
--- ---- compared
+-- the next pair of what is left behind so many pairs
+pub record Turn (w x rest : List ℕ) (k : ℕ) : Type 0 where
+  pub within : 2 * k + 1 < length w
+  pub first : get_or x 0 0 ≡ get_or w (2 * k) 0
+  pub second : get_or x 1 0 ≡ get_or w (2 * k + 1) 0
+  pub left : rest ≡ drop (2 * (k + 1)) w
 
-pub other_length : (s t : List ℕ) → (length s ≡ length t → ⊥) → same s t ≡ false
-other_length [] [] h = absurd (h refl)
-other_length [] (d ∷ t) h = refl
-other_length (c ∷ s) [] h = refl
-other_length (c ∷ s) (d ∷ t) h = rw (other_length s t (λ e. h (ap suc e))) (neither (eqb c d)) where
-  neither : (t : Bool) → (t && false) ≡ false
-  neither true = refl
-  neither false = refl
-
-module _ (s t : List ℕ) (i : ℕ) (p : i < length s) (q : i < length t) where
-  heads : same (drop i s) (drop i t) ≡ (eqb (get_or s i 0) (get_or t i 0) && same (drop (i + 1) s) (drop (i + 1) t))
-  heads = rw (on s i p, on t i q)
-
-  pub apart : (get_or s i 0 ≡ get_or t i 0 → ⊥) → same (drop i s) (drop i t) ≡ false
-  apart h = heads ∙ rw (ne_eqb (get_or s i 0) (get_or t i 0) h)
-
-  pub alike : get_or s i 0 ≡ get_or t i 0 → same (drop i s) (drop i t) ≡ same (drop (i + 1) s) (drop (i + 1) t)
-  alike h = heads ∙ rw (eq-eqb (get_or s i 0) (get_or t i 0) h)
+pub pair-turn : (w x rest : List ℕ) (k : ℕ) → drop (2 * k) w ≡ x ++ rest → length x ≡ 2 → Turn w x rest k
+pair-turn w [] rest k e h = absurd (omega arith)
+pair-turn w (a ∷ []) rest k e h = absurd (omega arith)
+pair-turn w (a ∷ b ∷ c ∷ x) rest k e h = absurd (omega arith)
+pair-turn w (a ∷ b ∷ []) rest k e h =
+    let size = ap length e in
+    let within : 2 * k + 1 < length w = omega (arith, length-drop (2 * k) w) in
+    let next : 2 * k + 1 + 1 ≡ 2 * (k + 1) = omega arith in
+    let two : drop (2 * k) w ≡ get_or w (2 * k) 0 ∷ get_or w (2 * k + 1) 0 ∷ drop (2 * (k + 1)) w =
+    on w (2 * k) (omega arith) ∙ ap (λ s. get_or w (2 * k) 0 ∷ s) (on w (2 * k + 1) within ∙ ap (λ (n : ℕ). get_or w (2 * k + 1) 0 ∷ drop n w) next) in
+    record { within = within; first = cc; second = cc; left = cc }

@@ -23,8 +23,8 @@ pub fn put_word(room: &mut [u8], at: usize, word: &[u8]) -> usize
     ensures { Put room.old at word.now result room.new }
 {
     let mut end = at;
-    for i in 0..word.len() {
-        end = put_byte(room, end, word[i]);
+    for byte in word {
+        end = put_byte(room, end, *byte);
     }
     end
 }
@@ -50,40 +50,24 @@ pub fn put_hex(room: &mut [u8], at: usize, bytes: &[u8]) -> usize
     ensures { Put room.old at (hex bytes.now) result room.new }
 {
     let mut end = at;
-    for i in 0..bytes.len() {
-        end = put_hex_byte(room, end, bytes[i]);
+    for byte in bytes {
+        end = put_hex_byte(room, end, *byte);
     }
     end
-}
-
-fn is_digit(c: u8) -> bool
-    ensures { result ≡ is_digit c }
-{
-    (b'0' <= c) & (c <= b'9')
-}
-
-fn digit(c: u8) -> u64
-    ensures { (result ≡ c - 48) × (result < 256) }
-{
-    if c < b'0' { 0 } else { (c - b'0') as u64 }
 }
 
 pub fn number_in(word: &[u8]) -> Option<u64>
     ensures { result ≡ number_in word.now }
 {
-    if word.len() == 0 {
+    if word.is_empty() {
         return None;
     }
     let mut n = 0u64;
-    for i in 0..word.len() {
-        if !is_digit(word[i]) {
+    for c in word {
+        if !c.is_ascii_digit() {
             return None;
         }
-        let d = digit(word[i]);
-        if (18_446_744_073_709_551_615 - d) / 10 < n {
-            return None;
-        }
-        n = n * 10 + d;
+        n = n.checked_mul(10)?.checked_add(u64::from(*c - b'0'))?;
     }
     Some(n)
 }
@@ -91,21 +75,7 @@ pub fn number_in(word: &[u8]) -> Option<u64>
 pub fn same_word(a: &[u8], b: &[u8]) -> bool
     ensures { result ≡ same a.now b.now }
 {
-    if a.len() != b.len() {
-        return false;
-    }
-    for i in 0..a.len() {
-        if a[i] != b[i] {
-            return false;
-        }
-    }
-    true
-}
-
-fn is_hex_digit(c: u8) -> bool
-    ensures { result ≡ is_hex_digit c }
-{
-    is_digit(c) | ((b'A' <= c) & (c <= b'F')) | ((b'a' <= c) & (c <= b'f'))
+    a == b
 }
 
 fn hex_value(c: u8) -> u8
@@ -125,17 +95,7 @@ fn hex_value(c: u8) -> u8
 pub fn is_hex(word: &[u8]) -> bool
     ensures { result ≡ is_hex word.now }
 {
-    let mut i = 0;
-    while i + 1 < word.len() {
-        if !is_hex_digit(word[i]) {
-            return false;
-        }
-        if !is_hex_digit(word[i + 1]) {
-            return false;
-        }
-        i += 2;
-    }
-    i == word.len()
+    word.len() % 2 == 0 && word.iter().all(|c| c.is_ascii_hexdigit())
 }
 
 // The bytes that a word of hex digits says; none where it is not one.
@@ -146,12 +106,8 @@ pub fn put_hex_said(room: &mut [u8], at: usize, word: &[u8]) -> usize
         return at;
     }
     let mut end = at;
-    for i in 0..word.len() / 2 {
-        end = put_byte(
-            room,
-            end,
-            hex_value(word[2 * i]) * 16 + hex_value(word[2 * i + 1]),
-        );
+    for pair in word.chunks_exact(2) {
+        end = put_byte(room, end, hex_value(pair[0]) * 16 + hex_value(pair[1]));
     }
     end
 }

@@ -1,45 +1,33 @@
+-- The first mark's place is the place, and the end stands where there is none.
 use borrow.Author.Rules.{rules}
-use borrow.Author.Tests.{eq-eqb, ne_eqb}
-use mathlib.Core.List.{List}
-use mathlib.Core.Path.{◌≡◌}
-use Prim.Native.Nat.{ℕ, suc, ◌+◌, ◌-◌, ◌≤◌, ◌<◌}
-use native.Mathlib.Numerals.{add-one}
+use borrow.Author.Tests.{tests, eq-eqb, ne_eqb}
 use native.Mathlib.Omega.{arith}
-use lib.ListN.{length, drop, get_or, drop_of_length-le}
-use lib.Seq.{drop-cons}
+use mathlib.Core.Path.{◌≡◌, refl, sym, ◌∙◌}
+use Rattle.std.proofs.lemmas.Iterator.{IsFirst-from_position, index_from_first, YieldsList-from_slice}
+use Rattle.std.specs.Prelude.{ℕ, suc, ◌+◌, ◌≤◌, Bool, true, false, cond, eqb, List, [], ◌∷◌, length}
 use Rattle.pieces.specs.Pieces.{place_of}
 use Rattle.pieces.proofs.place_of.Goals as goal
 
-module _ (mark : ℕ) (text : List ℕ) (at : ℕ) where
-  here : at < length text → get_or text at 0 ≡ mark → place_of mark (drop at text) ≡ 0
-  unfolding place_of
-  here h e = rw (drop-cons text at 0 h, eq-eqb (get_or text at 0) mark e)
+hit : (mark c : ℕ) (text : List ℕ) → c ≡ mark → place_of mark (c ∷ text) ≡ 0
+unfolding place_of
+hit mark c text e = rw (eq-eqb c mark e)
 
-  further : at < length text → (get_or text at 0 ≡ mark → ⊥) → place_of mark (drop at text) ≡ 1 + place_of mark (drop (suc at) text)
-  unfolding place_of
-  further h n = rw (drop-cons text at 0 h, ne_eqb (get_or text at 0) mark n) (omega arith)
+miss : (mark c : ℕ) (text : List ℕ) → (c ≡ mark → ⊥) → place_of mark (c ∷ text) ≡ place_of mark text + 1
+unfolding place_of
+miss mark c text n = rw (ne_eqb c mark n) (omega arith)
 
-  nowhere : length text ≤ at → place_of mark (drop at text) ≡ 0
-  unfolding place_of
-  nowhere h = rw (drop_of_length-le text h)
-
-pub loop-at-init : goal.loop-at-init
-loop-at-init c = (omega arith, omega arith)
-
-pub returns-then-text-at : goal.returns-then-text-at
-returns-then-text-at c =
-    let loop = c in
-    let a = loop.args in
-    omega (arith, here a.mark a.text.now loop.loop-at.at (omega arith) c.if-text-at.true)
-
-pub loop-at-preserved : goal.loop-at-preserved
-loop-at-preserved c =
-    let loop = c in
-    let a = loop.args in
-    rw add-one (omega arith, omega (arith, further a.mark a.text.now loop.loop-at.at (omega arith) c.if-text-at.false))
+within : (mark : ℕ) (text : List ℕ) → place_of mark text ≤ length text
+unfolding place_of
+within mark [] = omega arith
+within mark (c ∷ text) = by (eqb c mark) (within mark text) where
+  by : (b : Bool) → place_of mark text ≤ length text → cond b 0 (suc (place_of mark text)) ≤ suc (length text)
+  by true h = omega arith
+  by false h = omega arith
 
 pub returns : goal.returns
+unfolding place_of
 returns c =
-    let loop = c in
-    let a = loop.args in
-    omega (arith, nowhere a.mark a.text.now loop.loop-at.at (omega arith))
+    let a = c.args in
+    let first = IsFirst-from_position _ _ c.position.result (λ x. x ≡ a.mark) (λ x. x ≡ a.mark → ⊥) c.position.ensures.ran (YieldsList-from_slice a.text.now cc) (λ x q k. search (rules, tests)) (λ x q k. search (rules, tests)) in
+    let place = index_from_first (place_of a.mark) (λ x. x ≡ a.mark) (λ x. x ≡ a.mark → ⊥) refl (λ x xs. hit a.mark x xs) (λ x xs. miss a.mark x xs) a.text.now c.position.result first in
+    (c.unwrap_or.ensures ∙ sym place, omega (arith, c.unwrap_or.ensures ∙ sym place, within a.mark a.text.now))

@@ -1,28 +1,16 @@
 use borrow.Author.Rules.{rules}
-use mathlib.Core.Path.{refl, sym, ◌∙◌}
-use native.Mathlib.Omega.{arith}
-use Rattle.words.proofs.Said.{bad_first, bad_second, good, ended}
+use borrow.Author.Tests.{tests, ne_eqb}
+use mathlib.Core.Path.{◌∙◌}
+use Rattle.std.proofs.lemmas.Iterator.{YieldsList-from_slice}
+use Rattle.std.proofs.lemmas.Iterator.Search.{all_from_yields_List}
+use Rattle.words.specs.Words.{is_hex_digit}
+use Rattle.words.proofs.Said.{all-hex, odd-hex}
 use Rattle.words.proofs.is_hex.Goals as goal
 
-pub loop-i-init : goal.loop-i-init
-loop-i-init c = (refl, search rules)
+pub returns-then-word-eq0 : goal.returns-then-word-eq0
+returns-then-word-eq0 c =
+    let w = c.args.word.now in
+    all_from_yields_List is_hex_digit _ _ c.all.result c.all.ensures.ran (YieldsList-from_slice w cc) (λ x b q k. search (rules, tests)) ∙ all-hex w c.if-word-eq0.true
 
-pub returns-then-not-is_hex_digit : goal.returns-then-not-is_hex_digit
-returns-then-not-is_hex_digit c =
-    let none = sym c.is_hex_digit.ensures ∙ c.if-not-is_hex_digit.true in
-    sym (c.loop-i.invariant.0 ∙ bad_first _ c.loop-i.i (omega arith) _ _ refl refl none)
-
-pub returns-then-not-is_hex_digit-2 : goal.returns-then-not-is_hex_digit-2
-returns-then-not-is_hex_digit-2 c =
-    let none = sym c.is_hex_digit-in-loop-i.ensures ∙ c.if-not-is_hex_digit-2.true in
-    sym (c.loop-i.invariant.0 ∙ bad_second _ c.loop-i.i (omega arith) _ _ refl refl none)
-
-pub loop-i-preserved : goal.loop-i-preserved
-loop-i-preserved c =
-    let first = sym c.is_hex_digit.ensures ∙ c.if-not-is_hex_digit.false in
-    let second = sym c.is_hex_digit-in-loop-i.ensures ∙ c.if-not-is_hex_digit-2.false in
-    (c.loop-i.invariant.0 ∙ good _ c.loop-i.i (omega arith) _ _ refl refl first second, search rules)
-
-pub returns : goal.returns
-returns c =
-    ended _ c.loop-i.i (omega arith) (omega arith) ∙ sym c.loop-i.invariant.0
+pub returns-else-word-eq0 : goal.returns-else-word-eq0
+returns-else-word-eq0 c = rw (odd-hex c.args.word.now c.if-word-eq0.false) (ne_eqb _ _ c.if-word-eq0.false)

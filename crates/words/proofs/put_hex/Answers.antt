@@ -1,4 +1,3 @@
-use borrow.Author.Rules.{rules}
 use mathlib.Core.Path.{◌≡◌}
 use native.Mathlib.Omega.{arith}
 use lib.ListN.{length}
@@ -8,18 +7,18 @@ use Rattle.hex_digits.proofs.Bytes.{hex-more}
 use Rattle.words.proofs.Puts.{nothing, next}
 use Rattle.words.proofs.put_hex.Goals as goal
 
-pub loop-i-init : goal.loop-i-init
+pub loop-byte-init : goal.loop-byte-init
 unfolding hex
-loop-i-init c = (nothing _ _, search rules, search rules, search rules)
+loop-byte-init c = nothing _ _
 
-pub loop-i-preserved : goal.loop-i-preserved
-loop-i-preserved c =
+pub loop-byte-preserved : goal.loop-byte-preserved
+loop-byte-preserved c =
     let bytes = c.args.bytes.now in
-    let i = c.loop-i.i in
-    (rw (hex-more bytes i (omega arith)) (next c.loop-i.invariant.0 c.put_hex_byte-end.ensures), search rules, search rules, search rules)
+    let i = c.loop-byte.byte-index in
+    rw (hex-more bytes i (omega arith)) (next c.loop-byte.invariant c.put_hex_byte-end.ensures)
 
 pub returns : goal.returns
 returns c =
     let bytes = c.args.bytes.now in
-    let all : c.loop-i.i ≡ length bytes = omega arith in
-    rw (all, take-length bytes) at c.loop-i.invariant.0
+    let all : c.loop-byte.byte-index ≡ length bytes = omega arith in
+    rw (all, take-length bytes) at c.loop-byte.invariant
