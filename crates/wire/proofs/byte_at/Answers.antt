@@ -1,5 +1,4 @@
 -- Past the end the byte is 0.
-use borrow.Author.Rules.{rules}
 use lib.ListN.{get_or-eq_default}
 use mathlib.Core.Path.{sym}
 use Rattle.wire.proofs.byte_at.Goals as goal

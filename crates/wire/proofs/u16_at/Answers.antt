@@ -1,5 +1,4 @@
 -- A number is its two bytes; past the end it is 0.
-use borrow.Author.Rules.{rules}
 use mathlib.Core.Path.{sym, ◌∙◌}
 use Rattle.wire.proofs.Numbers.{past, halves, one}
 use Rattle.wire.proofs.u16_at.Goals as goal
