@@ -54,15 +54,9 @@ fn are_elements(object: u16, list: &[u8]) -> bool
     let mut at = 0;
     loop {
         match next_element(object, list, at) {
-            Next::Element { write: _, end } => {
-                at = end;
-            }
-            Next::End => {
-                return true;
-            }
-            Next::Fault => {
-                return false;
-            }
+            Next::Element { end, .. } => at = end,
+            Next::End => return true,
+            Next::Fault => return false,
         }
     }
 }

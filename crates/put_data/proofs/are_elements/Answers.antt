@@ -8,9 +8,6 @@ use Rattle.put_data.specs.PutData.{writes_in, is_some}
 use Rattle.put_data.proofs.Cursor.{left_by_lem, goes_on_lem}
 use Rattle.put_data.proofs.are_elements.Goals as goal
 
-pub loop-end-init : goal.loop-end-init
-loop-end-init c = refl
-
 pub loop-end-smaller : goal.loop-end-smaller
 loop-end-smaller c =
     let made = c in

@@ -6,9 +6,6 @@ use Rattle.put_data.specs.PutData.{next_in}
 use Rattle.put_data.proofs.Laws.{next-end, next-filler, next_here}
 use Rattle.put_data.proofs.next_element.Goals as goal
 
-pub loop-at-init : goal.loop-at-init
-loop-at-init c = refl
-
 pub returns-then-list-at-ne0 : goal.returns-then-list-at-ne0
 returns-then-list-at-ne0 c =
     let turn = c in

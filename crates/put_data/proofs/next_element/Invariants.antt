@@ -8,6 +8,3 @@ use Rattle.put_data.proofs.next_element.Given as goal
 
 abbrev pub invariant-loop-at : goal.invariant-loop-at
 invariant-loop-at l = next_in l.object l.list l.from ≡ next_in l.object l.list l.at
-
-abbrev pub decreases-loop-at : goal.decreases-loop-at
-decreases-loop-at l = length l.list - l.at
