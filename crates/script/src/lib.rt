@@ -7,9 +7,9 @@ ghost use Rattle.put_data.specs.PutData.{writes_of, is_some, is_valid};
 ghost use Rattle.script.specs.Script.{values_after, rules_after, words_after};
 ghost use Rattle.script.specs.Script.{done, given, ran_of, rules_run, words_run};
 
-use cursor::{Span, next_command};
+use cursor::next_command;
 use marks::Scripts;
-use put_data::{is_valid, next_write};
+use put_data::{Next, is_valid, next_write};
 use rules::{Values, Words};
 
 // What a template leaves, beside the lent words.
@@ -27,13 +27,11 @@ fn write_elements(words: &mut Words, mut values: Values, command: &[u8]) -> Valu
         × (rules_of words.new ≡ rules_after (rules_of words.old) (given (writes_of command.now))) }
 {
     let mut at = 0;
-    loop {
-        let put_data::Next::Element { write, end } = next_write(command, at) else {
-            return values;
-        };
+    while let Next::Element { write, end } = next_write(command, at) {
         values = writes::apply(words, values, write);
         at = end;
     }
+    values
 }
 
 // Whether a command is done. It fails where the result is not "verified", where one has already
@@ -60,12 +58,9 @@ pub fn run(
         × (rules_of words.new ≡ rules_run (rules_of words.old) scripts verified template.now) }
 {
     let mut at = 0;
-    loop {
-        let Some(Span { start, size }) = next_command(template, at) else {
-            return Ran { values, scripts };
-        };
-        let end = start + size;
-        let command = &template[start..end];
+    while let Some(span) = next_command(template, at) {
+        let end = span.start + span.size;
+        let command = &template[span.start..end];
         if !is_done(verified, scripts, command) {
             return Ran {
                 values,
@@ -76,4 +71,5 @@ pub fn run(
         scripts = scripts.with_done();
         at = end;
     }
+    Ran { values, scripts }
 }

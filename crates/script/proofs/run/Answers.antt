@@ -11,23 +11,23 @@ use Rattle.cursor.specs.declared.Span.{Span}
 use Rattle.script.proofs.run.Goals as goal
 
 -- at a command: where it lies, and what is left behind it
-step : (s : List ℕ) (at start size : ℕ) (found : Option Span) → found ≡ next_command s at → found ≡ Some (record { start = start; size = size }) → Step s at start size
-step s at start size found e is = next-command _ _ _ _ (sym e ∙ is)
+step : (s : List ℕ) (at : ℕ) (span : Span) (found : Option Span) → found ≡ next_command s at → found ≡ Some span → Step s at span.start span.size
+step s at span found e is = next-command _ _ _ _ (sym e ∙ is)
 
-pub loop-start-init : goal.loop-start-init
-loop-start-init c = starts _ _ _ _ _
+pub loop-span-init : goal.loop-span-init
+loop-span-init c = starts _ _ _ _ _
 
-pub returns-in_default : goal.returns-in_default
-returns-in_default c =
+pub returns : goal.returns
+returns c =
     let asked = c in
-    let l = asked.loop-start in
+    let l = asked.loop-span in
     ends _ _ _ _ _ _ _ _ _ l.invariant (next-end _ _ (sym asked.next_command.ensures ∙ c.in_default.is))
 
 pub overflow_add-end : goal.overflow_add-end
-overflow_add-end c = let h = step _ _ _ _ _ c.next_command.ensures c.in-Some.is in omega (arith, h.within)
+overflow_add-end c = let h = step _ _ _ _ c.next_command.ensures c.in-Some.is in omega (arith, h.within)
 
 pub slice_bounds-command-end : goal.slice_bounds-command-end
-slice_bounds-command-end c = let h = step _ _ _ _ _ c.next_command.ensures c.in-Some.is in omega (arith, h.within)
+slice_bounds-command-end c = let h = step _ _ _ _ c.next_command.ensures c.in-Some.is in omega (arith, h.within)
 
 pub returns-then-not-is_done : goal.returns-then-not-is_done
 returns-then-not-is_done c =
@@ -35,25 +35,25 @@ returns-then-not-is_done c =
     let told = asked in
     let next = told in
     let failed = sym asked.is_done.ensures ∙ c.if-not-is_done.true in
-    simp c.with_failure.ensures (fails _ _ _ _ _ _ _ _ _ next.loop-start.invariant _ _ (step _ _ _ _ _ c.next_command.ensures c.in-Some.is) failed)
+    simp c.with_failure.ensures (fails _ _ _ _ _ _ _ _ _ next.loop-span.invariant _ _ (step _ _ _ _ c.next_command.ensures c.in-Some.is) failed)
 
 pub write_elements-values-requires : goal.write_elements-values-requires
 write_elements-values-requires c =
     let asked = c in
     (done-some _ _ _ (sym asked.is_done.ensures ∙ c.if-not-is_done.false)).0
 
-pub loop-start-smaller : goal.loop-start-smaller
-loop-start-smaller c =
+pub loop-span-smaller : goal.loop-span-smaller
+loop-span-smaller c =
     let branch = c in
-    let h = step _ _ _ _ _ c.next_command.ensures c.in-Some.is in
+    let h = step _ _ _ _ c.next_command.ensures c.in-Some.is in
     omega (arith, h.later, h.within)
 
-pub loop-start-preserved : goal.loop-start-preserved
-loop-start-preserved c =
+pub loop-span-preserved : goal.loop-span-preserved
+loop-span-preserved c =
     let branch = c in
     let asked = branch in
     let told = asked in
     let next = told in
     let is-done = sym asked.is_done.ensures ∙ branch.if-not-is_done.false in
     simp c.with_done-scripts.ensures
-    (goes_on_lem _ _ _ _ _ _ _ _ _ next.loop-start.invariant _ _ (step _ _ _ _ _ c.next_command.ensures c.in-Some.is) is-done _ _ c.write_elements-values.ensures)
+    (goes_on_lem _ _ _ _ _ _ _ _ _ next.loop-span.invariant _ _ (step _ _ _ _ c.next_command.ensures c.in-Some.is) is-done _ _ c.write_elements-values.ensures)

@@ -28,8 +28,8 @@ loop-write-init c =
     let w = s.args.command.now in
     ((at-start w s.requires).0, at_first _ _ _ _ (all_left w s.requires))
 
-pub returns-in_default : goal.returns-in_default
-returns-in_default c =
+pub returns : goal.returns
+returns c =
     let asked = c in
     let l = asked.loop-write in
     let w = asked.args.command.now in
