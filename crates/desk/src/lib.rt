@@ -2,45 +2,37 @@
 // and `pages`; here it is only read and written.
 #![tactic(auto)]
 
-ghost use Rattle.std.specs.Prelude.{◌+◌, ◌≤◌, length};
+ghost use Rattle.std.specs.Prelude.{◌+◌, ◌≤◌, length, IfOk};
 
 use blocks::{Turned, Wants};
 use rules::Words;
 use std::rt::Files;
-use streams::{Ending, Read};
+use streams::Failure;
 
 // One paper, read into a buffer of a byte more than the longest.
-fn sit(rt: &(impl Input + Print), buffer: &mut [u8], words: &mut Words, room: &mut [u8]) -> Ending {
-    let read = streams::read_all(rt, buffer);
-    if read.failed {
-        return Ending::NotRead;
-    }
-    let filled = read.filled;
-    let Some(end) = paper_text::put_text(&buffer[..filled], words, room, 0) else {
-        return Ending::NotWritten;
-    };
-    if streams::write_out(rt, room, end) {
-        return Ending::Done;
-    }
-    Ending::NotWritten
-}
-
-// Moves the bytes from a place up to another to the front of the buffer.
-fn move_up(buffer: &mut [u8], at: usize, filled: usize)
-    requires { (at ≤ filled) × (filled ≤ length buffer.old) }
-{
-    for i in 0..filled - at {
-        buffer[i] = buffer[at + i];
-    }
+fn sit(
+    rt: &(impl Input + Print),
+    buffer: &mut [u8],
+    words: &mut Words,
+    room: &mut [u8],
+) -> Result<(), Failure> {
+    let filled = streams::read_all(rt, buffer)?;
+    let end = paper_text::put_text(&buffer[..filled], words, room, 0).ok_or(Failure::NotWritten)?;
+    streams::write_out(rt, room, end)
 }
 
 // The bytes from a place up to another move to the front of the buffer, and more are read behind
 // them. A block that is not at hand whole is shorter than the buffer, so there is room.
-fn read_more(rt: &impl Input, buffer: &mut [u8], at: usize, filled: usize) -> Read
+fn read_more(
+    rt: &impl Input,
+    buffer: &mut [u8],
+    at: usize,
+    filled: usize,
+) -> Result<usize, Failure>
     requires { (at ≤ filled) × (filled ≤ length buffer.old) }
-    ensures { result.filled ≤ length buffer.old }
+    ensures { IfOk result (λ to. to ≤ length buffer.old) }
 {
-    move_up(buffer, at, filled);
+    buffer.copy_within(at..filled, 0);
     streams::read_on(rt, buffer, filled - at)
 }
 
@@ -61,17 +53,19 @@ fn turn(
 }
 
 // The stack has ended with so many bytes at hand.
-fn close(rt: &impl Print, left: usize, skip: usize, room: &mut [u8], to: usize) -> Ending {
-    let Some(end) = blocks::finish(left, skip, room, to) else {
-        return Ending::NotWritten;
-    };
-    if !streams::write_out(rt, room, end) {
-        return Ending::NotWritten;
+fn close(
+    rt: &impl Print,
+    left: usize,
+    skip: usize,
+    room: &mut [u8],
+    to: usize,
+) -> Result<(), Failure> {
+    let end = blocks::finish(left, skip, room, to).ok_or(Failure::NotWritten)?;
+    streams::write_out(rt, room, end)?;
+    if left == 0 && skip == 0 {
+        return Ok(());
     }
-    if (left == 0) & (skip == 0) {
-        return Ending::Done;
-    }
-    Ending::CutShort
+    Err(Failure::CutShort)
 }
 
 // All papers of a stack. It ends after more turns than any input has.
@@ -80,43 +74,37 @@ fn turn_pages(
     buffer: &mut [u8],
     words: &mut Words,
     room: &mut [u8],
-) -> Ending {
+) -> Result<(), Failure> {
     let mut at: usize = 0;
     let mut filled: usize = 0;
     let mut skip: usize = 0;
     let mut to: usize = 0;
-    let mut turns: u64 = 0;
-    while turns < 18_446_744_073_709_551_615 {
-        turns += 1;
+    for _ in 0..u64::MAX {
         let turned = turn(buffer, at, filled, skip, words, room, to);
         at += turned.taken;
         skip = turned.skip;
         to = turned.end;
-        let wants = turned.wants;
-        match wants {
+        match turned.wants {
             Wants::Turn => {}
             Wants::Room => {
-                if !streams::write_out(rt, room, to) {
-                    return Ending::NotWritten;
-                }
+                streams::write_out(rt, room, to)?;
                 to = 0;
             }
             Wants::Input => {
                 let left = filled - at;
-                let read = read_more(rt, buffer, at, filled);
-                if read.failed {
-                    streams::write_out(rt, room, to);
-                    return Ending::NotRead;
-                }
-                if read.filled == left {
+                let Ok(more) = read_more(rt, buffer, at, filled) else {
+                    let _ = streams::write_out(rt, room, to);
+                    return Err(Failure::NotRead);
+                };
+                if more == left {
                     return close(rt, left, skip, room, to);
                 }
                 at = 0;
-                filled = read.filled;
+                filled = more;
             }
         }
     }
-    Ending::NotRead
+    Err(Failure::NotRead)
 }
 
 pub fn run_sitting(rt: &(impl Input + Print + Files)) {

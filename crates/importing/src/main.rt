@@ -3,32 +3,27 @@
 #![tactic(auto)]
 
 use imports::Answered;
-use streams::Ending;
+use streams::Failure;
 
 // The lines of all records: the buffer has whole ones, and is full but at the input's end. It ends
 // after more turns than any input has.
-fn answer_all(rt: &(impl Input + Print), buffer: &mut [u8], room: &mut [u8]) -> Ending {
+fn answer_all(
+    rt: &(impl Input + Print),
+    buffer: &mut [u8],
+    room: &mut [u8],
+) -> Result<(), Failure> {
     let mut number: u64 = 1;
-    let mut turns: u64 = 0;
-    while turns < 18_446_744_073_709_551_615 {
-        turns += 1;
-        let read = streams::read_all(rt, buffer);
-        if read.failed {
-            return Ending::NotRead;
-        }
-        let filled = read.filled;
-        let Some(Answered { end, next }) = imports::answer(&buffer[..filled], number, room) else {
-            return Ending::NotWritten;
-        };
-        if !streams::write_out(rt, room, end) {
-            return Ending::NotWritten;
-        }
+    for _ in 0..u64::MAX {
+        let filled = streams::read_all(rt, buffer)?;
+        let Answered { end, next } =
+            imports::answer(&buffer[..filled], number, room).ok_or(Failure::NotWritten)?;
+        streams::write_out(rt, room, end)?;
         if filled < buffer.len() {
-            return Ending::Done;
+            return Ok(());
         }
         number = next;
     }
-    Ending::NotRead
+    Err(Failure::NotRead)
 }
 
 // 3,276 records, and 54 bytes for the line of each.

@@ -14,9 +14,7 @@ const FILLER: u8 = 0xAA;
 pub fn fill(room: &mut [u8])
     ensures { room.new ≡ replicate (length room.old) filler }
 {
-    for i in 0..room.len() {
-        room[i] = FILLER;
-    }
+    room.fill(FILLER);
 }
 
 // The size of the room that a block asks: its first 4 bytes, those that are missing being 0, and never
@@ -24,16 +22,12 @@ pub fn fill(room: &mut [u8])
 pub fn size_in(block: &[u8]) -> usize
     ensures { (result ≡ size_in block.now) × (result ≤ 65536) }
 {
-    let size = wire::u32_at(block, 0) as usize;
-    if LARGEST_ROOM < size {
-        return LARGEST_ROOM;
-    }
-    size
+    (wire::u32_at(block, 0) as usize).min(LARGEST_ROOM)
 }
 
 // Where a block's records begin.
 pub fn head_in(block: &[u8]) -> usize
     ensures { (result ≡ head_in block.now) × (result ≤ length block.now) × (drop result block.now ≡ records_in block.now) }
 {
-    if block.len() < 4 { block.len() } else { 4 }
+    block.len().min(4)
 }
