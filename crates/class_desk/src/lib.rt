@@ -4,21 +4,11 @@
 
 ghost use Rattle.std.specs.Prelude.{◌≤◌, length};
 
-use intake::Found;
+use intake::Next;
 use sheet::Sheet;
 use sheet_lines::Form;
 use std::rt::{Env, Files};
-use streams::Ending;
-
-// How a class's stack goes on behind a paper.
-#[derive(Drop)]
-enum Papers {
-    More,
-    End,
-    CutShort,
-    NotRead,
-    NotWritten,
-}
+use streams::Failure;
 
 // A paper taken into the sheet; where it is refused that is written, with its number in the stack.
 fn enter(
@@ -28,33 +18,16 @@ fn enter(
     form: Form,
     number: u64,
     text: &mut [u8],
-) -> Papers {
+) -> Result<(), Failure> {
     let Err(refusal) = class_sheet::take_paper(sheet, paper) else {
-        return Papers::More;
+        return Ok(());
     };
     let end = sheet_lines::put_refused(text, 0, form, refusal.number(), number);
-    if streams::write_out(rt, text, end) {
-        return Papers::More;
-    }
-    Papers::NotWritten
+    streams::write_out(rt, text, end)
 }
 
-// The paper of so many bytes at the front of the buffer.
-fn enter_front(
-    rt: &impl Print,
-    sheet: &mut Sheet,
-    buffer: &[u8],
-    size: usize,
-    form: Form,
-    number: u64,
-    text: &mut [u8],
-) -> Papers
-    requires { size ≤ length buffer.now }
-{
-    enter(rt, sheet, &buffer[..size], form, number, text)
-}
-
-// The next paper of a stack. One that is too long has no byte here: both are refused by 9.
+// The next paper of a stack, or that there is none. One that is too long has no byte here: both are
+// refused by 9.
 fn enter_next(
     rt: &(impl Input + Print),
     sheet: &mut Sheet,
@@ -62,17 +35,13 @@ fn enter_next(
     form: Form,
     number: u64,
     text: &mut [u8],
-) -> Papers {
-    let next = intake::read_next(rt, buffer);
-    let found = next.found;
-    let size = next.size;
-    match found {
-        Found::Block => enter_front(rt, sheet, buffer, size, form, number, text),
-        Found::TooLong => enter(rt, sheet, b"", form, number, text),
-        Found::End => Papers::End,
-        Found::CutShort => Papers::CutShort,
-        Found::NotRead => Papers::NotRead,
+) -> Result<bool, Failure> {
+    match intake::read_next(rt, buffer)? {
+        Next::Block(size) => enter(rt, sheet, &buffer[..size], form, number, text)?,
+        Next::TooLong => enter(rt, sheet, b"", form, number, text)?,
+        Next::End => return Ok(false),
     }
+    Ok(true)
 }
 
 // All papers of a stack. It ends after more papers than any input has.
@@ -82,46 +51,38 @@ fn enter_all(
     buffer: &mut [u8],
     form: Form,
     text: &mut [u8],
-) -> Papers {
-    let mut number: u64 = 0;
-    while number < 18_446_744_073_709_551_615 {
-        number += 1;
-        let papers = enter_next(rt, sheet, buffer, form, number, text);
-        let Papers::More = papers else {
-            return papers;
-        };
+) -> Result<(), Failure> {
+    for number in 1..=u64::MAX {
+        if !enter_next(rt, sheet, buffer, form, number, text)? {
+            return Ok(());
+        }
     }
-    Papers::NotRead
+    Err(Failure::NotRead)
 }
 
-// The sheet, and how the stack ended.
-fn write_sheet(
-    rt: &impl Print,
-    sheet: &Sheet,
+// The sheet.
+fn write_sheet(rt: &impl Print, sheet: &Sheet, form: Form, text: &mut [u8]) -> Result<(), Failure> {
+    let end = sheet_lines::put_sheet(text, 0, form, sheet);
+    streams::write_out(rt, text, end)
+}
+
+// The sheet of a class, whose papers are a stack; where that is cut short the sheet is written too.
+fn tell_class(
+    rt: &(impl Input + Print),
+    buffer: &mut [u8],
     form: Form,
     text: &mut [u8],
-    ending: Ending,
-) -> Ending {
-    let end = sheet_lines::put_sheet(text, 0, form, sheet);
-    if streams::write_out(rt, text, end) {
-        return ending;
-    }
-    Ending::NotWritten
-}
-
-// The sheet of a class, whose papers are a stack.
-fn tell_class(rt: &(impl Input + Print), buffer: &mut [u8], form: Form, text: &mut [u8]) -> Ending {
+) -> Result<(), Failure> {
     let mut sheet = sheet::blank();
-    match enter_all(rt, &mut sheet, buffer, form, text) {
-        Papers::End => write_sheet(rt, &sheet, form, text, Ending::Done),
-        Papers::CutShort => {
-            if streams::write_out(rt, b"cut short\n", 10) {
-                return write_sheet(rt, &sheet, form, text, Ending::CutShort);
-            }
-            Ending::NotWritten
+    let ended = enter_all(rt, &mut sheet, buffer, form, text);
+    match ended {
+        Ok(()) => write_sheet(rt, &sheet, form, text),
+        Err(Failure::CutShort) => {
+            streams::write_out(rt, b"cut short\n", 10)?;
+            write_sheet(rt, &sheet, form, text)?;
+            ended
         }
-        Papers::NotWritten => Ending::NotWritten,
-        _ => Ending::NotRead,
+        Err(_) => ended,
     }
 }
 

@@ -10,7 +10,7 @@ use cursor::{Span, next_command};
 use element::Write;
 use object::{Fault, read_template};
 use put_data::{is_valid, next_write};
-use streams::Ending;
+use streams::Failure;
 
 // A text from a place of the room on.
 fn put_text(room: &mut [u8], at: usize, text: &[u8]) -> usize
@@ -170,7 +170,7 @@ fn print_command(
     template: &[u8],
     start: usize,
     end: usize,
-) -> bool
+) -> Result<(), Failure>
     requires { (583 ≤ length room.old) × (start ≤ end) × (end ≤ length template.now) }
 {
     let at = put_text(room, 0, b" ");
@@ -183,90 +183,79 @@ fn print_command(
 }
 
 // The words of all commands.
-fn print_commands(rt: &impl Print, room: &mut [u8], template: &[u8]) -> bool
+fn print_commands(rt: &impl Print, room: &mut [u8], template: &[u8]) -> Result<(), Failure>
     requires { 583 ≤ length room.old }
 {
     let mut at = 0;
     loop {
         let Some(Span { start, size }) = next_command(template, at) else {
-            return true;
+            return Ok(());
         };
         let end = start + size;
-        if !print_command(rt, room, template, start, end) {
-            return false;
-        }
+        print_command(rt, room, template, start, end)?;
         at = end;
     }
 }
 
+// Writes a text.
+fn print(rt: &impl Print, text: &[u8]) -> Result<(), Failure> {
+    streams::write_out(rt, text, text.len())
+}
+
 // The line of a sound template.
-fn print_sound(rt: &impl Print, room: &mut [u8], template: &[u8]) -> bool
+fn print_sound(rt: &impl Print, room: &mut [u8], template: &[u8]) -> Result<(), Failure>
     requires { 583 ≤ length room.old }
 {
-    if rt.write_all(b"0").is_err() {
-        return false;
-    }
-    if !print_commands(rt, room, template) {
-        return false;
-    }
-    rt.write_all(b"\n").is_ok()
+    print(rt, b"0")?;
+    print_commands(rt, room, template)?;
+    print(rt, b"\n")
 }
 
 // The line of a template.
-fn print_line(rt: &impl Print, room: &mut [u8], template: &[u8]) -> bool
+fn print_line(rt: &impl Print, room: &mut [u8], template: &[u8]) -> Result<(), Failure>
     requires { 583 ≤ length room.old }
 {
     match read_template(template) {
         Ok(()) => print_sound(rt, room, template),
-        Err(Fault::Malformed) => rt.write_all(b"18\n").is_ok(),
-        Err(Fault::TooDeep) => rt.write_all(b"19\n").is_ok(),
+        Err(Fault::Malformed) => print(rt, b"18\n"),
+        Err(Fault::TooDeep) => print(rt, b"19\n"),
     }
 }
 
 // The template of so many bytes that comes next, read and answered.
-fn answer(rt: &(impl Input + Print), buffer: &mut [u8], size: usize, room: &mut [u8]) -> Ending
+fn answer(
+    rt: &(impl Input + Print),
+    buffer: &mut [u8],
+    size: usize,
+    room: &mut [u8],
+) -> Result<(), Failure>
     requires { 583 ≤ length room.old }
 {
     if buffer.len() < size {
-        return Ending::NotRead;
+        return Err(Failure::NotRead);
     }
-    let read = streams::read_all(rt, &mut buffer[..size]);
-    if read.failed {
-        return Ending::NotRead;
+    if streams::read_all(rt, &mut buffer[..size])? < size {
+        return Err(Failure::CutShort);
     }
-    if read.filled < size {
-        return Ending::CutShort;
-    }
-    if print_line(rt, room, &buffer[..size]) {
-        return Ending::Done;
-    }
-    Ending::NotWritten
+    print_line(rt, room, &buffer[..size])
 }
 
 // All templates. It ends after more turns than any input has.
-fn answer_all(rt: &(impl Input + Print), buffer: &mut [u8], room: &mut [u8]) -> Ending
+fn answer_all(rt: &(impl Input + Print), buffer: &mut [u8], room: &mut [u8]) -> Result<(), Failure>
     requires { 583 ≤ length room.old }
 {
     let mut size = [0u8; 4];
-    let mut turns: u64 = 0;
-    while turns < 18_446_744_073_709_551_615 {
-        turns += 1;
-        let read = streams::read_all(rt, &mut size);
-        if read.failed {
-            return Ending::NotRead;
+    for _ in 0..u64::MAX {
+        let filled = streams::read_all(rt, &mut size)?;
+        if filled == 0 {
+            return Ok(());
         }
-        if read.filled == 0 {
-            return Ending::Done;
+        if filled < 4 {
+            return Err(Failure::CutShort);
         }
-        if read.filled < 4 {
-            return Ending::CutShort;
-        }
-        let ending = answer(rt, buffer, wire::u32_at(&size, 0) as usize, room);
-        let Ending::Done = ending else {
-            return ending;
-        };
+        answer(rt, buffer, wire::u32_at(&size, 0) as usize, room)?;
     }
-    Ending::NotRead
+    Err(Failure::NotRead)
 }
 
 // The longest template, and the longest text of a command: 43 bytes, and 45 for each of 12 slots.
