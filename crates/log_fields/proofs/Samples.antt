@@ -1,11 +1,10 @@
 -- Fields worked out: of which bytes of a paper they are. Assumes nothing.
-use mathlib.Core.Bool.{Bool, true, false, not, ◌&&◌}
+use mathlib.Core.Bool.{Bool, true, false, ◌&&◌}
 use mathlib.Core.List.{List, [], ◌∷◌}
 use Prim.Native.Nat.{ℕ}
 use lib.Dec.{T, eqb}
 use Rattle.log_tail.specs.LogTail.{entry_in}
 use Rattle.field.specs.Field.{stretch_of, field_of}
-use Rattle.ring.specs.declared.Record.{Record}
 use Rattle.log_fields.specs.declared.Form.{Form}
 use Rattle.log_fields.specs.LogFields.{part_of, field_in}
 

@@ -1,18 +1,16 @@
 -- A log's line is one line: no line feed is in it but its last byte. Assumes nothing.
 use mathlib.Core.Bool.{Bool, true, false, cond}
-use mathlib.Core.List.{List, [], ◌∷◌, ◌++◌}
+use mathlib.Core.List.{List, []}
 use Prim.Native.Nat.{ℕ, zero, suc, ◌+◌, ◌/◌, ◌%◌}
 use native.Mathlib.Omega.{arith}
 use lib.Dec.{ltb}
-use Rattle.hex_digits.specs.Hex.{hex}
-use Rattle.text.proofs.Each.{Each, none, more, append}
+use Rattle.text.proofs.Each.{none, more, append}
 use Rattle.text.proofs.Fields.{Plain, Fed, fed_line}
 use Rattle.hex_digits.proofs.Bytes.{hex-plain}
 use Rattle.numerals.specs.Numeral.{digits_of, numeral}
-use Rattle.log_tail.specs.LogTail.{switches_in}
 use Rattle.ring.specs.declared.Record.{Record}
 use Rattle.log_fields.specs.declared.Form.{Form}
-use Rattle.log_fields.specs.LogFields.{first_data, field_count, field_in}
+use Rattle.log_fields.specs.LogFields.{field_count, field_in}
 use Rattle.log_values.specs.LogValues.{purchase_text, answer_text}
 use Rattle.log_lines.specs.LogLines.{field_texts, fields_text, values_text, log_line, word}
 

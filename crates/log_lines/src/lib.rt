@@ -91,10 +91,7 @@ pub fn put_line(
         × (room.new ≡ placed room.old at (log_line k paper.now tail.now form kept))
         × (result ≤ at + longest) }
 {
-    if room.len() < at {
-        return at;
-    }
-    if room.len() - at < LONGEST {
+    if room.len() < at || room.len() - at < LONGEST {
         return at;
     }
     store_line(room, at, k, paper, tail, form, kept)

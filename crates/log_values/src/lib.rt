@@ -38,8 +38,8 @@ fn store_hex(room: &mut [u8], at: usize, values: &[u8]) -> usize
     ensures { Stored room.old at (hex values.now) (2 * length values.now) result room.new }
 {
     let mut end = at;
-    for i in 0..values.len() {
-        end = store_hex_byte(room, end, values[i]);
+    for value in values {
+        end = store_hex_byte(room, end, *value);
     }
     end
 }
@@ -49,10 +49,7 @@ fn store_hex_if(room: &mut [u8], at: usize, on: bool, values: &[u8]) -> usize
     requires { at + 2 * length values.now ≤ length room.old }
     ensures { Stored room.old at (hex (cond on values.now [])) (2 * length values.now) result room.new }
 {
-    if on {
-        return store_hex(room, at, values);
-    }
-    at
+    if on { store_hex(room, at, values) } else { at }
 }
 
 fn store_purchase(room: &mut [u8], at: usize, first: &[u8], dated: bool) -> usize
@@ -82,13 +79,7 @@ fn store_answer(room: &mut [u8], at: usize, switches: u8, kept: Record) -> usize
 fn has_room(room: &[u8], at: usize, bytes: usize) -> bool
     ensures { result ≡ fits (length room.now) at bytes }
 {
-    if room.len() < at {
-        return false;
-    }
-    if room.len() - at < bytes {
-        return false;
-    }
-    true
+    at <= room.len() && bytes <= room.len() - at
 }
 
 // Bytes in hex.
@@ -98,9 +89,10 @@ pub fn put_hex(room: &mut [u8], at: usize, values: &[u8]) -> usize
         × (result ≤ at + 2 * length values.now) }
 {
     if has_room(room, at, 2 * values.len()) {
-        return store_hex(room, at, values);
+        store_hex(room, at, values)
+    } else {
+        at
     }
-    at
 }
 
 // Amount, currency, date.
@@ -110,9 +102,10 @@ pub fn put_purchase(room: &mut [u8], at: usize, first: &[u8], dated: bool) -> us
         × (result ≤ at + 22) }
 {
     if has_room(room, at, 22) {
-        return store_purchase(room, at, first, dated);
+        store_purchase(room, at, first, dated)
+    } else {
+        at
     }
-    at
 }
 
 // CVR, ATC, CID, each where its switch is on.
@@ -122,7 +115,8 @@ pub fn put_answer(room: &mut [u8], at: usize, switches: u8, kept: Record) -> usi
         × (result ≤ at + 16) }
 {
     if has_room(room, at, 16) {
-        return store_answer(room, at, switches, kept);
+        store_answer(room, at, switches, kept)
+    } else {
+        at
     }
-    at
 }

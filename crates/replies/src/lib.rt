@@ -21,9 +21,10 @@ fn digit_value(digit: u8) -> u64
     ensures { (result ≡ digit_value digit) × (result < 25) }
 {
     if digit <= b'9' {
-        return digit as u64 % 16;
+        digit as u64 % 16
+    } else {
+        digit as u64 % 16 + 9
     }
-    digit as u64 % 16 + 9
 }
 
 // The byte whose two hex digits stand at a place.
@@ -39,8 +40,8 @@ fn decimal_in(digits: &[u8]) -> u64
     ensures { result ≡ decimal_in digits.now }
 {
     let mut number: u64 = 0;
-    for i in 0..digits.len() {
-        number = (number * 10 + digits[i] as u64 % 16) % 100_000;
+    for digit in digits {
+        number = (number * 10 + *digit as u64 % 16) % 100_000;
     }
     number
 }
@@ -49,14 +50,11 @@ fn decimal_in(digits: &[u8]) -> u64
 fn kind_in(cid: &[u8]) -> Kind
     ensures { result ≡ kind_in cid.now }
 {
-    let digit = wire::byte_at(cid, 0);
-    if digit == b'0' {
-        return Kind::Aac;
+    match wire::byte_at(cid, 0) {
+        b'0' => Kind::Aac,
+        b'4' => Kind::Tc,
+        _ => Kind::Arqc,
     }
-    if digit == b'4' {
-        return Kind::Tc;
-    }
-    Kind::Arqc
 }
 
 // The five bytes of an IAD's CVR as one number.

@@ -1,4 +1,3 @@
-use borrow.Author.Rules.{rules}
 use mathlib.Core.Path.{refl}
 use Rattle.log_bytes.specs.LogBytes.{octets}
 use Rattle.log_bytes.proofs.five_bytes.Goals as goal

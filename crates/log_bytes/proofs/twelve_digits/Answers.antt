@@ -1,4 +1,3 @@
-use borrow.Author.Rules.{rules}
 use mathlib.Core.Path.{refl}
 use Rattle.iad.specs.Iad.{pairs_of}
 use Rattle.log_bytes.proofs.twelve_digits.Goals as goal

@@ -1,4 +1,3 @@
-use borrow.Author.Rules.{rules}
 use mathlib.Core.Bool.{Bool}
 use mathlib.Core.Path.{◌≡◌, ap, subst, ◌∙◌}
 use Rattle.log_tail.specs.declared.Entry.{Entry}

@@ -1,4 +1,3 @@
-use borrow.Author.Rules.{rules}
 use Rattle.log_fields.proofs.second_data.Goals as goal
 
 pub returns : goal.returns

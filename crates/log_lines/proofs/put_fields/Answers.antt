@@ -1,10 +1,8 @@
 use borrow.Author.Rules.{rules}
 use mathlib.Core.Path.{◌≡◌, refl, ap}
-use Prim.Native.Nat.{◌*◌, ◌-◌, ◌≤◌}
 use native.Mathlib.Numerals.{add-one}
 use native.Mathlib.Omega.{arith}
 use lib.ListN.{length}
-use Rattle.text.specs.Stored.{Stored}
 use Rattle.text.proofs.Stores.{next, within}
 use Rattle.log_values.proofs.Stores.{stored}
 use Rattle.log_fields.specs.LogFields.{field_count}
@@ -44,9 +42,3 @@ returns c =
     let a = known.args in
     let all : at-loop.loop-i.i ≡ field_count a.tail.now a.form a.kept = omega (arith, c.loop-i-test.false, at-loop.loop-i.invariant.1, at-loop.loop-i.invariant.2) in
     rw (← all) (within at-loop.loop-i.invariant.0 (omega arith))
-
-pub overflow_step-i : goal.overflow_step-i
-overflow_step-i c = omega arith
-
-pub loop-i-smaller : goal.loop-i-smaller
-loop-i-smaller c = omega arith

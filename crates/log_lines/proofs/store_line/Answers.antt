@@ -1,4 +1,3 @@
-use borrow.Author.Rules.{rules}
 use native.Mathlib.Omega.{arith}
 use Rattle.text.proofs.Stores.{next}
 use Rattle.log_lines.specs.LogLines.{log_line}

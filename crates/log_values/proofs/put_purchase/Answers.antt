@@ -1,4 +1,3 @@
-use borrow.Author.Rules.{rules}
 use borrow.Author.Tests.{leb-true}
 use mathlib.Core.Path.{sym, ◌∙◌}
 use Rattle.log_values.proofs.Stores.{place, stay}
@@ -15,8 +14,8 @@ returns-then-has_room c =
     let taken = put in
     place (sym taken.has_room.ensures ∙ taken.if-has_room.true) put.store_purchase.ensures
 
-pub returns : goal.returns
-returns c =
+pub returns-else-has_room : goal.returns-else-has_room
+returns-else-has_room c =
     let asked = c in
     let known = asked in
     let a = known.args in

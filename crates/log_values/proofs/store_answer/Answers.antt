@@ -1,5 +1,4 @@
 -- Three parts, each where its switch is on.
-use borrow.Author.Rules.{rules}
 use native.Mathlib.Omega.{arith}
 use Rattle.text.proofs.Stores.{next, within}
 use Rattle.log_values.specs.LogValues.{answer_text}

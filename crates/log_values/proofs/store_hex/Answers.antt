@@ -1,33 +1,28 @@
 use borrow.Author.Rules.{rules}
 use mathlib.Core.Path.{◌≡◌}
-use Prim.Native.Nat.{◌+◌, ◌*◌, ◌-◌, ◌≤◌}
+use Prim.Native.Nat.{◌+◌, ◌*◌}
 use native.Mathlib.Omega.{arith}
-use lib.ListN.{length, take}
+use lib.ListN.{length}
 use lib.Seq.{take-length}
 use Rattle.hex_digits.specs.Hex.{hex}
-use Rattle.text.specs.Stored.{Stored}
 use Rattle.text.proofs.Stores.{next}
 use Rattle.hex_digits.proofs.Bytes.{hex-more}
 use Rattle.log_values.proofs.store_hex.Goals as goal
 
-pub loop-i-init : goal.loop-i-init
+pub loop-value-init : goal.loop-value-init
 unfolding hex
-loop-i-init c = search rules
+loop-value-init c = search rules
 
-pub loop-i-preserved : goal.loop-i-preserved
-loop-i-preserved c =
-    let put = c in
-    let read = put in
-    let at-loop = read in
-    let values = at-loop.args.values.now in
-    let i = at-loop.loop-i.i in
+pub loop-value-preserved : goal.loop-value-preserved
+loop-value-preserved c =
+    let values = c.args.values.now in
+    let i = c.loop-value.value-index in
     let two : 2 * (i + 1) ≡ 2 * i + 2 = omega arith in
-    let more = next at-loop.loop-i.invariant.0 put.store_hex_byte-end.ensures in
-    (rw (two, hex-more values i (omega arith)) more, search rules, search rules, search rules)
+    let more = next c.loop-value.invariant.0 c.store_hex_byte-end.ensures in
+    (rw (two, hex-more values i (omega arith)) more, search rules)
 
 pub returns : goal.returns
 returns c =
-    let at-loop = c in
-    let values = at-loop.args.values.now in
-    let all : at-loop.loop-i.i ≡ length values = omega arith in
-    rw (all, take-length values) at at-loop.loop-i.invariant.0
+    let values = c.args.values.now in
+    let all : c.loop-value.value-index ≡ length values = omega arith in
+    rw (all, take-length values) at c.loop-value.invariant.0

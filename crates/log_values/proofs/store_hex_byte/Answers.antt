@@ -1,4 +1,3 @@
-use borrow.Author.Rules.{rules}
 use Rattle.log_values.proofs.Stores.{put_in}
 use Rattle.log_values.proofs.store_hex_byte.Goals as goal
 

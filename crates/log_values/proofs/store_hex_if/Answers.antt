@@ -1,4 +1,3 @@
-use borrow.Author.Rules.{rules}
 use mathlib.Core.Path.{refl}
 use native.Mathlib.Omega.{arith}
 use Rattle.hex_digits.specs.Hex.{hex}
@@ -9,6 +8,6 @@ returns-then-on c =
     let put = c in
     rw put.if-on.true put.store_hex.ensures
 
-pub returns : goal.returns
+pub returns-else-on : goal.returns-else-on
 unfolding hex
-returns c = rw c.if-on.false (record { is = refl; behind = omega arith; short = omega arith })
+returns-else-on c = rw c.if-on.false (record { is = refl; behind = omega arith; short = omega arith })

@@ -1,5 +1,4 @@
 -- Amount, currency, date.
-use borrow.Author.Rules.{rules}
 use native.Mathlib.Omega.{arith}
 use Rattle.text.proofs.Stores.{next, within}
 use Rattle.log_values.specs.LogValues.{purchase_text}
