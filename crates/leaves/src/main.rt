@@ -4,6 +4,7 @@
 
 use iad::{Cvr, Iad};
 use money::{AccumulatorAmount, Converted, Rate, Rates, TransactionAmount};
+use refusal::Refusal;
 
 // What standard output does not take is left out.
 fn put(rt: &impl Print, text: &[u8]) {
@@ -115,11 +116,12 @@ fn printed(profile: u8) -> Iad {
     }
 }
 
-fn show_written(rt: &impl Print, name: &[u8], written: Result<(), Refusal>) {
-    match written {
-        Ok(()) => line(rt, name, 0),
-        Err(refusal) => line(rt, name, refusal.number() as u64),
-    }
+fn show_outcome(rt: &impl Print, name: &[u8], outcome: Result<(), Refusal>) {
+    let number = match outcome {
+        Ok(()) => 0,
+        Err(refusal) => u64::from(refusal.number()),
+    };
+    line(rt, name, number);
 }
 
 fn show_read(rt: &impl Print, s: &[u8]) {
@@ -134,8 +136,7 @@ fn show_read(rt: &impl Print, s: &[u8]) {
 }
 
 fn show_room(rt: &impl Print, s: &[u8]) {
-    for i in 0..34 {
-        let byte = wire::byte_at(s, i);
+    for byte in s {
         let _ = print!(rt; "{byte:02x}");
     }
     put(rt, b"\n");
@@ -144,7 +145,7 @@ fn show_room(rt: &impl Print, s: &[u8]) {
 // Writing into the first 31 bytes of a room.
 fn show_small_room(rt: &impl Print, room: &mut [u8]) {
     if 31 <= room.len() {
-        show_written(rt, b"room of 31: ", iad::write(printed(1), &mut room[..31]));
+        show_outcome(rt, b"room of 31: ", iad::write(printed(1), &mut room[..31]));
     }
 }
 
@@ -156,26 +157,19 @@ fn show_first(rt: &impl Print, s: &[u8]) {
 }
 
 fn show_iad(rt: &impl Print, room: &mut [u8]) {
-    show_written(rt, b"profile 125: ", iad::write(printed(125), room));
+    show_outcome(rt, b"profile 125: ", iad::write(printed(125), room));
     show_small_room(rt, room);
     show_room(rt, room);
-    show_written(rt, b"written: ", iad::write(printed(1), room));
+    show_outcome(rt, b"written: ", iad::write(printed(1), room));
     show_room(rt, room);
     show_first(rt, room);
     show_read(rt, room);
 }
 
-fn show_imported(rt: &impl Print, name: &[u8], imported: Result<(), Refusal>) {
-    match imported {
-        Ok(()) => line(rt, name, 0),
-        Err(refusal) => line(rt, name, refusal.number() as u64),
-    }
-}
-
 // Importing into the first 14 bytes of a room.
 fn show_small_import(rt: &impl Print, old: &[u8], room: &mut [u8]) {
     if 14 <= room.len() {
-        show_imported(
+        show_outcome(
             rt,
             b"room of 14: ",
             import::import_record(old, &mut room[..14]),
@@ -188,7 +182,7 @@ fn show_import(rt: &impl Print, room: &mut [u8]) {
     let old = b"\x09\x78\x08\x40\x3F\xEB\x33\x33\x33\x33\x33\x33\x40\xC8\x1C\x80\x00\x00\x00\x00";
     show_small_import(rt, old, room);
     show_room(rt, room);
-    show_imported(rt, b"imported: ", import::import_record(old, room));
+    show_outcome(rt, b"imported: ", import::import_record(old, room));
     show_room(rt, room);
 }
 

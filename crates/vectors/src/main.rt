@@ -15,15 +15,9 @@ fn put_byte(rt: &impl Print, byte: u8) {
     let _ = print!(rt; "{byte:02x}");
 }
 
-fn wide(byte: u8) -> u64 {
-    byte as u64
-}
-
 fn show_bytes(rt: &impl Print, bytes: &[u8]) {
-    let mut i = 0;
-    while i < bytes.len() {
-        put_byte(rt, bytes[i]);
-        i += 1;
+    for byte in bytes {
+        put_byte(rt, *byte);
     }
 }
 
@@ -32,7 +26,7 @@ fn show_selection(rt: &impl Print, selection: Option<Selected>) {
         Some(Selected { profile, visits }) => {
             put_byte(rt, profile);
             put(rt, b" ");
-            let _ = rt.print(wide(visits));
+            let _ = rt.print(u64::from(visits));
             put(rt, b"\n");
         }
         None => {
@@ -83,7 +77,7 @@ fn contactless(rt: &impl Print, amount: u64, count: u8, data: &[u8]) {
     };
     let _ = rt.print(amount);
     put(rt, b", ");
-    let _ = rt.print(wide(count));
+    let _ = rt.print(u64::from(count));
     put(rt, b": ");
     show_row(
         rt,
