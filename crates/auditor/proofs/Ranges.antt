@@ -1,5 +1,6 @@
 -- What is read of bytes: commands of bytes, and writes that are in range. Assumes nothing.
 use Rattle.std.specs.Prelude.{Some}
+use Rattle.cursor.specs.declared.Span.{Span}
 use mathlib.Core.Path.{◌≡◌, ap, subst}
 use mathlib.Core.List.{List, [], ◌∷◌, map}
 use Prim.Native.Nat.{ℕ}

@@ -17,22 +17,12 @@ fn run_script(words: &mut Words, state: State, verified: bool, template: &[u8]) 
         × (words.new ≡ words_run words.old state.scripts verified template.now)
         × (rules_of words.new ≡ rules_run (rules_of words.old) state.scripts verified template.now) }
 {
-    let values = state.values;
-    let scripts = state.scripts;
-    let phase = state.phase;
-    let last = state.last;
-    let history = state.history;
-    let ran = script::run(words, values, scripts, verified, template);
-    let values = ran.values;
-    let scripts = ran.scripts;
+    let ran = script::run(words, state.values, state.scripts, verified, template);
     Outcome {
         state: State {
-            values,
-            phase,
-            atc: state.atc,
-            last,
-            history,
-            scripts,
+            values: ran.values,
+            scripts: ran.scripts,
+            ..state
         },
         answer: Answer::Done,
     }

@@ -14,7 +14,7 @@ use Rattle.wire.proofs.Pairs.{both}
 use Rattle.object.specs.Object.{head_right, is_constructed, object_size, value_of, first_fault, read_object, read_list, is_root, is_template, read_template}
 use Rattle.cursor.specs.Cursor.{commands_of}
 use Rattle.head.proofs.Heads.{right_fits, head-some}
-use Rattle.object.proofs.Lists.{object-constructed, object-malformed, list-filler, list-object, not_malformed, not_deep}
+use Rattle.object.proofs.Lists.{object-constructed, object-malformed, list-filler, list-object, not_sound}
 use Rattle.trees.specs.Tree.{Tag, short, long, Form, Objects, end, filler, primitive, constructed, tree, object_bytes, written, depth, commands}
 use Rattle.trees.specs.Tree.{limit, Tagged, Bytes, Good, Written, Framed}
 use Rattle.trees.proofs.Octets.{written-bytes, drop_bytes}
@@ -22,8 +22,7 @@ use Rattle.trees.proofs.There.{either-root, root_tagged, within, sound_if_proper
 use Rattle.trees.proofs.Heads.{value_length, value-bytes, First, first, bit_set, bit_clear}
 use Rattle.std.specs.Prelude.{Err, Ok, Result}
 use Rattle.object.specs.declared.Fault.{Fault}
-use Rattle.object.specs.declared.Fault.TheVariants.{Malformed}
-use Rattle.object.specs.declared.Fault.TheVariants.{TooDeep}
+use Rattle.object.specs.declared.Fault.TheVariants.{Malformed, TooDeep}
 
 -- ---- lists
 pub record Found (k : ℕ) (s : List ℕ) : Type 0 where
@@ -57,21 +56,20 @@ a_constructed k s o c r =
 
 both_sound : (a b : Result Unit Fault) → first_fault a b ≡ Ok tt → (a ≡ Ok tt) × (b ≡ Ok tt)
 both_sound (Ok done) b h = (refl, h)
-both_sound (Err Malformed) b h = absurd (not_malformed h)
-both_sound (Err TooDeep) b h = absurd (not_deep h)
+both_sound (Err fault) b h = absurd (not_sound fault h)
 
 right_if_sound : (f : List ℕ → Result Unit Fault) (s : List ℕ) → read_object f s ≡ Ok tt → head_right s ≡ true
 right_if_sound f s h = go (head_right s) refl
   where
     go : (b : Bool) → head_right s ≡ b → head_right s ≡ true
     go true e = e
-    go false e = absurd (not_malformed (sym (object-malformed f s e) ∙ h))
+    go false e = absurd (not_sound _ (sym (object-malformed f s e) ∙ h))
 
 module _ (n : ℕ) (ih : (k : ℕ) (s : List ℕ) → length s ≤ n → Bytes s → read_list (suc k) s ≡ Ok tt → Found k s) where
   by_bit : (k : ℕ) (s : List ℕ) → length s ≤ suc n → Bytes s → (byte s 0 ≡ 0 → ⊥) → head_right s ≡ true → read_object (read_list k) s ≡ Ok tt
       → Found k (drop (object_size s) s) → (t : Bool) → is_constructed (byte s 0) ≡ t → Found k s
   unfolding read_list
-  by_bit zero s l h z f o r true b = absurd (not_deep (sym (object-constructed (read_list 0) s f b) ∙ o))
+  by_bit zero s l h z f o r true b = absurd (not_sound _ (sym (object-constructed (read_list 0) s f b) ∙ o))
   by_bit (suc k) s l h z f o r true b =
       let m = value_length s f in
       let p = right_fits s f in
@@ -140,7 +138,7 @@ template_if_sound s h = go (is_template s) refl
   where
     go : (t : Bool) → is_template s ≡ t → is_template s ≡ true
     go true e = e
-    go false e = absurd (not_malformed (sym (without s e) ∙ h))
+    go false e = absurd (not_sound _ (sym (without s e) ∙ h))
 
 -- THEOREM: bytes that are sound are what is written of a proper template
 pub written_if_sound : (s : List ℕ) → Bytes s → read_template s ≡ Ok tt → Written s

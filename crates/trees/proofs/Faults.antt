@@ -12,7 +12,7 @@ use borrow.Author.Tests.{eqb-true, eqb-false}
 use Rattle.wire.specs.Wire.{byte}
 use Rattle.object.specs.Object.{head_right, is_constructed, object_size, value_of, first_fault, read_behind, read_list, is_template, read_template, reading_number}
 use Rattle.head.proofs.Heads.{right_fits, head-some}
-use Rattle.object.proofs.Lists.{object-malformed, list-object, not_malformed, not_deep, first-fault}
+use Rattle.object.proofs.Lists.{object-malformed, list-object, not_sound, first-fault}
 use Rattle.trees.specs.Tree.{Tag, Form, Objects, end, filler, primitive, constructed, head, object_bytes, written, depth, limit, Bytes, Good}
 use Rattle.trees.specs.Tree.{NoObject, Fault, malformed, too_deep, inside, Framed, TemplateFault, unframed, framed}
 use Rattle.trees.proofs.Octets.{drop_bytes, take-bytes}
@@ -21,9 +21,8 @@ use Rattle.trees.proofs.There.{in_front, within, frame_there}
 use Rattle.trees.proofs.Heads.{value_length, value-bytes, First, first, bit_set, bit_clear}
 use Rattle.trees.proofs.Back.{back, frame_back, without}
 use Rattle.std.specs.Prelude.{Err, Ok, Result}
-use Rattle.object.specs.declared.Fault.{Fault}
-use Rattle.object.specs.declared.Fault.TheVariants.{Malformed}
-use Rattle.object.specs.declared.Fault.TheVariants.{TooDeep}
+use Rattle.object.specs.declared.Fault.{Fault as ReadFault}
+use Rattle.object.specs.declared.Fault.TheVariants.{Malformed, TooDeep}
 
 -- ---- where no object begins
 wrong_list : (k : ℕ) (w : List ℕ) → (length w ≡ 0 → ⊥) → (byte w 0 ≡ 0 → ⊥) → head_right w ≡ false → read_list (suc k) w ≡ Err Malformed
@@ -50,7 +49,7 @@ held t f v r b =
     let x = subst Bytes (drop-append_seam hd (v ++ r)) (drop_bytes (length hd) (object_bytes t f v r) b) in
     subst Bytes (take-append_seam v r) (take-bytes (length v) (v ++ r) x)
 
-first-number : (a b : Result Unit Fault) (n : ℕ) → reading_number a ≡ n → (n ≡ 0 → ⊥) → reading_number (first_fault a b) ≡ n
+first-number : (a b : Result Unit ReadFault) (n : ℕ) → reading_number a ≡ n → (n ≡ 0 → ⊥) → reading_number (first_fault a b) ≡ n
 first-number (Ok done) b n e x = absurd (x (sym e))
 first-number (Err Malformed) b n e x = e
 first-number (Err TooDeep) b n e x = e
@@ -110,7 +109,7 @@ module _ (m : ℕ) (ih : (k n : ℕ) (s : List ℕ) → length s ≤ m → Bytes
 
   at_held : (k n : ℕ) (u : List ℕ) → length u ≤ suc m → Bytes u → (n ≡ 0 → ⊥) → head_right u ≡ true → (o : First 1 u)
       → reading_number (first_fault (read_list (suc k) (value_of u)) (read_list (suc (suc k)) (drop (object_size u) u))) ≡ n
-      → (t : Result Unit Fault) → read_list (suc k) (value_of u) ≡ t → Fault (suc k) n u
+      → (t : Result Unit ReadFault) → read_list (suc k) (value_of u) ≡ t → Fault (suc k) n u
   unfolding Good depth written
   at_held k n u l b x f o e (Ok done) t =
       let v = value_of u in
@@ -122,8 +121,7 @@ module _ (m : ℕ) (ih : (k n : ℕ) (s : List ℕ) → length s ≤ m → Bytes
       (prepend (object_bytes o.tag o.form v) (constructed o.tag o.form c.objects)
       (λ i. ap (λ z. object_bytes o.tag o.form z (written i)) c.is) (λ a w. behind o.tag o.form v a w)
       (λ i g. (o.tagged, subst (λ (z : List ℕ). length z < limit o.form) (sym c.is) o.fits, c.good, g)) y (λ i d. omega arith))
-  at_held k n u l b x f o e (Err Malformed) t = in_held k n u l b x f o e (λ z. not_malformed (sym t ∙ z))
-  at_held k n u l b x f o e (Err TooDeep) t = in_held k n u l b x f o e (λ z. not_deep (sym t ∙ z))
+  at_held k n u l b x f o e (Err fault) t = in_held k n u l b x f o e (λ z. not_sound fault (sym t ∙ z))
 
   at-constructed : (k n : ℕ) (u : List ℕ) → length u ≤ suc m → Bytes u → reading_number (read_list (suc k) u) ≡ n → (n ≡ 0 → ⊥) → head_right u ≡ true → First 1 u → Fault k n u
   unfolding Good depth written read_list

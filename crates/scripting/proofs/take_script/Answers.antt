@@ -1,6 +1,7 @@
 use borrow.Author.Rules.{rules}
 use borrow.Author.Tests.{lt-ltb, le-ltb}
-use mathlib.Core.Path.{sym, ◌∙◌}
+use mathlib.Core.Path.{sym, ap, ◌∙◌}
+use Rattle.std.specs.Prelude.{Err}
 use Rattle.script.specs.Script.{words_run, rules_run}
 use Rattle.scripting.specs.Scripting.{script_taken, template_writes}
 use Rattle.scripting.proofs.take_script.Goals as goal
@@ -19,18 +20,18 @@ returns-in-Ok c =
     let sound = sym read.read_template.ensures ∙ told.in-Ok.is in
     (simp (within, sound, ran.0), simp (within, sound) ran.1, simp (within, sound) ran.2)
 
-pub returns-in-Malformed : goal.returns-in-Malformed
+pub returns-in-Err-Malformed : goal.returns-in-Err-Malformed
 unfolding script_taken template_writes
-returns-in-Malformed c =
+returns-in-Err-Malformed c =
     let read = c in
     let within = le-ltb _ _ read.if-res-gt1.false in
-    let fault = sym read.read_template.ensures ∙ c.in-Malformed.is in
-    (simp (within, fault, c.refuse-in-Malformed.ensures), simp (within, fault), simp (within, fault))
+    let fault = sym read.read_template.ensures ∙ c.in-Err-Malformed.is ∙ ap Err c.in-Err-Malformed.field-0-is in
+    (simp (within, fault, c.refuse-in-Err-Malformed.ensures), simp (within, fault), simp (within, fault))
 
-pub returns-in-TooDeep : goal.returns-in-TooDeep
+pub returns-in-Err-TooDeep : goal.returns-in-Err-TooDeep
 unfolding script_taken template_writes
-returns-in-TooDeep c =
+returns-in-Err-TooDeep c =
     let read = c in
     let within = le-ltb _ _ read.if-res-gt1.false in
-    let fault = sym read.read_template.ensures ∙ c.in-TooDeep.is in
-    (simp (within, fault, c.refuse-in-TooDeep.ensures), simp (within, fault), simp (within, fault))
+    let fault = sym read.read_template.ensures ∙ c.in-Err-TooDeep.is ∙ ap Err c.in-Err-TooDeep.field-0-is in
+    (simp (within, fault, c.refuse-in-Err-TooDeep.ensures), simp (within, fault), simp (within, fault))
