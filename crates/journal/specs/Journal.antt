@@ -10,6 +10,10 @@ use Rattle.journal.specs.declared.Cryptogram.{Cryptogram}
 use Rattle.journal.specs.declared.Heard.{Heard}
 use Rattle.journal.specs.declared.Heard.TheVariants.{First, Second, Other}
 
+-- WHAT IS HEARD of a record, by its kind: First, and Second with its response code; Start and scripts are nothing to a log
+abbrev pub heard_as : (kind code : ℕ) → Heard
+heard_as kind code = cond (eqb kind 3) First (cond (eqb kind 4) (Second code) Other)
+
 -- an approval is offline at First, and at Second after Y3 or Z3
 abbrev pub is_offline : Heard → Bool
 is_offline First = true

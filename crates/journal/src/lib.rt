@@ -3,9 +3,14 @@
 #![tactic(auto)]
 
 ghost use Rattle.std.specs.Prelude.{◌≡◌};
-ghost use Rattle.journal.specs.Journal.{is_offline, is_wanted, is_logging};
+ghost use Rattle.journal.specs.Journal.{heard_as, is_offline, is_wanted, is_logging};
 
 use state::Kind;
+
+// The kinds of a paper's records that a log listens to.
+const FIRST: u8 = 3;
+
+const SECOND: u8 = 4;
 
 const Y3: u32 = 0x5933;
 
@@ -43,6 +48,17 @@ pub struct Cryptogram {
     pub atc: u64,
     pub profile: u8,
     pub cvr: u64,
+}
+
+// What is heard of a record of a kind; where it is a Second, its response code.
+pub fn heard_as(kind: u8, code: u16) -> Heard
+    ensures { result ≡ heard_as kind code }
+{
+    match kind {
+        FIRST => Heard::First,
+        SECOND => Heard::Second { code: code as u32 },
+        _ => Heard::Other,
+    }
 }
 
 // Whether an approval is one that was given offline: at First, and at Second after Y3 or Z3.

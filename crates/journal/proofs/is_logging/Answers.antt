@@ -1,4 +1,3 @@
-use borrow.Author.Rules.{rules}
 use mathlib.Core.Path.{refl}
 use Rattle.journal.specs.Journal.{is_logging}
 use Rattle.journal.proofs.is_logging.Goals as goal

@@ -1,4 +1,3 @@
-use borrow.Author.Rules.{rules}
 use Rattle.journal.proofs.is_offline.Goals as goal
 
 pub returns-in-First : goal.returns-in-First

@@ -1,4 +1,3 @@
-use borrow.Author.Rules.{rules}
 use Rattle.journal.proofs.is_wanted.Goals as goal
 
 pub returns-in-Aac : goal.returns-in-Aac

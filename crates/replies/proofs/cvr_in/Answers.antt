@@ -1,4 +1,3 @@
-use borrow.Author.Rules.{rules}
 use Rattle.replies.specs.Replies.{cvr_in}
 use Rattle.replies.proofs.cvr_in.Goals as goal
 

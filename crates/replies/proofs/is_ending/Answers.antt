@@ -1,4 +1,3 @@
-use borrow.Author.Rules.{rules}
 use Rattle.replies.specs.Replies.{is_ending}
 use Rattle.replies.proofs.is_ending.Goals as goal
 

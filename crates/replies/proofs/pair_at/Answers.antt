@@ -1,4 +1,3 @@
-use borrow.Author.Rules.{rules}
 use native.Mathlib.Omega.{arith}
 use Rattle.replies.specs.Replies.{pair_at}
 use Rattle.replies.proofs.pair_at.Goals as goal

@@ -1,4 +1,3 @@
-use borrow.Author.Rules.{rules}
 use borrow.Author.Tests.{lt-ltb, le-ltb}
 use Rattle.replies.specs.Replies.{reply_in}
 use Rattle.replies.proofs.reply_in.Goals as goal
