@@ -6,10 +6,10 @@
 
 ghost use Rattle.std.specs.Prelude.{◌≡◌, ◌+◌, ◌≤◌, ◌<◌, length};
 
-use cursor::{Span, next_command};
+use cursor::next_command;
 use element::Write;
 use object::{Fault, read_template};
-use put_data::{is_valid, next_write};
+use put_data::{Next, is_valid, next_write};
 use streams::Failure;
 
 // A text from a place of the room on.
@@ -17,10 +17,9 @@ fn put_text(room: &mut [u8], at: usize, text: &[u8]) -> usize
     requires { at + length text.now ≤ length room.old }
     ensures { result ≡ at + length text.now }
 {
-    for i in 0..text.len() {
-        room[at + i] = text[i];
-    }
-    at + text.len()
+    let end = at + text.len();
+    room[at..end].copy_from_slice(text);
+    end
 }
 
 // A number in decimal.
@@ -66,53 +65,35 @@ fn put_written(room: &mut [u8], at: usize, write: Write) -> usize
     ensures { result ≤ at + 41 }
 {
     match write {
-        Write::Value { slot: _, amount } => put_number(room, at, amount.0),
-        Write::AccumulatorLimits {
-            slot: _,
-            lower,
-            upper,
-        } => put_range(room, at, lower.0, upper.0),
-        Write::CounterLimits {
-            slot: _,
-            lower,
-            upper,
-        } => put_range(room, at, lower as u64, upper as u64),
+        Write::Value { amount, .. } => put_number(room, at, amount.0),
+        Write::AccumulatorLimits { lower, upper, .. } => put_range(room, at, lower.0, upper.0),
+        Write::CounterLimits { lower, upper, .. } => {
+            put_range(room, at, lower as u64, upper as u64)
+        }
     }
 }
 
 // Whether a write is of a kind, v, a or c, and to a slot.
 fn is_to(write: &Write, kind: u8, slot: usize) -> bool {
-    match write {
-        Write::Value {
-            slot: to,
-            amount: _,
-        } => (kind == b'v') & (slot == *to),
-        Write::AccumulatorLimits {
-            slot: to,
-            lower: _,
-            upper: _,
-        } => (kind == b'a') & (slot == *to),
-        Write::CounterLimits {
-            slot: to,
-            lower: _,
-            upper: _,
-        } => (kind == b'c') & (slot == *to),
-    }
+    let (letter, to) = match write {
+        Write::Value { slot, .. } => (b'v', *slot),
+        Write::AccumulatorLimits { slot, .. } => (b'a', *slot),
+        Write::CounterLimits { slot, .. } => (b'c', *slot),
+    };
+    (kind == letter) & (slot == to)
 }
 
 // The last of the writes of a kind to a slot.
-fn last_to(command: &[u8], kind: u8, slot: usize) -> Last {
+fn last_to(command: &[u8], kind: u8, slot: usize) -> Option<Write> {
     let mut last = None;
     let mut at = 0;
-    loop {
-        let put_data::Next::Element { write, end } = next_write(command, at) else {
-            return last;
-        };
+    while let Next::Element { write, end } = next_write(command, at) {
         if is_to(&write, kind, slot) {
             last = Some(write);
         }
         at = end;
     }
+    last
 }
 
 // What a command writes of a kind to a slot.
@@ -187,14 +168,12 @@ fn print_commands(rt: &impl Print, room: &mut [u8], template: &[u8]) -> Result<(
     requires { 583 ≤ length room.old }
 {
     let mut at = 0;
-    loop {
-        let Some(Span { start, size }) = next_command(template, at) else {
-            return Ok(());
-        };
-        let end = start + size;
-        print_command(rt, room, template, start, end)?;
+    while let Some(span) = next_command(template, at) {
+        let end = span.start + span.size;
+        print_command(rt, room, template, span.start, end)?;
         at = end;
     }
+    Ok(())
 }
 
 // Writes a text.

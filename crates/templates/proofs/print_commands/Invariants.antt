@@ -2,5 +2,5 @@
 use Rattle.std.proofs.Common.{◌-◌, length}
 use Rattle.templates.proofs.print_commands.Given as goal
 
-abbrev pub decreases-loop-start : goal.decreases-loop-start
-decreases-loop-start g l = length l.template - l.at
+abbrev pub decreases-loop-span : goal.decreases-loop-span
+decreases-loop-span g l = length l.template - l.at
