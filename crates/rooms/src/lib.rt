@@ -25,13 +25,7 @@ pub fn none() -> Rooms
 pub fn cell(place: Place, i: u8) -> usize
     ensures { (result ≡ cell_of place i) × (result ≤ 12 + i) }
 {
-    let i = i as usize;
-    match place {
-        Place::One => i,
-        Place::Two => 4 + i,
-        Place::Three => 8 + i,
-        Place::Four => 12 + i,
-    }
+    4 * rules::index(place) + usize::from(i)
 }
 
 // The four rooms that are stored for the profile at a place.
@@ -43,12 +37,15 @@ pub fn stored(rooms: &Rooms, place: Place) -> [u64; 4]
 }
 
 // The room that is stored for an accumulator, 1 to 4, of a profile, by its number.
-pub fn room_left(words: &Words, rooms: &Rooms, profile: u8, accumulator: u8) -> Result<AccumulatorAmount, Refusal>
+pub fn room_left(
+    words: &Words,
+    rooms: &Rooms,
+    profile: u8,
+    accumulator: u8,
+) -> Result<AccumulatorAmount, Refusal>
     ensures { result ≡ room_left (rules_of words.now) rooms.now profile accumulator }
 {
-    let Some(place) = rules::find_profile(words, profile) else {
-        return Err(Refusal::UnknownProfile);
-    };
+    let place = rules::find_profile(words, profile).ok_or(Refusal::UnknownProfile)?;
     if (accumulator == 0) | (4 < accumulator) {
         return Err(Refusal::OutOfRange);
     }

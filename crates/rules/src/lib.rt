@@ -157,16 +157,18 @@ pub fn rates(words: &Words) -> Rates
     }
 }
 
+// Which of the four places it is, from 0 on.
+pub fn index(place: Place) -> usize
+    ensures { (result ≡ index_of place) × (result < 4) }
+{
+    place as usize
+}
+
 // Where the words of a profile begin.
 pub fn base(place: Place) -> usize
     ensures { (result ≡ profile_base place) × (result + profile_length ≤ syllabus) }
 {
-    match place {
-        Place::One => word::PROFILES,
-        Place::Two => word::PROFILES + word::PROFILE_LENGTH,
-        Place::Three => word::PROFILES + 2 * word::PROFILE_LENGTH,
-        Place::Four => word::PROFILES + 3 * word::PROFILE_LENGTH,
-    }
+    word::PROFILES + word::PROFILE_LENGTH * index(place)
 }
 
 pub fn profile_number(words: &Words, place: Place) -> u8
@@ -194,6 +196,7 @@ pub fn find_profile(words: &Words, number: u8) -> Option<Place>
     if number == 0 {
         return None;
     }
+    // No find over an array of the places: tried, and the proof did not close.
     let fourth = place_or(words, Place::Four, number, None);
     let third = place_or(words, Place::Three, number, fourth);
     let second = place_or(words, Place::Two, number, third);
@@ -314,18 +317,6 @@ pub fn cycle_of(words: &Words, i: usize) -> Cycle
         currency: 0,
         period: Period::Month,
         first: 0,
-    }
-}
-
-// Which of the four places it is, from 0 on.
-fn index(place: Place) -> usize
-    ensures { (result ≡ index_of place) × (result < 4) }
-{
-    match place {
-        Place::One => 0,
-        Place::Two => 1,
-        Place::Three => 2,
-        Place::Four => 3,
     }
 }
 

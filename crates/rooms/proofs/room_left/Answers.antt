@@ -1,6 +1,7 @@
-use borrow.Author.Rules.{rules}
 use mathlib.Core.Bool.{Bool, true, false, ◌||◌}
-use mathlib.Core.Path.{◌≡◌, refl, sym, ◌∙◌}
+use mathlib.Core.Path.{◌≡◌, refl, sym, ap, ◌∙◌}
+use Rattle.std.specs.Result.{result_ok}
+use Rattle.std.proofs.lemmas.Grind.{common_steps}
 use Prim.Native.Nat.{ℕ, ◌≤◌}
 use native.Mathlib.Omega.{arith}
 use borrow.Author.Tests.{eqb-false, ltb-false}
@@ -15,15 +16,17 @@ one-to-four n e = by (eqb n 0) (ltb 4 n) refl refl e where
   by false true h k e = let z : ◌≡◌ {A = ℕ} 0 1 = cc in (omega arith, omega arith)
   by true over h k e = let z : ◌≡◌ {A = ℕ} 0 1 = cc in (omega arith, omega arith)
 
-pub returns-in_default : goal.returns-in_default
+pub returns-in_err-place : goal.returns-in_err-place
 unfolding room_left
-returns-in_default c = simp (sym c.find_profile.ensures ∙ c.in_default.is)
+returns-in_err-place c =
+    let none = sym c.find_profile.ensures ∙ c.ok_or.ensures.ok_part ∙ ap result_ok c.in_err-place.was in
+    let value = c.ok_or.ensures.value in
+    rw none (grind (arith, common_steps))
 
 pub returns-then-accumulator : goal.returns-then-accumulator
 unfolding room_left
 returns-then-accumulator c =
-    let met = c in
-    simp (sym met.find_profile.ensures ∙ met.in-Some.is, c.if-accumulator.true)
+    simp (sym c.find_profile.ensures ∙ c.ok_or.ensures.ok_part ∙ ap result_ok c.in_ok-place.was, c.if-accumulator.true)
 
 pub overflow_sub-accumulator : goal.overflow_sub-accumulator
 overflow_sub-accumulator c =
@@ -39,9 +42,11 @@ bounds-rooms-at c =
 pub returns : goal.returns
 unfolding room_left
 returns c =
-    let tested = c in
-    let met = tested in
-    simp (sym met.find_profile.ensures ∙ met.in-Some.is, tested.if-accumulator.false, c.cell-at.ensures.0)
+    simp (
+      sym c.find_profile.ensures ∙ c.ok_or.ensures.ok_part ∙ ap result_ok c.in_ok-place.was,
+      c.if-accumulator.false,
+      c.cell-at.ensures.0,
+    )
 
 pub offset_bounds-rooms-at : goal.offset_bounds-rooms-at
 offset_bounds-rooms-at c = omega arith

@@ -1,4 +1,3 @@
-use borrow.Author.Rules.{rules}
 use Rattle.rules.proofs.Places.{cashback_at_lem}
 use Rattle.rules.proofs.checks_cashback.Goals as goal
 

@@ -1,4 +1,3 @@
-use borrow.Author.Rules.{rules}
 use Prim.Native.Nat.{◌+◌, ◌%◌}
 use mathlib.Core.Path.{sym}
 use lib.ListN.{get_or}

@@ -1,5 +1,4 @@
 use native.Mathlib.Omega.{arith}
-use borrow.Author.Rules.{rules}
 use mathlib.Core.Path.{sym}
 use Rattle.rules.specs.Rules.{rules_of, cycle_at, blank_cycle}
 use Rattle.rules.specs.Word as word

@@ -1,5 +1,4 @@
 use native.Mathlib.Omega.{arith}
-use borrow.Author.Rules.{rules}
 use Rattle.rules.specs.Rules.{cyclic_rule_at, index_of, blank_cyclic}
 use Rattle.rules.specs.Word as word
 use Rattle.rules.proofs.Places.{cyclic-at, two_at, two_past}

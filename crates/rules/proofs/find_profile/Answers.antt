@@ -1,4 +1,3 @@
-use borrow.Author.Rules.{rules}
 use borrow.Author.Tests.{eq-eqb, ne_eqb}
 use Rattle.rules.specs.Rules.{find_profile}
 use Rattle.rules.proofs.find_profile.Goals as goal

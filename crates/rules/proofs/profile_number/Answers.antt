@@ -1,4 +1,3 @@
-use borrow.Author.Rules.{rules}
 use Rattle.rules.specs.Rules.{profile_of}
 use Rattle.rules.proofs.Places.{part_at}
 use Rattle.rules.proofs.profile_number.Goals as goal

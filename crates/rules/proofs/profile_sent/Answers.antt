@@ -1,5 +1,4 @@
 use native.Mathlib.Omega.{arith}
-use borrow.Author.Rules.{rules}
 use Rattle.rules.specs.Rules.{profile_of}
 use Rattle.rules.proofs.Places.{part_at}
 use Rattle.rules.proofs.profile_sent.Goals as goal

@@ -1,4 +1,3 @@
-use borrow.Author.Rules.{rules}
 use Rattle.rules.specs.Rules.{rules_of}
 use Rattle.rules.proofs.rates.Goals as goal
 
