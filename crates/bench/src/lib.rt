@@ -56,9 +56,7 @@ fn run_in(
     let state = run.state;
     Turn {
         state,
-        page: Some {
-            end: run_text::put_page(text, ran, room),
-        },
+        page: Some(run_text::put_page(text, ran, room)),
     }
 }
 
@@ -85,10 +83,7 @@ pub fn answer_block(
 {
     let size = run_block::size_in(block);
     if !has_room(size, room.len(), text.len()) {
-        return Turn {
-            state,
-            page: None,
-        };
+        return Turn { state, page: None };
     }
     let from = run_block::head_in(block);
     run_in(

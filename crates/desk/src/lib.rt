@@ -23,12 +23,7 @@ fn sit(
 
 // The bytes from a place up to another move to the front of the buffer, and more are read behind
 // them. A block that is not at hand whole is shorter than the buffer, so there is room.
-fn read_more(
-    rt: &impl Input,
-    buffer: &mut [u8],
-    at: usize,
-    filled: usize,
-) -> Result<usize, Failure>
+fn read_more(rt: &impl Input, buffer: &mut [u8], at: usize, filled: usize) -> Result<usize, Failure>
     requires { (at ≤ filled) × (filled ≤ length buffer.old) }
     ensures { IfOk result (λ to. to ≤ length buffer.old) }
 {

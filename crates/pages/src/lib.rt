@@ -13,9 +13,7 @@ use rules::Words;
 fn put_page(paper: &[u8], words: &mut Words, room: &mut [u8], at: usize) -> Option<usize>
     ensures { (result ≡ page_put words.old paper.now (length room.old) at) × (room.new ≡ page_room words.old paper.now room.old at) × (words.new ≡ words_put words.old paper.now room.old at) }
 {
-    let Some(end) = paper_text::put_text(paper, words, room, at) else {
-        return None;
-    };
+    let end = paper_text::put_text(paper, words, room, at)?;
     room[end] = b'\n';
     Some(end + 1)
 }

@@ -62,10 +62,7 @@ pub fn put_rooms(words: &Words, rooms: &Rooms, room: &mut [u8], at: usize) -> us
         × (room.new ≡ placed room.old at (room_lines (rules_of words.now) rooms.now))
         × (result ≤ at + longest) }
 {
-    if room.len() < at {
-        return at;
-    }
-    if room.len() - at < LONGEST {
+    if room.len() < at || room.len() - at < LONGEST {
         return at;
     }
     store_rooms(words, rooms, room, at)

@@ -4,9 +4,10 @@
 // it is only read and written.
 #![tactic(auto)]
 
-ghost use Rattle.std.specs.Prelude.{◌≤◌, length};
+ghost use Rattle.std.specs.Prelude.{◌≤◌, length, IfOk};
+ghost use Rattle.intake.specs.Next.{size_of};
 
-use intake::Found;
+use intake::Next;
 use paper_text::Parts;
 use record_lines::Showing;
 use rooms::Rooms;
@@ -15,23 +16,10 @@ use shape::Shape;
 use shown::{Shown, Wants};
 use state::State;
 use std::rt::{Env, Files};
-use streams::Ending;
+use streams::Failure;
 
-// A paper shown to its end, and whether all of its text was written.
-#[derive(Drop)]
-struct Told {
-    shown: Shown,
-    written: bool,
-}
-
-// A run answered: the card after it, and whether its text was written.
-#[derive(Drop)]
-struct Answered {
-    state: State,
-    written: bool,
-}
-
-// A paper shown, in pieces as long as the room. It ends after more records than any paper has.
+// A paper shown to its end, in pieces as long as the room. It ends after more records than any paper
+// has.
 fn show(
     rt: &impl Print,
     paper: &[u8],
@@ -39,88 +27,67 @@ fn show(
     rooms: &mut Rooms,
     showing: Showing,
     room: &mut [u8],
-) -> Told {
+) -> Result<Shown, Failure> {
     let mut shown = display::show_set_up(paper, words, rooms, showing, room, 0);
-    let mut turns: u64 = 0;
-    while turns < 18_446_744_073_709_551_615 {
-        turns += 1;
+    for _ in 0..u64::MAX {
         let end = shown.end;
         match shown.wants {
             Wants::Record => {
                 shown = display::show_record(words, rooms, showing, shown, paper, room, end);
             }
             Wants::Room => {
-                if !streams::write_out(rt, room, end) {
-                    return Told {
-                        shown,
-                        written: false,
-                    };
-                }
+                streams::write_out(rt, room, end)?;
                 shown = display::show_record(words, rooms, showing, shown, paper, room, 0);
             }
-            _ => {
-                return Told {
-                    shown,
-                    written: streams::write_out(rt, room, end),
-                };
+            Wants::Run | Wants::Nothing => {
+                streams::write_out(rt, room, end)?;
+                return Ok(shown);
             }
         }
     }
-    Told {
-        shown,
-        written: false,
-    }
+    Err(Failure::NotWritten)
 }
 
 // The lines of the paper's log, behind what was shown of it.
-fn write_log(rt: &impl Print, paper: &[u8], room: &mut [u8]) -> Ending {
-    let Some(Parts { lines, end }) = paper_text::put_for_log(paper, room) else {
-        return Ending::NotWritten;
-    };
-    if streams::write_out(rt, &room[lines..end], end - lines) {
-        return Ending::Done;
-    }
-    Ending::NotWritten
+fn write_log(rt: &impl Print, paper: &[u8], room: &mut [u8]) -> Result<(), Failure> {
+    let Parts { lines, end } = paper_text::put_for_log(paper, room).ok_or(Failure::NotWritten)?;
+    streams::write_out(rt, &room[lines..end], end - lines)
 }
 
 // A paper shown with its rooms, and its log behind everything.
-fn show_whole(rt: &impl Print, paper: &[u8], room: &mut [u8]) -> Ending {
+fn show_whole(rt: &impl Print, paper: &[u8], room: &mut [u8]) -> Result<(), Failure> {
     let mut words = rules::blank();
     let mut rooms = rooms::none();
-    let told = show(rt, paper, &mut words, &mut rooms, Showing::Rooms, room);
-    if !told.written {
-        return Ending::NotWritten;
-    }
+    let _ = show(rt, paper, &mut words, &mut rooms, Showing::Rooms, room)?;
     write_log(rt, paper, room)
 }
 
 // The paper on standard input, read into a buffer of a byte more than the longest.
-fn show_paper(rt: &(impl Input + Print), buffer: &mut [u8], room: &mut [u8]) -> Ending {
-    let read = streams::read_all(rt, buffer);
-    if read.failed {
-        return Ending::NotRead;
-    }
-    let filled = read.filled;
+fn show_paper(
+    rt: &(impl Input + Print),
+    buffer: &mut [u8],
+    room: &mut [u8],
+) -> Result<(), Failure> {
+    let filled = streams::read_all(rt, buffer)?;
     show_whole(rt, &buffer[..filled], room)
 }
 
-fn say(rt: &impl Print, text: &[u8], ending: Ending) -> Ending {
-    if streams::write_out(rt, text, text.len()) {
-        return ending;
-    }
-    Ending::NotWritten
+fn say(rt: &impl Print, text: &[u8]) -> Result<(), Failure> {
+    streams::write_out(rt, text, text.len())
 }
 
-// How a stack ends where no block was found.
-fn close(rt: &impl Print, found: Found) -> Ending {
-    match found {
-        Found::CutShort => say(rt, b"cut short\n", Ending::CutShort),
-        Found::NotRead => Ending::NotRead,
-        _ => Ending::Done,
+// The next block of a stack; of one that is cut short that is written.
+fn next_block(rt: &(impl Input + Print), buffer: &mut [u8]) -> Result<Next, Failure>
+    ensures { IfOk result (λ next. size_of next ≤ length buffer.old) }
+{
+    let next = intake::read_next(rt, buffer);
+    if let Err(Failure::CutShort) = next {
+        say(rt, b"cut short\n")?;
     }
+    next
 }
 
-// The run at the front of the buffer answered, and its text written.
+// A run answered, and its text written: the card after it.
 fn take_run(
     rt: &impl Print,
     paper: &[u8],
@@ -128,35 +95,14 @@ fn take_run(
     rooms: &mut Rooms,
     shape: Shape,
     state: State,
-    buffer: &[u8],
-    size: usize,
+    block: &[u8],
     room: &mut [u8],
     text: &mut [u8],
-) -> Answered
-    requires { size ≤ length buffer.now }
-{
-    let turn = bench::answer_block(
-        words,
-        rooms,
-        shape,
-        paper,
-        state,
-        &buffer[..size],
-        room,
-        text,
-    );
-    let state = turn.state;
-    let page = turn.page;
-    let Some(end) = page else {
-        return Answered {
-            state,
-            written: false,
-        };
-    };
-    Answered {
-        state,
-        written: streams::write_out(rt, text, end),
-    }
+) -> Result<State, Failure> {
+    let turn = bench::answer_block(words, rooms, shape, paper, state, block, room, text);
+    let end = turn.page.ok_or(Failure::NotWritten)?;
+    streams::write_out(rt, text, end)?;
+    Ok(turn.state)
 }
 
 // Runs for the card of a paper that was shown, block by block. It ends after more blocks than any
@@ -170,36 +116,20 @@ fn take_runs(
     buffer: &mut [u8],
     room: &mut [u8],
     text: &mut [u8],
-) -> Ending {
+) -> Result<(), Failure> {
     let shape = shown.shape;
     let mut state = shown.state;
-    let mut turns: u64 = 0;
-    while turns < 18_446_744_073_709_551_615 {
-        turns += 1;
-        let next = intake::read_next(rt, buffer);
-        let found = next.found;
-        match found {
-            Found::Block => {
-                let size = next.size;
-                let answered = take_run(
-                    rt, paper, words, rooms, shape, state, buffer, size, room, text,
-                );
-                if !answered.written {
-                    return Ending::NotWritten;
-                }
-                state = answered.state;
+    for _ in 0..u64::MAX {
+        match next_block(rt, buffer)? {
+            Next::Block(size) => {
+                let block = &buffer[..size];
+                state = take_run(rt, paper, words, rooms, shape, state, block, room, text)?;
             }
-            Found::TooLong => {
-                if !streams::write_out(rt, b"too long\n", 9) {
-                    return Ending::NotWritten;
-                }
-            }
-            _ => {
-                return close(rt, found);
-            }
+            Next::TooLong => say(rt, b"too long\n")?,
+            Next::End => return Ok(()),
         }
     }
-    Ending::NotRead
+    Err(Failure::NotRead)
 }
 
 // A stack's paper; where no refusal ends it runs for its card follow.
@@ -209,18 +139,14 @@ fn answer_paper(
     buffer: &mut [u8],
     room: &mut [u8],
     text: &mut [u8],
-) -> Ending {
+) -> Result<(), Failure> {
     let mut words = rules::blank();
     let mut rooms = rooms::none();
-    let told = show(rt, paper, &mut words, &mut rooms, Showing::Lines, text);
-    if !told.written {
-        return Ending::NotWritten;
-    }
-    let shown = told.shown;
+    let shown = show(rt, paper, &mut words, &mut rooms, Showing::Lines, text)?;
     if let Wants::Run = shown.wants {
         return take_runs(rt, paper, &mut words, &mut rooms, shown, buffer, room, text);
     }
-    Ending::Done
+    Ok(())
 }
 
 // A stack: its first block is the paper, and one that is too long is refused.
@@ -230,14 +156,11 @@ fn answer_stack(
     buffer: &mut [u8],
     room: &mut [u8],
     text: &mut [u8],
-) -> Ending {
-    let next = intake::read_next(rt, first);
-    let found = next.found;
-    let size = next.size;
-    match found {
-        Found::Block => answer_paper(rt, &first[..size], buffer, room, text),
-        Found::TooLong => say(rt, b"0 9\n", Ending::Done),
-        _ => close(rt, found),
+) -> Result<(), Failure> {
+    match next_block(rt, first)? {
+        Next::Block(size) => answer_paper(rt, &first[..size], buffer, room, text),
+        Next::TooLong => say(rt, b"0 9\n"),
+        Next::End => Ok(()),
     }
 }
 

@@ -1,4 +1,3 @@
-use borrow.Author.Rules.{rules}
 use Rattle.text.proofs.Stores.{next}
 use Rattle.room_lines.specs.RoomLines.{room_lines}
 use Rattle.room_lines.proofs.store_rooms.Goals as goal
