@@ -2,7 +2,7 @@
 use mathlib.Core.Path.{◌≡◌, refl, sym, ap, ◌∙◌}
 use mathlib.Core.Bool.{Bool, true, false}
 use mathlib.Core.List.{List, [], ◌∷◌}
-use Prim.Native.Nat.{ℕ, suc, ◌+◌, ◌≤◌, ◌<◌}
+use Prim.Native.Nat.{ℕ, suc, ◌+◌, ◌≤◌, ◌<◌, max}
 use native.Mathlib.Nat.{add-zero}
 use native.Mathlib.Omega.{arith}
 use borrow.Author.Tests.{leb-true, leb-false, le-leb, lt-leb, eq-eqb}
@@ -98,3 +98,14 @@ module _ (text : List ℕ) (at : ℕ) where
     stop : (s : List ℕ) → ends s ≡ true → line_rest s ≡ 0
     stop [] e = unfold line_rest in refl
     stop (c ∷ s) e = unfold line_rest in rw e
+
+-- where a loop over the places up to the text's end comes to an end
+pub run_out : (f : ℕ → ℕ) (size at end m : ℕ) → ((k : ℕ) → size ≤ k → f k ≡ k) → f at ≡ f end → m ≡ max at size → size ≤ end → (at ≤ size → end ≤ size) → m ≡ f at
+run_out f size at end m past same e h k = by (leb size at) refl where
+  by : (t : Bool) → leb size at ≡ t → m ≡ f at
+  by true t = let le = leb-true size at t in let is : m ≡ at = omega arith in is ∙ sym (past at le)
+  by false t =
+      let lt = leb-false size at t in
+      let last : end ≤ size = k (omega arith) in
+      let is : m ≡ end = omega arith in
+      is ∙ sym (past end h) ∙ sym same

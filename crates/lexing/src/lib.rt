@@ -26,14 +26,12 @@ fn is_blank(c: u8) -> bool
 pub fn word_end(text: &[u8], at: usize) -> usize
     ensures { result ≡ word_end text.now at }
 {
-    let mut end = at;
-    while end < text.len() {
+    for end in at..text.len() {
         if !is_plain(text[end]) {
             return end;
         }
-        end += 1;
     }
-    end
+    at.max(text.len())
 }
 
 // The word that begins here; none where no word does.
@@ -58,38 +56,34 @@ pub fn same_words(text: &[u8], at: usize, table: &[u8], name: usize) -> bool
 pub fn ends_line(text: &[u8], at: usize) -> bool
     ensures { result ≡ ends_line text.now at }
 {
-    if text.len() <= at {
-        return true;
-    }
-    text[at] == b'\n'
+    text.len() <= at || text[at] == b'\n'
 }
 
 // The place of the line feed, or the text's end.
 fn line_end(text: &[u8], at: usize) -> usize
     ensures { result ≡ line_end text.now at }
 {
-    let mut end = at;
-    while !ends_line(text, end) {
-        end += 1;
+    for end in at..text.len() {
+        if text[end] == b'\n' {
+            return end;
+        }
     }
-    end
+    at.max(text.len())
 }
 
 // Past blanks and a comment: the next word of this line, or the line's end.
 pub fn next_word(text: &[u8], at: usize) -> usize
     ensures { result ≡ next_word text.now at }
 {
-    let mut word = at;
-    while word < text.len() {
+    for word in at..text.len() {
         if text[word] == b'#' {
             return line_end(text, word);
         }
         if !is_blank(text[word]) {
             return word;
         }
-        word += 1;
     }
-    word
+    at.max(text.len())
 }
 
 // From a word to the next of this line, or to the line's end.
@@ -136,10 +130,7 @@ pub fn next_line(text: &[u8], at: usize) -> usize
 pub fn is_name(table: &[u8], at: usize, close: &[u8]) -> bool
     ensures { result ≡ is_name close.now table.now at }
 {
-    if ends_line(table, at) {
-        return false;
-    }
-    !same_word(word_at(table, at), close)
+    !ends_line(table, at) && !same_word(word_at(table, at), close)
 }
 
 // The place of a number's name among the names from a place on, or of what ends them.
@@ -147,7 +138,7 @@ pub fn name_at(table: &[u8], at: usize, close: &[u8], n: usize) -> usize
     ensures { result ≡ name_at close.now n table.now at }
 {
     let mut name = next_word(table, at);
-    for i in 0..n {
+    for _ in 0..n {
         if !is_name(table, name, close) {
             return name;
         }

@@ -2,10 +2,10 @@
 // What a word says: a number, bytes.
 #![tactic(auto)]
 
-ghost use Rattle.std.specs.Prelude.{◌≡◌, true, ◌&&◌, [], ◌∷◌, ◌-◌, ◌<◌};
+ghost use Rattle.std.specs.Prelude.{◌≡◌, true, [], ◌∷◌, ◌<◌};
 ghost use Rattle.hex_digits.specs.Hex.{hex_byte, hex};
 ghost use Rattle.numerals.specs.Numeral.{numeral};
-ghost use Rattle.words.specs.Words.{same, is_digit, is_hex_digit, hex_value, is_hex, hex_said};
+ghost use Rattle.words.specs.Words.{same, is_hex_digit, hex_value, is_hex, hex_said};
 ghost use Rattle.words.specs.Put.{Put};
 ghost use Rattle.words.specs.Number.{number_in};
 

@@ -1,7 +1,8 @@
 use borrow.Author.Tests.{ne_eqb}
 use mathlib.Core.Path.{refl, sym, ◌∙◌}
 use native.Mathlib.Omega.{arith}
-use Rattle.lexing.proofs.Steps.{gap_comment, gap_more, gap_stops, gap-past}
+use Rattle.lexing.specs.Places.{next_word}
+use Rattle.lexing.proofs.Steps.{run_out, gap_comment, gap_more, gap_stops, gap-past}
 use Rattle.lexing.proofs.next_word.Goals as goal
 
 pub loop-word-init : goal.loop-word-init
@@ -22,4 +23,5 @@ loop-word-preserved c =
     c.loop-word.invariant ∙ gap_more _ c.loop-word.word (omega arith) (ne_eqb _ _ c.if-text-word-eq35.false) blank
 
 pub returns : goal.returns
-returns c = sym (c.loop-word.invariant ∙ gap-past _ c.loop-word.word (omega arith))
+returns c =
+    run_out (next_word c.args.text.now) _ _ c.loop-word.word _ (gap-past c.args.text.now) c.loop-word.invariant c.max.ensures c.loop-word-test.false c.loop-word.auto.word-end

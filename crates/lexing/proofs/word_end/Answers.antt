@@ -1,6 +1,7 @@
 use mathlib.Core.Path.{refl, sym, ◌∙◌}
 use native.Mathlib.Omega.{arith}
-use Rattle.lexing.proofs.Steps.{word_more, word_stops, word-past}
+use Rattle.lexing.specs.Places.{word_end}
+use Rattle.lexing.proofs.Steps.{run_out, word_more, word_stops, word-past}
 use Rattle.lexing.proofs.word_end.Goals as goal
 
 pub loop-end-init : goal.loop-end-init
@@ -15,4 +16,5 @@ loop-end-preserved c =
     c.loop-end.invariant ∙ word_more _ c.loop-end.end (omega arith) (sym c.is_plain.ensures ∙ c.if-not-is_plain.false)
 
 pub returns : goal.returns
-returns c = sym (c.loop-end.invariant ∙ word-past _ c.loop-end.end (omega arith))
+returns c =
+    run_out (word_end c.args.text.now) _ _ c.loop-end.end _ (word-past c.args.text.now) c.loop-end.invariant c.max.ensures c.loop-end-test.false c.loop-end.auto.end-end
