@@ -1,6 +1,7 @@
 -- Words read one behind the other. Assumes nothing.
 use Rattle.std.proofs.Common.{◌≡◌, ℕ, zero, suc, ◌+◌, ◌-◌, ◌%◌, ◌^◌, ◌<◌, ◌≤◌, Bool, true, false, ◌||◌, List, [], ◌∷◌, ◌++◌, length, take, sym, refl, ap, ◌∙◌}
 use Rattle.std.proofs.Common.{append_assoc, append-nil, arith, drop_of_length-le}
+use Rattle.std.specs.Prelude.{Result, Ok, Err}
 use Rattle.words.specs.Words.{word, same, is_in, place_in, up_to, is_empty, is_hex, hex_bytes, hex_said, begins, tail, read_flags}
 use Rattle.words.specs.Lex.{lex, flush}
 use Rattle.words.specs.Put.{Put}
@@ -11,9 +12,9 @@ use Rattle.lexing.proofs.Steps.{in_line_lem}
 use Rattle.lexing.proofs.Laws.{words-behind, words-next, word_next, word-passed, next-behind, ended}
 use Rattle.forms.specs.Form.{Want, hex_pairs, Read, Said, Wrong, before, read_rest}
 use Rattle.read_forms.specs.Places.{behind_word, behind_words, left_at, Onward}
-use Rattle.read_forms.specs.Reads.{Heard, Begins, Gathered}
-use Rattle.read_forms.specs.declared.Reading.{Reading}
-use Rattle.read_forms.specs.declared.Reading.TheVariants.{On, Wrong as Amiss}
+use Rattle.read_forms.specs.Reads.{reached, amiss, Heard, Begins, Gathered}
+use Rattle.read_forms.specs.declared.Reached.{Reached}
+use Rattle.read_forms.specs.declared.Fault.{Fault}
 
 -- ---- the next word
 
@@ -90,12 +91,12 @@ before-none (Said c) = refl
 before-none (Wrong n w) = refl
 
 module _ {text : List ℕ} {from at to mid : ℕ} {room lent b : List ℕ} (p : Put room to b mid lent) (o : Onward text from at) (wants : ℕ → Want) (after : List ℕ) where
-  pub heard-on : (read : Read) (r : Reading) → Heard text at wants lent mid read r after → Heard text from wants room to (before b read) r after
+  pub heard-on : (read : Read) (r : Result Reached Fault) → Heard text at wants lent mid read r after → Heard text from wants room to (before b read) r after
   unfolding Heard
-  heard-on (Said c) (On x end) h = record { place = h.place ∙ o.left 0 (omega arith); put = next p h.put }
-  heard-on (Said c) (Amiss x t) h = h
-  heard-on (Wrong n w) (On x end) h = h
-  heard-on (Wrong n w) (Amiss x t) h = let fewer = h.few in record { place = h.place ∙ o.left n fewer; wanted = h.wanted; few = omega (arith, o.few) }
+  heard-on (Said c) (Ok x) h = record { place = h.place ∙ o.left 0 (omega arith); put = next p h.put }
+  heard-on (Said c) (Err x) h = h
+  heard-on (Wrong n w) (Ok x) h = h
+  heard-on (Wrong n w) (Err x) h = let fewer = h.few in record { place = h.place ∙ o.left n fewer; wanted = h.wanted; few = omega (arith, o.few) }
 
 -- ---- pairs of digits
 
@@ -106,7 +107,7 @@ pub record SoFar (text : List ℕ) (from : ℕ) (room : List ℕ) (to at end : �
   pub onward : Onward text from at
 
 module _ {text : List ℕ} {from to at end : ℕ} {room after : List ℕ} (s : SoFar text from room to at end after) where
-  pub ended-rest : ends_line text (next_word text at) ≡ true → (wants : ℕ → Want) → Heard text from wants room to (read_rest (words_at text from)) (On at end) after
+  pub ended-rest : ends_line text (next_word text at) ≡ true → (wants : ℕ → Want) → Heard text from wants room to (read_rest (words_at text from)) (reached at end) after
   unfolding read_rest Heard
   ended-rest h wants =
       let none = no_word text at h in
@@ -117,7 +118,7 @@ module _ {text : List ℕ} {from to at end : ℕ} {room after : List ℕ} (s : S
     there = a_word text at h
 
     pub bad_rest : is_hex (word_at text (next_word text at)) ≡ false → (wants : ℕ → Want) (t : ℕ) → wants t ≡ hex_pairs
-        → Heard text from wants room to (read_rest (words_at text from)) (Amiss (next_word text at) t) after
+        → Heard text from wants room to (read_rest (words_at text from)) (amiss (next_word text at) t) after
     unfolding read_rest Heard
     bad_rest other wants t w =
         let size : length (words_at text at) ≡ suc (length (words_at text (behind_word text at))) = ap length there in

@@ -1,5 +1,6 @@
 -- The next line, and the word that it begins with. Assumes nothing.
 use Rattle.std.proofs.Common.{◌≡◌, ℕ, zero, suc, ◌-◌, ◌<◌, ◌≤◌, Bool, true, false, ltb, List, [], ◌∷◌, length, drop, sym, refl, ap, ◌∙◌, arith, drop_of_length-le, ltb-false, ltb-true}
+use Rattle.std.specs.Prelude.{Result, Ok, Err}
 use Rattle.words.specs.Words.{begins}
 use Rattle.words.specs.Lex.{flush, lines_of, lex, lines_in}
 use Rattle.lexing.specs.Places.{word_at, words_at, below_at, lines_at, ends_line, next_word, below_line, next_line}
@@ -8,8 +9,8 @@ use Rattle.forms.specs.Form.{Form, Want, Read, Said, Wrong, read_form}
 use Rattle.forms.specs.Table.{leads, in_line, read_line}
 use Rattle.read_forms.specs.Places.{behind_word, behind_words, left_at}
 use Rattle.read_forms.specs.Reads.{Heard, Met}
-use Rattle.read_forms.specs.declared.Reading.{Reading}
-use Rattle.read_forms.specs.declared.Reading.TheVariants.{On, Wrong as Amiss}
+use Rattle.read_forms.specs.declared.Reached.{Reached}
+use Rattle.read_forms.specs.declared.Fault.{Fault}
 use Rattle.read_forms.proofs.Laws.{no_word, a_word}
 
 module _ (text : List ℕ) where
@@ -87,14 +88,14 @@ module _ (text : List ℕ) where
   so_many_left (suc n) at h =
       ap length (words-next text (behind_words (length (words_at text at) - suc n) text at)) ∙ omega (arith, fewer (length (words_at text at) - suc n) at)
 
-  met : (at : ℕ) (wants : ℕ → Want) (room : List ℕ) (to : ℕ) (read : Read) (r : Reading) (after : List ℕ)
+  met : (at : ℕ) (wants : ℕ → Want) (room : List ℕ) (to : ℕ) (read : Read) (r : Result Reached Fault) (after : List ℕ)
       → Heard text (behind_word text at) wants room to read r after → Met text wants room to (in_line (below_at text at) read) r after
   unfolding Heard Met
-  met at wants room to (Said b) (On x end) after h =
+  met at wants room to (Said b) (Ok x) after h =
       (ap (below_at text) h.place ∙ below_left 0 (behind_word text at) ∙ below_word at, h.put)
-  met at wants room to (Said b) (Amiss x t) after h = h
-  met at wants room to (Wrong n w) (On x end) after h = h
-  met at wants room to (Wrong n w) (Amiss x t) after h =
+  met at wants room to (Said b) (Err x) after h = h
+  met at wants room to (Wrong n w) (Ok x) after h = h
+  met at wants room to (Wrong n w) (Err x) after h =
       record {
         lines_left = ap (λ s. suc (length s)) (ap (below_at text) h.place ∙ below_left n (behind_word text at) ∙ below_word at);
         words_left_lem = ap (λ q. length (words_at text q)) h.place ∙ so_many_left n (behind_word text at) h.few;
@@ -102,7 +103,7 @@ module _ (text : List ℕ) where
       }
 
   -- a line, read from behind its first word
-  pub line-met : (f : Form) (at : ℕ) (w : List ℕ) (wants : ℕ → Want) (room : List ℕ) (to : ℕ) (r : Reading) (after : List ℕ)
+  pub line-met : (f : Form) (at : ℕ) (w : List ℕ) (wants : ℕ → Want) (room : List ℕ) (to : ℕ) (r : Result Reached Fault) (after : List ℕ)
       → words_at text (next_line text at) ≡ w ∷ words_at text (behind_word text (next_line text at))
       → Heard text (behind_word text (next_line text at)) wants room to (read_form f (words_at text (behind_word text (next_line text at)))) r after
       → Met text wants room to (read_line f (below_at text at)) r after

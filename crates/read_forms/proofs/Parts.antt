@@ -19,10 +19,10 @@ use Rattle.read_words.specs.Told.{Told, Says, is_count}
 use Rattle.read_words.proofs.Laws.{number_is, no_number}
 use Rattle.read_forms.specs.Places.{behind_word}
 use Rattle.read_forms.specs.Reads.{Passed, Stopped, Piece, part_by, flags_then, Gathered}
-use Rattle.read_forms.specs.declared.Reading.{Reading}
-use Rattle.read_forms.specs.declared.Reading.TheVariants.{On, Wrong as Amiss}
+use Rattle.read_forms.specs.declared.Reached.{Reached}
+use Rattle.read_forms.specs.declared.Fault.{Fault}
 use Rattle.read_forms.proofs.Laws.{none_left, first-left, one_on, along, begun-word}
-use Rattle.std.specs.Prelude.{None, Option, Some}
+use Rattle.std.specs.Prelude.{None, Option, Some, Result, Ok, Err}
 
 -- ---- what a word says
 
@@ -175,11 +175,11 @@ flags-small (v ∷ vs) ws = by (begins v ws) (flags-small vs (tail ws)) (flags-s
   by false h k = omega (arith, p)
 
 module _ (n : ℕ) (vs : List (List ℕ)) (text : List ℕ) (at : ℕ) where
-  pub bits_then : (wants : ℕ → Want) (room : List ℕ) (to : ℕ) (r : Reading) (after : List ℕ) → begins (word "bits") (words_at text at) ≡ true
+  pub bits_then : (wants : ℕ → Want) (room : List ℕ) (to : ℕ) (r : Result Reached Fault) (after : List ℕ) → begins (word "bits") (words_at text at) ≡ true
       → Piece (one (bytes n) (words_at text (behind_word text at))) text (behind_word text at) wants room to r after
       → Piece (flags_then n vs (words_at text at)) text at wants room to r after
   unfolding flags_then Piece
-  bits_then wants room to (On x end) after h p =
+  bits_then wants room to (Ok x) after h p =
       let there = begun-word text at (word "bits") h in
       let behind : tail (words_at text at) ≡ words_at text (behind_word text at) = ap tail there in
       record {
@@ -188,7 +188,7 @@ module _ (n : ℕ) (vs : List (List ℕ)) (text : List ℕ) (at : ℕ) where
         put = p.put;
         onward = along (one_on text at (word_at text (next_word text at)) there) p.onward;
       }
-  bits_then wants room to (Amiss x t) after h p =
+  bits_then wants room to (Err x) after h p =
       let there = begun-word text at (word "bits") h in
       let behind : tail (words_at text at) ≡ words_at text (behind_word text at) = ap tail there in
       let on = one_on text at (word_at text (next_word text at)) there in

@@ -1,5 +1,6 @@
 -- A line by a row, from a part on. Assumes nothing.
 use Rattle.std.proofs.Common.{◌≡◌, ℕ, ◌^◌, ◌<◌, ◌≤◌, Bool, true, false, cond, not, ◌&&◌, ◌||◌, leb, List, [], ◌∷◌, length, replicate, sym, refl, ap, ◌∙◌, arith, leb-true}
+use Rattle.std.specs.Prelude.{Result, Ok, Err}
 use Rattle.words.specs.Words.{word, same, is_empty, begins, distinct}
 use Rattle.words.specs.Lex.{flush, is_word, are_words}
 use Rattle.words.specs.Put.{Put}
@@ -18,20 +19,20 @@ use Rattle.walk.proofs.Keys.{is_among, tag, never}
 use Rattle.walk.proofs.Forms.{by_mark}
 use Rattle.walk.proofs.Places.{words-after, form-at, mark_end, moves}
 use Rattle.read_forms.specs.Places.{behind_word}
-use Rattle.read_forms.specs.Reads.{narrow, clauses, is_row, form_at, Heard, Passed, Stopped, Piece, flags_at, part_by, part_at, flags_then}
-use Rattle.read_forms.specs.declared.Reading.{Reading}
-use Rattle.read_forms.specs.declared.Reading.TheVariants.{On, Wrong as Amiss}
+use Rattle.read_forms.specs.Reads.{reached, amiss, narrow, clauses, is_row, form_at, Heard, Passed, Stopped, Piece, flags_at, part_by, part_at, flags_then}
+use Rattle.read_forms.specs.declared.Reached.{Reached}
+use Rattle.read_forms.specs.declared.Fault.{Fault}
 use Rattle.read_forms.proofs.Laws.{no_word, a_word, none_left, first-left, heard-on, begun-word}
 
 -- ---- what follows from a part read
 
 module _ {text : List ℕ} {at : ℕ} {reads : (List (List ℕ) → Read) → Read} (f g : Form) (is : read_form f (words_at text at) ≡ reads (read_form g))
     (wants : ℕ → Want) (room : List ℕ) (to : ℕ) (after : List ℕ) where
-  pub stopped-heard : {x t : ℕ} → Stopped reads text at wants x t → Heard text at wants room to (read_form f (words_at text at)) (Amiss x t) after
+  pub stopped-heard : {d : Fault} → Stopped reads text at wants d.at d.want → Heard text at wants room to (read_form f (words_at text at)) (Err d) after
   unfolding Heard
   stopped-heard s = rw (is, s.is (read_form g)) s.offence
 
-  pub passed-heard : {x mid : ℕ} {lent : List ℕ} (r : Reading) → Passed reads text at room to x mid lent
+  pub passed-heard : {x mid : ℕ} {lent : List ℕ} (r : Result Reached Fault) → Passed reads text at room to x mid lent
       → Heard text x wants lent mid (read_form g (words_at text x)) r after → Heard text at wants room to (read_form f (words_at text at)) r after
   passed-heard {x} r p h = rw (is, p.is (read_form g)) (heard-on p.put p.onward wants after (read_form g (words_at text x)) r h)
 
@@ -39,10 +40,10 @@ module _ {text : List ℕ} {at : ℕ} {reads : (List (List ℕ) → Read) → Re
 
 module _ (text : List ℕ) (at : ℕ) (wants : ℕ → Want) (room : List ℕ) (to : ℕ) where
   pub end-heard : (t : ℕ) → wants t ≡ line_end
-      → Heard text at wants room to (read_form done (words_at text at)) (cond (ends_line text (next_word text at)) (On at to) (Amiss (next_word text at) t)) room
+      → Heard text at wants room to (read_form done (words_at text at)) (cond (ends_line text (next_word text at)) (reached at to) (amiss (next_word text at) t)) room
   unfolding Heard read_form
   end-heard t w = by (ends_line text (next_word text at)) refl where
-    by : (b : Bool) → ends_line text (next_word text at) ≡ b → Heard text at wants room to (line_done (words_at text at)) (cond b (On at to) (Amiss (next_word text at) t)) room
+    by : (b : Bool) → ends_line text (next_word text at) ≡ b → Heard text at wants room to (line_done (words_at text at)) (cond b (reached at to) (amiss (next_word text at) t)) room
     by true e = let none = no_word text at e in rw none (record { place = sym (none_left text at none); put = nothing room to })
     by false e =
         let there = a_word text at e in
@@ -54,7 +55,7 @@ module _ (text : List ℕ) (at : ℕ) (wants : ℕ → Want) (room : List ℕ) (
         })
 
   pub zeros-heard : (f : Form) (end : ℕ) (after : List ℕ) → ends_line text (next_word text at) ≡ true → Put room to (replicate (width f) 0) end after
-      → Heard text at wants room to (read_form (may f) (words_at text at)) (On at end) after
+      → Heard text at wants room to (read_form (may f) (words_at text at)) (reached at end) after
   unfolding Heard read_form
   zeros-heard f end after e put = let none = no_word text at e in rw none (record { place = sym (none_left text at none); put = put })
 
@@ -351,15 +352,15 @@ module _ (g : List ℕ) (t : ℕ) (ws : List (List ℕ)) where
 
 module _ (text : List ℕ) (at : ℕ) (reads : (List (List ℕ) → Read) → Read) (f g : Form) (is : read_form f (words_at text at) ≡ reads (read_form g))
     (wants : ℕ → Want) (room : List ℕ) (to : ℕ) where
-  pub piece_stopped : (after : List ℕ) (r : Reading) (x t : ℕ) → r ≡ Amiss x t → Piece reads text at wants room to r after
-      → Heard text at wants room to (read_form f (words_at text at)) r after
+  pub piece_stopped : (after : List ℕ) (r : Result Reached Fault) (d : Fault) → r ≡ Err d → Piece reads text at wants room to r after
+      → Heard text at wants room to (read_form f (words_at text at)) (Err d) after
   unfolding Piece
-  piece_stopped after r x t e p = rw e (stopped-heard f g is wants room to after (rw e at p))
+  piece_stopped after r d e p = stopped-heard f g is wants room to after (rw e at p)
 
-  pub piece_passed : (lent : List ℕ) (q : Reading) (x mid : ℕ) → q ≡ On x mid → Piece reads text at wants room to q lent → (after : List ℕ) (r : Reading)
-      → Heard text x wants lent mid (read_form g (words_at text x)) r after → Heard text at wants room to (read_form f (words_at text at)) r after
+  pub piece_passed : (lent : List ℕ) (q : Result Reached Fault) (x : Reached) → q ≡ Ok x → Piece reads text at wants room to q lent → (after : List ℕ) (r : Result Reached Fault)
+      → Heard text x.at wants lent x.end (read_form g (words_at text x.at)) r after → Heard text at wants room to (read_form f (words_at text at)) r after
   unfolding Piece
-  piece_passed lent q x mid e p after r h = passed-heard f g is wants room to after r (rw e at p) h
+  piece_passed lent q x e p after r h = passed-heard f g is wants room to after r (rw e at p) h
 
 -- the last arm of `read_form`
 pub among_wordy : (m : Kind) → (m ≡ End → ⊥) → (m ≡ Rest → ⊥) → (m ≡ MayEnd → ⊥) → (m ≡ Opens → ⊥) → (m ≡ Silent → ⊥) → ((x : ℕ) → m ≡ Flags x → ⊥) → is_among wordy (tag m) ≡ true

@@ -1,6 +1,6 @@
 -- What reading a line by a row of the grammar answers: the place behind its last word, and what it says is put; or the place of
 -- the first word that is wrong, and the place of the grammar of what was expected for it.
-use Rattle.std.specs.Prelude.{◌≡◌, ℕ, suc, ◌%◌, ◌^◌, ◌≤◌, Bool, true, false, cond, not, ◌&&◌, ◌||◌, List, [], ◌∷◌, length, nat_le}
+use Rattle.std.specs.Prelude.{◌≡◌, ℕ, suc, ◌%◌, ◌^◌, ◌≤◌, Bool, true, false, cond, not, ◌&&◌, ◌||◌, List, [], ◌∷◌, length, nat_le, Result, Ok, Err}
 use Rattle.words.specs.Words.{word, same, up_to, is_empty, begins, tail, read_flags}
 use Rattle.words.specs.Put.{Put}
 use Rattle.lexing.specs.Places.{word_at, words_at, below_at, ends_line, after_word}
@@ -11,8 +11,8 @@ use Rattle.forms.specs.Table.{Got, Took, Bad}
 use Rattle.walk.specs.declared.Mark.{Mark as Kind}
 use Rattle.walk.specs.declared.Mark.TheVariants.{End, Rest, MayEnd, Opens, Silent, Names, Flags, Number, Bytes, Date, Code, Word}
 use Rattle.read_forms.specs.Places.{left_at, Onward}
-use Rattle.read_forms.specs.declared.Reading.{Reading}
-use Rattle.read_forms.specs.declared.Reading.TheVariants.{On, Wrong as Amiss}
+use Rattle.read_forms.specs.declared.Reached.{Reached}
+use Rattle.read_forms.specs.declared.Fault.{Fault}
 
 -- ---- rows that the code reads
 
@@ -67,12 +67,18 @@ pub record Offence (text : List ℕ) (from : ℕ) (wants : ℕ → Want) (left :
   pub wanted : wants t ≡ want
   pub few : left ≤ length (words_at text from)
 
+abbrev pub reached : (at end : ℕ) → Result Reached Fault
+reached at end = Ok (record { at = at; end = end })
+
+abbrev pub amiss : (at want : ℕ) → Result Reached Fault
+amiss at want = Err (record { at = at; want = want })
+
 -- of a line, from behind a word on
-unfoldable pub Heard : List ℕ → ℕ → (ℕ → Want) → List ℕ → ℕ → Read → Reading → List ℕ → Type 0
-Heard text from wants room to (Said b) (On at end) after = Ended text from room to b at end after
-Heard text from wants room to (Said b) (Amiss at t) after = ⊥
-Heard text from wants room to (Wrong n w) (On at end) after = ⊥
-Heard text from wants room to (Wrong n w) (Amiss at t) after = Offence text from wants n w at t
+unfoldable pub Heard : List ℕ → ℕ → (ℕ → Want) → List ℕ → ℕ → Read → Result Reached Fault → List ℕ → Type 0
+Heard text from wants room to (Said b) (Ok r) after = Ended text from room to b r.at r.end after
+Heard text from wants room to (Said b) (Err f) after = ⊥
+Heard text from wants room to (Wrong n w) (Ok r) after = ⊥
+Heard text from wants room to (Wrong n w) (Err f) after = Offence text from wants n w f.at f.want
 
 -- ---- a part of a line, whatever follows
 
@@ -88,9 +94,9 @@ pub record Stopped (reads : (List (List ℕ) → Read) → Read) (text : List �
   pub is : (next : List (List ℕ) → Read) → reads next ≡ Wrong left want
   pub offence : Offence text from wants left want at t
 
-unfoldable pub Piece : ((List (List ℕ) → Read) → Read) → List ℕ → ℕ → (ℕ → Want) → List ℕ → ℕ → Reading → List ℕ → Type 0
-Piece reads text from wants room to (On at end) after = Passed reads text from room to at end after
-Piece reads text from wants room to (Amiss at t) after = Stopped reads text from wants at t
+unfoldable pub Piece : ((List (List ℕ) → Read) → Read) → List ℕ → ℕ → (ℕ → Want) → List ℕ → ℕ → Result Reached Fault → List ℕ → Type 0
+Piece reads text from wants room to (Ok r) after = Passed reads text from room to r.at r.end after
+Piece reads text from wants room to (Err f) after = Stopped reads text from wants f.at f.want
 
 -- the names from a place on, of a byte and of bits
 abbrev pub names_at : List ℕ → ℕ → List (List ℕ)
@@ -136,8 +142,8 @@ pub record BadLine (text : List ℕ) (wants : ℕ → Want) (lines words : ℕ) 
   pub wanted : wants t ≡ want
 
 -- of lines: what they say is put, and the lines below the place are left; or the place of the first word that is wrong
-unfoldable pub Met : List ℕ → (ℕ → Want) → List ℕ → ℕ → Got → Reading → List ℕ → Type 0
-Met text wants room to (Took b ls) (On at end) after = (below_at text at ≡ ls) × Put room to b end after
-Met text wants room to (Took b ls) (Amiss at t) after = ⊥
-Met text wants room to (Bad n m w) (On at end) after = ⊥
-Met text wants room to (Bad n m w) (Amiss at t) after = BadLine text wants n m w at t
+unfoldable pub Met : List ℕ → (ℕ → Want) → List ℕ → ℕ → Got → Result Reached Fault → List ℕ → Type 0
+Met text wants room to (Took b ls) (Ok r) after = (below_at text r.at ≡ ls) × Put room to b r.end after
+Met text wants room to (Took b ls) (Err f) after = ⊥
+Met text wants room to (Bad n m w) (Ok r) after = ⊥
+Met text wants room to (Bad n m w) (Err f) after = BadLine text wants n m w f.at f.want

@@ -8,28 +8,23 @@ ghost use Rattle.forms.specs.Form.{named, bytes, fine_part, Want, a_part, hex_pa
 ghost use Rattle.forms.specs.Table.{leads as leadsLines, read_line};
 ghost use Rattle.read_words.specs.Told.{Told, Says};
 ghost use Rattle.read_forms.specs.Places.{behind_word};
-ghost use Rattle.read_forms.specs.Reads.{is_row, form_at, want_at, Heard, Piece, names_at, flags_at, part_at, flags_then, Begins, Gathered, Met};
+ghost use Rattle.read_forms.specs.Reads.{is_row, form_at, want_at, Heard, Piece, names_at, flags_at, part_at, flags_then, Begins, Gathered, Met, reached, amiss};
 
-use lexing::{after_word, ends_line, next_line, next_word, word_end};
+use lexing::{after_word, ends_line, next_line, next_word, word_at, word_end};
 use walk::{Grammar, Mark, is_mark, mark_at, part_behind};
 
-// How far a text is read: the place behind its last word, and the end of what it says. Or where it is
-// wrong, and the place in the grammar of what was expected there.
-#[derive(Drop)]
-pub enum Reading {
-    On { at: usize, end: usize },
-    Wrong { at: usize, want: usize },
+// How far a text is read: the place behind its last word, and the end of what it says.
+#[derive(Clone, Copy)]
+pub struct Reached {
+    pub at: usize,
+    pub end: usize,
 }
 
-// The word that begins at a place.
-fn word_at(text: &[u8], at: usize) -> &[u8]
-    ensures { result.now ≡ word_at text.now at }
-{
-    if text.len() <= at {
-        return &text[..0];
-    }
-    let end = word_end(text, at);
-    &text[at..end]
+// Where a text is wrong, and the place in the grammar of what was expected there.
+#[derive(Clone, Copy)]
+pub struct Fault {
+    pub at: usize,
+    pub want: usize,
 }
 
 fn behind_word(text: &[u8], at: usize) -> usize
@@ -50,7 +45,13 @@ fn goes_on(text: &[u8], at: usize, other: &[u8], place: usize) -> bool
 }
 
 // A byte by its name among those from a place of the grammar on.
-fn read_name(word: &[u8], grammar: &Grammar, names: usize, room: &mut [u8], to: usize) -> Option<usize>
+fn read_name(
+    word: &[u8],
+    grammar: &Grammar,
+    names: usize,
+    room: &mut [u8],
+    to: usize,
+) -> Option<usize>
     requires { Begins grammar.now names }
     ensures { length (names_at grammar.now names) ≤ 256 → Told (is_in word.now (names_at grammar.now names)) (place_in (names_at grammar.now names) word.now ∷ []) room.old to result room.new }
 {
@@ -67,7 +68,13 @@ fn read_name(word: &[u8], grammar: &Grammar, names: usize, room: &mut [u8], to: 
 }
 
 // A byte by its name or in decimal.
-fn read_named(word: &[u8], grammar: &Grammar, names: usize, room: &mut [u8], to: usize) -> Option<usize>
+fn read_named(
+    word: &[u8],
+    grammar: &Grammar,
+    names: usize,
+    room: &mut [u8],
+    to: usize,
+) -> Option<usize>
     requires { Begins grammar.now names }
     ensures { fine_part (named (names_at grammar.now names)) ≡ true → Says (named (names_at grammar.now names)) word.now room.old to result room.new }
 {
@@ -110,35 +117,41 @@ fn read_word(
     mark: Mark,
     room: &mut [u8],
     to: usize,
-) -> Reading
+) -> Result<Reached, Fault>
     ensures { fine_part (part_at grammar.now t mark) ≡ true → want_at grammar.now t ≡ a_part (part_at grammar.now t mark) → Piece (one (part_at grammar.now t mark) (words_at text.now at)) text.now at (want_at grammar.now) room.old to result room.new }
 {
     let word = next_word(text, at);
     if ends_line(text, word) {
-        return Reading::Wrong { at, want: t };
+        return Err(Fault { at, want: t });
     }
-    let Some(end) = read_part(word_at(text, word), grammar, t, mark, room, to) else {
-        return Reading::Wrong { at: word, want: t };
-    };
-    Reading::On {
-        at: word_end(text, word),
-        end,
+    match read_part(word_at(text, word), grammar, t, mark, room, to) {
+        Some(end) => Ok(Reached {
+            at: word_end(text, word),
+            end,
+        }),
+        None => Err(Fault { at: word, want: t }),
     }
 }
 
 // A line that must end here.
-fn read_end(text: &[u8], at: usize, t: usize, end: usize) -> Reading
-    ensures { result ≡ (if ends_line text.now (next_word text.now at) then Reading.On at end else Reading.Wrong (next_word text.now at) t) }
+fn read_end(text: &[u8], at: usize, t: usize, end: usize) -> Result<Reached, Fault>
+    ensures { result ≡ (if ends_line text.now (next_word text.now at) then reached at end else amiss (next_word text.now at) t) }
 {
     let word = next_word(text, at);
     if ends_line(text, word) {
-        return Reading::On { at, end };
+        return Ok(Reached { at, end });
     }
-    Reading::Wrong { at: word, want: t }
+    Err(Fault { at: word, want: t })
 }
 
 // All that is left of a line: pairs of hex digits.
-fn read_rest(text: &[u8], from: usize, t: usize, room: &mut [u8], to: usize) -> Reading
+fn read_rest(
+    text: &[u8],
+    from: usize,
+    t: usize,
+    room: &mut [u8],
+    to: usize,
+) -> Result<Reached, Fault>
     ensures { (wants : ℕ → Want) → wants t ≡ hex_pairs → Heard text.now from wants room.old to (read_rest (words_at text.now from)) result room.new }
 {
     let mut at = from;
@@ -147,13 +160,13 @@ fn read_rest(text: &[u8], from: usize, t: usize, room: &mut [u8], to: usize) -> 
     while !ends_line(text, word) {
         let pairs = word_at(text, word);
         if !words::is_hex(pairs) {
-            return Reading::Wrong { at: word, want: t };
+            return Err(Fault { at: word, want: t });
         }
         end = words::put_hex_said(room, end, pairs);
         at = word_end(text, word);
         word = next_word(text, at);
     }
-    Reading::On { at, end }
+    Ok(Reached { at, end })
 }
 
 // Bits by their names, and the place behind the names.
@@ -196,7 +209,7 @@ fn read_flags(
     count: usize,
     room: &mut [u8],
     to: usize,
-) -> Reading
+) -> Result<Reached, Fault>
     ensures { fine_part (bytes count) ≡ true → length (flags_at grammar.now (after_word grammar.now t)) ≤ 64 → want_at grammar.now t ≡ a_part (bytes count) → Piece (flags_then count (flags_at grammar.now (after_word grammar.now t)) (words_at text.now at)) text.now at (want_at grammar.now) room.old to result room.new }
 {
     if goes_on(text, at, b"bits", 0) {
@@ -204,10 +217,10 @@ fn read_flags(
         return read_word(text, behind, grammar, t, Mark::Bytes(count), room, to);
     }
     let flags = read_names(text, at, grammar, after_word(grammar, t));
-    Reading::On {
+    Ok(Reached {
         at: flags.at,
         end: read_words::put_number(room, to, flags.bits, count),
-    }
+    })
 }
 
 // A line from behind a word on, by a row of the grammar from a part on.
@@ -218,7 +231,7 @@ pub fn read_form(
     t: usize,
     room: &mut [u8],
     to: usize,
-) -> Reading
+) -> Result<Reached, Fault>
     ensures { is_row (words_at grammar.now t) ≡ true → Heard text.now at (want_at grammar.now) room.old to (read_form (form_at grammar.now t) (words_at text.now at)) result room.new }
 {
     let mark = mark_at(grammar, t);
@@ -228,10 +241,10 @@ pub fn read_form(
         Mark::MayEnd => {
             let next = after_word(grammar, t);
             if ends_line(text, next_word(text, at)) {
-                return Reading::On {
+                return Ok(Reached {
                     at,
-                    end: read_words::put_zeros(room, to, walk::width(grammar, next)),
-                };
+                    end: words::put_times(room, to, 0, walk::width(grammar, next)),
+                });
             }
             read_form(text, at, grammar, next, room, to)
         }
@@ -245,20 +258,14 @@ pub fn read_form(
         }
         Mark::Silent => read_form(text, at, grammar, after_word(grammar, t), room, to),
         Mark::Flags(count) => {
-            let reading = read_flags(text, at, grammar, t, count, room, to);
-            let Reading::On { at: behind, end } = reading else {
-                return reading;
-            };
+            let read = read_flags(text, at, grammar, t, count, room, to)?;
             let next = part_behind(grammar, t, mark);
-            read_form(text, behind, grammar, next, room, end)
+            read_form(text, read.at, grammar, next, room, read.end)
         }
         _ => {
-            let reading = read_word(text, at, grammar, t, mark, room, to);
-            let Reading::On { at: behind, end } = reading else {
-                return reading;
-            };
+            let read = read_word(text, at, grammar, t, mark, room, to)?;
             let next = part_behind(grammar, t, mark);
-            read_form(text, behind, grammar, next, room, end)
+            read_form(text, read.at, grammar, next, room, read.end)
         }
     }
 }
@@ -280,7 +287,7 @@ pub fn read_line(
     row: usize,
     room: &mut [u8],
     to: usize,
-) -> Reading
+) -> Result<Reached, Fault>
     ensures { leadsLines (word_at grammar.now (next_word grammar.now row)) (below_at text.now at) ≡ true → is_row (words_at grammar.now (after_word grammar.now (next_word grammar.now row))) ≡ true → Met text.now (want_at grammar.now) room.old to (read_line (form_at grammar.now (after_word grammar.now (next_word grammar.now row))) (below_at text.now at)) result room.new }
 {
     let behind = behind_word(text, next_line(text, at));

@@ -4,12 +4,11 @@ use mathlib.Core.Bool.{Bool, true, false, cond, ◌&&◌}
 use mathlib.Core.List.{List, [], ◌∷◌, ◌++◌}
 use Prim.Native.Nat.{ℕ, zero, suc, ◌+◌, ◌*◌, ◌-◌, ◌/◌, ◌%◌, ◌^◌, ◌<◌, ◌≤◌}
 use native.Mathlib.Nat.{pow-suc}
-use native.Mathlib.Numerals.{add-one, unary_clauses}
+use native.Mathlib.Numerals.{unary_clauses}
 use native.Mathlib.Omega.{arith}
 use borrow.Author.Tests.{ltb-true, ltb-false, lt-ltb, le-ltb, eqb-true, eqb-false, eq-eqb, ne_eqb}
 use lib.Dec.{ltb, eqb}
-use lib.ListN.{length, drop, get_or, replicate, replicate-append-replicate}
-use lib.Seq.{drop-cons}
+use lib.ListN.{length, get_or}
 use Rattle.words.specs.Words.{all, is_digit, is_number, value, is_hex_digit, is_hex, hex_bytes, hex_said}
 use Rattle.words.specs.Number.{number_in}
 use Rattle.words.proofs.Tests.{both}
@@ -22,9 +21,6 @@ neither true = refl
 neither false = refl
 
 -- ---- bytes of a number
-
-pub zeros-more : (n : ℕ) → replicate {A = ℕ} (n + 1) 0 ≡ replicate n 0 ++ 0 ∷ []
-zeros-more n = sym (replicate-append-replicate n 1 0)
 
 pub no_bytes : (n v : ℕ) → n ≡ 0 → big_endian n v ≡ []
 unfolding big_endian
@@ -121,17 +117,6 @@ two_letters (c ∷ d ∷ []) h = end (is_letter c) (is_letter d) where
   end true false = refl
   end false b = refl
 two_letters (c ∷ d ∷ e ∷ s) h = absurd (omega arith)
-
-module _ (s : List ℕ) (i : ℕ) (h : i < length s) where
-  digit-on : all is_digit (drop i s) ≡ (is_digit (get_or s i 0) && all is_digit (drop (i + 1) s))
-  unfolding all
-  digit-on = rw (add-one i, drop-cons s i 0 h)
-
-  pub no_digit : is_digit (get_or s i 0) ≡ false → all is_digit (drop i s) ≡ false
-  no_digit e = digit-on ∙ rw e
-
-  pub a_digit : is_digit (get_or s i 0) ≡ true → all is_digit (drop i s) ≡ all is_digit (drop (i + 1) s)
-  a_digit e = digit-on ∙ rw e
 
 pub digits-hex : (k : ℕ) (s : List ℕ) → length s ≡ k + k → all is_digit s ≡ true → is_hex s ≡ true
 unfolding all is_hex

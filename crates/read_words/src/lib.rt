@@ -1,21 +1,11 @@
 // What a word says of a part of a line, put into lent room from a place on: what does not fit is left out.
 #![tactic(auto)]
 
-ghost use Rattle.std.specs.Prelude.{◌≡◌, cond, ◌^◌, ltb, replicate};
+ghost use Rattle.std.specs.Prelude.{◌≡◌, cond, ◌^◌, ltb};
 ghost use Rattle.words.specs.Words.{all, same, is_digit, value};
 ghost use Rattle.words.specs.Put.{Put};
-ghost use Rattle.forms.specs.Form.{bytes, date, code, big_endian, is_letter, is_date, date_digits};
+ghost use Rattle.forms.specs.Form.{bytes, date, code, big_endian, is_date, date_digits};
 ghost use Rattle.read_words.specs.Told.{Told, Says, is_count};
-
-pub fn put_zeros(room: &mut [u8], at: usize, count: usize) -> usize
-    ensures { Put room.old at (replicate count 0) result room.new }
-{
-    let mut end = at;
-    for _ in 0..count {
-        end = words::put_byte(room, end, 0);
-    }
-    end
-}
 
 // The lowest so many bytes of a number.
 pub fn put_number(room: &mut [u8], at: usize, n: u64, count: usize) -> usize
@@ -33,7 +23,7 @@ fn fits_bytes(n: u64, count: usize) -> bool
 {
     let mut left = n;
     for _ in 0..count {
-        left = left / 256;
+        left /= 256;
     }
     left == 0
 }
@@ -42,9 +32,7 @@ fn fits_bytes(n: u64, count: usize) -> bool
 pub fn read_number(word: &[u8], count: usize, room: &mut [u8], to: usize) -> Option<usize>
     ensures { Told (is_count count word.now) (big_endian count (value word.now)) room.old to result room.new }
 {
-    let Some(n) = words::number_in(word) else {
-        return None;
-    };
+    let n = words::number_in(word)?;
     if fits_bytes(n, count) {
         return Some(put_number(room, to, n, count));
     }
@@ -61,13 +49,6 @@ pub fn read_bytes(word: &[u8], count: usize, room: &mut [u8], to: usize) -> Opti
     None
 }
 
-// A digit or a letter.
-fn is_letter(c: u8) -> bool
-    ensures { result ≡ is_letter c }
-{
-    ((b'0' <= c) & (c <= b'9')) | ((b'A' <= c) & (c <= b'Z')) | ((b'a' <= c) & (c <= b'z'))
-}
-
 // A response code: two letters or digits, or its bytes.
 pub fn read_code(word: &[u8], room: &mut [u8], to: usize) -> Option<usize>
     ensures { Says code word.now room.old to result room.new }
@@ -75,7 +56,7 @@ pub fn read_code(word: &[u8], room: &mut [u8], to: usize) -> Option<usize>
     if word.len() != 2 {
         return read_bytes(word, 2, room, to);
     }
-    if is_letter(word[0]) & is_letter(word[1]) {
+    if word[0].is_ascii_alphanumeric() & word[1].is_ascii_alphanumeric() {
         return Some(words::put_word(room, to, word));
     }
     None
@@ -95,21 +76,10 @@ fn date_digits(word: &[u8]) -> [u8; 6]
     ]
 }
 
-fn is_digit(c: u8) -> bool
-    ensures { result ≡ is_digit c }
-{
-    (b'0' <= c) & (c <= b'9')
-}
-
 fn are_digits(s: &[u8]) -> bool
     ensures { result ≡ all is_digit s.now }
 {
-    for i in 0..s.len() {
-        if !is_digit(s[i]) {
-            return false;
-        }
-    }
-    true
+    s.iter().all(|c| c.is_ascii_digit())
 }
 
 // 20_yy-MM-DD.
@@ -139,8 +109,5 @@ pub fn read_date(word: &[u8], room: &mut [u8], to: usize) -> Option<usize>
 pub fn read_same(word: &[u8], said: &[u8], to: usize) -> Option<usize>
     ensures { result ≡ cond (same word.now said.now) (Some to) None }
 {
-    if words::same_word(word, said) {
-        return Some(to);
-    }
-    None
+    words::same_word(word, said).then_some(to)
 }

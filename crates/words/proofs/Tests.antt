@@ -5,6 +5,7 @@ use mathlib.Core.List.{List, [], ◌∷◌, ◌++◌}
 use Prim.Native.Nat.{ℕ}
 use borrow.Author.Tests.{eqb-true, eq-eqb}
 use lib.Dec.{eqb}
+use Rattle.std.specs.List.{list_all}
 use Rattle.words.specs.Words.{same, all}
 
 pub both : (a b : Bool) → (a && b) ≡ true → (a ≡ true) × (b ≡ true)
@@ -36,3 +37,8 @@ all_append test [] t p q = q
 all_append test (c ∷ s) t p q =
     let h = both (test c) (all test s) p in
     and (test c) (all test (s ++ t)) h.0 (all_append test s t h.1 q)
+
+pub all-is : (test : ℕ → Bool) (s : List ℕ) → list_all test s ≡ all test s
+unfolding all
+all-is test [] = refl
+all-is test (c ∷ s) = rw (all-is test s)

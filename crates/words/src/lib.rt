@@ -2,7 +2,7 @@
 // What a word says: a number, bytes.
 #![tactic(auto)]
 
-ghost use Rattle.std.specs.Prelude.{◌≡◌, true, [], ◌∷◌, ◌<◌};
+ghost use Rattle.std.specs.Prelude.{◌≡◌, true, [], ◌∷◌, ◌<◌, replicate};
 ghost use Rattle.hex_digits.specs.Hex.{hex_byte, hex};
 ghost use Rattle.numerals.specs.Numeral.{numeral};
 ghost use Rattle.words.specs.Words.{same, is_hex_digit, hex_value, is_hex, hex_said};
@@ -17,6 +17,17 @@ pub fn put_byte(room: &mut [u8], at: usize, byte: u8) -> usize
         return at + 1;
     }
     at
+}
+
+// A byte, so many times.
+pub fn put_times(room: &mut [u8], at: usize, byte: u8, count: usize) -> usize
+    ensures { Put room.old at (replicate count byte) result room.new }
+{
+    let mut end = at;
+    for _ in 0..count {
+        end = put_byte(room, end, byte);
+    }
+    end
 }
 
 pub fn put_word(room: &mut [u8], at: usize, word: &[u8]) -> usize

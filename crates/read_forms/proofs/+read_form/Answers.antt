@@ -1,4 +1,5 @@
 use Rattle.std.proofs.Common.{◌≡◌, true, false, sym, refl, ap, ◌∙◌, arith}
+use Rattle.std.proofs.lemmas.Result.{err_from_is_err_and}
 use Rattle.words.specs.Words.{begins}
 use Rattle.lexing.specs.Places.{word_at, words_at, ends_line, after_word}
 use Rattle.forms.specs.Form.{width}
@@ -18,7 +19,7 @@ returns-then-ends_line t c =
     let e : MayEnd ≡ mark_at g a.t = sym c.in-MayEnd.is ∙ c.mark_at-mark.ensures.is in
     let next = c.after_word-next.ensures in
     let line = ap (ends_line text) (sym c.next_word.ensures) ∙ sym c.ends_line.ensures ∙ c.if-ends_line.true in
-    let put_all_lem = rw (c.width.ensures.is ∙ ap (λ n. width (form_at g n)) next) at c.put_zeros.ensures in
+    let put_all_lem = rw (c.width.ensures.is ∙ ap (λ n. width (form_at g n)) next) at c.put_times.ensures in
     λ r. rw (may-is g a.t (words_at text a.at) e) (zeros-heard text a.at (want_at g) _ a.to (form_at g (after_word g a.t)) _ _ line put_all_lem)
 
 pub read_form-requires : goal.read_form-requires
@@ -75,16 +76,18 @@ read_form-requires-in-Silent t c =
     let go = ahead g a.t Silent e refl in
     (omega (arith, c.decreases, go.0, go.1), tt)
 
-pub returns-in_default-reading : goal.returns-in_default-reading
-returns-in_default-reading t c =
+pub returns-in_err-read-in-Flags : goal.returns-in_err-read-in-Flags
+returns-in_err-read-in-Flags t c =
     let a = c.args in
     let g = a.grammar.now in
     let text = a.text.now in
     let e = sym c.in-Flags.is ∙ c.mark_at-mark.ensures.is in
     λ r.
     let known = row (words_at g a.t) r in
-    let said = c.read_flags-reading.ensures (flags-fine g a.t _ e known) (flags-few g a.t _ e known) (ap want_of (form-is g a.t _ e)) in
-    piece_stopped text a.at _ _ _ (flags-is g a.t (words_at text a.at) _ e) (want_at g) _ a.to _ _ _ _ c.in_default-reading.is said
+    let said = c.read_flags.ensures (flags-fine g a.t _ e known) (flags-few g a.t _ e known) (ap want_of (form-is g a.t _ e)) in
+    let p = err_from_is_err_and c.from_residual.result c.from_residual.ensures.1 in
+    rw (p.1, p.2)
+    (piece_stopped text a.at _ _ _ (flags-is g a.t (words_at text a.at) _ e) (want_at g) _ a.to _ _ _ c.in_err-read-in-Flags.was said)
 
 pub read_form-requires-in-Flags : goal.read_form-requires-in-Flags
 read_form-requires-in-Flags t c =
@@ -96,8 +99,8 @@ read_form-requires-in-Flags t c =
     let go = ahead g a.t _ e refl in
     (omega (arith, c.decreases, go.0, go.1), tt)
 
-pub returns-in_default-reading-2 : goal.returns-in_default-reading-2
-returns-in_default-reading-2 t c =
+pub returns-in_err-read-in_default : goal.returns-in_err-read-in_default
+returns-in_err-read-in_default t c =
     let a = c.args in
     let g = a.grammar.now in
     let text = a.text.now in
@@ -106,8 +109,10 @@ returns-in_default-reading-2 t c =
     let one_word = among_wordy _ d.not-End d.not-Rest d.not-MayEnd d.not-Opens d.not-Silent d.not-Flags in
     λ r.
     let known = row (words_at g a.t) r in
-    let said = c.read_word-reading.ensures (part-fine g a.t _ one_word e known) (ap want_of (part-is g a.t _ one_word e known)) in
-    piece_stopped text a.at _ _ _ (word-is g a.t (words_at text a.at) _ one_word e known) (want_at g) _ a.to _ _ _ _ c.in_default-reading-2.is said
+    let said = c.read_word.ensures (part-fine g a.t _ one_word e known) (ap want_of (part-is g a.t _ one_word e known)) in
+    let p = err_from_is_err_and c.from_residual-in_err-read-in_default.result c.from_residual-in_err-read-in_default.ensures.1 in
+    rw (p.1, p.2)
+    (piece_stopped text a.at _ _ _ (word-is g a.t (words_at text a.at) _ one_word e known) (want_at g) _ a.to _ _ _ c.in_err-read-in_default.was said)
 
 pub read_form-requires-in_default : goal.read_form-requires-in_default
 read_form-requires-in_default t c =
@@ -174,22 +179,22 @@ returns-in-Silent t c =
     let more = ap (λ n. is_row (words_at g n)) next ∙ is-row (row_silent g a.t e (row (words_at g a.t) r)) in
     rw (silent_is g a.t (words_at text a.at) e) (rw next at (c.read_form-in-Silent.ensures more))
 
-pub returns-in-On : goal.returns-in-On
-returns-in-On t c =
+pub returns-in_ok-read-in-Flags : goal.returns-in_ok-read-in-Flags
+returns-in_ok-read-in-Flags t c =
     let a = c.args in
     let g = a.grammar.now in
     let text = a.text.now in
     let e = sym c.in-Flags.is ∙ c.mark_at-mark.ensures.is in
     λ r.
     let known = row (words_at g a.t) r in
-    let said = c.read_flags-reading.ensures (flags-fine g a.t _ e known) (flags-few g a.t _ e known) (ap want_of (form-is g a.t _ e)) in
+    let said = c.read_flags.ensures (flags-fine g a.t _ e known) (flags-few g a.t _ e known) (ap want_of (form-is g a.t _ e)) in
     let says = c.part_behind-next.ensures.says ∙ flags-behind _ (words_at g (after_word g a.t)) in
     let more = ap is_row says ∙ is-row (row-flags g a.t _ e known) in
-    piece_passed text a.at _ _ _ (flags-is g a.t (words_at text a.at) _ e) (want_at g) _ a.to _ _ _ _ c.in-On.is said _ _
+    piece_passed text a.at _ _ _ (flags-is g a.t (words_at text a.at) _ e) (want_at g) _ a.to _ _ _ c.in_ok-read-in-Flags.was said _ _
     (rw says at (c.read_form-in-Flags.ensures more))
 
-pub returns-in-On-reading : goal.returns-in-On-reading
-returns-in-On-reading t c =
+pub returns-in_ok-read-in_default : goal.returns-in_ok-read-in_default
+returns-in_ok-read-in_default t c =
     let a = c.args in
     let g = a.grammar.now in
     let text = a.text.now in
@@ -198,8 +203,8 @@ returns-in-On-reading t c =
     let one_word = among_wordy _ d.not-End d.not-Rest d.not-MayEnd d.not-Opens d.not-Silent d.not-Flags in
     λ r.
     let known = row (words_at g a.t) r in
-    let said = c.read_word-reading.ensures (part-fine g a.t _ one_word e known) (ap want_of (part-is g a.t _ one_word e known)) in
+    let said = c.read_word.ensures (part-fine g a.t _ one_word e known) (ap want_of (part-is g a.t _ one_word e known)) in
     let says = c.part_behind-next-in_default.ensures.says in
     let more = ap is_row says ∙ is-row (row-part g a.t _ one_word e known) in
-    piece_passed text a.at _ _ _ (word-is g a.t (words_at text a.at) _ one_word e known) (want_at g) _ a.to _ _ _ _ c.in-On-reading.is said _ _
+    piece_passed text a.at _ _ _ (word-is g a.t (words_at text a.at) _ one_word e known) (want_at g) _ a.to _ _ _ c.in_ok-read-in_default.was said _ _
     (rw says at (c.read_form-in_default.ensures more))

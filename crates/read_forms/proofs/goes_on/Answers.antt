@@ -16,4 +16,4 @@ returns c =
     let a = c.args in
     let text = a.text.now in
     rw (a_word text a.at (ap (ends_line text) (sym c.next_word-word.ensures) ∙ sym c.ends_line.ensures ∙ c.if-ends_line.false))
-    (c.same_word.ensures ∙ ap₂ same (c.word_at.ensures ∙ ap (word_at text) c.next_word-word.ensures) c.word_at-2.ensures)
+    (c.same_word.ensures ∙ ap₂ same (c.word_at.ensures.0 ∙ ap (word_at text) c.next_word-word.ensures) c.word_at-2.ensures.0)

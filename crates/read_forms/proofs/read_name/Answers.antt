@@ -16,7 +16,7 @@ returns-then-same_word c =
     let g = a.grammar.now in
     let more = names-on g c.loop-room.name 93 c.loop-room.invariant.0
     (ap₂ ◌||◌ (sym c.is_mark.ensures) (sym c.ends_line.ensures) ∙ c.loop-room-test.true) in
-    let same_name = ap (same a.word.now) (sym c.word_at.ensures) ∙ sym c.same_word.ensures ∙ c.if-same_word.true in
+    let same_name = ap (same a.word.now) (sym c.word_at.ensures.0) ∙ sym c.same_word.ensures ∙ c.if-same_word.true in
     λ few.
     let (is, place) = name-found (rw more.1 at c.loop-room.invariant.1) same_name few in
     (is, rw place (rw c.loop-room.invariant.2 at c.put_byte.ensures))
@@ -37,7 +37,7 @@ loop-room-preserved c =
     let g = a.grammar.now in
     let more = names-on g c.loop-room.name 93 c.loop-room.invariant.0
     (ap₂ ◌||◌ (sym c.is_mark.ensures) (sym c.ends_line.ensures) ∙ c.loop-room-test.true) in
-    let other_name = ap (same a.word.now) (sym c.word_at.ensures) ∙ sym c.same_word.ensures ∙ c.if-same_word.false in (
+    let other_name = ap (same a.word.now) (sym c.word_at.ensures.0) ∙ sym c.same_word.ensures ∙ c.if-same_word.false in (
       rw c.after_word-name.ensures (after-begins g c.loop-room.name),
       rw (c.after_word-name.ensures, c.wrapping_add_u8-byte.ensures.value) (name-passed (rw more.1 at c.loop-room.invariant.1) other_name),
       c.loop-room.invariant.2,

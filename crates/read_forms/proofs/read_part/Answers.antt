@@ -38,6 +38,6 @@ pub returns-in_default : goal.returns-in_default
 unfolding says bytes_in
 returns-in_default c =
     let a = c.args in
-    let is = c.read_same.ensures ∙ ap (λ v. cond (same a.word.now v) (Some a.to) None) c.word_at.ensures in
+    let is = c.read_same.ensures ∙ ap (λ v. cond (same a.word.now v) (Some a.to) None) c.word_at.ensures.0 in
     let d = c.in_default in
     rw (said-by a.mark _ _ (among_others _ d.not-Names d.not-Number d.not-Bytes d.not-Date d.not-Code), is) (λ fine. said_same (same a.word.now (word_at a.grammar.now a.t)) _ a.to)

@@ -12,7 +12,7 @@ returns-then-not-is_hex c =
     let text = c.args.text.now in
     let here = c.loop-pairs.invariant.0 in
     let line = ap (ends_line text) (sym here) ∙ sym c.ends_line.ensures ∙ c.loop-pairs-test.true in
-    let other = ap is_hex (sym (c.word_at-pairs.ensures ∙ ap (word_at text) here)) ∙ sym c.is_hex.ensures ∙ c.if-not-is_hex.true in
+    let other = ap is_hex (sym (c.word_at-pairs.ensures.0 ∙ ap (word_at text) here)) ∙ sym c.is_hex.ensures ∙ c.if-not-is_hex.true in
     λ wants w. rw here (bad_rest c.loop-pairs.invariant.1 line other wants c.args.t w)
 
 pub loop-pairs-smaller : goal.loop-pairs-smaller
@@ -29,7 +29,7 @@ loop-pairs-preserved c =
     let text = c.args.text.now in
     let here = c.loop-pairs.invariant.0 in
     let line = ap (ends_line text) (sym here) ∙ sym c.ends_line.ensures ∙ c.loop-pairs-test.true in
-    let said = c.word_at-pairs.ensures ∙ ap (word_at text) here in
+    let said = c.word_at-pairs.ensures.0 ∙ ap (word_at text) here in
     let pairs = ap is_hex (sym said) ∙ sym c.is_hex.ensures ∙ c.if-not-is_hex.false in (
       c.next_word-word-in-loop-pairs.ensures,
       rw (c.word_end-at.ensures ∙ ap (word_end text) here) (good-rest c.loop-pairs.invariant.1 line pairs (rw said at c.put_hex_said-end.ensures)),
