@@ -13,9 +13,8 @@ use shape::{Shape, Span};
 // The number of profiles: the set-up's body begins at 4, behind the version, its length and its kind.
 const PROFILES: usize = 7;
 
-const FIRST: u8 = 3;
-
-const SECOND: u8 = 4;
+// A record's kind, behind its length.
+const KIND: usize = 2;
 
 // The response code, behind the length, the kind and the type.
 const CODE: usize = 4;
@@ -65,10 +64,7 @@ fn logging_in(words: &Words, tail: &[u8]) -> journal::Logging
 fn is_dated(dating: Option<Span>) -> bool
     ensures { result ≡ is_dated dating }
 {
-    match dating {
-        None => false,
-        Some(Span { .. }) => true,
-    }
+    dating.is_some()
 }
 
 fn form_of(shape: Shape, paper: &[u8]) -> Form
@@ -120,14 +116,5 @@ pub fn log_of(words: &Words, shape: Shape, paper: &[u8]) -> Log
 pub fn heard(record: &[u8]) -> Heard
     ensures { result ≡ heard_in «record».now }
 {
-    let kind = wire::byte_at(record, 2);
-    if kind == FIRST {
-        return Heard::First;
-    }
-    if kind == SECOND {
-        return Heard::Second {
-            code: wire::u16_at(record, CODE) as u32,
-        };
-    }
-    Heard::Other
+    journal::heard_as(wire::byte_at(record, KIND), wire::u16_at(record, CODE))
 }

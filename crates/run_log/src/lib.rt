@@ -11,10 +11,6 @@ use paper::Next;
 use ring::Ring;
 use state::Kind;
 
-const FIRST: u8 = 3;
-
-const SECOND: u8 = 4;
-
 // The response code in the body of a Second.
 const CODE: usize = 1;
 
@@ -31,28 +27,18 @@ const PROFILE: usize = 21;
 fn heard_by(kind: u8, body: &[u8]) -> Heard
     ensures { result ≡ heard_by kind body.now }
 {
-    if kind == FIRST {
-        return Heard::First;
-    }
-    if kind == SECOND {
-        return Heard::Second {
-            code: wire::u16_at(body, CODE) as u32,
-        };
-    }
-    Heard::Other
+    journal::heard_as(kind, wire::u16_at(body, CODE))
 }
 
 // A CID tells an AAC (00), a TC (40) and an ARQC (80).
 fn kind_by(cid: u8) -> Kind
     ensures { result ≡ kind_by cid }
 {
-    if cid == 0 {
-        return Kind::Aac;
+    match cid {
+        0x00 => Kind::Aac,
+        0x40 => Kind::Tc,
+        _ => Kind::Arqc,
     }
-    if cid == 0x40 {
-        return Kind::Tc;
-    }
-    Kind::Arqc
 }
 
 // The cryptogram of an answer.

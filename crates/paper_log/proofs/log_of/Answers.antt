@@ -1,4 +1,3 @@
-use borrow.Author.Rules.{rules}
 use Rattle.paper_log.specs.Log.{log_of}
 use Rattle.paper_log.proofs.log_of.Goals as goal
 

@@ -1,4 +1,3 @@
-use borrow.Author.Rules.{rules}
 use Rattle.paper_log.proofs.logging_in.Goals as goal
 
 pub returns : goal.returns

@@ -1,4 +1,3 @@
-use borrow.Author.Rules.{rules}
 use borrow.Author.Tests.{eq-eqb, ne_eqb}
 use Rattle.run_log.specs.RunLog.{watched_answer}
 use Rattle.run_log.proofs.watch_answer.Goals as goal

@@ -1,4 +1,3 @@
-use borrow.Author.Rules.{rules}
 use mathlib.Core.Path.{◌≡◌, sym, ◌∙◌}
 use mathlib.Core.List.{List}
 use Prim.Native.Nat.{ℕ, ◌-◌, ◌^◌, ◌≤◌, ◌<◌}
@@ -6,7 +5,7 @@ use native.Mathlib.Omega.{arith}
 use lib.ListN.{length, take, drop, length-drop}
 use lib.Seq.{take_all}
 use Rattle.paper.proofs.Walk.{inside}
-use Rattle.run_log.proofs.Going.{stopped, Going, begin, missing, one_more_lem, stops, over}
+use Rattle.run_log.proofs.Going.{stopped, begin, missing, one_more_lem, stops, over}
 use Rattle.run_log.proofs.watch_run.Goals as goal
 
 whole : (s : List ℕ) (from : ℕ) → take (length s - from) (drop from s) ≡ drop from s

@@ -1,4 +1,3 @@
-use borrow.Author.Rules.{rules}
 use Rattle.journal.specs.Journal.{closed_by}
 use Rattle.watching.proofs.closed_by.Goals as goal
 

@@ -1,4 +1,3 @@
-use borrow.Author.Rules.{rules}
 use Rattle.journal.specs.Journal.{noted}
 use Rattle.watching.proofs.note.Goals as goal
 

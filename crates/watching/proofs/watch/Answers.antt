@@ -1,5 +1,4 @@
 -- A cryptogram at First, at Second, or at neither.
-use borrow.Author.Rules.{rules}
 use Rattle.journal.specs.Journal.{watched}
 use Rattle.watching.proofs.watch.Goals as goal
 
