@@ -22,15 +22,15 @@ record Object (s : List ℕ) (from at tag m n : ℕ) : Type 0 where
   no_filler : byte s at ≡ 0 → ⊥
   place : At s at m n
 
-object : (s : List ℕ) (from at tag : ℕ) (x : Head) (h : Option Head) → places_from s from ≡ places_from s at → at < length s → tag ≡ byte s at → (tag ≡ 0 → ⊥)
+object : {s : List ℕ} {from at tag : ℕ} {h : Option Head} {x : Head} → places_from s from ≡ places_from s at → at < length s → tag ≡ byte s at → (tag ≡ 0 → ⊥)
     → h ≡ head_of (take (length s - at) (drop at s)) → h ≡ Some x → Object s from at tag x.size x.length
-object s from at tag x h led there is some e r =
+object led there is some e r =
     record {
       led = led;
       there = there;
       tag_is = is;
       no_filler = λ z. some (is ∙ z);
-      place = right_at s at x.size x.length h there e r;
+      place = right_at _ _ _ _ _ there e r;
     }
 
 past_head : {s : List ℕ} {from at tag m n : ℕ} → Object s from at tag m n → is_constructed tag ≡ true → places_from s from ≡ places_from s (at + m)
@@ -53,89 +53,63 @@ to-command {s} {at = at} o e =
 
 pub loop-at-preserved-then-tag-eq0 : goal.loop-at-preserved-then-tag-eq0
 loop-at-preserved-then-tag-eq0 c =
-    let l = c in
-    let s = l.args.template.now in
-    l.loop-at.invariant ∙ places_filler s l.loop-at.at c.loop-at-test.true (sym c.byte_at-tag.ensures ∙ c.if-tag-eq0.true)
+    let s = c.args.template.now in
+    c.loop-at.invariant ∙ places_filler s c.loop-at.at c.loop-at-test.true (sym c.byte_at-tag.ensures ∙ c.if-tag-eq0.true)
 
 pub returns-in_err-head : goal.returns-in_err-head
 unfolding next_command
 returns-in_err-head c =
-    let h = c in
-    let b = h in
-    let l = b in
-    let s = l.args.template.now in
-    let at = l.loop-at.at in
-    let w = wrong_at s at _ h.read_head.ensures c.in_err-head.was in
-    h.from_residual.ensures ∙ sym (ap first_of (l.loop-at.invariant ∙ places_wrong s at b.loop-at-test.true (λ z. h.if-tag-eq0.false (b.byte_at-tag.ensures ∙ z)) w))
+    let s = c.args.template.now in
+    let at = c.loop-at.at in
+    let w = wrong_at s at _ c.read_head.ensures c.in_err-head.was in
+    c.from_residual.ensures ∙ sym (ap first_of (c.loop-at.invariant ∙ places_wrong s at c.loop-at-test.true (λ z. c.if-tag-eq0.false (c.byte_at-tag.ensures ∙ z)) w))
 
 pub overflow_add-at-then-is_constructed : goal.overflow_add-at-then-is_constructed
 overflow_add-at-then-is_constructed c =
-    let o =
-    object c.args.template.now c.args.from c.loop-at.at c.byte_at-tag.result c.in_ok-head.head c.read_head.result
-    c.loop-at.invariant c.loop-at-test.true c.byte_at-tag.ensures c.if-tag-eq0.false c.read_head.ensures c.in_ok-head.was in
+    let o = object c.loop-at.invariant c.loop-at-test.true c.byte_at-tag.ensures c.if-tag-eq0.false c.read_head.ensures c.in_ok-head.was in
     omega (arith, o.place.within)
 
 pub loop-at-smaller-then-is_constructed : goal.loop-at-smaller-then-is_constructed
 loop-at-smaller-then-is_constructed c =
-    let o =
-    object c.args.template.now c.args.from c.loop-at.at c.byte_at-tag.result c.in_ok-head.head c.read_head.result
-    c.loop-at.invariant c.loop-at-test.true c.byte_at-tag.ensures c.if-tag-eq0.false c.read_head.ensures c.in_ok-head.was in
+    let o = object c.loop-at.invariant c.loop-at-test.true c.byte_at-tag.ensures c.if-tag-eq0.false c.read_head.ensures c.in_ok-head.was in
     omega (arith, o.there, o.place.some, o.place.within)
 
 pub loop-at-preserved-then-is_constructed : goal.loop-at-preserved-then-is_constructed
 loop-at-preserved-then-is_constructed c =
-    let o =
-    object c.args.template.now c.args.from c.loop-at.at c.byte_at-tag.result c.in_ok-head.head c.read_head.result
-    c.loop-at.invariant c.loop-at-test.true c.byte_at-tag.ensures c.if-tag-eq0.false c.read_head.ensures c.in_ok-head.was in
+    let o = object c.loop-at.invariant c.loop-at-test.true c.byte_at-tag.ensures c.if-tag-eq0.false c.read_head.ensures c.in_ok-head.was in
     past_head o (sym c.is_constructed.ensures ∙ c.if-is_constructed.true)
 
 pub overflow_add-result : goal.overflow_add-result
 overflow_add-result c =
-    let o =
-    object c.args.template.now c.args.from c.loop-at.at c.byte_at-tag.result c.in_ok-head.head c.read_head.result
-    c.loop-at.invariant c.loop-at-test.true c.byte_at-tag.ensures c.if-tag-eq0.false c.read_head.ensures c.in_ok-head.was in
+    let o = object c.loop-at.invariant c.loop-at-test.true c.byte_at-tag.ensures c.if-tag-eq0.false c.read_head.ensures c.in_ok-head.was in
     omega (arith, o.place.within)
 
 pub returns-then-tag : goal.returns-then-tag
 returns-then-tag c =
-    let o =
-    object c.args.template.now c.args.from c.loop-at.at c.byte_at-tag.result c.in_ok-head.head c.read_head.result
-    c.loop-at.invariant c.loop-at-test.true c.byte_at-tag.ensures c.if-tag-eq0.false c.read_head.ensures c.in_ok-head.was in
+    let o = object c.loop-at.invariant c.loop-at-test.true c.byte_at-tag.ensures c.if-tag-eq0.false c.read_head.ensures c.in_ok-head.was in
     sym (to-command o c.if-tag.true)
 
 pub overflow_add-at-in-loop-at : goal.overflow_add-at-in-loop-at
 overflow_add-at-in-loop-at c =
-    let o =
-    object c.args.template.now c.args.from c.loop-at.at c.byte_at-tag.result c.in_ok-head.head c.read_head.result
-    c.loop-at.invariant c.loop-at-test.true c.byte_at-tag.ensures c.if-tag-eq0.false c.read_head.ensures c.in_ok-head.was in
+    let o = object c.loop-at.invariant c.loop-at-test.true c.byte_at-tag.ensures c.if-tag-eq0.false c.read_head.ensures c.in_ok-head.was in
     omega (arith, o.place.within)
 
 pub overflow_add-at-in-loop-at-2 : goal.overflow_add-at-in-loop-at-2
 overflow_add-at-in-loop-at-2 c =
-    let o =
-    object c.args.template.now c.args.from c.loop-at.at c.byte_at-tag.result c.in_ok-head.head c.read_head.result
-    c.loop-at.invariant c.loop-at-test.true c.byte_at-tag.ensures c.if-tag-eq0.false c.read_head.ensures c.in_ok-head.was in
+    let o = object c.loop-at.invariant c.loop-at-test.true c.byte_at-tag.ensures c.if-tag-eq0.false c.read_head.ensures c.in_ok-head.was in
     omega (arith, o.place.within)
 
 pub loop-at-smaller : goal.loop-at-smaller
 loop-at-smaller c =
-    let o =
-    object c.args.template.now c.args.from c.loop-at.at c.byte_at-tag.result c.in_ok-head.head c.read_head.result
-    c.loop-at.invariant c.loop-at-test.true c.byte_at-tag.ensures c.if-tag-eq0.false c.read_head.ensures c.in_ok-head.was in
+    let o = object c.loop-at.invariant c.loop-at-test.true c.byte_at-tag.ensures c.if-tag-eq0.false c.read_head.ensures c.in_ok-head.was in
     omega (arith, o.there, o.place.some, o.place.within)
 
 pub loop-at-preserved : goal.loop-at-preserved
 loop-at-preserved c =
-    let o =
-    object c.args.template.now c.args.from c.loop-at.at c.byte_at-tag.result c.in_ok-head.head c.read_head.result
-    c.loop-at.invariant c.loop-at-test.true c.byte_at-tag.ensures c.if-tag-eq0.false c.read_head.ensures c.in_ok-head.was in
+    let o = object c.loop-at.invariant c.loop-at-test.true c.byte_at-tag.ensures c.if-tag-eq0.false c.read_head.ensures c.in_ok-head.was in
     past-object o (sym c.is_constructed.ensures ∙ c.if-is_constructed.false) c.if-tag.false
 
 pub returns : goal.returns
 unfolding next_command
 returns c =
-    let l = c in
-    sym (ap first_of (l.loop-at.invariant ∙ places_end l.args.template.now l.loop-at.at c.loop-at-test.false))
-
-pub loop-at-init : goal.loop-at-init
-loop-at-init c = refl
+    sym (ap first_of (c.loop-at.invariant ∙ places_end c.args.template.now c.loop-at.at c.loop-at-test.false))

@@ -5,9 +5,8 @@ use Rattle.element.proofs.limits_written.Goals as goal
 pub returns-then-value-are_pairs : goal.returns-then-value-are_pairs
 unfolding limits_written
 returns-then-value-are_pairs c =
-    let tested = c in
     simp (
-      rw (tested.are_pairs-2.ensures, tested.are_pairs.ensures) at c.if-value-are_pairs.true,
+      rw (c.are_pairs-2.ensures, c.are_pairs.ensures) at c.if-value-are_pairs.true,
       c.pairs_value-then-value-are_pairs.ensures,
       c.pairs_value.ensures,
     )

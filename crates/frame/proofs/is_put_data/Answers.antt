@@ -5,5 +5,4 @@ use Rattle.frame.proofs.is_put_data.Goals as goal
 pub returns : goal.returns
 unfolding is_put_data
 returns c =
-    let first = c in
-    simp (c.byte_at-3.ensures, c.byte_at-2.ensures, first.byte_at.ensures, first.u16_at-object.ensures)
+    simp (c.byte_at-3.ensures, c.byte_at-2.ensures, c.byte_at.ensures, c.u16_at-object.ensures)

@@ -16,24 +16,19 @@ slice_bounds-meaning_of-start c = omega arith
 
 pub slice_bounds-meaning_of-end : goal.slice_bounds-meaning_of-end
 slice_bounds-meaning_of-end c =
-    let tested = c in
-    let sized = tested in
-    let list = sized.args.list.now in
-    omega (arith, and_fits tested.is_length.result sized.element_size-size.result (length list) c.if-is_length-size.true)
+    let list = c.args.list.now in
+    omega (arith, and_fits c.is_length.result c.element_size-size.result (length list) c.if-is_length-size.true)
 
 pub returns-then-is_length-size : goal.returns-then-is_length-size
 unfolding element_meaning element_size
 returns-then-is_length-size c =
-    let head = c in
-    let tested = head in
-    let sized = tested in
-    let a = sized.args in
-    let size = sized.element_size-size.ensures.0 in
-    simp (rw (tested.is_length.ensures, tested.byte_at.ensures, size) at head.if-is_length-size.true)
+    let a = c.args in
+    let size = c.element_size-size.ensures.0 in
+    simp (rw (c.is_length.ensures, c.byte_at.ensures, size) at c.if-is_length-size.true)
     (c.meaning_of.ensures
     ∙ ap₂ (λ t v. meaning_of a.object t v)
     c.u16_at.ensures
-    (part a.list.now _ _ _ _ head.head_size-head.ensures.0 size))
+    (part a.list.now _ _ _ _ c.head_size-head.ensures.0 size))
 
 pub returns : goal.returns
 unfolding element_meaning

@@ -14,45 +14,38 @@ returns-then-object-is_one_of c = simp (rw c.is_one_of.ensures at c.if-object-is
 
 pub overflow_sub-tag-then-object-is_one_of-2 : goal.overflow_sub-tag-then-object-is_one_of-2
 overflow_sub-tag-then-object-is_one_of-2 c =
-    let first = c in
-    let a = first.args in
+    let a = c.args in
     from_first a.object 0xBF30 0xDF11 _ _ c.is_one_of-2.ensures c.if-object-is_one_of-2.true
 
 pub returns-then-object-is_one_of-2 : goal.returns-then-object-is_one_of-2
 unfolding meaning_of
 returns-then-object-is_one_of-2 c =
-    let second = c in
     simp (
-      rw second.is_one_of.ensures at second.if-object-is_one_of.false,
-      rw second.is_one_of-2.ensures at c.if-object-is_one_of-2.true,
+      rw c.is_one_of.ensures at c.if-object-is_one_of.false,
+      rw c.is_one_of-2.ensures at c.if-object-is_one_of-2.true,
       c.limits_written.ensures,
     )
 
 pub overflow_sub-tag-then-object-is_one_of-3 : goal.overflow_sub-tag-then-object-is_one_of-3
 overflow_sub-tag-then-object-is_one_of-3 c =
-    let second = c in
-    let first = second in
-    let a = first.args in
+    let a = c.args in
     from_first a.object 0xBF35 0xDF11 _ _ c.is_one_of-3.ensures c.if-object-is_one_of-3.true
 
 pub returns-then-object-is_one_of-3 : goal.returns-then-object-is_one_of-3
 unfolding meaning_of
 returns-then-object-is_one_of-3 c =
-    let third = c in
-    let second = third in
     simp (
-      rw second.is_one_of.ensures at second.if-object-is_one_of.false,
-      rw second.is_one_of-2.ensures at third.if-object-is_one_of-2.false,
-      rw third.is_one_of-3.ensures at c.if-object-is_one_of-3.true,
+      rw c.is_one_of.ensures at c.if-object-is_one_of.false,
+      rw c.is_one_of-2.ensures at c.if-object-is_one_of-2.false,
+      rw c.is_one_of-3.ensures at c.if-object-is_one_of-3.true,
       c.counts_written.ensures,
     )
 
 pub returns : goal.returns
 unfolding meaning_of
 returns c =
-    let second = c in
     simp (
-      rw second.is_one_of.ensures at second.if-object-is_one_of.false,
-      rw second.is_one_of-2.ensures at c.if-object-is_one_of-2.false,
+      rw c.is_one_of.ensures at c.if-object-is_one_of.false,
+      rw c.is_one_of-2.ensures at c.if-object-is_one_of-2.false,
       rw c.is_one_of-3.ensures at c.if-object-is_one_of-3.false,
     )

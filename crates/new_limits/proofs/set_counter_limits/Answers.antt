@@ -13,12 +13,11 @@ use Rattle.new_limits.proofs.set_counter_limits.Goals as goal
 pub returns-then-i-lt4 : goal.returns-then-i-lt4
 unfolding counter_limits_put
 returns-then-i-lt4 c =
-    let inside = c in
-    let a = inside.args in
+    let a = c.args in
     let w = a.words.now in
     let size : length w ≡ word_count = search rules in
     let put : c.put_limits_in_all.new.words ≡ counter_limits_put w a.i a.lower a.upper =
-    simp (c.put_limits_in_all.ensures, lt-ltb _ _ inside.if-i-lt4.true) in
+    simp (c.put_limits_in_all.ensures, lt-ltb _ _ c.if-i-lt4.true) in
     (put, ap rules_of put ∙ counter-limits w size a.i a.lower a.upper (omega arith) (omega arith))
 
 pub returns-else-i-lt4 : goal.returns-else-i-lt4

@@ -10,24 +10,20 @@ use Rattle.put_data.proofs.are_elements.Goals as goal
 
 pub loop-end-smaller : goal.loop-end-smaller
 loop-end-smaller c =
-    let made = c in
-    let a = made.args in
-    let w = (left_by_lem a.object a.list.now made.loop-end.at _ (sym made.next_element.ensures ∙ c.in-Element.is)).within in
+    let a = c.args in
+    let w = (left_by_lem a.object a.list.now c.loop-end.at _ (sym c.next_element.ensures ∙ c.in-Element.is)).within in
     omega (arith, w.0, w.1)
 
 pub loop-end-preserved : goal.loop-end-preserved
 loop-end-preserved c =
-    let made = c in
-    let a = made.args in
-    made.loop-end.invariant
-    ∙ goes_on_lem a.object a.list.now made.loop-end.at _ _ (sym made.next_element.ensures ∙ c.in-Element.is)
+    let a = c.args in
+    c.loop-end.invariant
+    ∙ goes_on_lem a.object a.list.now c.loop-end.at _ _ (sym c.next_element.ensures ∙ c.in-Element.is)
 
 pub returns-in-End : goal.returns-in-End
 returns-in-End c =
-    let made = c in
-    sym (made.loop-end.invariant ∙ ap is_some (left_by_lem _ _ _ End (sym made.next_element.ensures ∙ c.in-End.is)).is)
+    sym (c.loop-end.invariant ∙ ap is_some (left_by_lem _ _ _ End (sym c.next_element.ensures ∙ c.in-End.is)).is)
 
 pub returns-in-Fault : goal.returns-in-Fault
 returns-in-Fault c =
-    let made = c in
-    sym (made.loop-end.invariant ∙ ap is_some (left_by_lem _ _ _ Fault (sym made.next_element.ensures ∙ c.in-Fault.is)).is)
+    sym (c.loop-end.invariant ∙ ap is_some (left_by_lem _ _ _ Fault (sym c.next_element.ensures ∙ c.in-Fault.is)).is)

@@ -6,16 +6,13 @@ use Rattle.put_data.proofs.element_at.Goals as goal
 
 pub returns-in-Some : goal.returns-in-Some
 returns-in-Some c =
-    let arm = c in
-    let made = arm in
-    let a = made.args in
+    let a = c.args in
     let all = rest_all a.list.now a.at in
-    let write = sym made.element_meaning.ensures ∙ arm.in-Some.is in
+    let write = sym c.element_meaning.ensures ∙ c.in-Some.is in
     simp (rw all at write, c.element_size.ensures.0, all)
 
 pub returns-in-None : goal.returns-in-None
 returns-in-None c =
-    let made = c in
-    let a = made.args in
+    let a = c.args in
     let all = rest_all a.list.now a.at in
-    simp (rw all at (sym made.element_meaning.ensures ∙ c.in-None.is))
+    simp (rw all at (sym c.element_meaning.ensures ∙ c.in-None.is))

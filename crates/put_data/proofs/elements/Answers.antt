@@ -20,7 +20,5 @@ slice_bounds-result-start c = omega arith
 pub returns : goal.returns
 unfolding elements_of mac_place
 returns c =
-    let mac = c in
-    let places = mac in
-    simp (le-leb _ _ (rw mac.mac_place-end.ensures.0 at c.if-command-end.false))
-    (part _ _ _ _ _ places.list_place-start.ensures.0 mac.mac_place-end.ensures.0)
+    simp (le-leb _ _ (rw c.mac_place-end.ensures.0 at c.if-command-end.false))
+    (part _ _ _ _ _ c.list_place-start.ensures.0 c.mac_place-end.ensures.0)

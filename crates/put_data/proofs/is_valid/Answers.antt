@@ -5,10 +5,8 @@ use Rattle.put_data.proofs.is_valid.Goals as goal
 pub returns-then-is_put_data-is_secured : goal.returns-then-is_put_data-is_secured
 unfolding is_valid writes_of
 returns-then-is_put_data-is_secured c =
-    let taken = c in
-    let tested = taken in
     simp (
-      rw (tested.is_secured.ensures, tested.is_put_data.ensures) at taken.if-is_put_data-is_secured.true,
+      rw (c.is_secured.ensures, c.is_put_data.ensures) at c.if-is_put_data-is_secured.true,
       c.are_elements.ensures,
       c.elements.ensures,
       c.u16_at.ensures,

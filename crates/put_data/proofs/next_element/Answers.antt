@@ -8,8 +8,7 @@ use Rattle.put_data.proofs.next_element.Goals as goal
 
 pub returns-then-list-at-ne0 : goal.returns-then-list-at-ne0
 returns-then-list-at-ne0 c =
-    let turn = c in
-    c.element_at.ensures ∙ sym (turn.loop-at.invariant ∙ next_here _ _ _ turn.loop-at-test.true c.if-list-at-ne0.true)
+    c.element_at.ensures ∙ sym (c.loop-at.invariant ∙ next_here _ _ _ c.loop-at-test.true c.if-list-at-ne0.true)
 
 pub loop-at-preserved : goal.loop-at-preserved
 loop-at-preserved c = let turn = c in turn.loop-at.invariant ∙ next-filler _ _ _ turn.loop-at-test.true c.if-list-at-ne0.false

@@ -19,9 +19,8 @@ loop-span-init c = starts _ _ _ _ _
 
 pub returns : goal.returns
 returns c =
-    let asked = c in
-    let l = asked.loop-span in
-    ends _ _ _ _ _ _ _ _ _ l.invariant (next-end _ _ (sym asked.next_command.ensures ∙ c.in_default.is))
+    let l = c.loop-span in
+    ends _ _ _ _ _ _ _ _ _ l.invariant (next-end _ _ (sym c.next_command.ensures ∙ c.in_default.is))
 
 pub overflow_add-end : goal.overflow_add-end
 overflow_add-end c = let h = step _ _ _ _ c.next_command.ensures c.in-Some.is in omega (arith, h.within)
@@ -31,29 +30,20 @@ slice_bounds-command-end c = let h = step _ _ _ _ c.next_command.ensures c.in-So
 
 pub returns-then-not-is_done : goal.returns-then-not-is_done
 returns-then-not-is_done c =
-    let asked = c in
-    let told = asked in
-    let next = told in
-    let failed = sym asked.is_done.ensures ∙ c.if-not-is_done.true in
-    simp c.with_failure.ensures (fails _ _ _ _ _ _ _ _ _ next.loop-span.invariant _ _ (step _ _ _ _ c.next_command.ensures c.in-Some.is) failed)
+    let failed = sym c.is_done.ensures ∙ c.if-not-is_done.true in
+    simp c.with_failure.ensures (fails _ _ _ _ _ _ _ _ _ c.loop-span.invariant _ _ (step _ _ _ _ c.next_command.ensures c.in-Some.is) failed)
 
 pub write_elements-values-requires : goal.write_elements-values-requires
 write_elements-values-requires c =
-    let asked = c in
-    (done-some _ _ _ (sym asked.is_done.ensures ∙ c.if-not-is_done.false)).0
+    (done-some _ _ _ (sym c.is_done.ensures ∙ c.if-not-is_done.false)).0
 
 pub loop-span-smaller : goal.loop-span-smaller
 loop-span-smaller c =
-    let branch = c in
     let h = step _ _ _ _ c.next_command.ensures c.in-Some.is in
     omega (arith, h.later, h.within)
 
 pub loop-span-preserved : goal.loop-span-preserved
 loop-span-preserved c =
-    let branch = c in
-    let asked = branch in
-    let told = asked in
-    let next = told in
-    let is-done = sym asked.is_done.ensures ∙ branch.if-not-is_done.false in
+    let is-done = sym c.is_done.ensures ∙ c.if-not-is_done.false in
     simp c.with_done-scripts.ensures
-    (goes_on_lem _ _ _ _ _ _ _ _ _ next.loop-span.invariant _ _ (step _ _ _ _ c.next_command.ensures c.in-Some.is) is-done _ _ c.write_elements-values.ensures)
+    (goes_on_lem _ _ _ _ _ _ _ _ _ c.loop-span.invariant _ _ (step _ _ _ _ c.next_command.ensures c.in-Some.is) is-done _ _ c.write_elements-values.ensures)

@@ -24,23 +24,19 @@ step s at w end found h e is = next_write_lem _ _ _ _ h (sym e ∙ is)
 
 pub loop-write-init : goal.loop-write-init
 loop-write-init c =
-    let s = c in
-    let w = s.args.command.now in
-    ((at-start w s.requires).0, at_first _ _ _ _ (all_left w s.requires))
+    let w = c.args.command.now in
+    ((at-start w c.requires).0, at_first _ _ _ _ (all_left w c.requires))
 
 pub returns : goal.returns
 returns c =
-    let asked = c in
-    let l = asked.loop-write in
-    let w = asked.args.command.now in
-    at_last _ _ _ _ _ _ (none_left w l.at l.invariant.0 _ (sym asked.next_write.ensures) c.in_default.not-Element) l.invariant.1
+    let l = c.loop-write in
+    let w = c.args.command.now in
+    at_last _ _ _ _ _ _ (none_left w l.at l.invariant.0 _ (sym c.next_write.ensures) c.in_default.not-Element) l.invariant.1
 
 pub loop-write-smaller : goal.loop-write-smaller
 loop-write-smaller c = let s = step _ _ _ _ _ c.loop-write.invariant.0 c.next_write.ensures c.in-Element.is in omega (arith, s.later, s.within)
 
 pub loop-write-preserved : goal.loop-write-preserved
 loop-write-preserved c =
-    let told = c in
-    let asked = told in
     let s = step _ _ _ _ _ c.loop-write.invariant.0 c.next_write.ensures c.in-Element.is in
-    (s.goes_on_lem, passed _ _ _ _ _ _ (told.in-Element.write ∷ []) _ s.is asked.loop-write.invariant.1 _ _ c.apply-values.ensures)
+    (s.goes_on_lem, passed _ _ _ _ _ _ (c.in-Element.write ∷ []) _ s.is c.loop-write.invariant.1 _ _ c.apply-values.ensures)

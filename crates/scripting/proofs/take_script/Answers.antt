@@ -13,25 +13,21 @@ returns-then-res-gt1 c = let above = lt-ltb _ _ c.if-res-gt1.true in (simp (abov
 pub returns-in-Ok : goal.returns-in-Ok
 unfolding script_taken template_writes words_run rules_run
 returns-in-Ok c =
-    let told = c in
-    let read = told in
     let ran = c.run_script.ensures in
-    let within = le-ltb _ _ read.if-res-gt1.false in
-    let sound = sym read.read_template.ensures ∙ told.in-Ok.is in
+    let within = le-ltb _ _ c.if-res-gt1.false in
+    let sound = sym c.read_template.ensures ∙ c.in-Ok.is in
     (simp (within, sound, ran.0), simp (within, sound) ran.1, simp (within, sound) ran.2)
 
 pub returns-in-Err-Malformed : goal.returns-in-Err-Malformed
 unfolding script_taken template_writes
 returns-in-Err-Malformed c =
-    let read = c in
-    let within = le-ltb _ _ read.if-res-gt1.false in
-    let fault = sym read.read_template.ensures ∙ c.in-Err-Malformed.is ∙ ap Err c.in-Err-Malformed.field-0-is in
+    let within = le-ltb _ _ c.if-res-gt1.false in
+    let fault = sym c.read_template.ensures ∙ c.in-Err-Malformed.is ∙ ap Err c.in-Err-Malformed.field-0-is in
     (simp (within, fault, c.refuse-in-Err-Malformed.ensures), simp (within, fault), simp (within, fault))
 
 pub returns-in-Err-TooDeep : goal.returns-in-Err-TooDeep
 unfolding script_taken template_writes
 returns-in-Err-TooDeep c =
-    let read = c in
-    let within = le-ltb _ _ read.if-res-gt1.false in
-    let fault = sym read.read_template.ensures ∙ c.in-Err-TooDeep.is ∙ ap Err c.in-Err-TooDeep.field-0-is in
+    let within = le-ltb _ _ c.if-res-gt1.false in
+    let fault = sym c.read_template.ensures ∙ c.in-Err-TooDeep.is ∙ ap Err c.in-Err-TooDeep.field-0-is in
     (simp (within, fault, c.refuse-in-Err-TooDeep.ensures), simp (within, fault), simp (within, fault))
