@@ -18,32 +18,24 @@ fn select_in(selecting: Option<SelectionFile>, place: usize, bytes: usize) -> Op
     requires { Lies selecting bytes × (place + bytes < 2 ^ 63) }
     ensures { result ≡ selecting_at place selecting }
 {
-    match selecting {
-        None => None,
-        Some(SelectionFile {
-            start,
-            end,
-            entries,
-        }) => Some(SelectionFile {
-            start: place + start,
-            end: place + end,
-            entries,
-        }),
-    }
+    let file = selecting?;
+    Some(SelectionFile {
+        start: place + file.start,
+        end: place + file.end,
+        ..file
+    })
 }
 
-// The places of the tail with dates likewise.
-fn date_in(dating: Option<Span>, place: usize, bytes: usize) -> Option<Span>
-    requires { Spans dating bytes × (place + bytes < 2 ^ 63) }
-    ensures { result ≡ span_at place dating }
+// The places of the tail with dates, or of the log's, likewise.
+fn span_in(tail: Option<Span>, place: usize, bytes: usize) -> Option<Span>
+    requires { Spans tail bytes × (place + bytes < 2 ^ 63) }
+    ensures { result ≡ span_at place tail }
 {
-    match dating {
-        None => None,
-        Some(Span { start, end }) => Some(Span {
-            start: place + start,
-            end: place + end,
-        }),
-    }
+    let Span { start, end } = tail?;
+    Some(Span {
+        start: place + start,
+        end: place + end,
+    })
 }
 
 // And those of a CPACE card's tail.
@@ -60,42 +52,17 @@ fn family_in(family: Family, place: usize, bytes: usize) -> Family
     }
 }
 
-// And those of the log's tail.
-fn log_at(logging: Option<Span>, place: usize, bytes: usize) -> Option<Span>
-    requires { Spans logging bytes × (place + bytes < 2 ^ 63) }
-    ensures { result ≡ span_at place logging }
-{
-    match logging {
-        None => None,
-        Some(Span { start, end }) => Some(Span {
-            start: place + start,
-            end: place + end,
-        }),
-    }
-}
-
 // A shape with its places in the paper.
 fn place_in(shape: Shape, place: usize, bytes: usize) -> Shape
     requires { Inside shape bytes × (place + bytes < 2 ^ 63) }
     ensures { result ≡ shape_at place shape }
 {
-    let read = shape.selecting;
-    let selecting = select_in(read, place, bytes);
-    let dates = shape.dating;
-    let dating = date_in(dates, place, bytes);
-    let kind = shape.family;
-    let family = family_in(kind, place, bytes);
-    let log = shape.logging;
-    let logging = log_at(log, place, bytes);
     Shape {
-        base: shape.base,
-        selecting,
-        syllabus: shape.syllabus,
-        dating,
-        family,
-        scripting: shape.scripting,
-        logging,
-        unnamed: shape.unnamed,
+        selecting: select_in(shape.selecting, place, bytes),
+        dating: span_in(shape.dating, place, bytes),
+        family: family_in(shape.family, place, bytes),
+        logging: span_in(shape.logging, place, bytes),
+        ..shape
     }
 }
 
@@ -126,13 +93,10 @@ fn judge_log(shape: Shape, body: &[u8]) -> Result<(), Fault>
     requires { Spans shape.logging (length body.now) }
     ensures { result ≡ log_judged shape body.now }
 {
-    let logging = shape.logging;
-    let Some(Span { start, end }) = logging else {
+    let Some(Span { start, end }) = shape.logging else {
         return Ok(());
     };
-    let dating = shape.dating;
-    let family = shape.family;
-    let first = bodies::first_length(dating, family);
+    let first = bodies::first_length(shape.dating, shape.family);
     log_tail::judge(
         &body[start..end],
         wire::byte_at(body, layout::PROFILES),
@@ -148,15 +112,13 @@ fn take_shaped(shape: Shape, body: &[u8], place: usize, end: usize, words: &mut 
         × (words.new ≡ shaped_words words.old body.now (Ok shape)) }
 {
     let placed = place_in(shape, place, body.len());
-    let base = shape.base;
-    let dating = shape.dating;
-    let cycles = cycles_in(dating, body);
-    let family = shape.family;
-    let controls = controls_in(family, body);
+    let base = &body[..shape.base];
+    let cycles = cycles_in(shape.dating, body);
+    let controls = controls_in(shape.family, body);
     match judge_log(shape, body) {
-        Ok(()) => begun::take_base(placed, &body[..base], cycles, controls, end, words),
+        Ok(()) => begun::take_base(placed, base, cycles, controls, end, words),
         Err(Fault::Wrong) => begun::refuse(Refusal::BadSetup, end),
-        Err(Fault::PastData) => begun::refuse_log(&body[..base], cycles, controls, shape.unnamed, end),
+        Err(Fault::PastData) => begun::refuse_log(base, cycles, controls, shape.unnamed, end),
     }
 }
 

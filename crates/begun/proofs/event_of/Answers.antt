@@ -4,5 +4,5 @@ use Rattle.begun.proofs.event_of.Goals as goal
 pub returns-in-Ok : goal.returns-in-Ok
 returns-in-Ok c = simp c.in-Ok.is
 
-pub returns-in-Refused : goal.returns-in-Refused
-returns-in-Refused c = simp c.in-Refused.is
+pub returns-in-Err : goal.returns-in-Err
+returns-in-Err c = simp c.in-Err.is
