@@ -8,12 +8,15 @@ use native.Mathlib.Numerals.{add-one}
 use native.Mathlib.Omega.{arith}
 use lib.Bits.{bit_and, and_block, and_lt}
 use lib.Dec.{ltb, eqb}
-use borrow.Author.Tests.{lt-ltb, le-ltb, eq-eqb, ne_eqb, ltb-true, ltb-false}
+use borrow.Author.Tests.{lt-ltb, le-ltb}
 use Rattle.wire.specs.Wire.{byte, number}
 use Rattle.fields.specs.Fields.{position, block_length, block_place}
-use Rattle.entry.specs.Entry.{block, masked, is_any_of, order_of, is_less, is_equal, is_greater}
-use Rattle.entry.specs.declared.Order.{Order}
-use Rattle.entry.specs.declared.Order.TheVariants.{Less, Equal, Greater}
+use Rattle.entry.specs.Entry.{block, masked, is_any_of}
+use Rattle.std.proofs.lemmas.Bool.{false≢true}
+use Rattle.std.specs.Cmp.{ranks, ranked, nat_cmp_is, unsigned_tied}
+use Rattle.std.specs.Ordering.{MatchOrdering, nat_cmp, is_eq, is_ne, is_lt, is_gt}
+use Rattle.std.specs.declared.cmp.Ordering.{Ordering}
+use Rattle.std.specs.declared.cmp.Ordering.TheVariants.{Less, Equal, Greater}
 
 -- x and y: numbers that grow by a byte at each step
 module _ (x y a b : ℕ → ℕ) (x-more : (i : ℕ) → x (suc i) ≡ x i * 256 + a i) (y-more : (i : ℕ) → y (suc i) ≡ y i * 256 + b i)
@@ -52,49 +55,34 @@ module _ (d e : List ℕ) (p m : ℕ) (ds : (k : ℕ) → byte d k < 256) (es : 
 
   -- at byte i, the first in which they differ
   module _ (v i n : ℕ) (h : i < n) (same : masked_to i ≡ number e v i) where
-    pub is-less : masked_byte i < byte e (v + i) → order_of (masked_to n) (number e v n) ≡ Less
-    unfolding order_of
-    is-less g =
-        let l = less-at masked_to (number e v) masked_byte (λ k. byte e (v + k)) masked-more (number_more v) masked_small i n h same g in
-        simp (lt-ltb (masked_to n) (number e v n) l)
+    pub is-less : masked_byte i < byte e (v + i) → Less ≡ nat_cmp (masked_to n) (number e v n)
+    is-less g = nat_cmp_is _ _ Less (less-at masked_to (number e v) masked_byte (λ k. byte e (v + k)) masked-more (number_more v) masked_small i n h same g)
 
-    pub is_greater_lem : byte e (v + i) < masked_byte i → order_of (masked_to n) (number e v n) ≡ Greater
-    unfolding order_of
+    pub is_greater_lem : byte e (v + i) < masked_byte i → Greater ≡ nat_cmp (masked_to n) (number e v n)
     is_greater_lem g =
-        let l = less-at (number e v) masked_to (λ k. byte e (v + k)) masked_byte (number_more v) masked-more (λ k. es (v + k)) i n h (sym same) g in
-        simp (le-ltb (masked_to n) (number e v n) (omega arith), lt-ltb (number e v n) (masked_to n) l)
+        nat_cmp_is _ _ Greater
+        (less-at (number e v) masked_to (λ k. byte e (v + k)) masked_byte (number_more v) masked-more (λ k. es (v + k)) i n h (sym same) g)
 
     pub still_same : masked_byte i ≡ byte e (v + i) → masked_to (i + 1) ≡ number e v (i + 1)
     still_same g = rw add-one (masked-more i ∙ ap₂ (λ a b. a * 256 + b) same g ∙ sym (number_more v i))
 
-pub is-equal : (x y : ℕ) → x ≡ y → order_of x y ≡ Equal
-unfolding order_of
-is-equal x y e = simp (le-ltb x y (omega arith), le-ltb y x (omega arith))
-
 -- what the order says of two numbers
-by_order : (x y : ℕ) (s t : Bool) → ltb x y ≡ s → ltb y x ≡ t
-    → (is_less (order_of x y) ≡ ltb x y) × (is_equal (order_of x y) ≡ eqb x y) × (is_greater (order_of x y) ≡ ltb y x)
-unfolding order_of
-by_order x y true t e f =
-    let l = ltb-true x y e in
-    (simp e, simp (e, ne_eqb x y (omega arith)), simp (e, le-ltb y x (omega arith)))
-by_order x y false true e f =
-    let l = ltb-true y x f in
-    (simp (e, f), simp (e, f, ne_eqb x y (omega arith)), simp (e, f))
-by_order x y false false e f =
-    let l = ltb-false x y e in
-    let g = ltb-false y x f in
-    (simp (e, f), simp (e, f, eq-eqb x y (omega arith)), simp (e, f))
-
 module _ (x y : ℕ) where
-  pub less-is : is_less (order_of x y) ≡ ltb x y
-  less-is = (by_order x y (ltb x y) (ltb y x) refl refl).0
+  pub less-is : is_lt (nat_cmp x y) ≡ ltb x y
+  less-is = by (nat_cmp x y) (ranks x y) where
+    by : (o : Ordering) → MatchOrdering o (x < y) (x ≡ y) (y < x) → is_lt o ≡ ltb x y
+    by Less h = sym (lt-ltb x y h)
+    by Equal h = sym (le-ltb x y (omega arith))
+    by Greater h = sym (le-ltb x y (omega arith))
 
-  pub equal_is : is_equal (order_of x y) ≡ eqb x y
-  equal_is = (by_order x y (ltb x y) (ltb y x) refl refl).1
+  pub greater-is : is_gt (nat_cmp x y) ≡ ltb y x
+  greater-is = by (nat_cmp x y) (ranks x y) where
+    by : (o : Ordering) → MatchOrdering o (x < y) (x ≡ y) (y < x) → is_gt o ≡ ltb y x
+    by Less h = sym (le-ltb y x (omega arith))
+    by Equal h = sym (le-ltb y x (omega arith))
+    by Greater h = sym (lt-ltb y x h)
 
-  pub greater-is : is_greater (order_of x y) ≡ ltb y x
-  greater-is = (by_order x y (ltb x y) (ltb y x) refl refl).2
+pub ruleset tells = (less-is, greater-is)
 
 -- the comparison with block i: its start in the data, its length and its place as they were read, and up to byte k no difference
 pub record Same (e : List ℕ) (i : ℕ) (d : List ℕ) (start length place k : ℕ) : Type 0 where
@@ -107,37 +95,44 @@ pub record Same (e : List ℕ) (i : ℕ) (d : List ℕ) (start length place k : 
   pub same : bit_and (number d start k) (number e 4 k) ≡ number e place k
 
 module _ (e : List ℕ) (i : ℕ) (d : List ℕ) (start length place k : ℕ) (s : Same e i d start length place k) where
-  whole : order_of (bit_and (number d start length) (number e 4 length)) (number e place length) ≡ order_of (masked e d) (block e i)
+  whole : nat_cmp (bit_and (number d start length) (number e 4 length)) (number e place length) ≡ nat_cmp (masked e d) (block e i)
   unfolding masked block
   whole = rw (s.starts, s.long, s.placed)
 
-  -- a turn, with the byte of the data, of the mask and of the block as they were read
-  pub turn : (x m y : ℕ) → k < length → x ≡ byte d (start + k) → m ≡ byte e (4 + k) → y ≡ byte e (place + k)
-      → (bit_and x m < y → Less ≡ order_of (masked e d) (block e i))
-      × (y < bit_and x m → Greater ≡ order_of (masked e d) (block e i))
-      × (bit_and x m ≡ y → Same e i d start length place (k + 1))
-  turn x m y h hx hm hy = rw (hx, hm, hy) (
-    (λ g. sym (is-less d e start 4 s.told s.bytes place k length h s.same g) ∙ whole),
-    (λ g. sym (is_greater_lem d e start 4 s.told s.bytes place k length h s.same g) ∙ whole),
-    (λ g. record {
-      bytes = s.bytes;
-      told = s.told;
-      starts = s.starts;
-      long = s.long;
-      placed = s.placed;
-      within = omega arith;
-      same = still_same d e start 4 s.told s.bytes place k length h s.same g;
-    }),
-  )
+  abbrev Stands : Ordering → Type 0
+  Stands o =
+      let b = bit_and (byte d (start + k)) (byte e (4 + k)) in
+      let v = byte e (place + k) in
+      MatchOrdering o (b < v) (b ≡ v) (v < b)
 
-  pub ended : length ≤ k → Equal ≡ order_of (masked e d) (block e i)
+  -- a turn, with the byte of the data, of the mask and of the block as they were read, and how these stand
+  pub turn : (x m y : ℕ) (o : Ordering) → k < length → x ≡ byte d (start + k) → m ≡ byte e (4 + k) → y ≡ byte e (place + k) → o ≡ nat_cmp (bit_and x m) y
+      → (is_ne o ≡ true → o ≡ nat_cmp (masked e d) (block e i)) × (is_ne o ≡ false → Same e i d start length place (k + 1))
+  turn x m y o h hx hm hy = rw (hx, hm, hy) (λ ho. by o (ranked _ _ o ho)) where
+    by : (o : Ordering) → Stands o → (is_ne o ≡ true → o ≡ nat_cmp (masked e d) (block e i)) × (is_ne o ≡ false → Same e i d start length place (k + 1))
+    by Less g = (λ _. is-less d e start 4 s.told s.bytes place k length h s.same g ∙ whole, λ f. absurd (false≢true (sym f)))
+    by Greater g = (λ _. is_greater_lem d e start 4 s.told s.bytes place k length h s.same g ∙ whole, λ f. absurd (false≢true (sym f)))
+    by Equal g = (
+      λ f. absurd (false≢true f),
+      λ _. record {
+        bytes = s.bytes;
+        told = s.told;
+        starts = s.starts;
+        long = s.long;
+        placed = s.placed;
+        within = omega arith;
+        same = still_same d e start 4 s.told s.bytes place k length h s.same g;
+      },
+    )
+
+  pub ended : length ≤ k → Equal ≡ nat_cmp (masked e d) (block e i)
   ended g =
       let z : k ≡ length = omega (arith, s.within) in
-      sym (is-equal _ _ (rw z at s.same)) ∙ whole
+      nat_cmp_is _ _ Equal (rw z at s.same) ∙ whole
 
 -- what a comparison answered
-pub is-told : (x y : ℕ) (o : Order) (b : Bool) → o ≡ order_of x y → b ≡ is_equal o → eqb x y ≡ b
-is-told x y o b e f = sym (equal_is x y) ∙ ap is_equal (sym e) ∙ sym f
+pub is-told : (x y : ℕ) (o : Ordering) (b : Bool) → o ≡ nat_cmp x y → b ≡ is_eq o → eqb x y ≡ b
+is-told x y o b e f = sym (unsigned_tied x y) ∙ ap is_eq (sym e) ∙ sym f
 
 -- the comparison values from value i on, of n blocks
 pub none_left : (x : ℕ) (e : List ℕ) (i n : ℕ) → n ≤ i → is_any_of x e i (n - i) ≡ false

@@ -1,5 +1,5 @@
 -- One Profile Selection Entry (CPA Annex A, A1 and A2; CPACE C.45): its test of the data, its action.
-use Rattle.std.specs.Prelude.{ℕ, zero, suc, ◌+◌, ◌*◌, ◌-◌, Bool, true, false, cond, ◌&&◌, ◌||◌, List, length, ltb, leb, eqb}
+use Rattle.std.specs.Prelude.{ℕ, zero, suc, ◌+◌, ◌*◌, ◌-◌, Bool, false, cond, ◌&&◌, ◌||◌, List, length, ltb, leb, eqb}
 use Rattle.std.specs.Int.Bits.{bit_and}
 use Rattle.wire.specs.Wire.{number}
 use Rattle.fields.specs.Fields.{entry_length, position, block_length, blocks, block_place, check_type, positive_action, negative_action}
@@ -7,8 +7,6 @@ use Rattle.slot.specs.Slot.{tests_slot, is_slot_sound, lacks_amount, slot_passes
 use Rattle.slot.specs.declared.Slots.{Slots}
 use Rattle.entry.specs.declared.Action.{Action}
 use Rattle.entry.specs.declared.Action.TheVariants.{Profile, Move, Refused}
-use Rattle.entry.specs.declared.Order.{Order}
-use Rattle.entry.specs.declared.Order.TheVariants.{Less, Equal, Greater}
 
 -- the first of the blocks is the bit mask, block i is comparison value i
 abbrev pub bit_mask : List ℕ → ℕ
@@ -71,22 +69,3 @@ slot_action e d slots = cond (is_slot_sound e) (cond (lacks_amount e d) Refused 
 
 unfoldable pub action_taken : List ℕ → List ℕ → Slots → Action
 action_taken e d slots = cond (tests_slot e slots) (slot_action e d slots) (data_action e d)
-
--- how two numbers stand
-unfoldable pub order_of : ℕ → ℕ → Order
-order_of x y = cond (ltb x y) Less (cond (ltb y x) Greater Equal)
-
-abbrev pub is_less : Order → Bool
-is_less Less = true
-is_less Equal = false
-is_less Greater = false
-
-abbrev pub is_equal : Order → Bool
-is_equal Less = false
-is_equal Equal = true
-is_equal Greater = false
-
-abbrev pub is_greater : Order → Bool
-is_greater Less = false
-is_greater Equal = false
-is_greater Greater = true

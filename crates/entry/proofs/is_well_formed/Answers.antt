@@ -1,4 +1,3 @@
-use borrow.Author.Rules.{rules}
 use Rattle.entry.specs.Entry.{is_well_formed}
 use Rattle.entry.proofs.Facts.{ends}
 use Rattle.entry.proofs.is_well_formed.Goals as goal

@@ -1,4 +1,3 @@
-use borrow.Author.Rules.{rules}
 use Rattle.entry.proofs.Facts.{past_test}
 use Rattle.entry.proofs.reaches_past.Goals as goal
 

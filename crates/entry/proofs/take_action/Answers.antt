@@ -1,4 +1,3 @@
-use borrow.Author.Rules.{rules}
 use mathlib.Core.Path.{sym, ◌∙◌}
 use Rattle.entry.specs.Entry.{action_taken}
 use Rattle.entry.proofs.take_action.Goals as goal
