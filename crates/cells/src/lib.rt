@@ -11,7 +11,7 @@ use state::History;
 pub fn cell(cells: &[u64], at: usize) -> u64
     ensures { result ≡ get_or cells.now at 0 }
 {
-    if at < cells.len() { cells[at] } else { 0 }
+    cells.get(at).copied().unwrap_or(0)
 }
 
 // The cell so many fields behind a place, 0 past the end.
@@ -27,7 +27,7 @@ pub fn cell_behind(cells: &[u64], at: usize, fields: u8) -> u64
 pub fn flag(on: bool) -> u64
     ensures { result ≡ flag_of on }
 {
-    if on { 1 } else { 0 }
+    u64::from(on)
 }
 
 pub fn date_at(cells: &[u64], at: usize) -> Date

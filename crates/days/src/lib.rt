@@ -35,8 +35,7 @@ const DAYS_BEFORE: [u32; 13] = [0, 0, 31, 59, 90, 120, 151, 181, 212, 243, 273, 
 fn days_before(month: u8) -> u32
     ensures { result ≡ days_before month }
 {
-    let at = month as usize;
-    if at < 13 { DAYS_BEFORE[at] } else { 0 }
+    DAYS_BEFORE.get(month as usize).copied().unwrap_or(0)
 }
 
 // The leap days of the years before this one are (year + 3) / 4, for 2000 has one; this year's

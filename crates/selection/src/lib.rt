@@ -73,13 +73,11 @@ pub fn select(file: &[u8], entries: u8, data: &[u8], slots: Slots) -> Option<Sel
             if entries <= down {
                 return None;
             }
-            match select(move_down(file, down), entries - down, data, slots) {
-                Some(Selected { profile, visits }) => Some(Selected {
-                    profile,
-                    visits: visits + 1,
-                }),
-                None => None,
-            }
+            let chosen = select(move_down(file, down), entries - down, data, slots)?;
+            Some(Selected {
+                visits: chosen.visits + 1,
+                ..chosen
+            })
         }
         Action::Refused => None,
     }

@@ -31,7 +31,7 @@ pub fn tests_slot(entry: &[u8], slots: Slots) -> bool
 fn place_of(number: u8) -> u8
     ensures { result ≡ number - 1 }
 {
-    if number == 0 { 0 } else { number - 1 }
+    number.saturating_sub(1)
 }
 
 fn asks_amount(check: u8) -> bool
@@ -57,28 +57,14 @@ pub fn lacks_amount(entry: &[u8], data: &[u8]) -> bool
     asks_amount(check_type(entry)) & !has_amount(data, byte_at(entry, 1))
 }
 
-fn wide(count: u8) -> u64
-    ensures { result ≡ count }
-{
-    count as u64
-}
-
 // The card's value of a slot.
 fn value_of(slots: Slots, slot: Slot) -> u64
     requires { number_of slot ≤ 4 }
     ensures { result ≡ value_of slots slot }
 {
-    let amounts = slots.amounts;
-    let counts = slots.counts;
     match slot {
-        Slot::Accumulator(x) => {
-            let place = place_of(x) as usize;
-            amounts[place]
-        }
-        Slot::Counter(x) => {
-            let place = place_of(x) as usize;
-            wide(counts[place])
-        }
+        Slot::Accumulator(x) => slots.amounts[place_of(x) as usize],
+        Slot::Counter(x) => u64::from(slots.counts[place_of(x) as usize]),
     }
 }
 

@@ -23,7 +23,7 @@ select-requires t c = (omega (arith, moves_down _ _ _ _ (sym c.take_action.ensur
 pub overflow_add-result : goal.overflow_add-result
 unfolding follow
 overflow_add-result t c =
-    let few = few-told _ _ _ _ _ _ _ c.select.ensures c.in-Some.is in
+    let few = few-told _ _ _ _ _ _ _ c.select.ensures c.in_ok-chosen-in-Move.was in
     omega (arith, few, c.ranges.entries, moves_down _ _ _ _ (sym c.take_action.ensures ∙ c.in-Move.is))
 
 pub returns-in-Profile : goal.returns-in-Profile
@@ -32,17 +32,17 @@ returns-in-Profile t c =
     let v = visit _ _ _ _ _ _ c.if-entries-eq0.false c.first_entry.ensures c.take_action.ensures in
     sym (step v _ c.in-Profile.is)
 
-pub returns-in-Some : goal.returns-in-Some
+pub returns-in_ok-chosen-in-Move : goal.returns-in_ok-chosen-in-Move
 unfolding follow
-returns-in-Some t c =
+returns-in_ok-chosen-in-Move t c =
     let v = visit _ _ _ _ _ _ c.if-entries-eq0.false c.first_entry.ensures c.take_action.ensures in
-    moves-on v c.in-Move.is c.move_down.ensures c.select.ensures c.in-Some.is
+    moves-on v c.in-Move.is c.move_down.ensures c.select.ensures c.in_ok-chosen-in-Move.was
 
-pub returns-in-None : goal.returns-in-None
+pub returns-in_err-chosen-in-Move : goal.returns-in_err-chosen-in-Move
 unfolding follow
-returns-in-None t c =
+returns-in_err-chosen-in-Move t c =
     let v = visit _ _ _ _ _ _ c.if-entries-eq0.false c.first_entry.ensures c.take_action.ensures in
-    moves-on v c.in-Move.is c.move_down.ensures c.select.ensures c.in-None.is
+    c.from_residual.ensures ∙ moves-on v c.in-Move.is c.move_down.ensures c.select.ensures c.in_err-chosen-in-Move.was
 
 pub returns-in-Refused : goal.returns-in-Refused
 unfolding follow
