@@ -9,7 +9,6 @@ use lib.Dec.{eqb, ltb}
 use lib.ListN.{length}
 use Rattle.refusal.specs.declared.Refusal.TheVariants.{Unreadable}
 use Rattle.rules.specs.declared.Values.{Values}
-use Rattle.slot.specs.declared.Slots.{Slots}
 use Rattle.shape.specs.declared.Family.{Family}
 use Rattle.shape.specs.declared.Shape.{Shape}
 use Rattle.command.specs.declared.Command.{Command}

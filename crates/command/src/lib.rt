@@ -75,10 +75,7 @@ fn read_start(family: Family, body: &[u8]) -> Start
 fn read_when(dating: Option<Span>, body: &[u8]) -> Option<Date>
     ensures { result ≡ when_of dating body.now }
 {
-    match dating {
-        None => None,
-        Some(Span { .. }) => Some(calendar::date_at(body, 12)),
-    }
+    dating.map(|_| calendar::date_at(body, 12))
 }
 
 // Type, amount (8), currency (2), terminal type, the date (3) where the paper is dated, and CVM
@@ -111,7 +108,12 @@ fn read_second(body: &[u8]) -> Second
 
 // The command in a record of a kind, or refusal 9 for an unknown kind, a repeated set-up or a body
 // of another length.
-fn read_command(dating: Option<Span>, family: Family, kind: u8, body: &[u8]) -> Result<Command, Refusal>
+fn read_command(
+    dating: Option<Span>,
+    family: Family,
+    kind: u8,
+    body: &[u8],
+) -> Result<Command, Refusal>
     ensures { result ≡ command_of dating family kind body.now }
 {
     if (kind == START) & (body.len() == start_length(family)) {
@@ -130,10 +132,7 @@ fn read_command(dating: Option<Span>, family: Family, kind: u8, body: &[u8]) -> 
 fn selects(selecting: Option<SelectionFile>, kind: u8) -> bool
     ensures { result ≡ is_selecting selecting kind }
 {
-    match selecting {
-        None => false,
-        Some(SelectionFile { .. }) => kind == START,
-    }
+    selecting.is_some() & (kind == START)
 }
 
 // A Start that selects its profile: the terminal's data, of any length, before which a CPACE card's
@@ -158,7 +157,13 @@ fn read_selecting(
 }
 
 // The command in a record of a paper, by the paper's shape and the card's present values.
-pub fn read_record(shape: Shape, values: Values, paper: &[u8], kind: u8, body: &[u8]) -> Result<Command, Refusal>
+pub fn read_record(
+    shape: Shape,
+    values: Values,
+    paper: &[u8],
+    kind: u8,
+    body: &[u8],
+) -> Result<Command, Refusal>
     ensures { result ≡ command_in shape values paper.now kind body.now }
 {
     let selecting = shape.selecting;

@@ -46,28 +46,18 @@ fn begin_amount(
 fn advance(words: &Words, state: State, date: Date) -> State
     ensures { result ≡ advanced (rules_of words.now) state date }
 {
-    let values = state.values;
-    let phase = state.phase;
     let last = state.last;
-    let history = state.history;
-    let accumulators = values.accumulators;
-    let counters = values.counters;
-    let amounts = values.cyclic;
-    let scripts = state.scripts;
+    let amounts = state.values.cyclic;
     State {
         values: Values {
-            accumulators,
-            counters,
             cyclic: [
                 begin_amount(words, 0, amounts[0], last, date),
                 begin_amount(words, 1, amounts[1], last, date),
             ],
+            ..state.values
         },
-        phase,
-        atc: state.atc,
         last: date,
-        history,
-        scripts,
+        ..state
     }
 }
 
@@ -78,8 +68,7 @@ pub fn take_date(words: &Words, state: State, when: Option<Date>) -> State
     let Some(date) = when else {
         return state;
     };
-    let last = state.last;
-    if calendar::is_before(date, last) {
+    if calendar::is_before(date, state.last) {
         return state;
     }
     advance(words, state, date)

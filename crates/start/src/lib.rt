@@ -21,19 +21,14 @@ fn open_profile(words: &Words, state: State, profile: u8, visits: u8) -> Outcome
     if state.atc == 65_535 {
         return refuse(state, Refusal::AtcUsedUp);
     }
-    let values = state.values;
-    let history = state.history;
-    let last = state.last;
     let scripts = state.scripts.started();
     let atc = state.atc + 1;
     Outcome {
         state: State {
-            values,
             phase: Phase::Opened(place),
             atc,
-            last,
-            history,
             scripts,
+            ..state
         },
         answer: Answer::Started { atc, visits },
     }
@@ -45,8 +40,7 @@ pub fn answer_start(words: &Words, state: State, start: Start) -> Outcome
     if 1 < start.interface {
         return refuse(state, Refusal::OutOfRange);
     }
-    let chosen = start.chosen;
-    match chosen {
+    match start.chosen {
         None => refuse(state, Refusal::NotSelected),
         Some(Selected { profile, visits }) => open_profile(words, state, profile, visits),
     }

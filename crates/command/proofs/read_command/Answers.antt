@@ -1,5 +1,4 @@
 -- The branches are those of the definition.
-use borrow.Author.Rules.{rules}
 use Rattle.command.specs.Command.{command_of}
 use Rattle.command.proofs.read_command.Goals as goal
 

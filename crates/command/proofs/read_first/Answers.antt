@@ -1,5 +1,4 @@
 -- Each field is the number at its place.
-use borrow.Author.Rules.{rules}
 use Rattle.command.specs.Command.{first_of}
 use Rattle.command.proofs.read_first.Goals as goal
 

@@ -1,4 +1,3 @@
-use borrow.Author.Rules.{rules}
 use mathlib.Core.Path.{sym, ◌∙◌}
 use Rattle.command.specs.Command.{slots_of, command_in}
 use Rattle.command.proofs.Selecting.{selected, unselected}

@@ -1,4 +1,3 @@
-use borrow.Author.Rules.{rules}
 use Rattle.command.specs.Command.{start_selected}
 use Rattle.command.proofs.read_selecting.Goals as goal
 

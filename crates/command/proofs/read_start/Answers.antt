@@ -1,4 +1,3 @@
-use borrow.Author.Rules.{rules}
 use Rattle.command.specs.Command.{start_of}
 use Rattle.command.proofs.read_start.Goals as goal
 

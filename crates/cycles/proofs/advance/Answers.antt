@@ -1,4 +1,3 @@
-use borrow.Author.Rules.{rules}
 use Rattle.cycles.specs.Cycles.{advanced}
 use Rattle.cycles.proofs.advance.Goals as goal
 

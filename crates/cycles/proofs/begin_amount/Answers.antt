@@ -1,4 +1,3 @@
-use borrow.Author.Rules.{rules}
 use Rattle.cycles.proofs.begin_amount.Goals as goal
 
 pub returns-then-begins : goal.returns-then-begins

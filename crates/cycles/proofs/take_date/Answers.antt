@@ -1,4 +1,3 @@
-use borrow.Author.Rules.{rules}
 use Rattle.cycles.specs.Cycles.{dated}
 use Rattle.cycles.proofs.take_date.Goals as goal
 

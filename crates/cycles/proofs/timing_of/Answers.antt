@@ -1,4 +1,3 @@
-use borrow.Author.Rules.{rules}
 use Rattle.cycles.specs.Cycles.{timing_of}
 use Rattle.cycles.proofs.timing_of.Goals as goal
 
