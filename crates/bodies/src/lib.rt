@@ -10,10 +10,7 @@ use shape::{Family, Span};
 pub fn is_cpace(family: Family) -> bool
     ensures { result ≡ is_cpace family }
 {
-    match family {
-        Family::Cpa => false,
-        Family::Cpace { .. } => true,
-    }
+    matches!(family, Family::Cpace { .. })
 }
 
 // The interface, a CPACE Start's first byte.
@@ -52,7 +49,7 @@ fn plain_length(dating: Option<Span>) -> usize
 {
     match dating {
         None => 12,
-        Some(Span { .. }) => 15,
+        Some(_) => 15,
     }
 }
 

@@ -4,12 +4,13 @@
 ghost use Rattle.std.specs.Prelude.{◌≡◌, ◌+◌, ◌≤◌, length};
 ghost use Rattle.shape.specs.Shape.{base_tail, entries_end, selection_tail, syllabus_tail};
 
-use shape::{Family, SelectionFile, Shape, Span, Tails};
+use shape::{Family, SelectionFile, Shape, Tails};
 
 // The first mask bit without a name, up to version 03.
 const UNNAMED: u32 = 4_194_304;
 
 // The base, which is whole.
+#[tactic(auto, unfolding(shape::specs::Shape::base_tail))]
 pub fn read_base(body: &[u8]) -> Option<Tails>
     ensures { result ≡ base_tail body.now }
 {
@@ -45,73 +46,44 @@ fn entries_end(body: &[u8], at: usize, entries: u8) -> usize
 }
 
 // Version 02's tail at a place: the switch; where it is on, the number of entries and the entries.
+#[tactic(auto, unfolding(shape::specs::Shape::selection_tail))]
 pub fn read_selection(body: &[u8], shape: Shape, at: usize) -> Option<Tails>
     ensures { result ≡ selection_tail body.now shape at }
 {
-    if body.len() <= at {
-        return None;
-    }
-    let switch = wire::byte_at(body, at);
-    if switch == 0 {
-        return Some(Tails { shape, at: at + 1 });
-    }
-    if 1 < switch {
-        return None;
-    }
-    let start = at + 2;
-    let entries = wire::byte_at(body, at + 1);
-    let end = entries_end(body, start, entries);
-    if body.len() < end {
-        return None;
-    }
-    let dating = shape.dating;
-    let family = shape.family;
-    let logging = shape.logging;
-    Some(Tails {
-        shape: Shape {
-            base: shape.base,
-            selecting: Some(SelectionFile {
+    match *body.get(at)? {
+        0 => Some(Tails { shape, at: at + 1 }),
+        1 => {
+            let start = at + 2;
+            let entries = wire::byte_at(body, at + 1);
+            let end = entries_end(body, start, entries);
+            if body.len() < end {
+                return None;
+            }
+            let selecting = Some(SelectionFile {
                 start,
                 end,
                 entries,
-            }),
-            syllabus: shape.syllabus,
-            dating,
-            family,
-            scripting: shape.scripting,
-            logging,
-            unnamed: shape.unnamed,
-        },
-        at: end,
-    })
+            });
+            Some(Tails {
+                shape: Shape { selecting, ..shape },
+                at: end,
+            })
+        }
+        _ => None,
+    }
 }
 
 // Version 03's tail at a place: the syllabus, 0 or 1.
+#[tactic(auto, unfolding(shape::specs::Shape::syllabus_tail))]
 pub fn read_syllabus(body: &[u8], shape: Shape, at: usize) -> Option<Tails>
     ensures { result ≡ syllabus_tail body.now shape at }
 {
-    if body.len() <= at {
-        return None;
-    }
-    let syllabus = wire::byte_at(body, at);
+    let syllabus = *body.get(at)?;
     if 1 < syllabus {
         return None;
     }
-    let selecting = shape.selecting;
-    let dating = shape.dating;
-    let family = shape.family;
-    let logging = shape.logging;
     Some(Tails {
-        shape: Shape {
-            base: shape.base,
-            selecting,
-            syllabus,
-            dating,
-            family,
-            scripting: shape.scripting,
-            logging,
-            unnamed: shape.unnamed,
-        },
+        shape: Shape { syllabus, ..shape },
         at: at + 1,
     })
 }

@@ -2,7 +2,7 @@
 #![tactic(auto)]
 
 ghost use Rattle.std.specs.Prelude.{◌≡◌};
-ghost use Rattle.shape.specs.Shape.{dates, dating_tail, families, family_tail, scripting_tail};
+ghost use Rattle.shape.specs.Shape.{dating_tail, family_tail, scripting_tail};
 
 use shape::{Family, Shape, Span, Tails};
 
@@ -11,123 +11,77 @@ const UNNAMED_DATED: u32 = 33_554_432;
 
 const UNNAMED_FAMILY: u32 = 67_108_864;
 
-// A shape with its dates: whether they are on or off, the masks then have names for three bits more.
-fn with_dates(shape: Shape, dating: Option<Span>) -> Shape
-    ensures { result ≡ dates shape dating }
-{
-    let selecting = shape.selecting;
-    let family = shape.family;
-    let logging = shape.logging;
-    Shape {
-        base: shape.base,
-        selecting,
-        syllabus: shape.syllabus,
-        dating,
-        family,
-        scripting: shape.scripting,
-        logging,
-        unnamed: UNNAMED_DATED,
-    }
-}
-
-// Version 04's tail at a place: dated, 0 or 1; where it is on, 28 + 18p bytes in all.
+// Version 04's tail at a place: dated, 0 or 1; where it is on, 28 + 18p bytes in all. On or off, the masks
+// then have names for three bits more.
+#[tactic(auto, unfolding(shape::specs::Shape::dating_tail))]
 pub fn read_dating(body: &[u8], shape: Shape, at: usize) -> Option<Tails>
     ensures { result ≡ dating_tail body.now shape at }
 {
-    if body.len() <= at {
-        return None;
-    }
-    let dated = wire::byte_at(body, at);
-    if dated == 0 {
-        return Some(Tails {
-            shape: with_dates(shape, None),
-            at: at + 1,
-        });
-    }
-    if 1 < dated {
-        return None;
-    }
-    let end = at + layout::cycles_length(body);
-    if body.len() < end {
-        return None;
-    }
-    Some(Tails {
-        shape: with_dates(shape, Some(Span { start: at, end })),
-        at: end,
-    })
-}
-
-// A shape with its family: whichever it is, the masks then have a name for one bit more.
-fn with_family(shape: Shape, family: Family) -> Shape
-    ensures { result ≡ families shape family }
-{
-    let selecting = shape.selecting;
-    let dating = shape.dating;
-    let logging = shape.logging;
-    Shape {
-        base: shape.base,
-        selecting,
-        syllabus: shape.syllabus,
-        dating,
-        family,
-        scripting: shape.scripting,
-        logging,
-        unnamed: UNNAMED_FAMILY,
+    let shape = Shape {
+        dating: None,
+        unnamed: UNNAMED_DATED,
+        ..shape
+    };
+    let dated = *body.get(at)?;
+    match dated {
+        0 => Some(Tails { shape, at: at + 1 }),
+        1 => {
+            let end = at + layout::cycles_length(body);
+            if body.len() < end {
+                return None;
+            }
+            let dating = Some(Span { start: at, end });
+            Some(Tails {
+                shape: Shape { dating, ..shape },
+                at: end,
+            })
+        }
+        _ => None,
     }
 }
 
-// Version 05's tail at a place: the family, 0 CPA or 1 CPACE; for CPACE 9 + p bytes in all.
+// Version 05's tail at a place: the family, 0 CPA or 1 CPACE; for CPACE 9 + p bytes in all. Whichever it is,
+// the masks then have a name for one bit more.
+#[tactic(auto, unfolding(shape::specs::Shape::family_tail))]
 pub fn read_family(body: &[u8], shape: Shape, at: usize) -> Option<Tails>
     ensures { result ≡ family_tail body.now shape at }
 {
-    if body.len() <= at {
-        return None;
+    let shape = Shape {
+        family: Family::Cpa,
+        unnamed: UNNAMED_FAMILY,
+        ..shape
+    };
+    let kind = *body.get(at)?;
+    match kind {
+        0 => Some(Tails { shape, at: at + 1 }),
+        1 => {
+            let end = at + layout::family_length(body);
+            if body.len() < end {
+                return None;
+            }
+            let family = Family::Cpace { start: at, end };
+            Some(Tails {
+                shape: Shape { family, ..shape },
+                at: end,
+            })
+        }
+        _ => None,
     }
-    let family = wire::byte_at(body, at);
-    if family == 0 {
-        return Some(Tails {
-            shape: with_family(shape, Family::Cpa),
-            at: at + 1,
-        });
-    }
-    if 1 < family {
-        return None;
-    }
-    let end = at + layout::family_length(body);
-    if body.len() < end {
-        return None;
-    }
-    Some(Tails {
-        shape: with_family(shape, Family::Cpace { start: at, end }),
-        at: end,
-    })
 }
 
 // Version 06's tail at a place: scripts, 0 off or 1 on.
+#[tactic(auto, unfolding(shape::specs::Shape::scripting_tail))]
 pub fn read_scripting(body: &[u8], shape: Shape, at: usize) -> Option<Tails>
     ensures { result ≡ scripting_tail body.now shape at }
 {
-    if body.len() <= at {
-        return None;
-    }
-    let scripts = wire::byte_at(body, at);
+    let scripts = *body.get(at)?;
     if 1 < scripts {
         return None;
     }
-    let selecting = shape.selecting;
-    let dating = shape.dating;
-    let family = shape.family;
-    let logging = shape.logging;
     Some(Tails {
         shape: Shape {
-            base: shape.base,
-            selecting,
-            syllabus: shape.syllabus,
-            dating,
-            family,
             scripting: scripts == 1,
-            logging,
-            unnamed: shape.unnamed,
+            ..shape
         },
         at: at + 1,
     })
