@@ -10,7 +10,7 @@ ghost use Rattle.ring.specs.Ring.{count_in};
 
 use log_fields::Form;
 use paper_log::Log;
-use ring::Ring;
+use ring::{Record, Ring};
 
 // The most bytes that it has: 20 of the longest lines.
 pub const LONGEST: usize = 245_740;
@@ -62,10 +62,7 @@ pub fn put_log(room: &mut [u8], at: usize, paper: &[u8], log: Log, ring: &Ring) 
         × (room.new ≡ placed room.old at (log_text log paper.now ring.now))
         × (result ≤ at + longest) }
 {
-    if room.len() < at {
-        return at;
-    }
-    if room.len() - at < LONGEST {
+    if room.len() < at || room.len() - at < LONGEST {
         return at;
     }
     let tail = paper_log::tail_at(paper, log.start, log.end);

@@ -1,11 +1,8 @@
 use borrow.Author.Rules.{rules}
 use mathlib.Core.Path.{◌≡◌, refl}
-use Prim.Native.Nat.{◌*◌, ◌-◌, ◌≤◌}
 use native.Mathlib.Numerals.{add-one}
 use native.Mathlib.Omega.{arith}
-use lib.ListN.{length}
 use Rattle.text.specs.Text.{joined}
-use Rattle.text.specs.Stored.{Stored}
 use Rattle.text.proofs.Stores.{next, within}
 use Rattle.ring.specs.Ring.{count_in}
 use Rattle.log_text.specs.LogText.{lines_up_to}
@@ -53,9 +50,3 @@ returns c =
     let a = known.args in
     let all : loop.i ≡ count_in a.ring.now a.size = omega (arith, c.loop-i-test.false, loop.invariant.1, loop.invariant.3) in
     rw (← all) (within loop.invariant.0 (omega (arith, loop.invariant.1, loop.invariant.2)))
-
-pub overflow_step-i : goal.overflow_step-i
-overflow_step-i c = omega arith
-
-pub loop-i-smaller : goal.loop-i-smaller
-loop-i-smaller c = omega arith

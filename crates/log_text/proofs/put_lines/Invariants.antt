@@ -1,16 +1,11 @@
 -- The lines passed are stored.
-use borrow.Author.Rules.{rules}
-use mathlib.Core.Path.{◌≡◌, refl}
+use mathlib.Core.Path.{◌≡◌}
 use Prim.Native.Nat.{◌*◌, ◌-◌, ◌≤◌}
-use native.Mathlib.Numerals.{add-one}
-use native.Mathlib.Omega.{arith}
 use lib.ListN.{length}
 use Rattle.text.specs.Text.{joined}
 use Rattle.text.specs.Stored.{Stored}
-use Rattle.text.proofs.Stores.{next, within}
 use Rattle.ring.specs.Ring.{count_in}
 use Rattle.log_text.specs.LogText.{lines_up_to}
-use Rattle.log_text.proofs.Stores.{line-behind}
 use Rattle.log_text.proofs.put_lines.Given as goal
 
 abbrev pub invariant-loop-i : goal.invariant-loop-i

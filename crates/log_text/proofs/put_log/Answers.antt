@@ -1,20 +1,20 @@
 -- Room, or none.
-use borrow.Author.Rules.{rules}
+use Prim.Native.Nat.{◌+◌, ◌<◌}
 use native.Mathlib.Omega.{arith}
-use Rattle.log_text.specs.LogText.{log_lines}
+use lib.ListN.{length}
+use Rattle.log_text.specs.LogText.{log_lines, longest}
 use Rattle.log_text.proofs.Stores.{place, stay}
 use Rattle.log_text.proofs.put_log.Goals as goal
+use Rattle.log_text.proofs.put_log.Goals.{then-room-at-via-then-room-at, then-room-at-via-else-room-at+then-room-at-lt-LONGEST}
 
 pub returns-then-room-at : goal.returns-then-room-at
 returns-then-room-at c =
-    let a = c.args in
-    stay a.room.now _ a.at (omega arith)
-
-pub returns-then-room-at-lt-LONGEST : goal.returns-then-room-at-lt-LONGEST
-returns-then-room-at-lt-LONGEST c =
-    let known = c in
-    let a = known.args in
-    stay a.room.now _ a.at (omega arith)
+    let full : length c.args.room.now < c.args.at + longest =
+    elim c.then-room-at.branch [
+      | then-room-at-via-then-room-at w ↦ omega arith
+      | then-room-at-via-else-room-at+then-room-at-lt-LONGEST w ↦ omega arith
+    ] in
+    stay c.args.room.now _ c.args.at full
 
 pub returns : goal.returns
 unfolding log_lines
