@@ -92,24 +92,13 @@ fn encode(new: NewRecord) -> [u8; NEW_LENGTH]
     ensures { result ≡ new_bytes new }
 {
     let conversion = new.conversion;
-    let amount = new.mta.0;
-    [
-        (conversion.from / 0x100 % 256) as u8,
-        (conversion.from % 256) as u8,
-        (conversion.to / 0x100 % 256) as u8,
-        (conversion.to % 256) as u8,
-        (conversion.digits / 0x100 % 256) as u8,
-        (conversion.digits % 256) as u8,
-        conversion.shift,
-        (amount / 0x100_0000_0000_0000 % 256) as u8,
-        (amount / 0x1_0000_0000_0000 % 256) as u8,
-        (amount / 0x100_0000_0000 % 256) as u8,
-        (amount / 0x1_0000_0000 % 256) as u8,
-        (amount / 0x100_0000 % 256) as u8,
-        (amount / 0x1_0000 % 256) as u8,
-        (amount / 0x100 % 256) as u8,
-        (amount % 256) as u8,
-    ]
+    let mut bytes = [0u8; NEW_LENGTH];
+    bytes[..2].copy_from_slice(&conversion.from.to_be_bytes());
+    bytes[2..4].copy_from_slice(&conversion.to.to_be_bytes());
+    bytes[4..6].copy_from_slice(&conversion.digits.to_be_bytes());
+    bytes[6] = conversion.shift;
+    bytes[7..].copy_from_slice(&new.mta.0.to_be_bytes());
+    bytes
 }
 
 // Sets the first 15 bytes of the room to an old record's new bytes, or refuses and sets none.

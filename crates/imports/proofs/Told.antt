@@ -1,10 +1,11 @@
 -- What was stored is what is to be told: a line, and where all lines have room the whole answer. Assumes nothing.
-use mathlib.Core.Path.{◌≡◌, sym, ap, ◌∙◌}
-use mathlib.Core.Bool.{false}
+use mathlib.Core.Path.{◌≡◌, refl, sym, ap, ◌∙◌}
+use mathlib.Core.Bool.{Bool, true, false}
 use mathlib.Core.List.{List, [], ◌∷◌, ◌++◌, append_assoc}
-use Prim.Native.Nat.{ℕ, ◌+◌, ◌*◌, ◌-◌, ◌≤◌, ◌<◌}
+use Prim.Native.Nat.{ℕ, ◌+◌, ◌*◌, ◌-◌, ◌≤◌, ◌<◌, min}
 use native.Mathlib.Omega.{arith}
-use borrow.Author.Tests.{le-leb, lt-leb}
+use borrow.Author.Tests.{leb-true, leb-false, le-leb, lt-leb}
+use lib.Dec.{leb}
 use lib.ListN.{length, take, drop, replicate, length-drop}
 use lib.Seq.{sets, take_all}
 use Rattle.refusal.specs.declared.Refusal.{Refusal}
@@ -42,11 +43,18 @@ module _ (number : ℕ) (old : List ℕ) where
       ∙ sym (append_assoc (numeral number) (32 ∷ []) (numeral (refusal_number refusal) ++ (10 ∷ [])))
       ∙ sym (ap (λ a. import_line number a (imported old (replicate 15 0))) e)
 
--- the last bytes, fewer than a record's
-pub shorter : (input : List ℕ) (from : ℕ) → length input - from < 20 → take (length input - from) (drop from input) ≡ take 20 (drop from input)
-shorter input from h =
-    let size = length-drop from input in
-    take_all (length input - from) (drop from input) (omega arith) ∙ sym (take_all 20 (drop from input) (omega arith))
+-- the next 20 bytes, or those that are left
+pub next_bytes : (input : List ℕ) (from end : ℕ) → end ≡ min (length input) (from + 20) → take (end - from) (drop from input) ≡ take 20 (drop from input)
+next_bytes input from end e = by (leb (from + 20) (length input)) refl where
+  by : (b : Bool) → leb (from + 20) (length input) ≡ b → take (end - from) (drop from input) ≡ take 20 (drop from input)
+  by true h =
+      let whole = leb-true (from + 20) (length input) h in
+      let size : end - from ≡ 20 = omega arith in
+      rw size
+  by false h =
+      let short = leb-false (from + 20) (length input) h in
+      let left = length-drop from input in
+      take_all (end - from) (drop from input) (omega arith) ∙ sym (take_all 20 (drop from input) (omega arith))
 
 -- ---- all lines
 

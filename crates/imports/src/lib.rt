@@ -75,10 +75,8 @@ fn put_record(room: &mut [u8], at: usize, number: u64, input: &[u8], from: usize
     requires { (at + 54 ≤ length room.old) × (from ≤ length input.now) }
     ensures { Stored room.old at (record_line number (take 20 (drop from input.now))) 54 result room.new }
 {
-    if input.len() - from < OLD_LENGTH {
-        return put_line(room, at, number, &input[from..]);
-    }
-    put_line(room, at, number, &input[from..from + OLD_LENGTH])
+    let end = input.len().min(from + OLD_LENGTH);
+    put_line(room, at, number, &input[from..end])
 }
 
 // How many records so many bytes are.

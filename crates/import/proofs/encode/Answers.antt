@@ -6,4 +6,16 @@ use Rattle.import.proofs.encode.Goals as goal
 
 pub returns : goal.returns
 unfolding new_bytes
-returns c = rw eight (unfold bytes_of in refl)
+returns c =
+    simp (
+      c.copy_from_slice.ensures.after,
+      c.copy_from_slice-2.ensures.after,
+      c.copy_from_slice-3.ensures.after,
+      c.copy_from_slice-4.ensures.after,
+      c.to_be_bytes.ensures,
+      c.to_be_bytes-2.ensures,
+      c.to_be_bytes-3.ensures,
+      c.to_be_bytes-4.ensures,
+      eight,
+    )
+    (unfold bytes_of in refl)
