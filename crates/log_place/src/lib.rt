@@ -25,37 +25,23 @@ fn log_end(body: &[u8], at: usize) -> usize
 }
 
 // Version 07's tail at a place: the log, 0 off or 1 on; where it is on, its settings and two tables.
+#[tactic(auto, unfolding(shape::specs::Shape::logging_tail))]
 pub fn read_logging(body: &[u8], shape: Shape, at: usize) -> Option<Tails>
     ensures { result ≡ logging_tail body.now shape at }
 {
-    if body.len() <= at {
-        return None;
+    match *body.get(at)? {
+        0 => Some(Tails { shape, at: at + 1 }),
+        1 => {
+            let end = log_end(body, at);
+            if body.len() < end {
+                return None;
+            }
+            let logging = Some(Span { start: at, end });
+            Some(Tails {
+                shape: Shape { logging, ..shape },
+                at: end,
+            })
+        }
+        _ => None,
     }
-    let log = wire::byte_at(body, at);
-    if log == 0 {
-        return Some(Tails { shape, at: at + 1 });
-    }
-    if 1 < log {
-        return None;
-    }
-    let end = log_end(body, at);
-    if body.len() < end {
-        return None;
-    }
-    let selecting = shape.selecting;
-    let dating = shape.dating;
-    let family = shape.family;
-    Some(Tails {
-        shape: Shape {
-            base: shape.base,
-            selecting,
-            syllabus: shape.syllabus,
-            dating,
-            family,
-            scripting: shape.scripting,
-            logging: Some(Span { start: at, end }),
-            unnamed: shape.unnamed,
-        },
-        at: end,
-    })
 }
