@@ -28,17 +28,11 @@ pub fn slots_of(family: Family, values: Values) -> Slots
 pub fn select_profile(selecting: Option<SelectionFile>, slots: Slots, paper: &[u8], data: &[u8]) -> Option<Selected>
     ensures { result ≡ selected_in selecting slots paper.now «data».now }
 {
-    match selecting {
-        None => None,
-        Some(SelectionFile {
-            start,
-            end,
-            entries,
-        }) => {
-            if (start <= end) & (end <= paper.len()) {
-                return selection::select(&paper[start..end], entries, data, slots);
-            }
-            selection::select(&paper[..0], entries, data, slots)
-        }
-    }
+    let SelectionFile {
+        start,
+        end,
+        entries,
+    } = selecting?;
+    let file = paper.get(start..end).unwrap_or(&[]);
+    selection::select(file, entries, data, slots)
 }
