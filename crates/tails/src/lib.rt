@@ -46,7 +46,7 @@ fn are_cyclic_rules(t: &[u8], j: usize) -> bool
 pub fn are_cycles(t: &[u8]) -> bool
     ensures { result ≡ are_cycles t.now }
 {
-    if t.len() == 0 {
+    if t.is_empty() {
         return true;
     }
     calendar::is_day(calendar::date_at(t, layout::LAST_DATE))
@@ -65,6 +65,7 @@ fn is_control(f: &[u8], i: usize) -> bool
     wire::byte_at(f, layout::CONTROLS + i) <= 15
 }
 
+// Eight named tests: `(0..8).all(..)` asks a law on lists of numbers, and is no plainer.
 fn are_controls(f: &[u8]) -> bool
     ensures { result ≡ all 8 (is_control f.now) }
 {
@@ -91,7 +92,7 @@ fn is_cashback(f: &[u8], j: usize) -> bool
 pub fn is_family(f: &[u8]) -> bool
     ensures { result ≡ is_family f.now }
 {
-    if f.len() == 0 {
+    if f.is_empty() {
         return true;
     }
     are_controls(f)

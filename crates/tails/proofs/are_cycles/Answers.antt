@@ -1,11 +1,11 @@
-use borrow.Author.Tests.{eq-eqb, ne_eqb}
+use mathlib.Core.Path.{sym, ◌∙◌}
 use Rattle.tails.specs.Tails.{are_cycles}
 use borrow.Author.Rules.{rules}
 use Rattle.tails.proofs.are_cycles.Goals as goal
 
-pub returns-then-t-eq0 : goal.returns-then-t-eq0
+pub returns-then-is_empty : goal.returns-then-is_empty
 unfolding are_cycles
-returns-then-t-eq0 c = simp (eq-eqb _ _ c.if-t-eq0.true)
+returns-then-is_empty c = simp (sym c.is_empty.ensures ∙ c.if-is_empty.true)
 
 pub returns : goal.returns
 unfolding are_cycles
@@ -21,5 +21,5 @@ returns c =
       rules.is_cycle.ensures,
       day.is_day.ensures,
       day.date_at.ensures,
-      ne_eqb _ _ day.if-t-eq0.false,
+      sym day.is_empty.ensures ∙ day.if-is_empty.false,
     )

@@ -1,11 +1,11 @@
-use borrow.Author.Tests.{eq-eqb, ne_eqb}
+use mathlib.Core.Path.{sym, ◌∙◌}
 use Rattle.tails.specs.Tails.{is_family}
 use borrow.Author.Rules.{rules}
 use Rattle.tails.proofs.is_family.Goals as goal
 
-pub returns-then-f-eq0 : goal.returns-then-f-eq0
+pub returns-then-is_empty : goal.returns-then-is_empty
 unfolding is_family
-returns-then-f-eq0 c = simp (eq-eqb _ _ c.if-f-eq0.true)
+returns-then-is_empty c = simp (sym c.is_empty.ensures ∙ c.if-is_empty.true)
 
 pub returns : goal.returns
 unfolding is_family
@@ -17,5 +17,5 @@ returns c =
       c.is_cashback-2.ensures,
       first.is_cashback.ensures,
       first.are_controls.ensures,
-      ne_eqb _ _ first.if-f-eq0.false,
+      sym first.is_empty.ensures ∙ first.if-is_empty.false,
     )
