@@ -73,14 +73,9 @@ pub fn no_card() -> Fresh
 {
     Fresh {
         values: Values {
-            accumulators: [
-                AccumulatorAmount(0),
-                AccumulatorAmount(0),
-                AccumulatorAmount(0),
-                AccumulatorAmount(0),
-            ],
-            counters: [0, 0, 0, 0],
-            cyclic: [AccumulatorAmount(0), AccumulatorAmount(0)],
+            accumulators: [AccumulatorAmount(0); 4],
+            counters: [0; 4],
+            cyclic: [AccumulatorAmount(0); 2],
         },
         atc: 0,
         online: false,
@@ -113,18 +108,15 @@ pub fn read_setup(
     ensures { (result ≡ read_setup s.now t.now f.now unnamed)
         × (words.new ≡ words_after words.old s.now t.now f.now syllabus unnamed) }
 {
-    if is_accepted(s, t, f, unnamed) {
-        load::load(words, s, t, f, syllabus);
-        let fresh = read_fresh(s, t);
-        ReadSetup {
-            fresh,
-            answer: Ok(()),
-        }
-    } else {
-        let fresh = no_card();
-        ReadSetup {
-            fresh,
+    if !is_accepted(s, t, f, unnamed) {
+        return ReadSetup {
+            fresh: no_card(),
             answer: Err(Refusal::BadSetup),
-        }
+        };
+    }
+    load::load(words, s, t, f, syllabus);
+    ReadSetup {
+        fresh: read_fresh(s, t),
+        answer: Ok(()),
     }
 }

@@ -3,16 +3,14 @@ use mathlib.Core.Path.{sym, ◌∙◌}
 use Rattle.setup.specs.Setup.{read_setup, words_after}
 use Rattle.setup.proofs.read_setup.Goals as goal
 
-pub returns-then-is_accepted : goal.returns-then-is_accepted
+pub returns-then-not-is_accepted : goal.returns-then-not-is_accepted
 unfolding read_setup words_after
-returns-then-is_accepted c =
-    let taken = c in
-    let good = sym taken.is_accepted.ensures ∙ taken.if-is_accepted.true in
-    (simp (good, c.read_fresh-fresh.ensures), simp good c.load.ensures)
+returns-then-not-is_accepted c =
+    let bad = sym c.is_accepted.ensures ∙ c.if-not-is_accepted.true in
+    (simp (bad, c.no_card.ensures), simp bad)
 
-pub returns-else-is_accepted : goal.returns-else-is_accepted
+pub returns : goal.returns
 unfolding read_setup words_after
-returns-else-is_accepted c =
-    let refused = c in
-    let bad = sym refused.is_accepted.ensures ∙ refused.if-is_accepted.false in
-    (simp (bad, c.no_card-fresh.ensures), simp bad)
+returns c =
+    let good = sym c.is_accepted.ensures ∙ c.if-not-is_accepted.false in
+    (simp (good, c.read_fresh.ensures), simp good c.load.ensures)
