@@ -11,7 +11,7 @@ ghost use Rattle.log_book.specs.Logbook.{watched_line, ring_by, lines_in, shaped
 ghost use Rattle.ring.specs.Ring.{no_records};
 
 use journal::Logging;
-use paper::Next;
+use paper::Reader;
 use ring::Ring;
 use rules::Words;
 use shape::Shape;
@@ -34,11 +34,7 @@ fn place_behind(paper: &[u8], at: usize) -> usize
     requires { at ≤ length paper.now }
     ensures { (result ≡ place_after paper.now at) × (result ≤ length paper.now) }
 {
-    match paper::record_at(paper, at) {
-        Next::Record { end, .. } => end,
-        Next::Fault => at,
-        Next::End => at,
-    }
+    paper::pass(Reader { paper, at }).at
 }
 
 // The ring after the lines of the records from a place on; a refusal that ends the paper leaves no log.

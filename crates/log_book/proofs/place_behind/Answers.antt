@@ -1,28 +1,25 @@
 -- A record lies in the paper; at a fault and at the end the place stays.
-use borrow.Author.Rules.{rules}
-use mathlib.Core.Path.{sym, ◌∙◌}
-use Rattle.paper.specs.Paper.{place_after}
+use mathlib.Core.Path.{◌≡◌, refl, subst, ap, sym}
+use mathlib.Core.List.{List}
+use Prim.Native.Nat.{ℕ, ◌≤◌}
+use lib.ListN.{length}
+use Rattle.paper.specs.declared.Next.{Next}
+use Rattle.paper.specs.declared.Next.TheVariants.{Record, Fault, End}
+use Rattle.paper.specs.declared.Reader.{Reader}
+use Rattle.paper.specs.Paper.{next_at, onward, place_after}
 use Rattle.paper.proofs.Walk.{inside}
 use Rattle.log_book.proofs.place_behind.Goals as goal
 
-pub returns-in-Record : goal.returns-in-Record
+behind-inside : (s : List ℕ) (at : ℕ) → at ≤ length s → place_after s at ≤ length s
 unfolding place_after
-returns-in-Record c =
-    let met = c in
-    let read = met in
-    let a = read.args in (
-      rw (← read.record_at.ensures) (simp met.in-Record.is),
-      (inside a.paper.now a.at _ _ _ (sym read.record_at.ensures ∙ met.in-Record.is)).fits,
-    )
+behind-inside s at h = by (next_at s at) refl where
+  by : (next : Next) → next_at s at ≡ next → onward at next ≤ length s
+  by (Record kind start end) is = (inside s at kind start end is).fits
+  by Fault is = h
+  by End is = h
 
-pub returns-in-Fault : goal.returns-in-Fault
-unfolding place_after
-returns-in-Fault c =
-    let read = c in
-    (rw (← read.record_at.ensures) (simp c.in-Fault.is), read.requires)
-
-pub returns-in-End : goal.returns-in-End
-unfolding place_after
-returns-in-End c =
-    let read = c in
-    (rw (← read.record_at.ensures) (simp c.in-End.is), read.requires)
+pub returns : goal.returns
+returns c =
+    let a = c.args in
+    let is : c.pass.result.at ≡ place_after a.paper.now a.at = ap (λ (r : Reader). r.at) c.pass.ensures in
+    (is, subst (λ (n : ℕ). n ≤ length a.paper.now) (sym is) (behind-inside a.paper.now a.at c.requires))

@@ -1,4 +1,3 @@
-use borrow.Author.Rules.{rules}
 use borrow.Author.Tests.{lt-ltb, le-ltb}
 use Rattle.log_text.proofs.Stores.{nothing, placed_length}
 use Rattle.log_book.specs.Logbook.{shaped_behind}

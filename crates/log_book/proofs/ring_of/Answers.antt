@@ -1,12 +1,10 @@
-use borrow.Author.Rules.{rules}
-use mathlib.Core.Path.{◌≡◌, refl, sym, ap, ◌∙◌}
+use mathlib.Core.Path.{◌≡◌, sym, ap, ◌∙◌}
 use mathlib.Core.List.{List}
 use mathlib.Core.Bool.{Bool, true, false}
-use Prim.Native.Nat.{ℕ, ◌-◌, ◌≤◌, ◌<◌}
+use Prim.Native.Nat.{ℕ, ◌-◌, ◌<◌}
 use native.Mathlib.Omega.{arith}
 use lib.ListN.{length, take, drop, length-drop, drop_of_length-le}
 use lib.Seq.{take_all}
-use Rattle.ring.specs.Ring.{no_records}
 use Rattle.replies.specs.Replies.{before, behind, is_ending}
 use Rattle.log_book.specs.Logbook.{lines_in, ring_by}
 use Rattle.log_book.proofs.Cut.{rest-behind, shorter, ended, goes_on_lem}

@@ -1,16 +1,9 @@
 -- The lines passed are in the ring, and those of the text's rest are not yet.
-use borrow.Author.Rules.{rules}
-use mathlib.Core.Path.{◌≡◌, refl, sym, ap, ◌∙◌}
-use mathlib.Core.List.{List}
-use mathlib.Core.Bool.{Bool, true, false}
-use Prim.Native.Nat.{ℕ, ◌-◌, ◌≤◌, ◌<◌}
-use native.Mathlib.Omega.{arith}
-use lib.ListN.{length, take, drop, length-drop, drop_of_length-le}
-use lib.Seq.{take_all}
+use mathlib.Core.Path.{◌≡◌}
+use Prim.Native.Nat.{◌-◌, ◌≤◌}
+use lib.ListN.{length, drop}
 use Rattle.ring.specs.Ring.{no_records}
-use Rattle.replies.specs.Replies.{before, behind, is_ending}
 use Rattle.log_book.specs.Logbook.{lines_in, ring_by}
-use Rattle.log_book.proofs.Cut.{rest-behind, shorter, ended, goes_on_lem}
 use Rattle.log_book.proofs.ring_of.Given as goal
 
 abbrev pub invariant-loop-from : goal.invariant-loop-from
