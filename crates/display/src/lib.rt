@@ -30,17 +30,14 @@ pub fn show_set_up(
         return shown::show_nothing(to);
     }
     let begun = keeper::begin(paper, words, rooms);
-    let event = begun.event;
-    let end = record_lines::put_set_up(words, rooms, showing, event, room, to);
-    let shape = begun.shape;
-    let state = begun.state;
+    let end = record_lines::put_set_up(words, rooms, showing, begun.event, room, to);
     Shown {
-        shape,
-        state,
+        shape: begun.shape,
+        state: begun.state,
         at: begun.at,
         number: 1,
         end,
-        wants: shown::wanted(event),
+        wants: shown::wanted(begun.event),
     }
 }
 
@@ -60,22 +57,14 @@ pub fn show_record(
         × (rooms.new ≡ record_rooms (rules_of words.old) rooms.old shown paper.now (length room.old) to)
         × (room.new ≡ record_room showing (rules_of words.old) rooms.old shown paper.now room.old to) }
 {
-    let shape = shown.shape;
-    let state = shown.state;
-    let at = shown.at;
-    let number = shown.number;
     if !record_lines::has_room(room.len(), to) {
         return Shown {
-            shape,
-            state,
-            at,
-            number,
             end: to,
             wants: Wants::Room,
+            ..shown
         };
     }
-    let taken = keeper::take(words, rooms, shape, state, paper, at);
-    let event = taken.event;
-    let end = record_lines::put_record(words, rooms, showing, number, event, room, to);
+    let taken = keeper::take(words, rooms, shown.shape, shown.state, paper, shown.at);
+    let end = record_lines::put_record(words, rooms, showing, shown.number, taken.event, room, to);
     shown::show_behind(shown, taken, end)
 }

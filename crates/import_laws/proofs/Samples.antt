@@ -1,7 +1,7 @@
 -- `imports` and `becomes`, computed for a few records: the number that is answered where two causes apply, and what a taken one becomes. Said
 -- apart, they show of a wrong card that the statement itself is false of it. The search for a rate is by lemma, all else by computation. Assumes nothing.
 use mathlib.Core.Path.{◌≡◌, refl, ap}
-use mathlib.Core.Bool.{Bool, ◌&&◌}
+use mathlib.Core.Bool.{Bool, not, ◌&&◌}
 use mathlib.Core.List.{List, [], ◌∷◌, ◌++◌}
 use Prim.Native.Nat.{ℕ, ◌<◌}
 use native.Mathlib.Omega.{arith}

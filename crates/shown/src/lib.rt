@@ -7,7 +7,6 @@ ghost use Rattle.shown.specs.Shown.{wants_after, unshown, shown_behind};
 use records::{Event, Taken};
 use shape::{Family, SelectionFile, Shape, Span};
 use state::State;
-use std::num::wrapping_add_u16;
 
 // What is wanted next: a further record; room; a run, as the paper is at its end and the card stands;
 // or nothing, as a refusal has ended the paper.
@@ -36,10 +35,9 @@ pub fn wanted(event: Event) -> Wants
     ensures { result ≡ wants_after event }
 {
     match event {
-        Event::SetUp => Wants::Record,
+        Event::SetUp | Event::Answered { .. } => Wants::Record,
         Event::End => Wants::Run,
         Event::Refused(_) => Wants::Nothing,
-        Event::Answered { .. } => Wants::Record,
     }
 }
 
@@ -47,7 +45,6 @@ pub fn wanted(event: Event) -> Wants
 pub fn show_nothing(to: usize) -> Shown
     ensures { result ≡ unshown to }
 {
-    let none = setup::no_card();
     Shown {
         shape: Shape {
             base: 0,
@@ -59,7 +56,7 @@ pub fn show_nothing(to: usize) -> Shown
             logging: None,
             unnamed: 4_194_304,
         },
-        state: fresh::fresh_card(none),
+        state: fresh::fresh_card(setup::no_card()),
         at: 0,
         number: 0,
         end: to,
@@ -71,15 +68,12 @@ pub fn show_nothing(to: usize) -> Shown
 pub fn show_behind(shown: Shown, taken: Taken, end: usize) -> Shown
     ensures { result ≡ shown_behind shown taken end }
 {
-    let shape = shown.shape;
-    let after = taken.state;
-    let event = taken.event;
     Shown {
-        shape,
-        state: after,
+        state: taken.state,
         at: taken.at,
-        number: wrapping_add_u16(shown.number, 1),
+        number: shown.number.wrapping_add(1),
         end,
-        wants: wanted(event),
+        wants: wanted(taken.event),
+        ..shown
     }
 }

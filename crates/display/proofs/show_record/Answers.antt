@@ -7,23 +7,15 @@ use Rattle.display.proofs.show_record.Goals as goal
 pub returns-then-not-has_room : goal.returns-then-not-has_room
 unfolding still_shown
 returns-then-not-has_room c =
-    let asked = c in
-    let shape = asked in
-    let a = shape.args in
-    let full = sym asked.has_room.ensures ∙ c.if-not-has_room.true in
+    let a = c.args in
+    let full = sym c.has_room.ensures ∙ c.if-not-has_room.true in
     no_record a.showing a.words.now a.rooms.now a.shown a.paper.now a.room.now a.to full refl
 
 pub returns : goal.returns
 returns c =
-    let put = c in
-    let to-put = put in
-    let read = to-put in
-    let tested = read in
-    let asked = tested in
-    let shape = asked in
-    let a = shape.args in
-    let fits = sym asked.has_room.ensures ∙ tested.if-not-has_room.false in
-    let taken = read.take-taken.ensures in
+    let a = c.args in
+    let fits = sym c.has_room.ensures ∙ c.if-not-has_room.false in
+    let taken = c.take-taken.ensures in
     recorded a.showing a.words.now a.rooms.now a.shown a.paper.now a.room.now a.to fits taken.0 taken.1 taken.2 taken.3
-    put.put_record-end.ensures.0 put.put_record-end.ensures.1
+    c.put_record-end.ensures.0 c.put_record-end.ensures.1
     c.show_behind.ensures

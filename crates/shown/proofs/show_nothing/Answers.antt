@@ -4,4 +4,4 @@ use Rattle.shown.proofs.show_nothing.Goals as goal
 
 pub returns : goal.returns
 unfolding unshown
-returns c = simp (c.fresh_card.ensures, c.no_card-none.ensures)
+returns c = simp (c.fresh_card.ensures, c.no_card.ensures)
