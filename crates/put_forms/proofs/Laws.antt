@@ -2,12 +2,13 @@
 use mathlib.Core.Path.{◌≡◌, refl, sym, ap, ap₂, ◌∙◌}
 use mathlib.Core.Bool.{Bool, true, false, cond, ◌&&◌, and-true}
 use mathlib.Core.List.{List, [], ◌∷◌, ◌++◌, append_assoc, append-nil}
-use Prim.Native.Nat.{ℕ, suc, ◌+◌, ◌*◌, ◌-◌, ◌/◌, ◌%◌, ◌^◌, ◌≤◌, ◌<◌}
+use Prim.Native.Nat.{ℕ, zero, suc, ◌+◌, ◌*◌, ◌-◌, ◌/◌, ◌%◌, ◌^◌, ◌<◌}
 use native.Mathlib.Nat.{zero-add, pow-suc, one-le-pow}
 use native.Mathlib.Omega.{arith}
 use borrow.Author.Tests.{lt-ltb, le-ltb, ltb-true, ltb-false, ne_eqb, eq-eqb}
 use lib.Dec.{ltb, eqb, lit<}
 use lib.ListN.{length}
+use Rattle.std.specs.List.{list_all, range_with_len}
 use Rattle.wire.specs.Wire.{byte, number, is_pair}
 use Rattle.hex_digits.specs.Hex.{hex_byte, hex}
 use Rattle.words.specs.Words.{word, all, name_of, flags, up_to}
@@ -25,15 +26,10 @@ one_zero : (s : List ℕ) (at n : ℕ) → is_blank (bytes_at s at (suc n)) ≡ 
 unfolding is_blank all bytes_at
 one_zero s at n = refl
 
-pub zeros-on : (s : List ℕ) (i n : ℕ) → i < n → is_blank (bytes_at s i (n - i)) ≡ (eqb (byte s i) 0 && is_blank (bytes_at s (i + 1) (n - (i + 1))))
-zeros-on s i n h =
-    let size : n - i ≡ suc (n - (i + 1)) = omega arith in
-    let next : suc i ≡ i + 1 = omega arith in
-    ap (λ m. is_blank (bytes_at s i m)) size ∙ one_zero s i (n - (i + 1)) ∙ ap (λ k. eqb (byte s i) 0 && is_blank (bytes_at s k (n - (i + 1)))) next
-
-pub zeros-end : (s : List ℕ) (i n : ℕ) → n ≤ i → is_blank (bytes_at s i (n - i)) ≡ true
+pub all-zeros : (s : List ℕ) (i n : ℕ) → list_all (λ k. eqb (byte s k) 0) (range_with_len i n) ≡ is_blank (bytes_at s i n)
 unfolding is_blank all bytes_at
-zeros-end s i n h = let none : n - i ≡ 0 = omega arith in ap (λ m. is_blank (bytes_at s i m)) none
+all-zeros s i zero = refl
+all-zeros s i (suc n) = let next : i + 1 ≡ suc i = omega arith in rw (next, all-zeros s (suc i) n) (sym (one_zero s i n))
 
 hex_append : (s t : List ℕ) → hex (s ++ t) ≡ hex s ++ hex t
 unfolding hex

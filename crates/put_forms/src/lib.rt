@@ -40,12 +40,7 @@ pub fn bytes_behind(bytes: &[u8], count: usize) -> &[u8]
 fn are_zeros(bytes: &[u8], count: usize) -> bool
     ensures { result ≡ is_blank (bytes_at bytes.now 0 count) }
 {
-    for i in 0..count {
-        if wire::byte_at(bytes, i) != 0 {
-            return false;
-        }
-    }
-    true
+    (0..count).all(|i| wire::byte_at(bytes, i) == 0)
 }
 
 fn wide(byte: u8) -> u64
@@ -98,20 +93,13 @@ fn put_name(room: &mut [u8], at: usize, grammar: &Grammar, t: usize, n: u8, byte
     put_name(room, at, grammar, after_word(grammar, name), n - 1, byte)
 }
 
-// A letter or a digit.
-fn is_letter(c: u8) -> bool
-    ensures { result ≡ is_letter c }
-{
-    ((b'0' <= c) & (c <= b'9')) | ((b'A' <= c) & (c <= b'Z')) | ((b'a' <= c) & (c <= b'z'))
-}
-
 // A response code: two letters or digits, or its bytes.
 fn put_code(room: &mut [u8], at: usize, bytes: &[u8]) -> usize
     ensures { Put room.old at (word_of code bytes.now 0) result room.new }
 {
     let first = wire::byte_at(bytes, 0);
     let second = wire::byte_at(bytes, 1);
-    if !(is_letter(first) & is_letter(second)) {
+    if !(first.is_ascii_alphanumeric() & second.is_ascii_alphanumeric()) {
         return put_bytes(room, at, bytes, 2);
     }
     let end = words::put_byte(room, at, first);
@@ -191,7 +179,7 @@ fn put_flags(
 fn put_rest(room: &mut [u8], at: usize, bytes: &[u8]) -> usize
     ensures { Put room.old at (led (rest_words bytes.now)) result room.new }
 {
-    if bytes.len() == 0 {
+    if bytes.is_empty() {
         return at;
     }
     let end = words::put_byte(room, at, b' ');
@@ -285,16 +273,6 @@ pub fn put_form(room: &mut [u8], at: usize, grammar: &Grammar, t: usize, bytes: 
     }
 }
 
-fn put_blanks(room: &mut [u8], at: usize, count: usize) -> usize
-    ensures { Put room.old at (replicate count 32) result room.new }
-{
-    let mut end = at;
-    for _ in 0..count {
-        end = words::put_byte(room, end, b' ');
-    }
-    end
-}
-
 // The line of a row.
 pub fn put_line(
     room: &mut [u8],
@@ -307,7 +285,7 @@ pub fn put_line(
     ensures { Put room.old at (line_text (field_line indent (field_in (words_at grammar.now row)) bytes.now 0)) result room.new }
 {
     let key = next_word(grammar, row);
-    let end = put_blanks(room, at, indent);
+    let end = words::put_times(room, at, b' ', indent);
     let end = put_same(room, end, grammar, key);
     put_form(room, end, grammar, after_word(grammar, key), bytes)
 }

@@ -10,4 +10,4 @@ returns c =
     let g = a.grammar.now in
     let behind : c.after_word.result ≡ after_word g (next_word g a.row) = c.after_word.ensures ∙ ap (after_word g) c.next_word-key.ensures in
     rw (line_at g a.row a.indent a.bytes.now, ← behind, ← c.next_word-key.ensures)
-    (next c.put_blanks-end.ensures (next c.put_same-end.ensures c.put_form.ensures))
+    (next c.put_times-end.ensures (next c.put_same-end.ensures c.put_form.ensures))
