@@ -10,8 +10,6 @@ ghost use Rattle.sheet.specs.Sheet.{blank_sheet, papers, stopped, counted, answe
 // refusal n, 1 to 19; 393 how many currencies; from 394 on their codes, from 426 on their sums.
 pub type Sheet = [u64; 458];
 
-const LARGEST: u64 = 18_446_744_073_709_551_615;
-
 const PAPERS: usize = 0;
 
 const REFUSALS: usize = 373;
@@ -33,10 +31,7 @@ pub fn blank() -> Sheet
 pub fn plus(value: u64, more: u64) -> u64
     ensures { result ≡ stopped (value + more) }
 {
-    if LARGEST - value < more {
-        return LARGEST;
-    }
-    value + more
+    value.saturating_add(more)
 }
 
 // One more in a cell.
@@ -54,7 +49,8 @@ pub fn count_paper(sheet: &mut Sheet)
     count(sheet, PAPERS);
 }
 
-// A cryptogram of a profile: kind 0 a TC, 1 an AAC, 2 an ARQC. Other numbers count nowhere.
+// A cryptogram of a profile: kind 0 a TC, 1 an AAC, 2 an ARQC. Other numbers count nowhere: `answer_counted`
+// says so of every number, and so a kind is no enum here.
 pub fn count_answer(sheet: &mut Sheet, profile: u8, kind: u8)
     ensures { sheet.new ≡ answer_counted sheet.old profile kind }
 {

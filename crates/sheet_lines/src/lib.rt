@@ -39,7 +39,7 @@ fn put_text(room: &mut [u8], at: usize, text: &[u8]) -> usize
 fn gap(width: usize, size: usize) -> usize
     ensures { result ≡ width - size }
 {
-    if size < width { width - size } else { 0 }
+    width.saturating_sub(size)
 }
 
 // So many of twenty spaces.

@@ -5,6 +5,7 @@ ghost use Rattle.std.specs.Prelude.{◌≡◌, ◌∷◌, ◌+◌, ◌-◌, ◌�
 ghost use Rattle.sums.specs.Sums.{new, sums_from, written, place_of, fits_sale, sale_added};
 
 use sheet::Sheet;
+use std::mem;
 
 const COUNT: usize = 393;
 
@@ -20,12 +21,10 @@ fn place_of(sheet: &Sheet, count: usize, code: u64) -> usize
     requires { count ≤ 32 }
     ensures { (result ≡ place_of code (sums_from count 0 sheet.now)) × (result ≤ count) }
 {
-    let mut at = 0;
-    while at < count {
+    for at in 0..count {
         if code <= sheet[CODES + at] {
             return at;
         }
-        at += 1;
     }
     count
 }
@@ -38,12 +37,8 @@ fn push(sheet: &mut Sheet, from: usize, count: usize, code: u64, sum: u64)
     let mut code = code;
     let mut sum = sum;
     for at in from..count {
-        let next_code = sheet[CODES + at];
-        let next_sum = sheet[SUMS + at];
-        sheet[CODES + at] = code;
-        sheet[SUMS + at] = sum;
-        code = next_code;
-        sum = next_sum;
+        code = mem::replace(&mut sheet[CODES + at], code);
+        sum = mem::replace(&mut sheet[SUMS + at], sum);
     }
     sheet[CODES + count] = code;
     sheet[SUMS + count] = sum;

@@ -1,4 +1,3 @@
-use borrow.Author.Rules.{rules}
 use Rattle.sheet.specs.Sheet.{counted}
 use Rattle.sheet.proofs.count.Goals as goal
 

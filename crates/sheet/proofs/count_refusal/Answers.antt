@@ -1,4 +1,3 @@
-use borrow.Author.Rules.{rules}
 use borrow.Author.Tests.{eq-eqb, ne_eqb, lt-ltb, le-ltb}
 use Rattle.sheet.specs.Sheet.{refusal_counted}
 use Rattle.sheet.proofs.count_refusal.Goals as goal

@@ -1,7 +1,6 @@
 use native.Mathlib.Omega.{arith}
 use Rattle.text.proofs.Stores.{next, within}
 use Rattle.sheet_lines.specs.SheetLines.{code_of}
-use borrow.Author.Rules.{rules}
 use Rattle.sheet_lines.proofs.put_code.Goals as goal
 
 pub returns : goal.returns

@@ -3,7 +3,6 @@ use Rattle.text.proofs.Stores.{next, within}
 use borrow.Author.Tests.{le-leb, lt-leb}
 use mathlib.Core.Path.{refl}
 use Rattle.sheet_lines.specs.SheetLines.{currency_row}
-use borrow.Author.Rules.{rules}
 use Rattle.sheet_lines.proofs.put_currency.Goals as goal
 
 pub returns-then-sheet-place : goal.returns-then-sheet-place

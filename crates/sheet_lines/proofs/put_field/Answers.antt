@@ -1,6 +1,5 @@
 use native.Mathlib.Omega.{arith}
 use Rattle.text.proofs.Stores.{within}
-use borrow.Author.Rules.{rules}
 use Rattle.sheet_lines.proofs.put_field.Goals as goal
 
 pub returns-in-Report : goal.returns-in-Report

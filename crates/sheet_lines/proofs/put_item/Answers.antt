@@ -1,5 +1,4 @@
 use Rattle.text.proofs.Stores.{next}
-use borrow.Author.Rules.{rules}
 use Rattle.sheet_lines.proofs.put_item.Goals as goal
 
 pub returns : goal.returns

@@ -1,6 +1,5 @@
 use borrow.Author.Tests.{eq-eqb, ne_eqb, le-leb, lt-leb}
 use Rattle.sheet_lines.specs.SheetLines.{line_at}
-use borrow.Author.Rules.{rules}
 use Rattle.sheet_lines.proofs.put_line.Goals as goal
 
 pub returns-then-line-eq0 : goal.returns-then-line-eq0

@@ -1,7 +1,6 @@
 use native.Mathlib.Omega.{arith}
 use Rattle.text.proofs.Stores.{next, within}
 use Rattle.sheet_lines.specs.SheetLines.{papers_line}
-use borrow.Author.Rules.{rules}
 use Rattle.sheet_lines.proofs.put_papers.Goals as goal
 
 pub returns : goal.returns

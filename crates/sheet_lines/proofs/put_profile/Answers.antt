@@ -3,7 +3,6 @@ use Rattle.text.proofs.Stores.{next, within}
 use mathlib.Core.Path.{refl, sym, ◌∙◌}
 use mathlib.Core.Bool.{true, false}
 use Rattle.sheet_lines.proofs.Padded.{profile-by}
-use borrow.Author.Rules.{rules}
 use Rattle.sheet_lines.proofs.put_profile.Goals as goal
 
 pub returns-then-not-is_shown : goal.returns-then-not-is_shown

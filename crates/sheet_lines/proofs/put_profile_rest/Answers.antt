@@ -2,7 +2,6 @@ use native.Mathlib.Omega.{arith}
 use Rattle.text.proofs.Stores.{next, within}
 use mathlib.Core.Path.{refl}
 use Rattle.sheet_lines.specs.SheetLines.{profile_rest}
-use borrow.Author.Rules.{rules}
 use Rattle.sheet_lines.proofs.put_profile_rest.Goals as goal
 
 pub returns-in-Report : goal.returns-in-Report

@@ -2,7 +2,6 @@ use native.Mathlib.Omega.{arith}
 use Rattle.text.proofs.Stores.{next, within}
 use mathlib.Core.Path.{refl, sym, ◌∙◌}
 use Rattle.sheet_lines.specs.SheetLines.{refusal_row}
-use borrow.Author.Rules.{rules}
 use Rattle.sheet_lines.proofs.put_refusal.Goals as goal
 
 pub returns-then-not-is_shown : goal.returns-then-not-is_shown

@@ -1,6 +1,5 @@
 use native.Mathlib.Omega.{arith}
 use Rattle.sheet_lines.proofs.Padded.{place-refused, stay_refused}
-use borrow.Author.Rules.{rules}
 use Rattle.sheet_lines.proofs.put_refused.Goals as goal
 
 pub returns-then-room-at : goal.returns-then-room-at

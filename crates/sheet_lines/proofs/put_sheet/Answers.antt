@@ -1,5 +1,4 @@
 -- Room, or none.
-use borrow.Author.Rules.{rules}
 use native.Mathlib.Omega.{arith}
 use Rattle.sheet_lines.proofs.Padded.{place, stay}
 use Rattle.sheet_lines.proofs.put_sheet.Goals as goal

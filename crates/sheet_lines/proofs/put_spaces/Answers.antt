@@ -5,7 +5,6 @@ use lib.ListN.{length, take, replicate, length-replicate}
 use lib.Seq.{length-take-le}
 use Rattle.text.proofs.Stores.{within}
 use Rattle.sheet_lines.proofs.Padded.{some_of}
-use borrow.Author.Rules.{rules}
 use Rattle.sheet_lines.proofs.put_spaces.Goals as goal
 
 pub slice_bounds-put_text-end : goal.slice_bounds-put_text-end

@@ -1,7 +1,6 @@
 use native.Mathlib.Omega.{arith}
 use mathlib.Core.Path.{◌∙◌}
 use Rattle.text.proofs.Laws.{placed_in_lem}
-use borrow.Author.Rules.{rules}
 use Rattle.sheet_lines.proofs.put_text.Goals as goal
 
 pub returns : goal.returns

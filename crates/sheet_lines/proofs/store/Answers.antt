@@ -1,10 +1,8 @@
 use borrow.Author.Rules.{rules}
 use mathlib.Core.Path.{◌≡◌}
-use Prim.Native.Nat.{◌+◌, ◌*◌, ◌-◌, ◌≤◌}
+use Prim.Native.Nat.{◌+◌, ◌*◌}
 use native.Mathlib.Numerals.{add-one}
 use native.Mathlib.Omega.{arith}
-use lib.ListN.{length}
-use Rattle.text.specs.Stored.{Stored}
 use Rattle.text.proofs.Stores.{next}
 use Rattle.sheet_lines.specs.SheetLines.{first_lines, sheet_text}
 use Rattle.sheet_lines.proofs.store.Goals as goal

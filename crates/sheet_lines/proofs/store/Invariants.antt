@@ -1,13 +1,9 @@
 -- The lines passed are stored.
-use borrow.Author.Rules.{rules}
 use mathlib.Core.Path.{◌≡◌}
-use Prim.Native.Nat.{◌+◌, ◌*◌, ◌-◌, ◌≤◌}
-use native.Mathlib.Numerals.{add-one}
-use native.Mathlib.Omega.{arith}
+use Prim.Native.Nat.{◌*◌, ◌-◌, ◌≤◌}
 use lib.ListN.{length}
 use Rattle.text.specs.Stored.{Stored}
-use Rattle.text.proofs.Stores.{next}
-use Rattle.sheet_lines.specs.SheetLines.{first_lines, sheet_text}
+use Rattle.sheet_lines.specs.SheetLines.{first_lines}
 use Rattle.sheet_lines.proofs.store.Given as goal
 
 abbrev pub invariant-loop-line : goal.invariant-loop-line

@@ -1,7 +1,6 @@
 use native.Mathlib.Omega.{arith}
 use Rattle.text.proofs.Stores.{next, within}
 use Rattle.sheet_lines.specs.SheetLines.{refused_line}
-use borrow.Author.Rules.{rules}
 use Rattle.sheet_lines.proofs.store_refused.Goals as goal
 
 pub returns : goal.returns

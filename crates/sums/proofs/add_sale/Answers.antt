@@ -1,9 +1,8 @@
 -- Too many currencies already; one that is there; no place left for a new one, and a place for it.
-use borrow.Author.Rules.{rules}
-use mathlib.Core.Path.{◌≡◌, refl, sym, ap, ◌∙◌}
+use mathlib.Core.Path.{refl, ap, ◌∙◌}
 use native.Mathlib.Omega.{arith}
-use lib.ListN.{get_or, set}
-use Rattle.sums.specs.Sums.{code_cell, sum_cell}
+use lib.ListN.{set}
+use Rattle.sums.specs.Sums.{sum_cell}
 use Rattle.sums.proofs.Sums.{too_many, added, full, pushed}
 use Rattle.sums.proofs.add_sale.Goals as goal
 use Rattle.sums.proofs.add_sale.Goals.{then-at-places+else-sheet-at, else-at-places}
