@@ -10,9 +10,9 @@ use Rattle.shape.specs.declared.Shape.{Shape}
 use Rattle.cells.specs.Cells.{flag_of}
 use Rattle.cells.proofs.Spread.{three, four}
 use Rattle.cells.proofs.Back.{flag_back}
-use Rattle.shape_seat.specs.Shapes.{selecting_cells, selecting_at, dating_cells, dating_at, family_cells, family_at, logging_cells, logging_at, shape_cells, shape_in}
+use Rattle.shape_seat.specs.Shapes.{selecting_cells, selecting_at, span_cells, span_at, family_cells, family_at, shape_cells, shape_in}
 use Rattle.shape_seat.specs.Shapes.{SelectingFits, ShapeFits}
-use Rattle.shape_seat.proofs.Spread.{selecting_spread, dating_spread, family_spread, logging_spread}
+use Rattle.shape_seat.proofs.Spread.{selecting_spread, span_spread, family_spread}
 use Rattle.std.specs.Prelude.{None, Option, Some}
 use Rattle.shape.specs.Shape.{file}
 use Rattle.shape.specs.declared.SelectionFile.{SelectionFile}
@@ -22,31 +22,27 @@ selecting_back : (selecting : Option SelectionFile) → SelectingFits selecting 
 selecting_back None fits = refl
 selecting_back (Some part) fits = ap ((λ entries. Some (file part.start part.end entries))) (mod-eq_of_lt fits)
 
-dating_back : (dating : Option Span) → dating_at (dating_cells dating) 0 ≡ dating
-dating_back None = refl
-dating_back (Some part) = refl
+span_back : (tail : Option Span) → span_at (span_cells tail) 0 ≡ tail
+span_back None = refl
+span_back (Some part) = refl
 
 family_back : (family : Family) → family_at (family_cells family) 0 ≡ family
 family_back Cpa = refl
 family_back (Cpace start end) = refl
 
-logging_back : (logging : Option Span) → logging_at (logging_cells logging) 0 ≡ logging
-logging_back None = refl
-logging_back (Some part) = refl
-
 module _ (shape : Shape) where
   spread : (rest : List ℕ) → shape_cells shape ++ rest
       ≡ shape.base ∷ four (selecting_cells shape.selecting) (shape.syllabus
-      ∷ three (dating_cells shape.dating) (three (family_cells shape.family) (flag_of shape.scripting
-      ∷ three (logging_cells shape.logging) (shape.unnamed ∷ rest))))
+      ∷ three (span_cells shape.dating) (three (family_cells shape.family) (flag_of shape.scripting
+      ∷ three (span_cells shape.logging) (shape.unnamed ∷ rest))))
   unfolding shape_cells
   spread rest =
       simp (
         append_assoc,
         selecting_spread shape.selecting,
-        dating_spread shape.dating,
+        span_spread shape.dating,
         family_spread shape.family,
-        logging_spread shape.logging,
+        span_spread shape.logging,
       )
 
   pub shape_back : ShapeFits shape → (rest : List ℕ) → shape_in (shape_cells shape ++ rest) ≡ shape
@@ -55,10 +51,10 @@ module _ (shape : Shape) where
       rw (spread rest)
       (simp (
         selecting_back shape.selecting fits.selecting,
-        dating_back shape.dating,
+        span_back shape.dating,
         family_back shape.family,
         flag_back shape.scripting,
-        logging_back shape.logging,
+        span_back shape.logging,
         mod-eq_of_lt fits.syllabus,
         mod-eq_of_lt fits.unnamed,
       ))

@@ -4,8 +4,7 @@ use Rattle.shape.specs.declared.Family.{Family}
 use Rattle.shape.specs.declared.Family.TheVariants.{Cpa, Cpace}
 use Rattle.shape.specs.declared.Shape.{Shape}
 use Rattle.cells.specs.Cells.{cell_at, flag_of, is_on, Byte}
-use Rattle.shape.specs.Shape.{file}
-use Rattle.shape.specs.Shape.{span}
+use Rattle.shape.specs.Shape.{file, span}
 use Rattle.shape.specs.declared.SelectionFile.{SelectionFile}
 use Rattle.shape.specs.declared.Span.{Span}
 
@@ -17,12 +16,12 @@ abbrev pub selecting_at : List ℕ → (at : ℕ) → Option SelectionFile
 selecting_at cells at =
     cond (is_on (cell_at cells at)) (Some (file (cell_at cells (at + 1)) (cell_at cells (at + 2)) (cell_at cells (at + 3) % 256))) None
 
-abbrev pub dating_cells : Option Span → List ℕ
-dating_cells None = 0 ∷ 0 ∷ 0 ∷ []
-dating_cells (Some part) = 1 ∷ part.start ∷ part.end ∷ []
+abbrev pub span_cells : Option Span → List ℕ
+span_cells None = 0 ∷ 0 ∷ 0 ∷ []
+span_cells (Some part) = 1 ∷ part.start ∷ part.end ∷ []
 
-abbrev pub dating_at : List ℕ → (at : ℕ) → Option Span
-dating_at cells at = cond (is_on (cell_at cells at)) (Some (span (cell_at cells (at + 1)) (cell_at cells (at + 2)))) None
+abbrev pub span_at : List ℕ → (at : ℕ) → Option Span
+span_at cells at = cond (is_on (cell_at cells at)) (Some (span (cell_at cells (at + 1)) (cell_at cells (at + 2)))) None
 
 abbrev pub family_cells : Family → List ℕ
 family_cells Cpa = 0 ∷ 0 ∷ 0 ∷ []
@@ -31,17 +30,10 @@ family_cells (Cpace start end) = 1 ∷ start ∷ end ∷ []
 abbrev pub family_at : List ℕ → (at : ℕ) → Family
 family_at cells at = cond (is_on (cell_at cells at)) (Cpace (cell_at cells (at + 1)) (cell_at cells (at + 2))) Cpa
 
-abbrev pub logging_cells : Option Span → List ℕ
-logging_cells None = 0 ∷ 0 ∷ 0 ∷ []
-logging_cells (Some part) = 1 ∷ part.start ∷ part.end ∷ []
-
-abbrev pub logging_at : List ℕ → (at : ℕ) → Option Span
-logging_at cells at = cond (is_on (cell_at cells at)) (Some (span (cell_at cells (at + 1)) (cell_at cells (at + 2)))) None
-
 unfoldable pub shape_cells : Shape → List ℕ
 shape_cells shape =
-    (shape.base ∷ []) ++ selecting_cells shape.selecting ++ (shape.syllabus ∷ []) ++ dating_cells shape.dating ++ family_cells shape.family
-    ++ (flag_of shape.scripting ∷ []) ++ logging_cells shape.logging ++ (shape.unnamed ∷ [])
+    (shape.base ∷ []) ++ selecting_cells shape.selecting ++ (shape.syllabus ∷ []) ++ span_cells shape.dating ++ family_cells shape.family
+    ++ (flag_of shape.scripting ∷ []) ++ span_cells shape.logging ++ (shape.unnamed ∷ [])
 
 unfoldable pub shape_in : List ℕ → Shape
 shape_in cells =
@@ -49,10 +41,10 @@ shape_in cells =
       base = cell_at cells 0;
       selecting = selecting_at cells 1;
       syllabus = cell_at cells 5 % 256;
-      dating = dating_at cells 6;
+      dating = span_at cells 6;
       family = family_at cells 9;
       scripting = is_on (cell_at cells 12);
-      logging = logging_at cells 13;
+      logging = span_at cells 13;
       unnamed = cell_at cells 16 % 4294967296;
     }
 

@@ -3,7 +3,7 @@
 #![tactic(auto)]
 
 ghost use Rattle.std.specs.Prelude.{◌≡◌, ◌≤◌};
-ghost use Rattle.shape_seat.specs.Shapes.{selecting_cells, selecting_at, dating_cells, dating_at, family_cells, family_at, logging_cells, logging_at, shape_cells, shape_in};
+ghost use Rattle.shape_seat.specs.Shapes.{selecting_cells, selecting_at, span_cells, span_at, family_cells, family_at, shape_cells, shape_in};
 ghost use Rattle.shape_seat.specs.Shapes.{SelectingFits, ShapeFits};
 
 use cells::{cell, flag};
@@ -17,11 +17,13 @@ fn selecting_cells(selecting: Option<SelectionFile>) -> [u64; 4]
 {
     match selecting {
         None => [0, 0, 0, 0],
-        Some(SelectionFile {
-            start,
-            end,
-            entries,
-        }) => [1, start as u64, end as u64, entries as u64],
+        Some(
+            SelectionFile {
+                start,
+                end,
+                entries,
+            },
+        ) => [1, start as u64, end as u64, entries as u64],
     }
 }
 
@@ -39,18 +41,18 @@ fn selecting_at(cells: &[u64], at: usize) -> Option<SelectionFile>
     })
 }
 
-fn dating_cells(dating: Option<Span>) -> [u64; 3]
-    ensures { result ≡ dating_cells dating }
+fn span_cells(tail: Option<Span>) -> [u64; 3]
+    ensures { result ≡ span_cells tail }
 {
-    match dating {
+    match tail {
         None => [0, 0, 0],
         Some(Span { start, end }) => [1, start as u64, end as u64],
     }
 }
 
-fn dating_at(cells: &[u64], at: usize) -> Option<Span>
+fn span_at(cells: &[u64], at: usize) -> Option<Span>
     requires { at ≤ 64 }
-    ensures { result ≡ dating_at cells.now at }
+    ensures { result ≡ span_at cells.now at }
 {
     if cell(cells, at) != 1 {
         return None;
@@ -83,40 +85,14 @@ fn family_at(cells: &[u64], at: usize) -> Family
     }
 }
 
-fn logging_cells(logging: Option<Span>) -> [u64; 3]
-    ensures { result ≡ logging_cells logging }
-{
-    match logging {
-        None => [0, 0, 0],
-        Some(Span { start, end }) => [1, start as u64, end as u64],
-    }
-}
-
-fn logging_at(cells: &[u64], at: usize) -> Option<Span>
-    requires { at ≤ 64 }
-    ensures { result ≡ logging_at cells.now at }
-{
-    if cell(cells, at) != 1 {
-        return None;
-    }
-    Some(Span {
-        start: cell(cells, at + 1) as usize,
-        end: cell(cells, at + 2) as usize,
-    })
-}
-
 // A shape: base, selecting, syllabus, dating, family, scripting, logging, unnamed.
 pub fn shape_cells(shape: Shape) -> [u64; SHAPE]
     ensures { (result ≡ shape_cells shape) × ShapeFits shape }
 {
-    let selecting = shape.selecting;
-    let dating = shape.dating;
-    let family = shape.family;
-    let file = selecting_cells(selecting);
-    let dates = dating_cells(dating);
-    let controls = family_cells(family);
-    let logging = shape.logging;
-    let log = logging_cells(logging);
+    let file = selecting_cells(shape.selecting);
+    let dates = span_cells(shape.dating);
+    let controls = family_cells(shape.family);
+    let log = span_cells(shape.logging);
     [
         shape.base as u64,
         file[0],
@@ -145,10 +121,10 @@ pub fn shape_in(cells: &[u64]) -> Shape
         base: cell(cells, 0) as usize,
         selecting: selecting_at(cells, 1),
         syllabus: (cell(cells, 5) % 256) as u8,
-        dating: dating_at(cells, 6),
+        dating: span_at(cells, 6),
         family: family_at(cells, 9),
         scripting: cell(cells, 12) == 1,
-        logging: logging_at(cells, 13),
+        logging: span_at(cells, 13),
         unnamed: (cell(cells, 16) % 4_294_967_296) as u32,
     }
 }

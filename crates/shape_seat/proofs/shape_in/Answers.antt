@@ -9,10 +9,10 @@ returns c =
     let file = family in
     simp (
       c.cell-4.ensures,
-      c.logging_at.ensures,
+      c.span_at-2.ensures,
       c.cell-3.ensures,
       family.family_at.ensures,
-      family.dating_at.ensures,
+      family.span_at.ensures,
       family.cell-2.ensures,
       file.selecting_at.ensures,
       file.cell.ensures,

@@ -1,5 +1,5 @@
 use borrow.Author.Rules.{rules}
-use Rattle.shape_seat.proofs.dating_cells.Goals as goal
+use Rattle.shape_seat.proofs.span_cells.Goals as goal
 
 pub returns-in-None : goal.returns-in-None
 returns-in-None c = simp c.in-None.is

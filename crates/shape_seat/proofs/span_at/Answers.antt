@@ -1,7 +1,7 @@
 use mathlib.Core.Path.{sym, ◌∙◌}
 use borrow.Author.Tests.{ne_eqb}
 use borrow.Author.Rules.{rules}
-use Rattle.shape_seat.proofs.logging_at.Goals as goal
+use Rattle.shape_seat.proofs.span_at.Goals as goal
 
 pub returns-then-cell-ne1 : goal.returns-then-cell-ne1
 returns-then-cell-ne1 c = rw (← c.cell.ensures, ne_eqb _ _ c.if-cell-ne1.true)
