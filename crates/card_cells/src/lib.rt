@@ -32,9 +32,7 @@ fn put(cells: &mut [u64], at: usize, part: &[u64])
     requires { at + length part.now ≤ length cells.old }
     ensures { cells.new ≡ sets cells.old at part.now }
 {
-    for i in 0..part.len() {
-        cells[at + i] = part[i];
-    }
+    cells[at..at + part.len()].copy_from_slice(part);
 }
 
 // The words of a seated card, and its rooms.

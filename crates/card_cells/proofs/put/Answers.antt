@@ -1,47 +1,8 @@
-use borrow.Author.Rules.{rules}
-use mathlib.Core.List.{[], ◌∷◌}
-use mathlib.Core.Path.{◌≡◌, refl, ap, ◌∙◌}
-use Prim.Native.Nat.{◌-◌, ◌≤◌}
 use native.Mathlib.Omega.{arith}
-use native.Mathlib.Numerals.{add-one}
-use lib.ListN.{length, take, get_or}
-use lib.Seq.{sets, length-sets, length-take-le, take-suc, take_all}
-use Rattle.text.proofs.Laws.{sets_on}
+use Rattle.text.proofs.Laws.{copied}
 use Rattle.card_cells.proofs.put.Goals as goal
-
-pub loop-i-init : goal.loop-i-init
-loop-i-init c = (omega arith, refl, refl)
-
-pub overflow_add-cells : goal.overflow_add-cells
-overflow_add-cells c = omega (arith, c.requires)
-
-pub bounds-cells-at : goal.bounds-cells-at
-bounds-cells-at c =
-    let loop = c in
-    let a = loop.args in
-    let size = ap length loop.loop-i.invariant.2 ∙ length-sets a.cells.now a.at (take loop.loop-i.i a.part.now) in
-    omega (arith, size, loop.requires)
-
--- one cell more
-pub loop-i-preserved : goal.loop-i-preserved
-loop-i-preserved c =
-    let loop = c in
-    let a = loop.args in
-    let part = a.part.now in
-    let i = loop.loop-i.i in
-    let on = sets_on a.cells.now (take i part) (get_or part i 0 ∷ []) a.at in
-    let size = length-take-le i part (omega arith) in
-    let more = take-suc part i 0 (omega arith) in
-    (omega arith, refl, rw (loop.loop-i.invariant.2, add-one, more, ← on, size))
-
-pub shape_of-cells : goal.shape_of-cells
-shape_of-cells c =
-    let loop = c in
-    let a = loop.args in
-    ap length loop.loop-i.invariant.2 ∙ length-sets a.cells.now a.at (take loop.loop-i.i a.part.now)
 
 pub returns : goal.returns
 returns c =
-    let loop = c in
-    let all = take_all loop.loop-i.i loop.args.part.now (omega arith) in
-    rw (← all) loop.loop-i.invariant.2
+    let a = c.args in
+    copied a.cells.now c.copy_from_slice.new.self a.part.now a.at _ c.copy_from_slice.ensures.after (omega arith) (omega arith)
