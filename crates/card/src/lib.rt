@@ -5,6 +5,7 @@ ghost use Rattle.std.specs.Prelude.{◌≡◌};
 ghost use Rattle.rules.specs.Rules.{rules_of};
 ghost use Rattle.card.specs.Card.{is_dated, first_taken, first_step, second_taken, second_step, step_of};
 
+use calendar::Date;
 use command::{Command, First, Second};
 use refusal::Refusal;
 use rules::{Place, Words};
@@ -15,10 +16,7 @@ use state::{Outcome, Pending, Phase, State, refuse};
 fn is_dated(when: Option<Date>) -> bool
     ensures { result ≡ is_dated when }
 {
-    match when {
-        None => true,
-        Some(date) => calendar::is_day(date),
-    }
+    when.is_none_or(calendar::is_day)
 }
 
 // A First in turn.
@@ -32,8 +30,7 @@ fn take_first(words: &Words, state: State, place: Place, first: First) -> Outcom
     if !in_range {
         return refuse(state, Refusal::OutOfRange);
     }
-    let when = first.when;
-    if !is_dated(when) {
+    if !is_dated(first.when) {
         return refuse(state, Refusal::NotADay);
     }
     first::perform(words, state, place, first)
@@ -42,8 +39,7 @@ fn take_first(words: &Words, state: State, place: Place, first: First) -> Outcom
 fn answer_first(words: &Words, state: State, first: First) -> Outcome
     ensures { result ≡ first_step (rules_of words.now) state first }
 {
-    let phase = state.phase;
-    match phase {
+    match state.phase {
         Phase::Idle => refuse(state, Refusal::OutOfTurn),
         Phase::Opened(place) => take_first(words, state, place, first),
         Phase::Asked(_) => refuse(state, Refusal::OutOfTurn),
@@ -66,8 +62,7 @@ fn take_second(words: &Words, state: State, pending: Pending, second: Second) ->
 fn answer_second(words: &Words, state: State, second: Second) -> Outcome
     ensures { result ≡ second_step (rules_of words.now) state second }
 {
-    let phase = state.phase;
-    match phase {
+    match state.phase {
         Phase::Idle => refuse(state, Refusal::OutOfTurn),
         Phase::Opened(_) => refuse(state, Refusal::OutOfTurn),
         Phase::Asked(pending) => take_second(words, state, pending, second),

@@ -2,9 +2,9 @@ use borrow.Author.Rules.{rules}
 use Rattle.records.specs.Records.{answered_by}
 use Rattle.records.proofs.answer.Goals as goal
 
-pub returns-in-Refused : goal.returns-in-Refused
+pub returns-in-Err : goal.returns-in-Err
 unfolding answered_by
-returns-in-Refused c = simp c.in-Refused.is
+returns-in-Err c = simp c.in-Err.is
 
 pub returns-in-Ok : goal.returns-in-Ok
 unfolding answered_by
