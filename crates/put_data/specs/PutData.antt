@@ -1,7 +1,8 @@
 -- The PUT DATA command of an issuer script, and what it writes (request Twelve; CPA 18.8, Tables 18-6 and J-1). A command that fails writes nothing.
-use Rattle.std.specs.Prelude.{Bool, true, false, cond, ◌&&◌, List, [], ◌∷◌, ℕ, zero, suc, ◌+◌, ◌-◌, length, take, drop, leb, eqb, Option, None, Some}
+use Rattle.std.specs.Prelude.{Bool, cond, ◌&&◌, List, [], ◌∷◌, ℕ, zero, suc, ◌+◌, ◌-◌, length, take, drop, leb, eqb, Option, None, Some}
 use Rattle.element.specs.declared.Write.{Write}
 use Rattle.element.specs.Element.{length_at, element_size, element_meaning}
+pub use Rattle.std.specs.Option.{is_some}
 pub use Rattle.frame.specs.Frame.{object_of}
 unfoldable pub use Rattle.frame.specs.Frame.{is_put_data, list_place, mac_place, is_secured}
 use Rattle.put_data.specs.declared.Next.{Next}
@@ -32,10 +33,6 @@ elements_of c = cond (leb (mac_place c) (length c)) (take (length_at c 6) (drop 
 -- WHAT A COMMAND WRITES: none where it fails
 unfoldable pub writes_of : List ℕ → Option (List Write)
 writes_of c = cond (is_put_data c && is_secured c) (writes_in (object_of c) (elements_of c)) None
-
-abbrev pub is_some : Option (List Write) → Bool
-is_some None = false
-is_some (Some ws) = true
 
 unfoldable pub is_valid : List ℕ → Bool
 is_valid c = is_some (writes_of c)
