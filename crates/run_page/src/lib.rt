@@ -4,13 +4,14 @@
 ghost use Rattle.std.specs.Prelude.{◌≡◌};
 ghost use Rattle.run_page.specs.RunPage.{refusal_in, answers_in};
 
+use refusal::Refusal;
 
 // The refusal of a run, 0 where there is none.
 pub fn refusal_in(ran: Result<usize, Refusal>) -> u8
     ensures { result ≡ refusal_in ran }
 {
     match ran {
-        Ok { .. } => 0,
+        Ok(_) => 0,
         Err(refusal) => refusal.number(),
     }
 }
@@ -19,8 +20,5 @@ pub fn refusal_in(ran: Result<usize, Refusal>) -> u8
 pub fn answers_in(ran: Result<usize, Refusal>) -> usize
     ensures { result ≡ answers_in ran }
 {
-    match ran {
-        Ok(answers) => answers,
-        Err(_) => 0,
-    }
+    ran.unwrap_or(0)
 }

@@ -15,12 +15,12 @@ use Rattle.std.specs.Prelude.{Err, None, Ok, Option, Some}
 
 module _ (shape : Shape) (run : List ℕ) where
   -- the count tells whether it is a run
-  pub uncounted : (counted : Option ℕ) → counted ≡ count_of shape run → ((count : ℕ) → counted ≡ Some count → ⊥) → is_run shape run ≡ false
+  uncounted : count_of shape run ≡ None → is_run shape run ≡ false
   unfolding count_of
-  uncounted counted is k = by (is_run shape run) (rw is at k) where
-    by : (b : Bool) → ((count : ℕ) → cond b (Some (length (records_in run))) None ≡ Some count → ⊥) → b ≡ false
-    by true z = absurd (z _ refl)
-    by false z = refl
+  uncounted = by (is_run shape run) where
+    by : (b : Bool) → cond b (Some (length (records_in run))) None ≡ None → b ≡ false
+    by true e = cc
+    by false e = refl
 
   counted : {count : ℕ} → count_of shape run ≡ Some count → (is_run shape run ≡ true) × (length (records_in run) ≡ count)
   unfolding count_of
@@ -32,9 +32,9 @@ module _ (shape : Shape) (run : List ℕ) where
 
   -- the three rulings
   module _ (room : ℕ) where
-    pub no_run : is_run shape run ≡ false → ruled_run shape run room ≡ Err Unreadable
+    pub no_run : count_of shape run ≡ None → ruled_run shape run room ≡ Err Unreadable
     unfolding ruled_run
-    no_run e = rw e
+    no_run e = rw (uncounted e)
 
     module _ {count : ℕ} (e : count_of shape run ≡ Some count) where
       pub no_room : room / size < count → ruled_run shape run room ≡ Err NoRoomForAnswers

@@ -33,9 +33,7 @@ fn count_records(shape: Shape, records: &[u8]) -> Option<usize>
 pub fn rule(shape: Shape, records: &[u8], room: usize) -> Result<usize, Refusal>
     ensures { result ≡ ruled_run shape records.now room }
 {
-    let Some(count) = count_records(shape, records) else {
-        return Err(Refusal::Unreadable);
-    };
+    let count = count_records(shape, records).ok_or(Refusal::Unreadable)?;
     if room / answers::SIZE < count {
         return Err(Refusal::NoRoomForAnswers);
     }

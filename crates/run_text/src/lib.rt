@@ -7,6 +7,7 @@ ghost use Rattle.hex_digits.specs.Hex.{hex_byte};
 ghost use Rattle.text.specs.Stored.{Stored};
 ghost use Rattle.run_page.specs.RunPage.{ran_line, feed, hex_lines, page_end, page_text};
 
+use refusal::Refusal;
 
 // The most bytes of what became of a run.
 const LONGEST_HEAD: usize = 46;
@@ -53,12 +54,12 @@ fn put_lines(room: &mut [u8], at: usize, bytes: &[u8]) -> usize
     ensures { Stored room.old at (hex_lines bytes.now) (3 * length bytes.now) result room.new }
 {
     let mut end = at;
-    for i in 0..bytes.len() {
+    for (i, byte) in bytes.iter().enumerate() {
         let count = i + 1;
         end = put_byte(
             room,
             end,
-            bytes[i],
+            *byte,
             (count % LINE == 0) | (count == bytes.len()),
         );
     }
@@ -70,10 +71,7 @@ pub fn put_page(text: &mut [u8], ran: Result<usize, Refusal>, room: &[u8]) -> us
     ensures { (result ≡ page_end (length text.old) ran room.now)
         × (text.new ≡ page_text text.old ran room.now) }
 {
-    if text.len() < LONGEST_HEAD {
-        return 0;
-    }
-    if (text.len() - LONGEST_HEAD) / 3 < room.len() {
+    if text.len() < LONGEST_HEAD || (text.len() - LONGEST_HEAD) / 3 < room.len() {
         return 0;
     }
     let at = put_ran(text, 0, ran);
