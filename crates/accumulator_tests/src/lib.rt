@@ -16,10 +16,9 @@ use rules::{Place, Values, Words};
 fn limits_exceeded(lower: u64, upper: u64, value: u64, more: u64) -> u8
     ensures { (result ≡ bit (nat_lt lower (value + more)) + bit (nat_lt upper (value + more)) * 16) × (result ≤ 17) }
 {
-    let sum = std::num::wrapping_add_u64(value, more);
-    if sum < value {
+    let Some(sum) = value.checked_add(more) else {
         return 17;
-    }
+    };
     bit(lower < sum) + bit(upper < sum) * 16
 }
 

@@ -7,5 +7,5 @@ ghost use Rattle.limits.specs.Limits.{bit};
 pub fn bit(flag: bool) -> u8
     ensures { (result ≡ bit flag) × (result ≤ 1) }
 {
-    if flag { 1 } else { 0 }
+    u8::from(flag)
 }

@@ -39,7 +39,7 @@ impl Change {
 fn next(value: u8) -> u8
     ensures { result ≡ move counter_cap value (add 1) }
 {
-    if value < 255 { value + 1 } else { 255 }
+    value.saturating_add(1)
 }
 
 // Counter i + 1 after a change.
