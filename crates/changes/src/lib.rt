@@ -56,11 +56,7 @@ fn change_amount(
 fn is_in_order(timing: Timing) -> bool
     ensures { result ≡ is_in_order timing }
 {
-    match timing {
-        Timing::Undated => false,
-        Timing::InOrder => true,
-        Timing::DateError(_) => false,
-    }
+    matches!(timing, Timing::InOrder)
 }
 
 // Cyclic accumulator i + 1 after an approval, which it counts if its date is in order.
