@@ -120,21 +120,13 @@ fn ask(
 fn is_arqc(kind: Kind) -> bool
     ensures { result ≡ is_arqc kind }
 {
-    match kind {
-        Kind::Aac => false,
-        Kind::Tc => false,
-        Kind::Arqc => true,
-    }
+    matches!(kind, Kind::Arqc)
 }
 
 fn is_tc(kind: Kind) -> bool
     ensures { result ≡ is_tc kind }
 {
-    match kind {
-        Kind::Aac => false,
-        Kind::Tc => true,
-        Kind::Arqc => false,
-    }
+    matches!(kind, Kind::Tc)
 }
 
 // What follows from the decision.
