@@ -11,7 +11,8 @@ pub fn are_pairs(s: &[u8], at: u8) -> bool
     (0..6).all(|i| wire::is_pair(wire::byte_at(s, at as usize + i)))
 }
 
-// The amount that the digits at a place write.
+// The amount that the digits at a place write. By a place's number: what lies past the end reads as
+// 0, so there is no slice to go over.
 pub fn pairs_value(s: &[u8], at: u8) -> u64
     ensures { result ≡ pairs_value s.now at 6 }
 {

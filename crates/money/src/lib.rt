@@ -32,7 +32,7 @@ pub struct Rates {
 }
 
 // What an amount comes to in another currency: an amount, over (above MAX), or nothing where the
-// table has no entry.
+// table has no entry. Three ways: a Result with an error of two kinds would be no plainer.
 #[derive(Drop)]
 pub enum Converted {
     Amount(AccumulatorAmount),

@@ -21,6 +21,7 @@ pub enum Said {
     Script,
 }
 
+// The list of answers that document 01 names, a refusal among them: no Result.
 #[derive(Clone, Copy)]
 pub enum Event {
     // The card is set up.

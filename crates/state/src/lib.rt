@@ -104,6 +104,7 @@ impl Kind {
     }
 }
 
+// The list of answers that document 01 names, a refusal among them: no Result.
 #[derive(Clone, Copy)]
 pub enum Answer {
     Refused(Refusal),
