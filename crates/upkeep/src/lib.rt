@@ -14,13 +14,13 @@ use state::Answer;
 fn is_scripted(event: Event) -> bool
     ensures { result ≡ is_scripted event }
 {
-    let Event::Answered { answer, .. } = event else {
-        return false;
-    };
-    match answer {
-        Answer::Done => true,
-        _ => false,
-    }
+    matches!(
+        event,
+        Event::Answered {
+            answer: Answer::Done,
+            ..
+        }
+    )
 }
 
 // The room left after a record, by the values before and after it. A script may have written limits:
