@@ -10,6 +10,7 @@ ghost use Rattle.runs.specs.Runs.{records_in, is_run, card_of, card_after, answe
 
 use paper::Next;
 use records::Event;
+use refusal::Refusal;
 use rooms::Rooms;
 use rules::Words;
 use shape::Shape;
@@ -88,7 +89,7 @@ pub fn run(
     let ran = run_rule::rule(shape, records, room.len());
     match ran {
         Err(_) => RunEnd { state, ran },
-        Ok { .. } => RunEnd {
+        Ok(_) => RunEnd {
             state: answer_records(words, rooms, shape, paper, state, records, room),
             ran,
         },

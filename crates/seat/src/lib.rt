@@ -30,7 +30,7 @@ fn ran_number(ran: Result<usize, Refusal>) -> u8
     ensures { result ≡ ran_number ran }
 {
     match ran {
-        Ok { .. } => 0,
+        Ok(_) => 0,
         Err(refusal) => refusal.number(),
     }
 }

@@ -89,7 +89,5 @@ pub fn transcribe(paper: &[u8], words: &mut Words, room: &mut [u8], at: usize) -
     if !paper_room::has_room(room.len(), at, paper.len()) {
         return None;
     }
-    Some {
-        end: put_paper(paper, words, room, at),
-    }
+    Some(put_paper(paper, words, room, at))
 }
