@@ -25,7 +25,12 @@ pub fn slots_of(family: Family, values: Values) -> Slots
 
 // What the paper's file selects for the terminal's data. A file that does not lie in the paper is
 // empty.
-pub fn select_profile(selecting: Option<SelectionFile>, slots: Slots, paper: &[u8], data: &[u8]) -> Option<Selected>
+pub fn select_profile(
+    selecting: Option<SelectionFile>,
+    slots: Slots,
+    paper: &[u8],
+    data: &[u8],
+) -> Option<Selected>
     ensures { result ≡ selected_in selecting slots paper.now «data».now }
 {
     let SelectionFile {

@@ -15,8 +15,9 @@ fn answer_all(
     let mut number: u64 = 1;
     for _ in 0..u64::MAX {
         let filled = streams::read_all(rt, buffer)?;
-        let Answered { end, next } =
-            imports::answer(&buffer[..filled], number, room).ok_or(Failure::NotWritten)?;
+        let Answered { end, next } = imports::answer(&buffer[..filled], number, room).ok_or(
+            Failure::NotWritten,
+        )?;
         streams::write_out(rt, room, end)?;
         if filled < buffer.len() {
             return Ok(());
