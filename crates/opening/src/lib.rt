@@ -93,7 +93,8 @@ fn judge_log(shape: Shape, body: &[u8]) -> Result<(), Fault>
     requires { Spans shape.logging (length body.now) }
     ensures { result ≡ log_judged shape body.now }
 {
-    let Some(Span { start, end }) = shape.logging else {
+    let logging = shape.logging;
+    let Some(Span { start, end }) = logging else {
         return Ok(());
     };
     let first = bodies::first_length(shape.dating, shape.family);
@@ -140,10 +141,12 @@ pub fn begin(paper: &[u8], words: &mut Words) -> Begun
 {
     match paper::open_paper(paper) {
         Err(refusal) => begun::refuse(refusal, 0),
-        Ok(Opened {
-            version,
-            start,
-            end,
-        }) => take_setup(version, &paper[start..end], start, end, words),
+        Ok(
+            Opened {
+                version,
+                start,
+                end,
+            },
+        ) => take_setup(version, &paper[start..end], start, end, words),
     }
 }
