@@ -56,9 +56,8 @@ use Rattle.demands.specs.Rows.{StartRow, no_interface, not_selected, not_in_setu
 use Rattle.demands.specs.Rows.{above-max, not_digits, not_a_day, SecondRow, no_arqc, type_two, issuer_data, Applies, rank, Numbered, done, refused}
 use Rattle.std.specs.Prelude.{Err, None, Ok, Option, Result, Some}
 use Rattle.calendar.specs.declared.Date.{Date}
-use Rattle.object.specs.declared.Fault.{Fault}
-use Rattle.object.specs.declared.Fault.TheVariants.{Malformed as NoTemplate}
-use Rattle.object.specs.declared.Fault.TheVariants.{TooDeep as DeepTemplate}
+use Rattle.object.specs.declared.Fault.{Fault as ReadFault}
+use Rattle.object.specs.declared.Fault.TheVariants.{Malformed as NoTemplate, TooDeep as DeepTemplate}
 use Rattle.selection.specs.declared.Selected.{Selected}
 
 -- what is taken is answered, and no answer to it is a refusal
@@ -235,9 +234,9 @@ script-least (no_result n h) = (omega arith, λ closed. (omega arith, λ small. 
 script-least (at-fault f) = let h = some-fault f in (omega arith, λ closed. (omega arith, λ small. f))
 
 module _ (due : Due) (closed : IsFirst due → ⊥) (result : ℕ) (template : List ℕ) (bytes : Bytes template) where
-  reading_ruled : result ≤ 1 → (verified : Bool) (reading : Result Unit Fault) → read_template template ≡ reading
+  reading_ruled : result ≤ 1 → (verified : Bool) (reading : Result Unit ReadFault) → read_template template ≡ reading
       → Ruled (ScriptCommand result template) (ScriptRow due result template) (rule_reading verified reading)
-  reading_ruled small verified (Ok done) is =
+  reading_ruled small verified (Ok sound) is =
       λ m row.
       let f = fault_if_first (((script-least row).1 closed).1 small) bytes in
       f.1 (sym f.0 ∙ ap reading_number is)

@@ -81,10 +81,10 @@ module _ (file : List ℕ) (entries : ℕ) where
   start_selected_lem rules state slots interface read atc visits = on (ltb 1 interface) (selection_of file entries read slots) where
     opened : (profile seen : ℕ) (found : Option Place) (b : Bool) → eqb state.atc 65535 ≡ b
         → (carried state (start_performed state seen) (rule_opening state.atc found)).answer ≡ Started atc visits
-        → (Some (record { profile = profile; visits = seen })) ≡ Some (record { profile = profile; visits = visits })
+        → ◌≡◌ {A = Option Selected} (Some (record { profile = profile; visits = seen })) (Some (record { profile = profile; visits = visits }))
     opened profile seen None b h e = let z = ap is_start e in absurd (omega arith)
     opened profile seen (Some place) true h e = let z = ap is_start (rw h at e) in absurd (omega arith)
-    opened profile seen (Some place) false h e = ap ((λ visits. Some (record { profile = profile; visits = visits }))) (ap visits_in (rw h at e))
+    opened profile seen (Some place) false h e = ap {B = Option Selected} (λ visits. Some (record { profile = profile; visits = visits })) (ap visits_in (rw h at e))
 
     by : (chosen : Option Selected) → (carried state (start_performed state (visits_of chosen)) (rule_chosen rules state.atc chosen)).answer ≡ Started atc visits
         → chosen ≡ Some (record { profile = profile_of chosen; visits = visits })

@@ -31,8 +31,7 @@ use Rattle.scripting.specs.Scripting.{rule_script, rule_script_fields, rule_read
 use Rattle.demands.proofs.Found.{Holds, Known, known}
 use Rattle.std.specs.Prelude.{Err, None, Ok, Option, Result, Some}
 use Rattle.object.specs.declared.Fault.{Fault}
-use Rattle.object.specs.declared.Fault.TheVariants.{Malformed as NoTemplate}
-use Rattle.object.specs.declared.Fault.TheVariants.{TooDeep as DeepTemplate}
+use Rattle.object.specs.declared.Fault.TheVariants.{Malformed as NoTemplate, TooDeep as DeepTemplate}
 use Rattle.selection.specs.declared.Selected.{Selected}
 
 pub data Did (rules : Rules) (state : State) : Message → Outcome → Type 0 where
