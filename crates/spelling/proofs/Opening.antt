@@ -19,7 +19,9 @@ use Rattle.spelling.specs.Spelling.{Bytes, record_of}
 use Rattle.spelling.specs.Faults.{Whole, OpenFault, empty, over, bad_version, setup-missing, setup-broken, other-first, Opens}
 use Rattle.spelling.proofs.Shapes.{Shape, nothing, broken, whole, shape, shift, next_drop, part_drop, next-nothing, next-broken}
 use Rattle.spelling.proofs.Shapes.{here_length, next-whole, body-there, rest-there}
-use Rattle.std.specs.Prelude.{Err, Ok}
+use Rattle.std.specs.Prelude.{Err, Ok, Result}
+use Rattle.refusal.specs.declared.Refusal.{Refusal}
+use Rattle.paper.specs.declared.Opened.{Opened}
 
 -- ---- what opens
 
@@ -78,7 +80,7 @@ unreadable s e = rw e
 no_setup : (s : List ℕ) (n : Next) → next_at s 1 ≡ n → setup_in (byte s 0) n ≡ Err Unreadable → open_paper s ≡ Err Unreadable
 unfolding open_paper
 no_setup s n e h = rw (e, h) (by (is_unreadable s)) where
-  by : (b : Bool) → cond b (Err Unreadable) (Err Unreadable) ≡ Err Unreadable
+  by : (b : Bool) → cond {A = Result Opened Refusal} b (Err Unreadable) (Err Unreadable) ≡ Err Unreadable
   by true = refl
   by false = refl
 

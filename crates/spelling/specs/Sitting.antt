@@ -30,7 +30,7 @@ use Rattle.records.specs.Records.{is_script}
 use Rattle.lines.specs.Sitting.{answer_line, sitting_lines}
 use Rattle.spelling.specs.Spelling.{Sent, spell, spell_all, Manner, manner_in, Fits, AllFit, slots_in, stands_for}
 use Rattle.spelling.specs.Faults.{OpenFault, Opens, RestFault}
-use Rattle.command.specs.declared.Command.{Command}
+use Rattle.command.specs.declared.Command.{Command as Sending}
 use Rattle.log_tail.specs.declared.Fault.TheVariants.{PastData}
 use Rattle.log_tail.specs.declared.Fault.TheVariants.{Wrong}
 use Rattle.shape.specs.declared.SelectionFile.{SelectionFile}
@@ -40,7 +40,7 @@ pub data Read : Type 0 where
   sends : Message → Read
   refuses : Refusal → Read
 
-abbrev pub command_read : Result Command Refusal → Read
+abbrev pub command_read : Result Sending Refusal → Read
 command_read (Ok (Start start)) = sends (StartCommand start)
 command_read (Ok (First first)) = sends (FirstCommand first)
 command_read (Ok (Second second)) = sends (SecondCommand second)
