@@ -35,7 +35,7 @@ use Rattle.apart_papers.proofs.Bytes.{Shared, shared, same_number}
 use Rattle.apart_papers.proofs.Shapes.{LateSelecting, LateLogging, Late, shape_same, shape-late, cycles-same, family-same, log-part-same}
 use Rattle.apart_papers.proofs.Fresh.{long, apart-fresh}
 use Rattle.std.specs.Prelude.{Err, None, Ok, Option, Result, Some}
-use Rattle.log_tail.specs.declared.Fault.{Fault}
+use Rattle.log_tail.specs.declared.Fault.{Fault as LogFault}
 use Rattle.log_tail.specs.declared.Fault.TheVariants.{PastData}
 use Rattle.log_tail.specs.declared.Fault.TheVariants.{Wrong}
 use Rattle.paper.specs.declared.Opened.{Opened}
@@ -178,12 +178,12 @@ module _ (x : Meter) (is : IsSwitch x) (words s t : List ℕ) (same : SameSetups
     log-late (Some part) h = omega arith
 
     -- the base is read, and the log is judged
-    abbrev base_from : Result Unit Fault → (body : List ℕ) → Begun
+    abbrev base_from : Result Unit LogFault → (body : List ℕ) → Begun
     base_from log body =
         let base = base_part shape body in
         logged_begun log (is_accepted base cycles family shape.unnamed) end (base_begun (shape_at 4 shape) base cycles family end)
 
-    by-log : (log : Result Unit Fault)
+    by-log : (log : Result Unit LogFault)
         → (base_from log s).event ≡ SetUp → (base_from log t).event ≡ SetUp
         → Begins x (base_from log s) (base_from log t)
         (logged_words log words (words_after words (base_part shape s) cycles family shape.syllabus shape.unnamed))

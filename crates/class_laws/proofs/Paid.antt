@@ -54,10 +54,10 @@ use Rattle.sheet_laws.specs.Class.{total}
 use Rattle.sheet_laws.proofs.Totals.{total_append}
 use Rattle.sheet_laws.proofs.Bounds.{approvals_of, Payable, AllPayable, none_paid, more_paid}
 use Rattle.std.specs.Prelude.{Err, Ok, Result}
-use Rattle.log_tail.specs.declared.Fault.{Fault}
+use Rattle.log_tail.specs.declared.Fault.{Fault as LogFault}
 use Rattle.log_tail.specs.declared.Fault.TheVariants.{PastData}
 use Rattle.log_tail.specs.declared.Fault.TheVariants.{Wrong}
-use Rattle.paper.specs.declared.Opened.{Opened}
+use Rattle.paper.specs.declared.Opened.{Opened as OpenedPaper}
 use Rattle.refusal.specs.declared.Refusal.{Refusal}
 
 -- ---- a First that a cryptogram answers asks at most MAX
@@ -237,7 +237,7 @@ from-most (suc n) rules shape state paper at =
     )
 
 -- its first event is no answer
-logged_paid : (judged : Result Unit Fault) (accepted : Bool) (end : ℕ) (begun : Begun) → EventPaid begun.event
+logged_paid : (judged : Result Unit LogFault) (accepted : Bool) (end : ℕ) (begun : Begun) → EventPaid begun.event
     → EventPaid (logged_begun judged accepted end begun).event
 unfolding past_begun
 logged_paid (Ok done) accepted end begun h = h
@@ -258,7 +258,7 @@ shaped_paid body place end (Ok shape) =
     logged_paid (log_judged shape body) (is_accepted base cycles family shape.unnamed) end (base_begun (shape_at place shape) base cycles family end)
     (answer_paid (read_setup base cycles family (shape_at place shape).unnamed).answer)
 
-opened_paid : (paper : List ℕ) (opened : Result Opened Refusal) → EventPaid (opened_begun paper opened).event
+opened_paid : (paper : List ℕ) (opened : Result OpenedPaper Refusal) → EventPaid (opened_begun paper opened).event
 unfolding setup_begun
 opened_paid paper (Err refusal) = tt
 opened_paid paper (Ok opened) = shaped_paid (part paper opened.start opened.end) opened.start opened.end (shape_of opened.version (part paper opened.start opened.end))
@@ -278,7 +278,7 @@ paper_paid paper =
     (following_paid begun.event (begun_paid paper) more)
     ).paid
 
-opened_as : (paper : List ℕ) {opened : Result Opened Refusal} → open_paper paper ≡ opened → begun_of paper ≡ opened_begun paper opened
+opened_as : (paper : List ℕ) {opened : Result OpenedPaper Refusal} → open_paper paper ≡ opened → begun_of paper ≡ opened_begun paper opened
 unfolding begun_of
 opened_as paper e = ap (opened_begun paper) e
 

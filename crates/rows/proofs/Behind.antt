@@ -14,7 +14,7 @@ use Rattle.selection.specs.Selection.{is_file}
 use Rattle.shape.specs.declared.Family.TheVariants.{Cpa}
 use Rattle.shape.specs.declared.Shape.{Shape}
 use Rattle.shape.specs.Shape.{based, base_tail, entries_end, selection_tail, follows, syllabus_tail, dates, dating_tail, tail_part, families, family_tail}
-use Rattle.shape.specs.Shape.{family_part, scripts, scripting_tail, logs, log_end, logging_tail, tail_part, behind, tails_of, whole, shape_of}
+use Rattle.shape.specs.Shape.{family_part, scripts, scripting_tail, logs, log_end, logging_tail, behind, tails_of, whole, shape_of}
 use Rattle.shape.proofs.Files.{file-ends}
 use Rattle.rows.specs.Rows.{Dates, undated, dated, cycles_bytes, Families, cpa, cpace, controls_bytes}
 use Rattle.rows.specs.Tails.{Choosing, off, on, file_bytes, choosing_bytes, dates_bytes, families_bytes, scripts_byte}

@@ -35,7 +35,7 @@ use Rattle.run_laws.specs.Behind.{left_by, ReadWhole, answer_lines}
 use Rattle.run_laws.proofs.Appended as Appended
 use Rattle.run_laws.proofs.Behind.{tail, front}
 use Rattle.std.specs.Prelude.{Err, None, Ok, Option, Result, Some}
-use Rattle.log_tail.specs.declared.Fault.{Fault}
+use Rattle.log_tail.specs.declared.Fault.{Fault as LogFault}
 use Rattle.log_tail.specs.declared.Fault.TheVariants.{PastData}
 use Rattle.log_tail.specs.declared.Fault.TheVariants.{Wrong}
 use Rattle.paper.specs.declared.Opened.{Opened}
@@ -116,7 +116,7 @@ module _ (p : List ℕ) (version start end : ℕ) (o : Opens p version start end
   pub within : (begun_of p).event ≡ SetUp → Within p (begun_of p)
   unfolding begun_of setup_begun base_begun past_begun
   within e = subst (λ opened. (opened_begun p opened).event ≡ SetUp → Within p (opened_begun p opened)) (sym o.is) (by (shape_of version (part p start end)) refl) e where
-    by-log : (judged : Result Unit Fault) (good : Bool) (begun : Begun) → Within p begun → (logged_begun judged good end begun).event ≡ SetUp
+    by-log : (judged : Result Unit LogFault) (good : Bool) (begun : Begun) → Within p begun → (logged_begun judged good end begun).event ≡ SetUp
         → Within p (logged_begun judged good end begun)
     by-log (Ok done) good begun w e = w
     by-log (Err Wrong) good begun w e = absurd (let z : ◌≡◌ {A = ℕ} 0 1 = cc in omega arith)

@@ -43,7 +43,7 @@ use Rattle.lines.specs.Sitting.{answer_line, lines_of, sitting_lines}
 use Rattle.transcript.specs.Transcript.{set_up_number, joined, transcript_of, rest_of}
 use Rattle.std.specs.Prelude.{Err, Ok, Result}
 use Rattle.command.specs.declared.Command.{Command}
-use Rattle.log_tail.specs.declared.Fault.{Fault}
+use Rattle.log_tail.specs.declared.Fault.{Fault as LogFault}
 use Rattle.log_tail.specs.declared.Fault.TheVariants.{PastData as TableFault}
 use Rattle.log_tail.specs.declared.Fault.TheVariants.{Wrong}
 use Rattle.paper.specs.declared.Opened.{Opened}
@@ -201,7 +201,7 @@ begins paper = by (open_paper paper) refl where
   by_answer shape base cycles family end o (Ok done) e = accepted (ap set_up_event e) o
   by_answer shape base cycles family end o (Err refusal) e = refused refusal (ap set_up_event e)
 
-  by-log : (judged : Result Unit Fault) (good : Bool) (end : ℕ) (begun : Begun) → Beginning paper begun → Beginning paper (logged_begun judged good end begun)
+  by-log : (judged : Result Unit LogFault) (good : Bool) (end : ℕ) (begun : Begun) → Beginning paper begun → Beginning paper (logged_begun judged good end begun)
   by-log (Ok done) good end begun b = b
   by-log (Err Wrong) good end begun b = refused BadSetup refl
   by-log (Err TableFault) good end begun b = refused (cond good PastData BadSetup) refl
