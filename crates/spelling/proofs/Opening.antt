@@ -145,6 +145,19 @@ nine_exactly s h = (λ e. by e (opens_or_faults s h), λ f. rw (faults s f)) whe
       let zero : opened_number (open_paper s) ≡ 0 = rw (opens s o.version o.body o.rest o.opens).0 in
       absurd (omega arith)
 
+-- the parts of what was opened
+abbrev pub version_of : Result Opened Refusal → ℕ
+version_of (Ok o) = o.version
+version_of (Err r) = 0
+
+abbrev pub start_in : Result Opened Refusal → ℕ
+start_in (Ok o) = o.start
+start_in (Err r) = 0
+
+abbrev pub end_in : Result Opened Refusal → ℕ
+end_in (Ok o) = o.end
+end_in (Err r) = 0
+
 -- AND WHAT IS READ AS A SET-UP IS THE PAPER THAT OPENS SO
 pub setup-exactly : (s : List ℕ) → Bytes s → (version start end : ℕ) → open_paper s ≡ Ok (record { version = version; start = start; end = end })
     → (start ≡ 4) × Opens s version (part s start end) (drop end s)
@@ -153,7 +166,8 @@ setup-exactly s h version start end e = by (opens_or_faults s h) where
   by (inl f) = let z : ◌≡◌ {A = ℕ} 0 1 = cc (faults s f) in absurd (omega arith)
   by (inr o) =
       let r = opens s o.version o.body o.rest o.opens in
-      let v : version ≡ o.version = cc in
-      let from : start ≡ 4 = cc in
-      let to : end ≡ 4 + length o.body = cc in
+      let both = sym e ∙ r.0 in
+      let v : version ≡ o.version = ap version_of both in
+      let from : start ≡ 4 = ap start_in both in
+      let to : end ≡ 4 + length o.body = ap end_in both in
       (from, rw (from, to, v, r.1, r.2) o.opens)
