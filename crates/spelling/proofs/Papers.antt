@@ -38,7 +38,7 @@ use Rattle.spelling.specs.Sitting.{Lies, setup_from, SetUp, NotSetUp, no_shape, 
 use Rattle.spelling.specs.Sitting.{Sat, unread, not_set_up, past_data, sat}
 use Rattle.spelling.proofs.Numbers.{byte_small, bytes_take, bytes_drop, bytes-front}
 use Rattle.spelling.proofs.Shapes.{record_is, here_length, part_drop}
-use Rattle.spelling.proofs.Opening.{opens, faults, Opening, opens_or_faults}
+use Rattle.spelling.proofs.Opening.{opens, faults, Opening, opens_or_faults, version_of, end_in}
 use Rattle.spelling.proofs.Lines.{events-by, lines-happened}
 use Rattle.spelling.proofs.Parsed.{parsed, one_way}
 use Rattle.std.specs.Prelude.{Err, None, Ok, Option, Result, Some}
@@ -294,8 +294,9 @@ pub one-paper : (s : List ℕ) (v w : ℕ) (b c rest more : List ℕ) → Opens 
 one-paper s v w b c rest more o p =
     let x = opens s v b rest o in
     let y = opens s w c more p in
-    let end : 4 + length b ≡ 4 + length c = cc in
-    (cc, sym x.1 ∙ ap (part s 4) end ∙ y.1, sym x.2 ∙ ap (λ (n : ℕ). drop n s) end ∙ y.2)
+    let both = sym x.0 ∙ y.0 in
+    let end : 4 + length b ≡ 4 + length c = ap end_in both in
+    (ap version_of both, sym x.1 ∙ ap (part s 4) end ∙ y.1, sym x.2 ∙ ap (λ (n : ℕ). drop n s) end ∙ y.2)
 
 pub one_sitting : (s : List ℕ) (v w : ℕ) (b c : List ℕ) (x y : Shape) → SetUp v b x → SetUp w c y
     → (xs ys : List Sent) (r q : List ℕ)
