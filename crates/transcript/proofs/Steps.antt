@@ -2,7 +2,6 @@
 use mathlib.Core.Path.{◌≡◌, refl, sym, ap, subst, ◌∙◌}
 use mathlib.Core.Bool.{Bool, true, false, cond, ◌||◌}
 use mathlib.Core.List.{List, [], ◌∷◌, ◌++◌, append-nil}
-use mathlib.Core.Logic.{inl, inr}
 use Prim.Native.Nat.{ℕ, suc, ◌+◌, ◌-◌, ◌≤◌, ◌<◌}
 use native.Mathlib.Omega.{arith}
 use borrow.Author.Tests.{ltb-false}
@@ -167,8 +166,12 @@ pub data Beginning (paper : List ℕ) (begun : Begun) : Type 0 where
   accepted : begun.event ≡ SetUp → Opening paper begun.at → Beginning paper begun
   refused : (refusal : Refusal) → begun.event ≡ Refused refusal → Beginning paper begun
 
+end_of : Result Opened Refusal → ℕ
+end_of (Ok opened) = opened.end
+end_of (Err refusal) = 0
+
 opening : (paper : List ℕ) (version start end : ℕ) → open_paper paper ≡ Ok (record { version = version; start = start; end = end }) → Opening paper end
-unfolding open_paper
+unfolding open_paper end_of
 opening paper version start end = by (is_unreadable paper) (next_at paper 1) refl refl where
   not_long : (a b c d : Bool) → (a || b || c || d) ≡ false → b ≡ false
   not_long false false c d e = refl
@@ -176,10 +179,10 @@ opening paper version start end = by (is_unreadable paper) (next_at paper 1) ref
   not_long true b c d e = absurd (let z : ◌≡◌ {A = ℕ} 0 1 = cc in omega arith)
 
   by_kind : (version₀ kind start₀ end₀ : ℕ) (b : Bool) → next_at paper 1 ≡ Record kind start₀ end₀ → length paper ≤ 65536
-      → cond b (Ok (record { version = version₀; start = start₀; end = end₀ })) (Err Unreadable) ≡ Ok (record { version = version; start = start; end = end }) → Opening paper end
+      → cond {A = Result Opened Refusal} b (Ok (record { version = version₀; start = start₀; end = end₀ })) (Err Unreadable) ≡ Ok (record { version = version; start = start; end = end }) → Opening paper end
   by_kind version₀ kind start₀ end₀ true n short e =
       let i = inside paper 1 kind start₀ end₀ n in
-      let same : end₀ ≡ end = cc in
+      let same : end₀ ≡ end = ap end_of e in
       record { short = short; begins = omega (arith, i.holds); inside = omega (arith, i.fits) }
   by_kind version₀ kind start₀ end₀ false n short e = absurd (let z : ◌≡◌ {A = ℕ} 0 1 = cc in omega arith)
 

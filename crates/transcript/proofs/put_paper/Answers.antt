@@ -1,5 +1,4 @@
 -- The set-up's line, and where it is taken the records' lines behind it.
-use borrow.Author.Rules.{rules}
 use mathlib.Core.Path.{sym, ap, ◌∙◌}
 use native.Mathlib.Omega.{arith}
 use lib.ListN.{length}

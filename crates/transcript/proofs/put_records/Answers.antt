@@ -1,13 +1,9 @@
-use borrow.Author.Rules.{rules}
 use mathlib.Core.Path.{refl, sym, ap, ◌∙◌}
-use Prim.Native.Nat.{◌+◌, ◌-◌}
+use Prim.Native.Nat.{◌+◌}
 use native.Mathlib.Omega.{arith}
 use lib.ListN.{length}
 use lib.Seq.{sets}
-use Rattle.rules.specs.Rules.{rules_of}
-use Rattle.conversation.specs.Events.{words_from}
-use Rattle.transcript.specs.Transcript.{rest_of}
-use Rattle.transcript.proofs.Going.{Going, go_on, falls, last-is, over}
+use Rattle.transcript.proofs.Going.{go_on, falls, last-is, over}
 use Rattle.transcript.proofs.put_records.Goals as goal
 
 pub records-init : goal.records-init

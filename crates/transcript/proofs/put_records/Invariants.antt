@@ -1,14 +1,10 @@
 -- Each turn writes a record's line; when nothing is left the text stands.
-use borrow.Author.Rules.{rules}
-use mathlib.Core.Path.{refl, sym, ap, ◌∙◌}
-use Prim.Native.Nat.{◌+◌, ◌-◌}
-use native.Mathlib.Omega.{arith}
+use Prim.Native.Nat.{◌-◌}
 use lib.ListN.{length}
-use lib.Seq.{sets}
 use Rattle.rules.specs.Rules.{rules_of}
 use Rattle.conversation.specs.Events.{words_from}
 use Rattle.transcript.specs.Transcript.{rest_of}
-use Rattle.transcript.proofs.Going.{Going, go_on, falls, last-is, over}
+use Rattle.transcript.proofs.Going.{Going}
 use Rattle.transcript.proofs.put_records.Given as goal
 
 abbrev pub invariant-records : goal.invariant-records
