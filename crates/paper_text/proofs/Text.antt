@@ -134,6 +134,6 @@ some-stands paper room high blank put there in-it =
     (rw high parts_are, rw high room_is, rw (parts_are, room_is) (stands blank_words paper room (subst (PartsIn 0 (length paper)) parts_are in-it)))
 
 -- what stands in the room is a part of it
-pub within : (room text : List ℕ) (parts : Option Parts) (lines end : ℕ) → Stands room text parts → parts ≡ Some (record { lines = lines; end = end }) → (lines ≤ end) × (end ≤ length room)
+pub within : (room text : List ℕ) (parts : Option Parts) (start end : ℕ) → Stands room text parts → parts ≡ Some (record { lines = start; end = end }) → (start ≤ end) × (end ≤ length room)
 unfolding Stands
-within room text parts lines end there e = let put = subst (Stands room text) e there in (put.1, put.2)
+within room text parts start end there e = let put = subst (Stands room text) e there in (put.1, put.2)

@@ -27,9 +27,7 @@ fn put_parts(paper: &[u8], words: &mut Words, room: &mut [u8], at: usize) -> Opt
     if !log_behind::has_room(room.len(), at, paper.len()) {
         return None;
     }
-    let Some(end) = transcript::transcribe(paper, words, room, at) else {
-        return None;
-    };
+    let end = transcript::transcribe(paper, words, room, at)?;
     Some(Parts {
         lines: end,
         end: log_behind::put_log(paper, room, at, end),
@@ -43,10 +41,7 @@ pub fn put_text(paper: &[u8], words: &mut Words, room: &mut [u8], at: usize) -> 
         × (words.new ≡ words_put words.old paper.now room.old at)
         × EndsIn at (length paper.now) result }
 {
-    match put_parts(paper, words, room, at) {
-        Some(Parts { end, .. }) => Some(end),
-        None => None,
-    }
+    Some(put_parts(paper, words, room, at)?.end)
 }
 
 // The paper answered for its log alone, whose text stands behind the lines; a paper below version 07

@@ -19,44 +19,28 @@ returns-then-not-has_room c =
     let none = sym c.has_room.ensures ∙ c.if-not-has_room.true in
     (simp none, simp none, simp none, search rules)
 
-pub returns-in_default : goal.returns-in_default
-returns-in_default c =
-    let until-put = c in
-    let put = until-put in
-    let asked = put in
-    let until-a = asked in
-    let a = until-a.args in
-    let fits = sym asked.has_room.ensures ∙ asked.if-not-has_room.false in
-    let whole = sym (put.transcribe.ensures.0 ∙ (lines-put a.words.now a.paper.now a.room.now a.at fits).0) ∙ c.in_default.is in
+pub returns-in_err-end : goal.returns-in_err-end
+returns-in_err-end c =
+    let a = c.args in
+    let fits = sym c.has_room.ensures ∙ c.if-not-has_room.false in
+    let whole = sym (c.transcribe.ensures.0 ∙ (lines-put a.words.now a.paper.now a.room.now a.at fits).0) ∙ c.in_err-end.was in
     let z : ◌≡◌ {A = ℕ} 0 1 = cc in
     absurd (omega arith)
 
 pub shape_of-room : goal.shape_of-room
 shape_of-room c =
-    let log = c in
-    let until-put = log in
-    let until-put-2 = until-put in
-    let put = until-put-2 in
-    let until-a = put in
-    let until-a-2 = until-a in
-    let a = until-a-2.args in
-    rw log.put_log.ensures.1
-    (placed_length _ _ _ ∙ ap length put.transcribe.ensures.1 ∙ lines_length a.words.now a.paper.now a.room.now a.at)
+    let a = c.args in
+    rw c.put_log.ensures.1
+    (placed_length _ _ _ ∙ ap length c.transcribe.ensures.1 ∙ lines_length a.words.now a.paper.now a.room.now a.at)
 
 pub returns : goal.returns
 unfolding parts_put room_put words_put
 returns c =
-    let log = c in
-    let told = log in
-    let until-put = told in
-    let put = until-put in
-    let asked = put in
-    let until-a = asked in
-    let a = until-a.args in
-    let fits = sym asked.has_room.ensures ∙ asked.if-not-has_room.false in
+    let a = c.args in
+    let fits = sym c.has_room.ensures ∙ c.if-not-has_room.false in
     let lines = lines-put a.words.now a.paper.now a.room.now a.at fits in
-    let whole = sym (put.transcribe.ensures.0 ∙ lines.0) ∙ told.in-Some.is in
-    let e = log.put_log.ensures in
+    let whole = sym (c.transcribe.ensures.0 ∙ lines.0) ∙ c.in_ok-end.was in
+    let e = c.put_log.ensures in
     let text =
-    log-put a.words.now a.paper.now a.room.now a.at fits (sym (same_end _ _ whole)) (put.transcribe.ensures.1 ∙ lines.1) e.0 e.1 e.2 in
-    (rw (fits, text.0, ← same_end _ _ whole), rw (fits, text.1), rw (fits) (put.transcribe.ensures.2 ∙ lines.2), text.2)
+    log-put a.words.now a.paper.now a.room.now a.at fits (sym (same_end _ _ whole)) (c.transcribe.ensures.1 ∙ lines.1) e.0 e.1 e.2 in
+    (rw (fits, text.0, ← same_end _ _ whole), rw (fits, text.1), rw (fits) (c.transcribe.ensures.2 ∙ lines.2), text.2)
