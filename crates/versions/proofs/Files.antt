@@ -33,7 +33,7 @@ use Rattle.versions.proofs.Papers.{Known, Reads, reads_of, paper_of, file-there,
 use Rattle.std.specs.Prelude.{None, Ok, Option, Some}
 use Rattle.selection.specs.declared.Selected.{Selected}
 use Rattle.shape.specs.Shape.{ended_at}
-use Rattle.shape.specs.Shape.{file}
+use Rattle.shape.specs.Shape.{file as file_from}
 use Rattle.shape.specs.Shape.{span}
 use Rattle.shape.specs.declared.Tails.{Tails}
 
@@ -287,7 +287,7 @@ module _ (s : List ℕ) (sized : length s ≡ 52 + 107 * byte s 3 + 7 * byte s 4
         logged-family true = refl
 
     -- a Start is read by the file in the body
-    by-file : (shape : Shape) → shape.selecting ≡ Some (file start end entries) → Selects file entries (is_cpace shape.family) (reads_of shape body)
+    by-file : (shape : Shape) → shape.selecting ≡ Some (file_from start end entries) → Selects file entries (is_cpace shape.family) (reads_of shape body)
     unfolding command_in selecting_of
     by-file shape selecting values terminal asks =
         rw (selecting, file-there body start end (omega arith) (omega (arith, long)), file-is, slots_are shape.family)
@@ -298,7 +298,7 @@ module _ (s : List ℕ) (sized : length s ≡ 52 + 107 * byte s 3 + 7 * byte s 4
   record Takes (version : ℕ) (cpace : Bool) (behind : List ℕ) : Type 0 where
     shape : Shape
     is : shape_of version (body behind) ≡ Ok shape
-    on : shape.selecting ≡ Some (file start end entries)
+    on : shape.selecting ≡ Some (file_from start end entries)
     family : is_cpace shape.family ≡ cpace
     sound : log_judged shape (body behind) ≡ Ok tt
 
