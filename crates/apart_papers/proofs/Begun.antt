@@ -104,7 +104,7 @@ module _ (x : Meter) (is : IsSwitch x) (p q : List ℕ) (same : SamePapers x p q
   at-four : AtFour (open_paper p)
   unfolding open_paper next_at
   at-four = by (is_unreadable p) (leb (length p) 1) (is_fault_at p 1) where
-    by_kind : (b : Bool) → AtFour (cond b (Ok (record { version = byte p 0; start = 4; end = end_at p 1 })) (Err Unreadable))
+    by_kind : (b : Bool) → AtFour (cond {A = Result Opened Refusal} b (Ok (record { version = byte p 0; start = 4; end = end_at p 1 })) (Err Unreadable))
     by_kind true = refl
     by_kind false = tt
 
@@ -259,11 +259,14 @@ paper-begins x is words p q same e f =
         → Begins x (opened_begun p opened) (opened_begun q opened) (opened_words words p opened) (opened_words words q opened)
     by (Err refusal) four e f = let z : ◌≡◌ {A = ℕ} 0 1 = cc in absurd (omega arith)
     by (Ok opened) four e f = subst At (sym four) from-four e f where
-      At : (opened.start : ℕ) → Type 0
-      At opened.start =
-          (opened_begun p (Ok opened)).event ≡ SetUp → (opened_begun q (Ok opened)).event ≡ SetUp
-          → Begins x (opened_begun p (Ok opened)) (opened_begun q (Ok opened))
-          (opened_words words p (Ok opened)) (opened_words words q (Ok opened))
+      from : (start : ℕ) → Opened
+      from start = record { version = opened.version; start = start; end = opened.end }
+
+      At : (start : ℕ) → Type 0
+      At start =
+          (opened_begun p (Ok (from start))).event ≡ SetUp → (opened_begun q (Ok (from start))).event ≡ SetUp
+          → Begins x (opened_begun p (Ok (from start))) (opened_begun q (Ok (from start)))
+          (opened_words words p (Ok (from start))) (opened_words words q (Ok (from start)))
 
       from-four : At 4
       from-four e f =
