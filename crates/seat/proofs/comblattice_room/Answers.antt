@@ -16,9 +16,9 @@ returns-then-seat-lt-SIZE c =
     let cells = tested.args.seat.now in
     (c.number.ensures ∙ if_short cells tested.if-seat-lt-SIZE.true 7 _, if_short cells tested.if-seat-lt-SIZE.true _ _)
 
-pub returns-in-Left : goal.returns-in-Left
+pub returns-in-Ok : goal.returns-in-Ok
 unfolding room_number room_left card_in
-returns-in-Left c =
+returns-in-Ok c =
     let asked = c in
     let rooms = asked in
     let words = rooms in
@@ -27,14 +27,14 @@ returns-in-Left c =
     let cells = a.seat.now in
     let long = tested.if-seat-lt-SIZE.false in
     let is =
-    sym c.in-Left.is ∙ asked.room_left.ensures
+    sym c.in-Ok.is ∙ asked.room_left.ensures
     ∙ ap (λ (w : List ℕ). stored_room (rules_of w) rooms.rooms_in-rooms.result a.profile a.accumulator) (words.words_in-words.ensures ∙ sym (if_long cells long _ _))
     ∙ ap (λ (r : List ℕ). stored_room (rules_of (words_in cells)) r a.profile a.accumulator) (rooms.rooms_in-rooms.ensures ∙ sym (if_long cells long _ _)) in
     (ap stored_number is ∙ if_long cells long 7 _, ap (left_or a.left.now) is ∙ if_long cells long _ _)
 
-pub returns-in-Refused : goal.returns-in-Refused
+pub returns-in-Err : goal.returns-in-Err
 unfolding room_number room_left card_in
-returns-in-Refused c =
+returns-in-Err c =
     let told = c in
     let asked = told in
     let rooms = asked in
@@ -44,7 +44,7 @@ returns-in-Refused c =
     let cells = a.seat.now in
     let long = tested.if-seat-lt-SIZE.false in
     let is =
-    sym told.in-Refused.is ∙ asked.room_left.ensures
+    sym told.in-Err.is ∙ asked.room_left.ensures
     ∙ ap (λ (w : List ℕ). stored_room (rules_of w) rooms.rooms_in-rooms.result a.profile a.accumulator) (words.words_in-words.ensures ∙ sym (if_long cells long _ _))
     ∙ ap (λ (r : List ℕ). stored_room (rules_of (words_in cells)) r a.profile a.accumulator) (rooms.rooms_in-rooms.ensures ∙ sym (if_long cells long _ _)) in
-    (c.number-in-Refused.ensures ∙ ap stored_number is ∙ if_long cells long 7 _, ap (left_or a.left.now) is ∙ if_long cells long _ _)
+    (c.number-in-Err.ensures ∙ ap stored_number is ∙ if_long cells long 7 _, ap (left_or a.left.now) is ∙ if_long cells long _ _)
