@@ -29,14 +29,14 @@ use Rattle.hex_digits.proofs.Bytes as Hex
 use Rattle.readback.specs.WellFormed.{octet}
 use Rattle.readback.specs.Fields.{are_digits, is_unpadded, value_in}
 use Rattle.readback.proofs.Words.{reads_words, are-digits, one_more_lem, other, Says, spells}
-use Rattle.imports.specs.declared.Answered.TheVariants as Answered
+use Rattle.imports.specs.declared.Answered.{Answered}
 use Rattle.spelling.proofs.Shown.{small}
 use Rattle.imports.specs.Imports.{digits_of, numeral, import_line, record_line, records_in, lines_in, imports_from, imports_of, fits, answered, room_after}
 use Rattle.imports.proofs.Lines.{in_pieces}
 use Rattle.printout.specs.Text.{lines_read, Holds}
 use Rattle.printout.specs.Records.{Whole, records_with, last_of, Told, is_zero, told_in, all_told, tells, tells_of, all_tell, Recorded}
 use Rattle.printout.proofs.Text.{line_first, held}
-use Rattle.std.specs.Prelude.{Err, Ok, Result}
+use Rattle.std.specs.Prelude.{Err, None, Ok, Option, Result, Some}
 use Rattle.refusal.specs.declared.Refusal.{Refusal}
 
 -- ---- a number
@@ -295,22 +295,26 @@ text-short : (number : ℕ) (input : List ℕ) → length (imports_from number i
 unfolding imports_from
 text-short number input = lines-short (records_in (length input)) number input
 
+end_of : Option Answered → ℕ
+end_of (Some answered) = answered.end
+end_of None = 0
+
 module _ (number : ℕ) (input room : List ℕ) where
   -- THE ROOM HOLDS THE LINES, AND ALL ELSE STAYS
-  pub records-hold : (end next : ℕ) → answered number input (length room) ≡ Answered.Whole end next
+  pub records-hold : (end next : ℕ) → answered number input (length room) ≡ Some (record { end = end; next = next })
       → Holds room 0 end (lines_read (imports_from number input)) (room_after number input room)
-  unfolding answered room_after
+  unfolding answered room_after end_of
   records-hold end next = by (fits number (length room) (length input)) refl where
     text : List ℕ
     text = imports_from number input
 
     by : (b : Bool) → fits number (length room) (length input) ≡ b
-        → cond b (Answered.Whole (length text) (number + records_in (length input))) Answered.NoRoom ≡ Answered.Whole end next
+        → cond {A = Option Answered} b (Some (record { end = length text; next = number + records_in (length input) })) None ≡ Some (record { end = end; next = next })
         → Holds room 0 end (lines_read text) (cond b (sets room 0 text) room)
     by false e w = absurd (let z : ◌≡◌ {A = ℕ} 0 1 = cc in omega arith)
     by true e w =
         let records = records_in (length input) in
-        let same : length text ≡ end = cc in
+        let same : length text ≡ end = ap end_of w in
         let ends : 0 + length text ≡ end = omega arith in
         let asked = leb-true (54 * records) (length room) (both (leb (54 * records) (length room)) (leb (number + records) 18446744073709551615) e).0 in
         let there = held room text 0 (omega (arith, text-short number input)) in
