@@ -1,7 +1,7 @@
 -- A paper with a log (docs/PAPERS.md), from its bytes to the lines of its log, worked out; and with a byte more, which ends it. Then logs from records
 -- and their lines: of a wrong card these rows are shown to be false. Assumes nothing.
 use mathlib.Core.Path.{◌≡◌, refl, ap, ◌∙◌}
-use mathlib.Core.Bool.{Bool, true, false, cond, not, ◌&&◌}
+use mathlib.Core.Bool.{Bool, true, false, cond, ◌&&◌}
 use mathlib.Core.List.{List, [], ◌∷◌, ◌++◌}
 use Prim.Native.Nat.{ℕ, ◌+◌, ◌*◌, ◌-◌, ◌<◌}
 use Prim.Native.Char.{code}
