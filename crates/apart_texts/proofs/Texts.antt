@@ -23,7 +23,6 @@ use Rattle.records.specs.declared.Event.{Event}
 use Rattle.records.specs.declared.Event.TheVariants.{SetUp, End, Refused, Answered}
 use Rattle.opening.specs.Opening.{begun_of, words_begun}
 use Rattle.conversation.specs.Conversation.{taken_of, taken_writes}
-use Rattle.lines.specs.Sitting.{sitting_lines}
 use Rattle.ring.specs.declared.Record.{Record}
 use Rattle.ring.specs.Ring.{slots_of}
 use Rattle.journal.specs.Logged.{Seen, first_in, logged_in, turned}
