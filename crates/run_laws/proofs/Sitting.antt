@@ -53,10 +53,14 @@ pub opens : (p : List ℕ) (version start end : ℕ) → open_paper p ≡ Ok (re
 unfolding open_paper
 opens p version start end is = by (is_unreadable p) (next_at p 1) refl refl is where
   by_kind : (kind from to : ℕ) (b : Bool) → eqb kind 1 ≡ b → is_unreadable p ≡ false → next_at p 1 ≡ Record kind from to
-      → cond b (Ok (record { version = byte p 0; start = from; end = to })) (Err Unreadable) ≡ Ok (record { version = version; start = start; end = end }) → Opens p version start end
+      → cond {A = Result Opened Refusal} b (Ok (record { version = byte p 0; start = from; end = to })) (Err Unreadable) ≡ Ok (record { version = version; start = start; end = end }) → Opens p version start end
   by_kind kind from to true k u n e =
       let one = eqb-true kind 1 k in
-      record { is = is; readable = u; version-is = cc; first = cc }
+      let same : ◌≡◌ {A = Opened} (record { version = byte p 0; start = from; end = to }) (record { version = version; start = start; end = end }) = cc in
+      let versions = ap (λ (opened : Opened). opened.version) same in
+      let starts = ap (λ (opened : Opened). opened.start) same in
+      let ends = ap (λ (opened : Opened). opened.end) same in
+      record { is = is; readable = u; version-is = versions; first = cc }
   by_kind kind from to false k u n e = absurd (let z : ◌≡◌ {A = ℕ} 0 1 = cc in omega arith)
 
   by : (b : Bool) (next : Next) → is_unreadable p ≡ b → next_at p 1 ≡ next
