@@ -24,7 +24,9 @@ each zero test so = refl
 each (suc n) test so = rw (each n test (λ i l. so i (omega arith)), so n (omega arith)) refl
 
 -- so an iterator's `all` over them is
-pub decided : (n : ℕ) (test : ℕ → Bool) (r : Bool) → MatchBool r (AllWithin (λ i. test i ≡ true) (range_with_len 0 n) 0 (length (range_with_len 0 n))) ((k : ℕ) × (k < length (range_with_len 0 n)) × HoldsAt (λ i. test i ≡ false) (range_with_len 0 n) k)
+pub decided : (n : ℕ) (test : ℕ → Bool) (r : Bool)
+    → MatchBool r (AllWithin (λ i. test i ≡ true) (range_with_len 0 n) 0 (length (range_with_len 0 n)))
+    ((k : ℕ) × (k < length (range_with_len 0 n)) × HoldsAt (λ i. test i ≡ false) (range_with_len 0 n) k)
     → r ≡ all n test
 decided n test true so = sym (each n test (λ i h. subst (λ (k : ℕ). test k ≡ true) (get_or-range_with_len 0 n i 0 h ∙ zero-add i) (so i 0 (omega arith) (omega (arith, length-range_with_len 0 n)))))
 decided n test false other =

@@ -44,7 +44,9 @@ by_next s version start end true n e o = let z : ◌≡◌ {A = ℕ} 0 1 = cc in
 by_next s version start end false Fault e o = let z : ◌≡◌ {A = ℕ} 0 1 = cc in (omega arith, omega arith)
 by_next s version start end false End e o = let z : ◌≡◌ {A = ℕ} 0 1 = cc in (omega arith, omega arith)
 by_next s version start end false (Record kind first last) e o = by_kind (eqb kind 1) o where
-  by_kind : (b : Bool) → cond {A = Result Opened Refusal} b (Ok (record { version = byte s 0; start = first; end = last })) (Err Unreadable) ≡ Ok (record { version = version; start = start; end = end }) → (start ≤ end) × (end ≤ length s)
+  by_kind : (b : Bool) → cond {A = Result Opened Refusal} b (Ok (record { version = byte s 0; start = first; end = last })) (Err Unreadable)
+      ≡ Ok (record { version = version; start = start; end = end })
+      → (start ≤ end) × (end ≤ length s)
   by_kind true p =
       let i = record_inside s 1 kind first last e in
       let f : first ≡ start = ap start_of p in

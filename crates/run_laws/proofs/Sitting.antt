@@ -53,7 +53,9 @@ pub opens : (p : List ℕ) (version start end : ℕ) → open_paper p ≡ Ok (re
 unfolding open_paper
 opens p version start end is = by (is_unreadable p) (next_at p 1) refl refl is where
   by_kind : (kind from to : ℕ) (b : Bool) → eqb kind 1 ≡ b → is_unreadable p ≡ false → next_at p 1 ≡ Record kind from to
-      → cond {A = Result Opened Refusal} b (Ok (record { version = byte p 0; start = from; end = to })) (Err Unreadable) ≡ Ok (record { version = version; start = start; end = end }) → Opens p version start end
+      → cond {A = Result Opened Refusal} b (Ok (record { version = byte p 0; start = from; end = to })) (Err Unreadable)
+      ≡ Ok (record { version = version; start = start; end = end })
+      → Opens p version start end
   by_kind kind from to true k u n e =
       let one = eqb-true kind 1 k in
       let same : ◌≡◌ {A = Opened} (record { version = byte p 0; start = from; end = to }) (record { version = version; start = start; end = end }) = cc in

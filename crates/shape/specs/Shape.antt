@@ -194,7 +194,13 @@ family_at place Cpa = Cpa
 family_at place (Cpace start end) = Cpace (place + start) (place + end)
 
 abbrev pub shape_at : (place : ℕ) → Shape → Shape
-shape_at place shape = record shape { selecting = selecting_at place shape.selecting; dating = span_at place shape.dating; family = family_at place shape.family; logging = span_at place shape.logging }
+shape_at place shape =
+    record shape {
+      selecting = selecting_at place shape.selecting;
+      dating = span_at place shape.dating;
+      family = family_at place shape.family;
+      logging = span_at place shape.logging;
+    }
 
 abbrev pub shape_number : Result Shape Refusal → ℕ
 shape_number (Ok shape) = 0

@@ -179,7 +179,9 @@ opening paper version start end = by (is_unreadable paper) (next_at paper 1) ref
   not_long true b c d e = absurd (let z : ◌≡◌ {A = ℕ} 0 1 = cc in omega arith)
 
   by_kind : (version₀ kind start₀ end₀ : ℕ) (b : Bool) → next_at paper 1 ≡ Record kind start₀ end₀ → length paper ≤ 65536
-      → cond {A = Result Opened Refusal} b (Ok (record { version = version₀; start = start₀; end = end₀ })) (Err Unreadable) ≡ Ok (record { version = version; start = start; end = end }) → Opening paper end
+      → cond {A = Result Opened Refusal} b (Ok (record { version = version₀; start = start₀; end = end₀ })) (Err Unreadable)
+      ≡ Ok (record { version = version; start = start; end = end })
+      → Opening paper end
   by_kind version₀ kind start₀ end₀ true n short e =
       let i = inside paper 1 kind start₀ end₀ n in
       let same : end₀ ≡ end = ap end_of e in
@@ -221,7 +223,9 @@ begins paper = by (open_paper paper) refl where
   by : (opened : Result Opened Refusal) → open_paper paper ≡ opened → Beginning paper (opened_begun paper opened)
   by (Err refusal) e = refused refusal refl
   by (Ok opened) e =
-      unfold setup_begun in by_shape (part paper opened.start opened.end) opened.start opened.end (opening paper opened.version opened.start opened.end e) (shape_of opened.version (part paper opened.start opened.end))
+      unfold setup_begun in
+      by_shape (part paper opened.start opened.end) opened.start opened.end (opening paper opened.version opened.start opened.end e)
+      (shape_of opened.version (part paper opened.start opened.end))
 
 -- a set-up that is taken
 pub set_up_in : (paper : List ℕ) → (begun_of paper).event ≡ SetUp → Opening paper (begun_of paper).at

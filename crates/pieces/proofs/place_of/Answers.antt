@@ -28,6 +28,7 @@ pub returns : goal.returns
 unfolding place_of
 returns c =
     let a = c.args in
-    let first = IsFirst-from_position _ _ c.position.result (λ x. x ≡ a.mark) (λ x. x ≡ a.mark → ⊥) c.position.ensures.ran (YieldsList-from_slice a.text.now cc) (λ x q k. search (rules, tests)) (λ x q k. search (rules, tests)) in
+    let first = IsFirst-from_position _ _ c.position.result (λ x. x ≡ a.mark) (λ x. x ≡ a.mark → ⊥) c.position.ensures.ran
+    (YieldsList-from_slice a.text.now cc) (λ x q k. search (rules, tests)) (λ x q k. search (rules, tests)) in
     let place = index_from_first (place_of a.mark) (λ x. x ≡ a.mark) (λ x. x ≡ a.mark → ⊥) refl (λ x xs. hit a.mark x xs) (λ x xs. miss a.mark x xs) a.text.now c.position.result first in
     (c.unwrap_or.ensures ∙ sym place, omega (arith, c.unwrap_or.ensures ∙ sym place, within a.mark a.text.now))
