@@ -14,7 +14,7 @@ use state::{Answer, State};
 
 const SCRIPT: u8 = 5;
 
-// What is answered.
+// What is answered. A script is a command of its own kind, and no absence of one: no Option.
 #[derive(Clone, Copy)]
 pub enum Said {
     Command(Command),
