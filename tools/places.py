@@ -1,5 +1,5 @@
 #!/usr/bin/env python3
-"""tools/places.py [POINT]: the places in src/ of each point of docs/DESIGN-PASS.md, a line each, and how many.
+"""tools/places.py [POINT]: the places of each point of docs/DESIGN-PASS.md, a line each, and how many.
 
 Run at the top of the repository. It lists by shape; which of them are places, and what became of each,
 the page says."""
@@ -160,7 +160,32 @@ def point_7():
             yield where, f'fn {name}: match {m.group(1)}, a call in each arm'
 
 
-POINTS = [point_1, point_2, point_3, point_4, point_5, point_6, point_7]
+def point_8():
+    imports = re.compile(r'^(use |ghost use |--|//|pub mod |mod |$)')
+    files, windows, seen = {}, defaultdict(list), set()
+    for path in FILES + sorted(p for part in ('specs', 'proofs') for p in glob.glob(f'crates/*/{part}/**/*.antt', recursive=True)):
+        kept = []
+        for number, line in enumerate(open(path), 1):
+            text = ' '.join(line.split())
+            if len(text) >= 4 and not imports.search(text):
+                kept.append((number, re.sub(r'[^\s(){}\[\],.;:]+', 'x', text)))
+        files[path] = kept
+        for at in range(len(kept) - RUN + 1):
+            windows[tuple(t for _, t in kept[at:at + RUN])].append((path, at))
+    for places in windows.values():
+        for i, (a, x) in enumerate(places):
+            for b, y in places[i + 1:i + 6]:
+                n = 0
+                while ((a, x, b, y) not in seen and x + n < len(files[a]) and y + n < len(files[b])
+                       and files[a][x + n][1] == files[b][y + n][1] and not (a == b and x + n >= y)):
+                    n += 1
+                seen.update((a, x + k, b, y + k) for k in range(n))
+                if n >= RUN:
+                    yield place(a, files[a][x][0]), f'{n} lines of the shape of {place(b, files[b][y][0])}'
+
+
+RUN = 10
+POINTS = [point_1, point_2, point_3, point_4, point_5, point_6, point_7, point_8]
 
 for number, point in enumerate(POINTS, 1):
     if len(sys.argv) > 1 and sys.argv[1] != str(number):
