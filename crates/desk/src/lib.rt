@@ -2,12 +2,13 @@
 // and `pages`; here it is only read and written.
 #![tactic(auto)]
 
-ghost use Rattle.std.specs.Prelude.{◌+◌, ◌≤◌, length, IfOk};
+ghost use Rattle.std.specs.Prelude.{◌+◌, ◌≤◌, length};
+ghost use Rattle.streams.specs.There.{there};
 
 use blocks::{Turned, Wants};
 use rules::Words;
 use std::rt::Files;
-use streams::Failure;
+use streams::{Failure, Unread};
 
 // One paper, read into a buffer of a byte more than the longest.
 fn sit(
@@ -23,9 +24,9 @@ fn sit(
 
 // The bytes from a place up to another move to the front of the buffer, and more are read behind
 // them. A block that is not at hand whole is shorter than the buffer, so there is room.
-fn read_more(rt: &impl Input, buffer: &mut [u8], at: usize, filled: usize) -> Result<usize, Failure>
+fn read_more(rt: &impl Input, buffer: &mut [u8], at: usize, filled: usize) -> Result<usize, Unread>
     requires { (at ≤ filled) × (filled ≤ length buffer.old) }
-    ensures { IfOk result (λ to. to ≤ length buffer.old) }
+    ensures { there result ≤ length buffer.old }
 {
     buffer.copy_within(at..filled, 0);
     streams::read_on(rt, buffer, filled - at)

@@ -1,7 +1,9 @@
 // Standard input read, standard output written, and how it ended said: what the programs share.
 #![tactic(auto)]
 
-ghost use Rattle.std.specs.Prelude.{◌≤◌, length, IfOk};
+ghost use Rattle.std.specs.Prelude.{◌≡◌, ◌≤◌, length};
+ghost use Rattle.streams.specs.There.{there};
+ghost use Rattle.streams.specs.declared.Failure.TheVariants.{NotRead};
 
 use std::fs::{self, OpenOptions};
 use std::io::{self, Read as _, Write};
@@ -18,24 +20,37 @@ pub enum Failure {
     NotWritten,
 }
 
+// A read that failed, and the bytes that are there all the same.
+#[derive(Clone, Copy)]
+pub struct Unread {
+    pub filled: usize,
+}
+
+impl From<Unread> for Failure {
+    ghost from_gives = { λ _ failure. failure ≡ NotRead };
+
+    fn from(_unread: Unread) -> Failure {
+        Failure::NotRead
+    }
+}
+
 // Reads once, behind the bytes that are there: how many there are then. No more of them is the input's end.
-fn read_behind(rt: &impl Input, buffer: &mut [u8], filled: usize) -> Result<usize, Failure>
+fn read_behind(rt: &impl Input, buffer: &mut [u8], filled: usize) -> Result<usize, Unread>
     requires { filled ≤ length buffer.old }
-    ensures { IfOk result (λ to. (filled ≤ to) × (to ≤ length buffer.old)) }
+    ensures { (filled ≤ there result) × (there result ≤ length buffer.old) }
 {
-    let more = rt
-        .reader()
-        .read(&mut buffer[filled..])
-        .map_err(|_| Failure::NotRead)?;
-    Ok(filled + more)
+    match rt.reader().read(&mut buffer[filled..]) {
+        Ok(more) => Ok(filled + more),
+        Err(_) => Err(Unread { filled }),
+    }
 }
 
 // The same behind any place; behind the buffer's end it is a read that failed.
-pub fn read_on(rt: &impl Input, buffer: &mut [u8], filled: usize) -> Result<usize, Failure>
-    ensures { IfOk result (λ to. to ≤ length buffer.old) }
+pub fn read_on(rt: &impl Input, buffer: &mut [u8], filled: usize) -> Result<usize, Unread>
+    ensures { there result ≤ length buffer.old }
 {
     if buffer.len() < filled {
-        return Err(Failure::NotRead);
+        return Err(Unread { filled: 0 });
     }
     read_behind(rt, buffer, filled)
 }
@@ -72,8 +87,8 @@ pub fn acknowledge(rt: &impl Files, ending: Result<(), Failure>) {
 }
 
 // Reads until the input ends, the buffer is full or a read fails.
-pub fn read_all(rt: &impl Input, buffer: &mut [u8]) -> Result<usize, Failure>
-    ensures { IfOk result (λ filled. filled ≤ length buffer.old) }
+pub fn read_all(rt: &impl Input, buffer: &mut [u8]) -> Result<usize, Unread>
+    ensures { there result ≤ length buffer.old }
 {
     let mut filled: usize = 0;
     while filled < buffer.len() {
