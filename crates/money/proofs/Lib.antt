@@ -1,4 +1,3 @@
 pub mod Search
-pub mod Rounding
 pub mod Power
 pub mod Laws

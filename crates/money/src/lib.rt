@@ -86,10 +86,13 @@ fn is_rate(rate: Rate) -> bool
 
 // n / k, its fraction dropped or rounded up.
 fn divide(n: u64, k: u64, up: bool) -> u64
-    requires { 0 < k }
+    requires { (0 < k) × (n + k < 2 ^ 64) }
     ensures { result ≡ rounded up n k }
 {
-    if up { n.div_ceil(k) } else { n / k }
+    if up {
+        return (n + (k - 1)) / k;
+    }
+    n / k
 }
 
 // amount x d x 10^s, its fraction dropped or rounded up.

@@ -1,4 +1,4 @@
-// The room that a paper's text is asked, and what becomes of the text.
+// The room that a paper's text is asked.
 #![tactic(auto)]
 
 ghost use Rattle.std.specs.Prelude.{◌≡◌};

@@ -9,15 +9,15 @@ ghost use Rattle.paper_text.specs.PaperText.{log_put, room_logged, Stands};
 
 use rules::Words;
 
-// A paper's lines end at a place of the room and its log, which stands behind them, at another; or the
-// room is too small and nothing was written.
+// A paper's lines end at a place of the room and its log, which stands behind them, at another.
 #[derive(Clone, Copy)]
 pub struct Parts {
     pub lines: usize,
     pub end: usize,
 }
 
-// A paper's lines from a place of the room on, and its log's behind them.
+// A paper's lines from a place of the room on, and its log's behind them; or the room is too small and
+// nothing is written.
 fn put_parts(paper: &[u8], words: &mut Words, room: &mut [u8], at: usize) -> Option<Parts>
     ensures { (result ≡ parts_put words.old paper.now (length room.old) at)
         × (room.new ≡ room_put words.old paper.now room.old at)

@@ -7,7 +7,7 @@ ghost use Rattle.rate.specs.Rate.{shift_at, digits_of, digits_at, rate_of};
 // The last digits. A search that ends behind them has found none.
 const LAST: u16 = 9_999;
 
-// Digits and a shift, the paper's s + 9, or that no pair rounds to the rate.
+// Digits and a shift, the paper's s + 9.
 #[derive(Clone, Copy)]
 pub struct Pair {
     pub digits: u16,

@@ -1,13 +1,11 @@
 use native.Mathlib.Nat.{add-zero}
 use Rattle.money.specs.Money.{rounded}
-use Rattle.money.proofs.Rounding.{ceiling}
 use Rattle.money.proofs.divide.Goals as goal
-use mathlib.Core.Path.{◌∙◌}
 
 pub returns-then-up : goal.returns-then-up
 unfolding rounded
-returns-then-up c = rw c.if-up.true (c.div_ceil.ensures ∙ ceiling _ _ c.requires)
+returns-then-up c = simp c.if-up.true
 
-pub returns-else-up : goal.returns-else-up
+pub returns : goal.returns
 unfolding rounded
-returns-else-up c = simp (c.if-up.false, add-zero)
+returns c = simp (c.if-up.false, add-zero)

@@ -22,7 +22,10 @@ loop-preserved c =
     (omega arith, l.invariant.1, ap (λ (power : ℕ). power * 10) l.invariant.2 ∙ sym (pow-add 10 l.counter 1), l.invariant.3)
 
 pub divide-requires : goal.divide-requires
-divide-requires c = rw c.loop.invariant.2 (ten_pos _)
+divide-requires c =
+    let l = c.loop in
+    let power = power_most {k = l.counter} (omega arith) in
+    (rw l.invariant.2 (ten_pos _), omega (arith, l.invariant.2))
 
 pub overflow_mul-result : goal.overflow_mul-result
 overflow_mul-result c =
