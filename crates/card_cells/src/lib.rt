@@ -27,12 +27,14 @@ const MARKS: usize = PHASE + phase_seat::PHASE;
 
 pub const SIZE: usize = MARKS + seating::MARKS;
 
-// A part of the cells.
+// A part of the cells, one by one: a slice copied whole would ask `memmove` of whoever links the archive.
 fn put(cells: &mut [u64], at: usize, part: &[u64])
     requires { at + length part.now ≤ length cells.old }
     ensures { cells.new ≡ sets cells.old at part.now }
 {
-    cells[at..at + part.len()].copy_from_slice(part);
+    for (i, cell) in part.iter().enumerate() {
+        cells[at + i] = *cell;
+    }
 }
 
 // The words of a seated card, and its rooms.
