@@ -81,7 +81,8 @@ not_sound TooDeep e = let z : ◌≡◌ {A = ℕ} 19 0 = ap reading_number e in 
 
 pub first-fault : (a b : Result Unit Fault) → (a ≡ Ok tt → ⊥) → first_fault a b ≡ a
 first-fault (Ok done) b h = absurd (h refl)
-first-fault (Err fault) b h = refl
+first-fault (Err Malformed) b h = refl
+first-fault (Err TooDeep) b h = refl
 
 module _ (k at : ℕ) (s : List ℕ) (h : 1 ≤ k) (l : at < length s) where
   pub list_pass : byte s at ≡ 0 → read_list k (drop at s) ≡ read_list k (drop (at + 1) s)
